@@ -5,7 +5,16 @@ ghost use Rattle.std.specs.Prelude.{◌<◌};
 use std::alloc::{AllocError, Global};
 
 /// Where a statement accesses the buffer: next to one another, at one place, and in pages of 64 bytes apart.
-const PLACES: [&str; 8] = ["i", "i + 1", "l", "0", "i * 16 % 64", "i * 17 % 64", "20", "63 - i"];
+const PLACES: [&str; 8] = [
+    "i",
+    "i + 1",
+    "l",
+    "0",
+    "i * 16 % 64",
+    "i * 17 % 64",
+    "20",
+    "63 - i",
+];
 
 /// Statements, in which `P` stands for a place and `V` for a value.
 const STATEMENTS: [&str; 16] = [
@@ -73,12 +82,16 @@ impl Chance {
     pub(crate) fn script(&mut self, alloc: Global) -> Result<String, AllocError> {
         let uniform = self.below(4) == 0;
         let mut text = String::new(alloc);
-        text.push_str("clsim 2\nbuffer a 256\nprogram p 1\n__kernel void f(__global int *a, __global uchar *c, __local int *t) { ")?;
+        text.push_str(
+            "clsim 2\nbuffer a 256\nprogram p 1\n__kernel void f(__global int *a, __global uchar *c, __local int *t) { ",
+        )?;
         text.push_str("int i = get_global_id(0); int l = get_local_id(0); int x = 0; ")?;
         for _ in 0..1 + self.below(4) {
             self.push_statement(&mut text)?;
         }
-        text.push_str("}\nkernel k p f\narg k 0 buffer a\narg k 1 buffer a\narg k 2 local 16\nlaunch k ")?;
+        text.push_str(
+            "}\nkernel k p f\narg k 0 buffer a\narg k 1 buffer a\narg k 2 local 16\nlaunch k ",
+        )?;
         text.push_str(SIZES[self.below(6)])?;
         text.push_str(if uniform { " uniform\n" } else { "\n" })?;
         Ok(text)

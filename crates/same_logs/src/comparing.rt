@@ -77,9 +77,11 @@ fn is_same(alloc: Global, launch: &Launch<'_>, buffers: &Buffers) -> Result<bool
     let by_lists = merge(alloc, launch, buffers, lists)?;
     let by_pages = merge(alloc, launch, buffers, pages)?;
     let by_groups = run_launch(alloc, launch, buffers)?;
-    Ok(apart
-        && are_same_outcomes(alloc, &by_lists, &by_pages)?
-        && are_same_outcomes(alloc, &by_lists, &by_groups)?)
+    Ok(
+        apart
+            && are_same_outcomes(alloc, &by_lists, &by_pages)?
+            && are_same_outcomes(alloc, &by_lists, &by_groups)?,
+    )
 }
 
 /// Whether a launch command of the device comes to the same with each of the logs; `None` where the launch is refused.

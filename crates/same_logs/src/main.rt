@@ -59,7 +59,13 @@ fn run_rows<W: Write>(alloc: Global, writer: &mut W) -> io::Result<()> {
         put(title.as_bytes(), writer)?;
         put(b"\n", writer)?;
         let bytes = script.as_bytes();
-        let counts = compare_script(alloc, (*budget).min(1_000_000), bytes, Counts::none(), writer)?;
+        let counts = compare_script(
+            alloc,
+            (*budget).min(1_000_000),
+            bytes,
+            Counts::none(),
+            writer,
+        )?;
         put_counts(counts, writer)?;
     }
     Ok(())

@@ -137,7 +137,10 @@ fn are_same_ends<L, M>(
     match (came, other) {
         (
             GroupResult::Done {
-                group, spaces, runs, ..
+                group,
+                spaces,
+                runs,
+                ..
             },
             GroupResult::Done {
                 group: other_group,
@@ -145,13 +148,15 @@ fn are_same_ends<L, M>(
                 runs: other_runs,
                 ..
             },
-        ) => Ok(group == other_group
-            && spaces.len() == other_spaces.len()
-            && spaces
-                .iter()
-                .zip(other_spaces)
-                .all(|(space, other)| are_same_spaces(space, other))
-            && are_same_schedules(runs, other_runs)),
+        ) => Ok(
+            group == other_group
+                && spaces.len() == other_spaces.len()
+                && spaces
+                    .iter()
+                    .zip(other_spaces)
+                    .all(|(space, other)| are_same_spaces(space, other))
+                && are_same_schedules(runs, other_runs),
+        ),
         (
             GroupResult::Stopped { fault, runs, .. },
             GroupResult::Stopped {
@@ -208,10 +213,10 @@ pub(crate) fn are_same_lists<'a, L: Accesses + Drop, M: Accesses + Drop>(
     others: &Results<'a, M>,
 ) -> bool {
     results.len() == others.len()
-        && results
-            .iter()
-            .zip(others)
-            .all(|(came, other)| are_same_accesses(log_of(came), log_of(other)))
+        && results.iter().zip(others).all(|(came, other)| are_same_accesses(
+            log_of(came),
+            log_of(other),
+        ))
 }
 
 /// Whether two outcomes are the same.
@@ -222,11 +227,13 @@ pub(crate) fn are_same_outcomes(
 ) -> Result<bool, AllocError> {
     match (outcome, other) {
         (Outcome::Clean(contents), Outcome::Clean(others)) => {
-            Ok(contents.len() == others.len()
-                && contents
-                    .iter()
-                    .zip(others)
-                    .all(|(bytes, other)| bytes.as_slice() == other.as_slice()))
+            Ok(
+                contents.len() == others.len()
+                    && contents
+                        .iter()
+                        .zip(others)
+                        .all(|(bytes, other)| bytes.as_slice() == other.as_slice()),
+            )
         }
         (Outcome::Faulted(fault, schedule), Outcome::Faulted(other, other_schedule)) => {
             are_same_faults(alloc, fault, schedule, other, other_schedule)
