@@ -45,10 +45,7 @@ fn constants_are_numbers(rt: HostRuntime) -> Result<(), Fail> {
         rt.alloc(),
         "__kernel void k(__global int *a) { a[0] = 2 * 3 + 1; }",
     )?;
-    let short = sizes(
-        rt.alloc(),
-        "__kernel void k(__global int *a) { a[0] = 7; }",
-    )?;
+    let short = sizes(rt.alloc(), "__kernel void k(__global int *a) { a[0] = 7; }")?;
     let (Some((long, long_run)), Some((short, short_run))) = (long, short) else {
         panic!(rt; "not built")
     };
