@@ -1,0 +1,184 @@
+#!/usr/bin/env python3
+"""Turns explanations into one page: `clsim explain FILE --format json | tools/explain/html.py > explained.html`.
+
+Reads the files that are named, or standard input, with an explanation a line. The page is one file without script,
+link and network: the source with marked lines, and a picture of the schedule, a lane a work-item. The status is 0, or 2
+where the input is bad."""
+
+from xml.sax.saxutils import escape
+
+from reading import explanations, item_text, place_of, run
+
+# the picture: how far lanes and events stand from one another, and where the first ones stand, in pixels
+LANE = 132
+ROW = 26
+LEFT = 64
+TOP = 60
+# how many lanes and events are drawn at most
+LANES = 24
+EVENTS = 400
+
+STYLE = """
+:root {
+  color-scheme: light dark; --dim: #667; --line: #bbc; --mark: #fdd; --ink: #112; --paper: #fff;
+  --bad: #c00; --good: #286; --bar: #26c;
+}
+@media (prefers-color-scheme: dark) {
+  :root {
+    --dim: #99a; --line: #445; --mark: #522; --ink: #eef; --paper: #151520;
+    --bad: #f66; --good: #5c9; --bar: #8af;
+  }
+}
+* { box-sizing: border-box; }
+body {
+  margin: 0 auto; max-width: 76rem; padding: 1rem; font: 15px/1.5 system-ui, sans-serif;
+  color: var(--ink); background: var(--paper);
+}
+h1 { font-size: 1.3rem; margin: 1.5rem 0 .3rem; overflow-wrap: anywhere; }
+h2 { font-size: 1rem; margin: 1.4rem 0 .4rem; }
+p { margin: .3rem 0; overflow-wrap: anywhere; }
+code, pre, td { font: 13px/1.5 ui-monospace, monospace; }
+.dim { color: var(--dim); }
+.wide { overflow-x: auto; border: 1px solid var(--line); border-radius: 6px; padding: .5rem; }
+table { border-collapse: collapse; }
+td { padding: 0 .6rem 0 0; vertical-align: top; white-space: pre; }
+td:first-child { color: var(--dim); text-align: right; }
+tr.marked { background: var(--mark); }
+mark { background: none; color: var(--bad); font-weight: bold; text-decoration: underline; text-underline-offset: 3px; }
+svg { display: block; max-width: none; }
+svg text { font: 12px system-ui, sans-serif; fill: var(--ink); }
+.lane { stroke: var(--line); }
+.event { fill: var(--good); }
+.bad { fill: var(--bad); }
+.bar { stroke: var(--bar); stroke-width: 3; }
+svg .note { fill: var(--dim); }
+svg .barnote { fill: var(--bar); }
+"""
+
+
+def quoted(text):
+    """Text for a page, in attributes too."""
+    return escape(text, {'"': "&quot;"})
+
+
+def group_of(whole, item):
+    """The group of a work-item."""
+    size = 1
+    for count in whole["launch"]["local_size"]:
+        size *= count
+    return item // size
+
+
+def lanes_of(whole):
+    """The work-items of the picture: those that a fault names, and those of the first steps, by their numbers."""
+    named = [item["item"] for item in whole["items"]]
+    acting = [step["item"] for step in whole["steps"][:EVENTS] if "item" in step]
+    found = list(dict.fromkeys(named + acting))[:LANES]
+    return sorted(found)
+
+
+def event_dot(x, y, step, bad):
+    """An event of a work-item: a dot with its line and column beside it, and the text as a tooltip."""
+    place = step["place"]
+    where = f"{place['script_line']}:{place['column']}" if place else ""
+    words = f"{step['does']} {step['memory']} byte {step['byte']}"
+    if step["value"] is not None:
+        words += f": {step['value']}"
+    tip = quoted(f"{place['text']} ({words})" if place else words)
+    kind = "bad" if bad else "event"
+    return (f'<circle class="{kind}" cx="{x}" cy="{y}" r="6"><title>{tip}</title></circle>'
+            f'<text x="{x + 11}" y="{y + 4}">{where}<title>{tip}</title></text>')
+
+
+def release_bar(lanes, y, step, whole):
+    """The release of a group: a bar over its lanes."""
+    xs = [x for item, x in lanes.items() if group_of(whole, item) == step["release"]]
+    words = f"barrier, group {step['release']}"
+    if not xs:
+        return f'<text class="barnote" x="{LEFT - 30}" y="{y + 4}">{words}</text>'
+    return (f'<line class="bar" x1="{min(xs) - 18}" y1="{y}" x2="{max(xs) + 18}" y2="{y}"/>'
+            f'<text class="barnote" x="{max(xs) + 24}" y="{y + 4}">{words}</text>')
+
+
+def picture(whole):
+    """The schedule as SVG: a lane a work-item, events from top to bottom, the two accesses in red."""
+    lanes = {item: LEFT + LANE * place for place, item in enumerate(lanes_of(whole))}
+    steps = whole["steps"][:EVENTS]
+    bad = {item["event"] for item in whole["items"] if item["event"] is not None}
+    wide, high = LEFT + LANE * max(1, len(lanes)) + 40, TOP + ROW * (len(steps) + 1)
+    size = f'width="{wide}" height="{high}"'
+    parts = [f'<svg {size} role="img" aria-label="schedule">']
+    for item, x in lanes.items():
+        parts.append(f'<text x="{x}" y="18" text-anchor="middle" font-weight="bold">item {item}</text>'
+                     f'<text class="note" x="{x}" y="34" text-anchor="middle">group {group_of(whole, item)}</text>'
+                     f'<line class="lane" x1="{x}" y1="42" x2="{x}" y2="{high - 6}"/>')
+    for number, step in enumerate(steps, 1):
+        y = TOP + ROW * (number - 1)
+        parts.append(f'<text class="note" x="8" y="{y + 4}">{number}</text>')
+        if "release" in step:
+            parts.append(release_bar(lanes, y, step, whole))
+        elif step["item"] in lanes:
+            parts.append(event_dot(lanes[step["item"]], y, step, number in bad))
+    parts.append("</svg>")
+    left = whole["steps_left"] + len(whole["steps"]) - len(steps)
+    more = f'<p class="dim">and {left} events more</p>' if left else ""
+    return "".join(parts) + more
+
+
+def marked_text(place):
+    """A line of source with what stands at a place marked."""
+    text, begin = place["text"], place["column"] - 1
+    end = begin + max(1, place["length"])
+    raw = text.encode("utf-8", "surrogateescape")
+    pieces = [raw[:begin], raw[begin:end], raw[end:]]
+    first, middle, last = (quoted(piece.decode("utf-8", "replace")) for piece in pieces)
+    return f"{first}<mark>{middle}</mark>{last}"
+
+
+def places_table(whole):
+    """The lines of the named items, and those of the calls of helpers round them."""
+    rows = []
+    for item in whole["items"]:
+        place = place_of(item)
+        if not place:
+            continue
+        does = "its last access" if not item["spot"] else item["does"]
+        rows.append((place["script_line"], True, marked_text(place), f"item {item['item']}: {does}"))
+        for call in reversed(place["calls"]):
+            rows.append((call["script_line"], False, quoted(call["text"]), f"called at column {call['column']}"))
+    cells = []
+    for line, marked, text, words in rows:
+        kind = ' class="marked"' if marked else ""
+        cells.append(f'<tr{kind}><td>{line}</td><td>{text}</td><td class="dim">{quoted(words)}</td></tr>')
+    return "<table>" + "".join(cells) + "</table>"
+
+
+def section(whole):
+    """One explanation."""
+    launch, schedule = whole["launch"], whole["schedule"]
+    parts = [
+        f"<h1>{quoted(whole['fault']['line'])}</h1>",
+        f'<p class="dim">{quoted(whole["script"])}:{launch["script_line"]}: <code>{quoted(launch["text"])}</code>, '
+        f'function {quoted(launch["function"])}</p>',
+    ]
+    parts += [f"<p>{quoted(item_text(item))}</p>" for item in whole["items"]]
+    parts += [f"<p><b>Why:</b> {quoted(sentence)}</p>" for sentence in whole["why"]]
+    parts += ["<h2>Source</h2>", f'<div class="wide">{places_table(whole)}</div>']
+    if whole["steps"]:
+        parts += [f"<h2>One way there, {schedule['events']} events</h2>", f'<div class="wide">{picture(whole)}</div>']
+    parts += [f'<p class="dim">schedule <code>{quoted(schedule["short"])}</code></p>']
+    return "".join(parts)
+
+
+def main(paths):
+    """The text of a page."""
+    found = explanations(paths)
+    title = "clsim: " + (found[0]["fault"]["line"] if len(found) == 1 else f"{len(found)} explanations")
+    body = "".join(section(whole) for whole in found) or "<p>no explanations</p>"
+    return ('<!doctype html><html lang="en"><head><meta charset="utf-8">'
+            '<meta name="viewport" content="width=device-width, initial-scale=1">'
+            f"<title>{quoted(title)}</title><style>{STYLE}</style></head><body>{body}</body></html>\n")
+
+
+if __name__ == "__main__":
+    run(main)

@@ -1,0 +1,80 @@
+"""Reads the explanations that `clsim explain --format json` writes: one JSON value a line."""
+
+import json
+import sys
+
+VERSION = 1
+
+
+class BadInput(Exception):
+    """A file that holds no explanations of a known version."""
+
+
+def explanations(paths):
+    """The explanations of the files of these names, or of standard input where there is none."""
+    found = []
+    for name, text in texts(paths):
+        for number, line in enumerate(text.splitlines(), 1):
+            if line.strip():
+                found.append(explanation(name, number, line))
+    return found
+
+
+def texts(paths):
+    """The text of each file, with its name."""
+    if not paths:
+        return [("standard input", sys.stdin.read())]
+    found = []
+    for path in paths:
+        try:
+            with open(path, encoding="utf-8") as file:
+                found.append((path, file.read()))
+        except (OSError, UnicodeDecodeError) as error:
+            raise BadInput(f"cannot read {path}: {error}") from error
+    return found
+
+
+def explanation(name, number, line):
+    """The explanation of a line."""
+    try:
+        value = json.loads(line)
+    except json.JSONDecodeError as error:
+        raise BadInput(f"{name}: line {number}: no JSON: {error}") from error
+    if not isinstance(value, dict) or value.get("version") != VERSION:
+        raise BadInput(f"{name}: line {number}: no explanation of version {VERSION}")
+    return value
+
+
+def run(main):
+    """Writes what a main function gives, status 0; where its input is bad, a line on standard error, status 2."""
+    try:
+        sys.stdout.write(main(sys.argv[1:]))
+        sys.stdout.flush()
+    except BadInput as error:
+        sys.exit(fail(str(error)))
+    except (KeyError, TypeError, AttributeError) as error:
+        sys.exit(fail(f"an explanation lacks a member: {error}"))
+    except BrokenPipeError:
+        sys.exit(2)
+
+
+def fail(words):
+    """Says what is wrong, and gives the status for it."""
+    print(f"{sys.argv[0].rsplit('/', 1)[-1]}: {words}", file=sys.stderr)
+    return 2
+
+
+def ids(values):
+    """A list of ids as text: one as it is, several in brackets."""
+    return str(values[0]) if len(values) == 1 else "(" + ", ".join(map(str, values)) + ")"
+
+
+def item_text(item):
+    """A work-item with its ids."""
+    return (f"work-item {item['item']}: global id {ids(item['global_id'])}, "
+            f"local id {ids(item['local_id'])}, group {ids(item['group_id'])}")
+
+
+def place_of(item):
+    """Where an item stands: its spot, or that of its last access where it has ended; None where it has none."""
+    return item["spot"] or item["last_access"]
