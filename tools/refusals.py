@@ -1,4 +1,4 @@
-"""Each request for memory refused in turn, and each read and write, for tools/rows: what `clsim` and the program of direct calls do then.
+"""Each request for memory refused in turn, and each read and write, for tools/rows: what `clsim` and the programs of direct calls do then.
 
 refuse.c is built and preloaded. It runs a program once for each request that it makes, with that one refused, and tells what came of each run.
 
@@ -38,10 +38,11 @@ EARLY = [(b"", text, 2) for text in (b"clsim: out of memory\n", b"error: out of 
 # commands that may be answered so (docs/use/script.md, "Replies")
 GROWING = {b"buffer", b"copy", b"program", b"kernel", b"arg", b"launch", b"read"}
 
-# the calls of crates/refused_calls that take memory, and the one that is made while every request is refused
-CALLS = [b"passes lex", b"passes parse", b"passes check", b"passes lower", b"launches prepare", b"launches start", b"launches one_group",
-         b"launches merge", b"launches run_parallel", b"launches run_launch", b"launches replay", b"store", b"update", b"fetch",
-         b"note in a list", b"note of a running group", b"queue open", b"answer open"]
+# the programs of direct calls: the crates of their names, and their calls that take memory
+CALLS = {
+    "refused_calls": [b"passes lex", b"passes parse", b"passes check", b"passes lower", b"store", b"update", b"fetch", b"list note", b"log note"],
+}
+# the call that takes memory while every request is refused
 REFUSABLE = b"queue drive_one of a buffer where memory may be refused"
 
 HEAD = re.compile(rb"run (\d+) status (-?\d+) asked (\d+) refused (\d+) live (-?\d+) output (\d+) error (\d+)\n")
@@ -295,36 +296,34 @@ def by_section(lines):
     return found
 
 
-def is_beginning(lines, of):
-    """Whether lines stand among others, in their order."""
-    rest = iter(of)
-    return all(line in rest for line in lines)
+def is_made_again(lines, wanted):
+    """Whether lines are wanted ones up to a call, then one that says that it was refused, and then the wanted ones from that call on, or from one
+    before it."""
+    place = next((place for place, line in enumerate(lines) if line not in wanted), len(lines))
+    if lines[:place] != wanted[:place] or not b"".join(lines[place:place + 1]).endswith(b": out of memory"):
+        return False
+    rest = lines[place + 1:]
+    return len(wanted) - place <= len(rest) <= len(wanted) and rest == wanted[len(wanted) - len(rest):]
 
 
 def wrong_call(whole, run):
-    """What is wrong with the lines of one run of the program of direct calls, or nothing: where a request was refused, one line says of a call that
-    it answered so, or of what it needs that there was no memory for it. The lines of the calls that need that may be missing; all others are the same."""
-    if run.status != whole.status or not is_beginning(run.error.splitlines(), whole.error.splitlines()):
-        return repr(run.came())[:600]
+    """What is wrong with the lines of one run of a program of direct calls in which a request was refused, or nothing: one call answered so, or
+    what it needs couldn't be made. Then it was made again, and all lines came."""
+    said = set(run.error.splitlines()) <= set(whole.error.splitlines())
     wanted, came = by_section(whole.output.splitlines()), by_section(run.output.splitlines())
-    for section, lines in came.items():
-        if section not in wanted:
-            return f"no such call: {lines!r}"
-    other = [section for section in wanted if came.get(section) != wanted[section]]
-    if len(other) != 1:
+    other = [section for section in {**wanted, **came} if came.get(section) != wanted.get(section)]
+    if run.status != whole.status or not said:
+        return repr(run.came())[:600]
+    if len(other) != 1 or other[0] not in wanted or other[0] not in came:
         return f"calls of {other!r} came to something else"
-    lines = came.get(other[0], [])
-    told = [line for line in lines if line not in wanted[other[0]]]
-    if len(told) != 1 or not told[0].endswith((b": out of memory", b": not called")):
-        return f"{other[0]!r} came to {lines!r}"
-    if not is_beginning([line for line in lines if line != told[0]], wanted[other[0]]):
-        return f"{other[0]!r} came to {lines!r}"
+    if not is_made_again(came[other[0]], wanted[other[0]]):
+        return f"{other[0]!r} came to {came[other[0]]!r}"
     return None
 
 
-def judged_calls(command, output, library, folder):
-    """What came of the runs of the program of direct calls, and what is wrong. With no request refused its lines are those of its own crate, but for the buffer that is
-    made while every request is refused. Each call that takes memory has to be met by a refusal in some run."""
+def judged_calls(command, calls, output, library, folder):
+    """What came of the runs of a program of direct calls, and what is wrong. With no request refused its lines are those of its own crate, but for
+    the buffer that is made while every request is refused. Each of these calls has to be met by a refusal in some run."""
     whole, *runs = each(library, command, folder)
     wanted = output.replace(REFUSABLE + b": done\n", REFUSABLE + b": out of memory\n")
     if (whole.output, whole.status) != (wanted, 0):
@@ -332,11 +331,11 @@ def judged_calls(command, output, library, folder):
     counts, said, met = Counter(), [], set()
     for run in runs[:-1]:
         met.update(line.removesuffix(b": out of memory") for line in run.output.splitlines() if line.endswith(b": out of memory"))
-        counts["done without" if run.came() == whole.came() else "answered by a call"] += 1
-        wrong = wrong_call(whole, run) if run.came() != whole.came() else None
+        counts["done without" if run.output == whole.output else "answered by a call"] += 1
+        wrong = wrong_call(whole, run) if run.output != whole.output else None
         said += [f"request {run.number}: {wrong}"] if wrong else []
         said += left(whole, run)
-    missing = [call.decode() for call in CALLS if call not in met]
+    missing = [call.decode() for call in calls if call not in met]
     return counts, said + ([f"never met want of memory: {', '.join(missing)}"] if missing else [])
 
 
@@ -379,14 +378,14 @@ def tasks(rows, program, library):
                            lambda folder, row=row, workers=workers: Script(row, workers, program, library, folder).judged())
 
 
-def task_of_calls(crate, library):
-    """The program of direct calls, whose output stands in its crate."""
-    program = os.path.join(crate, "out", os.path.basename(crate))
+def task_of_calls(crates, name, library):
+    """A program of direct calls, whose output stands in its crate."""
+    program = os.path.join(crates, name, "out", name)
     if not os.access(program, os.X_OK):
         raise BadReport(f"no program: {program}")
-    with open(os.path.join(crate, "stdout"), "rb") as file:
+    with open(os.path.join(crates, name, "stdout"), "rb") as file:
         output = file.read()
-    return Task(os.path.basename(crate), lambda folder: judged_calls([program], output, library, folder))
+    return Task(name, lambda folder: judged_calls([program], CALLS[name], output, library, folder))
 
 
 def done(task, place):
@@ -407,12 +406,12 @@ def said_of(title, said):
     return "\n".join([f"FAILED {title}", *(f"  {it}" for it in said[:SHOWN]), *more])
 
 
-def tried(rows, program, crate):
+def tried(rows, program, crates):
     """Tries the rows and the direct calls. Raises NoCompiler where none can be tried."""
     outcome = Outcome(0, [], 0, Counter())
     with tempfile.TemporaryDirectory() as place, ThreadPoolExecutor(os.cpu_count()) as pool:
         built = library(place)
-        todo = [*([task_of_calls(crate, built)] if os.path.isdir(crate) else []), *tasks(rows, program, built)]
+        todo = [*(task_of_calls(crates, name, built) for name in CALLS), *tasks(rows, program, built)]
         for title, counts, said in pool.map(lambda task: done(task, place), todo):
             if counts is None:
                 outcome.left_out += 1

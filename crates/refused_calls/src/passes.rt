@@ -1,0 +1,88 @@
+//! From a source to code: the passes.
+
+use crate::came::{Came, told};
+use clmodel::tree::Tree;
+use clsyntax::parse;
+use clsyntax_lex::token::SyntaxFault;
+use clsyntax_lex::{Tokens, lex};
+use cltypes::{Checked, TypeFault, check};
+use lower::{LowerFault, lower};
+use regcode::Code;
+use std::alloc::Global;
+
+/// A kernel with a helper, a loop, a local array and a private one.
+const SOURCE: &str = "int sum(int n) { int s = 0; for (int j = 1; j <= n; j++) s += j; return s; }
+__kernel void f(__global int *a) {
+    __local int t[4];
+    int u[2];
+    int i = get_local_id(0);
+    u[0] = sum(i);
+    t[i] = u[0] + 1;
+    barrier(CLK_LOCAL_MEM_FENCE);
+    if (i < 2) a[i] = t[1 - i]; else atomic_add(&a[2], i);
+}
+";
+
+fn of_syntax(fault: SyntaxFault) -> Came {
+    match fault {
+        SyntaxFault::OutOfMemory => Came::OutOfMemory,
+        _ => Came::Wrong,
+    }
+}
+
+fn lexed(alloc: Global) -> Result<Tokens, Came> {
+    lex(alloc, SOURCE.as_bytes()).map_err(of_syntax)
+}
+
+fn parsed(alloc: Global, tokens: &Tokens) -> Result<Tree, Came> {
+    parse(alloc, tokens).map_err(of_syntax)
+}
+
+fn checked(alloc: Global, tree: Tree) -> Result<Checked, Came> {
+    match check(alloc, tree) {
+        Ok(checked) => Ok(checked),
+        Err(TypeFault::OutOfMemory) => Err(Came::OutOfMemory),
+        Err(_) => Err(Came::Wrong),
+    }
+}
+
+fn lowered(alloc: Global, checked: &Checked) -> Result<Code, Came> {
+    match lower(alloc, checked, "f") {
+        Ok(code) => Ok(code),
+        Err(LowerFault::OutOfMemory) => Err(Came::OutOfMemory),
+        Err(LowerFault::NoSuchKernel) => Err(Came::Wrong),
+    }
+}
+
+/// Whether a program that was checked is lowered. How much code came of it is told.
+fn is_lowered<R: Print>(rt: &R, alloc: Global, checked: &Checked) -> bool {
+    let Some(code) = told(rt, "passes lower", lowered(alloc, checked)) else {
+        return false;
+    };
+    let _ = println!(rt; "passes code: {} instructions", code.count());
+    true
+}
+
+/// Whether tokens come to code.
+fn is_compiled<R: Print>(rt: &R, alloc: Global, tokens: &Tokens) -> bool {
+    let Some(tree) = told(rt, "passes parse", parsed(alloc, tokens)) else {
+        return false;
+    };
+    let Some(checked) = told(rt, "passes check", checked(alloc, tree)) else {
+        return false;
+    };
+    is_lowered(rt, alloc, &checked) || is_lowered(rt, alloc, &checked)
+}
+
+/// Whether the source comes to code.
+fn is_built<R: Print>(rt: &R, alloc: Global) -> bool {
+    let Some(tokens) = told(rt, "passes lex", lexed(alloc)) else {
+        return false;
+    };
+    is_compiled(rt, alloc, &tokens) || is_compiled(rt, alloc, &tokens)
+}
+
+/// Tries the passes one behind the other, and again where one is refused.
+pub fn try_all<R: Print>(rt: &R, alloc: Global) {
+    let _ = is_built(rt, alloc) || is_built(rt, alloc);
+}
