@@ -2,3 +2,4 @@ pub mod FieldLemmas
 pub mod FieldLaws
 pub mod Grammar
 pub mod Scripts
+pub mod LineLaws

@@ -5,6 +5,7 @@ pub mod Reading
 pub mod Views
 pub mod Laws
 pub mod Faults
+pub mod Stepwise
 pub use Rattle.counted_io.specs.Pieces
 pub use Rattle.replay_text.specs.Text
 pub use Rattle.simfile_fields.specs.Texts

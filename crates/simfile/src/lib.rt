@@ -10,6 +10,7 @@ mod fields;
 mod forms;
 pub mod hex;
 pub mod laws;
-mod lines;
+pub mod lines;
 pub mod replies;
 pub mod script;
+pub mod stepwise;

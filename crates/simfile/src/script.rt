@@ -35,7 +35,8 @@ impl From<AllocError> for ScriptFault {
 /// The most commands of a script.
 const MAX_COMMANDS: u32 = 4096;
 
-fn line_feeds(bytes: &[u8]) -> usize
+/// How many line feeds the bytes have.
+pub(crate) fn line_feeds(bytes: &[u8]) -> usize
     ensures value { result ≡ count_by (λ byte. byte == 10) bytes.now }
     ensures within { result ≤ length bytes.now }
 {

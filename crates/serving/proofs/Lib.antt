@@ -1,0 +1,3 @@
+pub mod Lines
+pub mod Sources
+pub mod Commands
