@@ -1,3 +1,4 @@
 pub mod Sessions
 pub mod CommandLines
 pub mod Replays
+mod Servings

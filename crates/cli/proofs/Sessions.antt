@@ -42,10 +42,10 @@ plays_more old mid new [] (x ∷ rs) c r h s = absurd h
 plays_more old mid new (x ∷ cs) [] c r h s = absurd h
 plays_more old mid new (x ∷ cs) (y ∷ rs) c r h s = (h.0, h.1, plays_more h.0 mid new cs rs c r h.2 s)
 
-lines-more : (rs : List Reply) (r : Reply) → lines (rs ++ r ∷ []) ≡ lines rs ++ line r
+pub lines-more : (rs : List Reply) (r : Reply) → lines (rs ++ r ∷ []) ≡ lines rs ++ line r
 lines-more rs r = flat_map-append line rs (r ∷ []) ∙ ap (λ l. lines rs ++ l) (append-nil (line r))
 
-fold-more : (rs : List Reply) (r : Reply) (e : RunEnd) → fold (λ end x. one_end x end) e (rs ++ r ∷ []) ≡ one_end r (fold (λ end x. one_end x end) e rs)
+pub fold-more : (rs : List Reply) (r : Reply) (e : RunEnd) → fold (λ end x. one_end x end) e (rs ++ r ∷ []) ≡ one_end r (fold (λ end x. one_end x end) e rs)
 fold-more [] r e = refl
 fold-more (x ∷ rs) r e = fold-more rs r (one_end x e)
 

@@ -51,13 +51,17 @@ schedule = record (new_rule (codes "SCHEDULE")) { required = true }
 abbrev pub replay_form : App
 replay_form = with_rule (with_rule (new_app (codes "replay")) script) schedule
 
+abbrev pub serve_form : App
+serve_form = with_rule (with_rule (new_app (codes "serve")) workers) budget
+
 -- `clsim run FILE [--workers N] [--budget N]`
 abbrev pub runs : App
 runs = with_subcommand (on_top (λ top. record top { subcommand_required = true }) (new_app (codes "clsim"))) run_form.top
 
--- `clsim run FILE [--workers N] [--budget N]`, `clsim check FILE`, `clsim dump FILE KERNEL` or `clsim replay SCRIPT SCHEDULE`
+-- `clsim run FILE [--workers N] [--budget N]`, `clsim check FILE`, `clsim dump FILE KERNEL`,
+-- `clsim replay SCRIPT SCHEDULE` or `clsim serve [--workers N] [--budget N]`
 abbrev pub program : App
-program = with_subcommand (with_subcommand (with_subcommand runs check_form.top) dump_form.top) replay_form.top
+program = with_subcommand (with_subcommand (with_subcommand (with_subcommand runs check_form.top) dump_form.top) replay_form.top) serve_form.top
 
 -- the number of an option, from 1 to the most, or what it is where the option isn't there
 abbrev pub IsNumber : ℕ → ℕ → Option Text → ℕ → Type 0
@@ -80,6 +84,7 @@ IsRun rows (invocation.Run path options) =
 IsRun rows (invocation.Check path) = ⊥
 IsRun rows (invocation.Dump path name) = ⊥
 IsRun rows (invocation.Replay script schedule) = ⊥
+IsRun rows (invocation.Serve options) = ⊥
 
 -- a check of the file of these matches
 abbrev pub IsCheck : List Row → Invocation → Type 0
@@ -87,6 +92,7 @@ IsCheck rows (invocation.Run path options) = ⊥
 IsCheck rows (invocation.Check path) = first_of (codes "FILE") rows ≡ Some path.now
 IsCheck rows (invocation.Dump path name) = ⊥
 IsCheck rows (invocation.Replay script schedule) = ⊥
+IsCheck rows (invocation.Serve options) = ⊥
 
 -- a dump of the kernel and of the file of these matches
 abbrev pub IsDump : List Row → Invocation → Type 0
@@ -94,6 +100,7 @@ IsDump rows (invocation.Run path options) = ⊥
 IsDump rows (invocation.Check path) = ⊥
 IsDump rows (invocation.Dump path name) = (first_of (codes "FILE") rows ≡ Some path.now) × (first_of (codes "KERNEL") rows ≡ Some name.now)
 IsDump rows (invocation.Replay script schedule) = ⊥
+IsDump rows (invocation.Serve options) = ⊥
 
 -- a replay of the schedule file on the script of these matches
 abbrev pub IsReplay : List Row → Invocation → Type 0
@@ -102,6 +109,15 @@ IsReplay rows (invocation.Check path) = ⊥
 IsReplay rows (invocation.Dump path name) = ⊥
 IsReplay rows (invocation.Replay script schedule) =
     (first_of (codes "SCRIPT") rows ≡ Some script.now) × (first_of (codes "SCHEDULE") rows ≡ Some schedule.now)
+IsReplay rows (invocation.Serve options) = ⊥
+
+-- serving, by these matches' workers and under their budget
+abbrev pub IsServe : List Row → Invocation → Type 0
+IsServe rows (invocation.Run path options) = ⊥
+IsServe rows (invocation.Check path) = ⊥
+IsServe rows (invocation.Dump path name) = ⊥
+IsServe rows (invocation.Replay script schedule) = ⊥
+IsServe rows (invocation.Serve options) = GivesWorkers rows options.workers × GivesBudget rows options.budget
 
 -- the subcommand that was met, with its matches, is the form that is asked for
 abbrev pub Holds : Option (Text × List Row) → Invocation → Type 0
@@ -110,7 +126,8 @@ Holds (Some (name, rows)) asked =
     (name ≡ codes "run") × IsRun rows asked
     ⊎ ((name ≡ codes "check") × IsCheck rows asked
     ⊎ ((name ≡ codes "dump") × IsDump rows asked
-    ⊎ (name ≡ codes "replay") × IsReplay rows asked))
+    ⊎ ((name ≡ codes "replay") × IsReplay rows asked
+    ⊎ (name ≡ codes "serve") × IsServe rows asked)))
 
 -- the words' matches hold what is asked for
 abbrev pub AsksFor : List Text → Invocation → Type 0

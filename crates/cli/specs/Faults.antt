@@ -5,6 +5,9 @@ use Rattle.lower.specs.declared.lowering.LowerFault.{LowerFault}
 use Rattle.lower.specs.declared.lowering.LowerFault.TheVariants as lowering
 use Rattle.replay_text.specs.declared.reading.ReadFault.{ReadFault}
 use Rattle.replay_text.specs.declared.reading.ReadFault.TheVariants as file
+use Rattle.cli.specs.declared.session.Reader.TheVariants as reader
+use Rattle.serving.specs.declared.server.ServeFault.{ServeFault}
+use Rattle.serving.specs.declared.server.ServeFault.TheVariants as serve
 use Rattle.simfile.specs.declared.script.ScriptFault.{ScriptFault}
 use Rattle.simfile.specs.declared.script.ScriptFault.TheVariants as script
 
@@ -19,3 +22,9 @@ file_fault file.OutOfMemory = fault.OutOfMemory
 abbrev pub lower_fault : LowerFault → RunFault
 lower_fault lowering.NoSuchKernel = fault.NoSuchKernel
 lower_fault lowering.OutOfMemory = fault.OutOfMemory
+
+abbrev pub serve_fault : ServeFault → RunFault
+serve_fault serve.Hear = fault.Read reader.First
+serve_fault serve.Tell = fault.Write
+serve_fault (serve.BadLine n) = fault.BadLine n
+serve_fault serve.OutOfMemory = fault.OutOfMemory

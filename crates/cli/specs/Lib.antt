@@ -5,6 +5,8 @@ pub mod Checking
 pub mod Dumping
 pub mod Replaying
 pub mod CommandLine
+pub mod Serving
+pub mod Serves
 pub use Rattle.counted_io.specs.Sink
 pub use Rattle.counted_io.specs.Source
 pub use Rattle.replay_text.specs.ScheduleFile

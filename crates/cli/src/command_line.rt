@@ -5,7 +5,7 @@ ghost use Rattle.std.specs.Prelude.{◌≡◌, ◌≤◌, false, map, Ok, IfOk, 
 ghost use Rattle.clap.specs.Words.{AddsSubcommand, app_of, new_app, rule_of, found_of, rows_of, subcommand_rows_of};
 ghost use Rattle.clap.specs.declared.builder.command.Command.{Command};
 ghost use Rattle.clap.specs.declared.builder.command.Command.TheViews.{out-Command};
-ghost use Rattle.cli.specs.CommandLine.{file, workers, budget, kernel, script, schedule, run_form, check_form, dump_form, replay_form, runs, program, GivesWorkers, GivesBudget, IsRun, IsCheck, IsDump, IsReplay, Holds, AsksFor};
+ghost use Rattle.cli.specs.CommandLine.{file, workers, budget, kernel, script, schedule, run_form, check_form, dump_form, replay_form, serve_form, runs, program, GivesWorkers, GivesBudget, IsRun, IsCheck, IsDump, IsReplay, IsServe, Holds, AsksFor};
 
 use crate::session::Options;
 use clap::builder::ValueParser;
@@ -24,6 +24,8 @@ pub enum Invocation<'a> {
     Dump { file: &'a str, kernel: &'a str },
     /// Replays a schedule file on the script of a file
     Replay { script: &'a str, schedule: &'a str },
+    /// Answers the commands of standard input one by one
+    Serve { options: Options },
 }
 
 /// The greatest budget of a run.
@@ -152,6 +154,20 @@ fn replay_form<'a>(alloc: Global) -> Result<Command<'a>, AllocError>
     form.arg(schedule(alloc))
 }
 
+/// The form `serve [--workers N] [--budget N]`.
+fn serve_form<'a>(alloc: Global) -> Result<Command<'a>, AllocError>
+    ensures form { IfOk result (λ form. app_of form ≡ serve_form) }
+    ensures local { IfOk result (λ form. (out-Command form).has_globals ≡ false) }
+{
+    let form = named(
+        alloc,
+        "serve",
+        "Reads commands from standard input and answers each at once",
+    )
+    .arg(workers(alloc))?;
+    form.arg(budget(alloc))
+}
+
 /// The budget of a run, the default where the option isn't there, and `None` where it is no budget.
 fn budget_of(run: &ArgMatches<'_>) -> Option<u32>
     ensures given { IfSome result (λ number. GivesBudget (rows_of (found_of run.now)) number) }
@@ -215,6 +231,17 @@ fn replay_of<'a>(replay: &ArgMatches<'a>) -> Option<Invocation<'a>>
     Some(Invocation::Replay { script, schedule })
 }
 
+/// What the matches of `serve` ask for.
+fn serve_of<'a>(serve: &ArgMatches<'a>) -> Option<Invocation<'a>>
+    ensures { IfSome result (λ asked. IsServe (rows_of (found_of serve.now)) asked) }
+{
+    let workers = workers_of(serve)?;
+    let budget = budget_of(serve)?;
+    Some(Invocation::Serve {
+        options: Options { budget, workers },
+    })
+}
+
 /// What the matches of a command line ask for, by the form that they hold.
 fn asked<'a>(matches: &ArgMatches<'a>) -> Option<Invocation<'a>>
     ensures { IfSome result (λ asked. Holds (subcommand_rows_of matches.now) asked) }
@@ -228,7 +255,10 @@ fn asked<'a>(matches: &ArgMatches<'a>) -> Option<Invocation<'a>>
     if let Some(dump) = matches.subcommand_matches("dump") {
         return dump_of(dump);
     }
-    replay_of(matches.subcommand_matches("replay")?)
+    if let Some(replay) = matches.subcommand_matches("replay") {
+        return replay_of(replay);
+    }
+    serve_of(matches.subcommand_matches("serve")?)
 }
 
 /// The forms of the command line, `run` alone.
@@ -258,7 +288,8 @@ fn forms<'a>(alloc: Global) -> Result<Command<'a>, AllocError>
     let runs = runs(alloc)?;
     let runs_and_checks = with_form(runs, check_form(alloc))?;
     let with_dumps = with_form(runs_and_checks, dump_form(alloc))?;
-    with_form(with_dumps, replay_form(alloc))
+    let with_replays = with_form(with_dumps, replay_form(alloc))?;
+    with_form(with_replays, serve_form(alloc))
 }
 
 /// Reads the words of a command line by its forms.
@@ -273,8 +304,9 @@ fn command_by<'a>(forms: &mut Command<'a>, words: &'a [&'a str]) -> Result<Invoc
     }
 }
 
-/// Reads the words of a command line, the program's name first. The forms are `clsim run FILE [--workers N] [--budget N]`,
-/// `clsim check FILE`, `clsim dump FILE KERNEL` and `clsim replay SCRIPT SCHEDULE`.
+/// Reads the words of a command line, the program's name first. The forms are
+/// `clsim run FILE [--workers N] [--budget N]`, `clsim check FILE`, `clsim dump FILE KERNEL`,
+/// `clsim replay SCRIPT SCHEDULE` and `clsim serve [--workers N] [--budget N]`.
 pub fn command<'a>(alloc: Global, words: &'a [&'a str]) -> Result<Invocation<'a>, Error>
     ensures { IfOk result (λ asked. AsksFor (map (λ word. word.now) words.entry.now) asked) }
 {

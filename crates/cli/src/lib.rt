@@ -9,6 +9,7 @@
 pub mod checking;
 pub mod command_line;
 mod desk;
+pub mod dialogue;
 pub mod dumping;
 mod reading;
 pub mod replaying;
@@ -17,6 +18,7 @@ pub mod session;
 pub use checking::check_file;
 pub use command_line::command;
 pub use counted_io::{Read, ReadFault, Write, WriteFailed};
+pub use dialogue::serve;
 pub use dumping::dump_file;
 pub use replaying::replay_files;
 pub use session::{run, status};

@@ -17,6 +17,7 @@ use host_queue::Request;
 use lower::LowerFault;
 use regcode::DumpFault;
 use replay_text::ReadFault as FileFault;
+use serving::ServeFault;
 use simfile::replies::write_reply;
 use simfile::script::ScriptFault;
 use std::alloc::{AllocError, AllocFailed, Global};
@@ -190,7 +191,24 @@ impl From<DumpFault> for RunFault {
     }
 }
 
-fn one_end(reply: &Reply, end: RunEnd) -> RunEnd
+impl From<ServeFault> for RunFault {
+    ghost use Rattle.std.specs.Prelude.{◌≡◌};
+    ghost use Rattle.cli.specs.Faults.{serve_fault};
+
+    ghost from_gives = { λ fault made. made ≡ serve_fault fault };
+
+    fn from(fault: ServeFault) -> Self {
+        match fault {
+            ServeFault::Hear => RunFault::Read(Reader::First),
+            ServeFault::Tell => RunFault::Write,
+            ServeFault::BadLine(number) => RunFault::BadLine(number),
+            ServeFault::OutOfMemory => RunFault::OutOfMemory,
+        }
+    }
+}
+
+/// What the replies come to with one more.
+pub(crate) fn one_end(reply: &Reply, end: RunEnd) -> RunEnd
     ensures { result ≡ one_end reply.now end }
 {
     match reply {

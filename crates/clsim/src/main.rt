@@ -15,11 +15,13 @@ mod named_file;
 use crate::named_file::NamedFile;
 use cli::checking::{check_file, source_status};
 use cli::command_line::{Invocation, command};
+use cli::dialogue::serve;
 use cli::dumping::dump_file;
 use cli::replaying::{replay_files, replay_status};
 use cli::session::{Options, Reader, RunEnd, RunFault, run, status};
+use peers::StreamPeer;
 use std::env::Env;
-use std::io::{BufWriter, Printer};
+use std::io::{BufReader, BufWriter, Printer};
 use std::marker::Sync;
 use std::process::ExitCode;
 use std::rt::Files;
@@ -50,6 +52,24 @@ fn run_script<R: Files + Print + AllocGlobal + Threads + Wait + Sync>(
 ) -> Result<RunEnd, RunFault> {
     let (mut reader, mut writer) = open(rt, file)?;
     run(rt, rt.alloc(), &mut reader, &mut writer, options)
+}
+
+/// How many bytes of standard input are read at once.
+const READ_AHEAD: usize = 65_536;
+
+/// Answers the commands of standard input one by one, with the replies on standard output.
+fn serve_input<R: io::Input + Print + AllocGlobal + Threads + Wait + Sync>(
+    rt: &R,
+    options: Options,
+) -> Result<RunEnd, RunFault> {
+    let Ok(reader) = BufReader::with_capacity(rt.alloc(), READ_AHEAD, rt.reader()) else {
+        return Err(RunFault::OutOfMemory);
+    };
+    let Ok(writer) = BufWriter::new(rt.alloc(), io::writer(rt)) else {
+        return Err(RunFault::OutOfMemory);
+    };
+    let mut peer = StreamPeer::new(reader, Output::new(writer));
+    serve(rt, rt.alloc(), &mut peer, options)
 }
 
 /// Checks the source of a file, with the line that tells what was found on standard output.
@@ -121,7 +141,7 @@ fn end_replay(rt: &impl Eprint, outcome: Result<bool, RunFault>, script: &str, s
 }
 
 /// Does what the words of the command line ask for, and gives the status.
-fn perform<R: Files + Print + Eprint + AllocGlobal + Threads + Wait + Sync>(
+fn perform<R: Files + io::Input + Print + Eprint + AllocGlobal + Threads + Wait + Sync>(
     rt: &R,
     words: &[&str],
 ) -> u8
@@ -137,6 +157,9 @@ fn perform<R: Files + Print + Eprint + AllocGlobal + Threads + Wait + Sync>(
             let outcome = replay_schedule(rt, script, schedule);
             end_replay(rt, outcome, script, schedule)
         }
+        Ok(Invocation::Serve { options }) => {
+            end_run(rt, serve_input(rt, options), "standard input")
+        }
         Err(error) => {
             let _ = rt.eprint(&error);
             2
@@ -145,7 +168,7 @@ fn perform<R: Files + Print + Eprint + AllocGlobal + Threads + Wait + Sync>(
 }
 
 /// Does what the command line asks for, and gives the status. No memory may be left for its words.
-fn ask<R: Env + Files + Print + Eprint + AllocGlobal + Threads + Wait + Sync>(
+fn ask<R: Env + Files + io::Input + Print + Eprint + AllocGlobal + Threads + Wait + Sync>(
     rt: &R,
 ) -> io::Result<u8>
     ensures { IfOk result (λ status. status ≤ 2) }
@@ -161,7 +184,9 @@ fn ask<R: Env + Files + Print + Eprint + AllocGlobal + Threads + Wait + Sync>(
 
 /// Does what the command line asks for, and gives the status of the process: where anything is told on standard error, it is 2,
 /// whatever that takes.
-fn end<R: Env + Files + Print + Eprint + AllocGlobal + Threads + Wait + Sync>(rt: &R) -> ExitCode
+fn end<R: Env + Files + io::Input + Print + Eprint + AllocGlobal + Threads + Wait + Sync>(
+    rt: &R,
+) -> ExitCode
     ensures { exit_status result ≤ 2 }
 {
     match ask(rt) {

@@ -1,0 +1,13 @@
+use Rattle.std.proofs.Common.{ℕ, []}
+use Rattle.device.specs.Machine.{machine_of}
+use Rattle.peers.specs.Talk.{Conversation}
+use Rattle.serving.specs.Serving.{HasLine}
+use Rattle.cli.specs.Session.{end_of}
+use Rattle.cli.specs.Serves.{Serves}
+use Rattle.cli.proofs.dialogue.take_turns.Given as goal
+
+abbrev pub invariant-loop : goal.invariant-loop
+invariant-loop g l = record {
+  line : HasLine l.server;
+  serves : (start : Conversation) (budget : ℕ) → Serves start (g.P.Peer.view l.fn.peer) budget l.fn.server (machine_of l.fn.device) (end_of []) → Serves start (g.P.Peer.view l.peer) budget l.server (machine_of l.device) l.end;
+}

@@ -1,0 +1,26 @@
+-- A talk so far, between two turns.
+use Rattle.std.specs.Prelude.{◌≡◌, ℕ, List, [], ◌∷◌, ◌++◌}
+use Rattle.device.specs.Machine.{Machine, opening}
+use Rattle.host_commands.specs.declared.command.Command.{Command}
+use Rattle.host_commands.specs.declared.command.Reply.{Reply}
+use Rattle.cli.specs.declared.session.RunEnd.{RunEnd}
+use Rattle.cli.specs.Session.{Plays, end_of}
+use Rattle.peers.specs.Talk.{Event, Heard, heard, Conversation, Said}
+use Rattle.serving.specs.declared.server.Server.{Server}
+use Rattle.serving.specs.Hearing.{EndsWith}
+use Rattle.serving.specs.Turns.{greeting, AreTurns}
+use Rattle.serving.specs.Serving.{HasLine, up_to_most}
+use Rattle.simfile.specs.Script.{line_feeds}
+
+-- the commands so far were answered, and a first line of the next one was heard
+pub record Serves (old now : Conversation) (budget : ℕ) (server : Server) (machine : Machine) (end : RunEnd) : Type 0 where
+  pub commands : List Command
+  pub replies : List Reply
+  pub turns : List Event
+  pub are : AreTurns server.version commands replies turns
+  pub plays : Plays (opening budget) commands replies machine
+  pub said : Said old now (greeting server.version ++ turns ++ Heard server.text.items ∷ [])
+  pub ended : line_feeds server.text.items ≡ 0 → EndsWith old now
+  pub failures : now.failures ≡ old.failures
+  pub lines : server.lines ≡ up_to_most (line_feeds (heard (greeting server.version ++ turns)))
+  pub counts : end ≡ end_of replies

@@ -1,0 +1,98 @@
+//! Commands that are heard one by one, each answered before the next is heard.
+#![tactic(auto)]
+
+ghost use Rattle.std.specs.Prelude.{◌≡◌, ◌≤◌, ℕ, IfOk, IfErr, IfSome, length, []};
+ghost use Rattle.std.specs.Option.{MatchOption};
+ghost use Rattle.device.specs.Machine.{machine_of};
+ghost use Rattle.peers.specs.Talk.{Conversation};
+ghost use Rattle.serving.specs.Serving.{HasLine};
+ghost use Rattle.cli.specs.Session.{Ran, end_of};
+ghost use Rattle.cli.specs.Serving.{Served, ServeFailed};
+ghost use Rattle.cli.specs.Serves.{Serves};
+
+use crate::session::{Options, RunEnd, RunFault, one_end};
+use device::{Device, OpenGate};
+use peers::Peer;
+use serving::Server;
+use std::alloc::Global;
+use std::marker::Sync;
+use std::sync::Wait;
+use std::thread::Threads;
+
+/// Hears a command, does it, tells its reply and hears the first line of the next one. Answers what the replies come to
+/// with this one, or `None` where there is no further command.
+fn turn<T: Threads + Wait + Sync, P: Peer>(
+    rt: &T,
+    server: &mut Server,
+    device: &mut Device,
+    peer: &mut P,
+    options: Options,
+    end: RunEnd,
+) -> Result<Option<RunEnd>, RunFault>
+    requires { HasLine server.old }
+    ensures line { IfOk result (λ next. IfSome next (λ _. HasLine server.new)) }
+    ensures turned { (start : Conversation) (budget : ℕ) → Serves start (P.view peer.old) budget server.old (machine_of device.old) end →
+        IfOk result (λ next. MatchOption next (Served start (P.view peer.new) budget end) (Serves start (P.view peer.new) budget server.new (machine_of device.new))) }
+    ensures failed { (start : Conversation) (budget : ℕ) → Serves start (P.view peer.old) budget server.old (machine_of device.old) end →
+        IfErr result (ServeFailed start (P.view peer.new) budget) }
+{
+    let Some(command) = server.command(peer)? else {
+        return Ok(None);
+    };
+    let reply = device.apply_with(rt, command, options.workers, &OpenGate);
+    server.tell(&reply, peer)?;
+    server.next(peer)?;
+    Ok(Some(one_end(&reply, end)))
+}
+
+/// Takes turns until the input ends.
+fn take_turns<T: Threads + Wait + Sync, P: Peer>(
+    rt: &T,
+    server: &mut Server,
+    device: &mut Device,
+    peer: &mut P,
+    options: Options,
+) -> Result<RunEnd, RunFault>
+    requires { HasLine server.old }
+    ensures served { (start : Conversation) (budget : ℕ) → Serves start (P.view peer.old) budget server.old (machine_of device.old) (end_of []) →
+        IfOk result (Served start (P.view peer.new) budget) }
+    ensures failed { (start : Conversation) (budget : ℕ) → Serves start (P.view peer.old) budget server.old (machine_of device.old) (end_of []) →
+        IfErr result (ServeFailed start (P.view peer.new) budget) }
+{
+    let mut end = RunEnd {
+        faulted: false,
+        refused: false,
+    };
+    for _ in rt.forever() {
+        match turn(rt, server, device, peer, options, end)? {
+            Some(next) => end = next,
+            None => return Ok(end),
+        }
+    }
+    unreachable!()
+}
+
+/// Hears the commands of a peer, any number of them, does them on a new device, and tells the line of each reply before
+/// the next command is heard. A bad line ends it at once: `BadLine` has its number, and the commands before it are
+/// answered. `OutOfMemory` comes where memory is refused for a command's text or a reply's line. The faults of schedules
+/// and kernels never come, nor does `Second` in `Read`.
+pub fn serve<T: Threads + Wait + Sync, P: Peer>(
+    rt: &T,
+    alloc: Global,
+    peer: &mut P,
+    options: Options,
+) -> Result<RunEnd, RunFault>
+    ensures served { IfOk result (Served (P.view peer.old) (P.view peer.new) options.budget) }
+    ensures failed { IfErr result (ServeFailed (P.view peer.old) (P.view peer.new) options.budget) }
+{
+    let mut server = Server::open(alloc, peer)?;
+    let mut device = Device::new(alloc, options.budget);
+    take_turns(rt, &mut server, &mut device, peer, options)
+}
+
+/// The law of serving and running: what was told of at most 4,096 commands are the lines that `run` writes for the same
+/// bytes, and both come to the same end.
+pub fn served_is_ran()
+    ensures { (old new : Conversation) (budget : ℕ) (outcome : RunEnd) → (served : Served old new budget outcome) → length served.commands ≤ 4096 →
+        old.sink.held ≡ [] → Ran old.rest budget old.sink new.sink outcome }
+{}
