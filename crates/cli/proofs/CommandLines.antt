@@ -57,4 +57,4 @@ holds_dump m rows asked named held is =
 pub holds_replay : (m : ArgMatches) (rows : List Row) (asked : Invocation) → subcommand_name_of m ≡ Some (codes "replay")
     → option_map (λ p. p.1) (subcommand_rows_of m) ≡ Some rows → IsReplay rows asked → Holds (subcommand_rows_of m) asked
 holds_replay m rows asked named held is =
-    subst (λ (o : Option (Text × List Row)). Holds o asked) (sym (rows_named m (codes "replay") rows named held)) (inr (inr (inr (refl, is))))
+    subst (λ (o : Option (Text × List Row)). Holds o asked) (sym (rows_named m (codes "replay") rows named held)) (inr (inr (inr (inl (refl, is)))))
