@@ -152,10 +152,7 @@ fn touches_of(
 }
 
 /// Where an item stands.
-fn standing_of<D: Runnable>(
-    player: &mut Player<'_, D>,
-    item: u32,
-) -> Result<Standing, AllocError>
+fn standing_of<D: Runnable>(player: &mut Player<'_, D>, item: u32) -> Result<Standing, AllocError>
     ensures same { (launch : Launch) (state : State) → IsAt D.launch launch player.old state → IsAt D.launch launch player.new state }
     ensures item { IfOk result (λ standing. standing.item ≡ item) }
     ensures acts { IfOk result (λ standing. (launch : Launch) (state : State) → IsAt D.launch launch player.old state → ActsFrom launch state item standing.place) }

@@ -81,11 +81,7 @@ fn accessing(
 }
 
 /// An item where it stands.
-fn standing(
-    context: &Context<'_>,
-    standing: Standing,
-    does: Does,
-) -> Result<NamedItem, AllocError>
+fn standing(context: &Context<'_>, standing: Standing, does: Does) -> Result<NamedItem, AllocError>
     ensures { IfOk result (IsNamed (setup_of context.now.launch.now) context.now.program.text.now context.now.program.first_line) }
 {
     named(context, standing.item, does, None, standing.place)
@@ -139,11 +135,7 @@ fn one(alloc: Global, item: NamedItem) -> Result<Vec<NamedItem>, AllocError>
 }
 
 /// A list of two items.
-fn both(
-    alloc: Global,
-    first: NamedItem,
-    second: NamedItem,
-) -> Result<Vec<NamedItem>, AllocError>
+fn both(alloc: Global, first: NamedItem, second: NamedItem) -> Result<Vec<NamedItem>, AllocError>
     ensures { IfOk result (λ items. items.items ≡ first ∷ second ∷ []) }
 {
     let mut items = Vec::new(alloc);

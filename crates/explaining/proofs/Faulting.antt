@@ -32,7 +32,7 @@ is_fault _ = false
 
 no_fault : (f : Fault) (runs : List EventRun) (r : Reply) → is_fault r ≡ false → reply.Fault f runs ≡ r → ⊥
 unfolding is_fault
-no_fault f runs r no e = false≢true (sym no ∙ sym (ap is_fault e))
+no_fault f runs r none e = false≢true (sym none ∙ sym (ap is_fault e))
 
 built : (old new : Machine) (name : List ℕ) (b : Result Program BuildFault) (f : Fault) (runs : List EventRun) → Built old name b (reply.Fault f runs) new → ⊥
 unfolding is_fault
@@ -65,14 +65,14 @@ faults old new c f runs (inl h) = go (first (row old c)) refl h
     go (Some r) e d = absurd (no_fault f runs _ refl d.0)
 
 launches : (m : Machine) (commands : List Command) (ticket : ℕ) (c : Command) (f : Fault) (runs : List EventRun) → slice_get commands ticket ≡ Some c → Faults m f runs c → NoLaunch commands ticket → ⊥
-launches m commands ticket (command.Launch kernel range) f runs at h no = no kernel range at
-launches m commands ticket _ f runs at h no = absurd h
+launches m commands ticket (command.Launch kernel range) f runs at h none = none kernel range at
+launches m commands ticket _ f runs at h none = absurd h
 
 -- it is explained
 pub told_yes :
-    (m : Machine) (commands : List Command) (ticket : ℕ) (c : Command) (f : Fault) (runs : List EventRun) (yes : Bool) → slice_get commands ticket ≡ Some c → Faults m f runs c
-    → Tells m commands ticket f runs yes → yes ≡ true
-told_yes m commands ticket c f runs yes at h t =
+    (m : Machine) (commands : List Command) (ticket : ℕ) (c : Command) (f : Fault) (runs : List EventRun) (answer : Bool) → slice_get commands ticket ≡ Some c → Faults m f runs c
+    → Tells m commands ticket f runs answer → answer ≡ true
+told_yes m commands ticket c f runs answer at h t =
     let there : Faults m f runs (command.Launch t.kernel t.range) = subst (Faults m f runs) (some_inj c (command.Launch t.kernel t.range) (sym at ∙ t.at)) h in
     t.replays.decides.1 there.1
 

@@ -49,6 +49,7 @@ walk_ends old commands done rest c before new split led r step ticket counted w 
       led = subst (λ l. LeadsCleanly old l before) (sym (ap (λ l. take ticket l) split ∙ ap (λ n. take n (done ++ c ∷ rest)) counted ∙ take_before done (c ∷ rest))) led;
       replied = step;
     }
+
     go : (w : Walked) → EndsAt ticket r w → WalkedTo old commands new w
     go walked.Clean h = absurd h
     go (walked.Faulted case) (same, is) = subst (λ n. IsFirst old commands new n (reply.Fault case.fault case.schedule)) (sym same) (subst (IsFirst old commands new ticket) is at)

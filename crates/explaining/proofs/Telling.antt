@@ -29,8 +29,8 @@ pub ok_both : {A E : Type 0} (r : Result A E) (P Q R : A → Type 0) → IfOk r 
 ok_both (Ok x) P Q R p q h = h x p q
 ok_both (Err e) P Q R p q h = tt
 
-pub decided_not : {P : Type 0} (yes : Bool) → yes ≡ false → Decides yes P → P → ⊥
-decided_not yes no d p = false≢true (sym no ∙ d.1 p)
+pub decided_not : {P : Type 0} (answer : Bool) → answer ≡ false → Decides answer P → P → ⊥
+decided_not answer not d p = false≢true (sym not ∙ d.1 p)
 
 -- a prepared launch whose explanation was found exactly if its schedule leads to the fault
 pub tells :
@@ -47,8 +47,10 @@ tells m commands ticket kernel range launch buffers f runs found at p e none som
   where
     D : Setup → Table (List ℕ) → Type 0
     D s b = Decides (is_some found) (Reaches (launch_of s (bytes_in b)) (events_of runs) f)
+
     moved : D (launches.setup_of launch) buffers → D (setup_of m (kernel_of m kernel) range) m.buffers
     moved d = subst (λ (b : Table (List ℕ)). D (setup_of m (kernel_of m kernel) range) b) e (subst (λ (s : Setup). D s buffers) p.setup d)
+
     go :
         (o : Option Told) → IfNone o (Reaches (launch_of (launches.setup_of launch) (bytes_in buffers)) (events_of runs) f → ⊥)
         → IfSome o (λ _. Reaches (launch_of (launches.setup_of launch) (bytes_in buffers)) (events_of runs) f)
@@ -66,8 +68,8 @@ short m commands ticket kernel range launch buffers f given runs at p e h = reco
   range = range;
   at = at;
   is_short =
-  subst (λ (b : Table (List ℕ)). IsShort (launch_of (setup_of m (kernel_of m kernel) range) (bytes_in b)) f given runs) e
-  (subst (λ (s : Setup). IsShort (launch_of s (bytes_in buffers)) f given runs) p.setup h);
+      subst (λ (b : Table (List ℕ)). IsShort (launch_of (setup_of m (kernel_of m kernel) range) (bytes_in b)) f given runs) e
+      (subst (λ (s : Setup). IsShort (launch_of s (bytes_in buffers)) f given runs) p.setup h);
 }
 
 -- a launch that is refused, and not for want of memory, is refused by its row

@@ -33,17 +33,17 @@ pub record IsShort (launch : Launch) (f : Fault) (given short : List EventRun) :
   pub leads : Reaches launch (events_of short) f
   pub not_longer : length (events_of short) ≤ length (events_of given)
 
--- a launch that its row doesn't refuse: yes exactly where the schedule leads it to a state that shows the fault
-pub record Replays (m : Machine) (kernel : List ℕ) (range : Range) (f : Fault) (runs : List EventRun) (yes : Bool) : Type 0 where
+-- a launch that its row doesn't refuse: true exactly where the schedule leads it to a state that shows the fault
+pub record Replays (m : Machine) (kernel : List ℕ) (range : Range) (f : Fault) (runs : List EventRun) (answer : Bool) : Type 0 where
   pub admitted : first (row m (command.Launch kernel range)) ≡ None
-  pub decides : Decides yes (Reaches (launch_of (setup_of m (kernel_of m kernel) range) (bytes_of m)) (events_of runs) f)
+  pub decides : Decides answer (Reaches (launch_of (setup_of m (kernel_of m kernel) range) (bytes_of m)) (events_of runs) f)
 
 -- the command of a ticket is a launch that is judged so
-pub record Tells (m : Machine) (commands : List Command) (ticket : ℕ) (f : Fault) (runs : List EventRun) (yes : Bool) : Type 0 where
+pub record Tells (m : Machine) (commands : List Command) (ticket : ℕ) (f : Fault) (runs : List EventRun) (answer : Bool) : Type 0 where
   pub kernel : List ℕ
   pub range : Range
   pub at : slice_get commands ticket ≡ Some (command.Launch kernel range)
-  pub replays : Replays m kernel range f runs yes
+  pub replays : Replays m kernel range f runs answer
 
 -- the schedule that is told leads the launch of a ticket to the fault, and isn't longer than the given one
 pub record HasShort (m : Machine) (commands : List Command) (ticket : ℕ) (f : Fault) (given short : List EventRun) : Type 0 where
@@ -70,7 +70,7 @@ Untold m commands ticket (fault.NotALaunch named) = (named ≡ ticket) × NoLaun
 Untold m commands ticket (fault.CommandRefused named) = (named ≡ ticket) × Refuses m commands ticket
 
 -- The answer to a script and a schedule file: the launch of the ticket is judged on a new device, to which the commands before it led.
-pub record Explained (budget : ℕ) (script schedule : List ℕ) (yes : Bool) : Type 0 where
+pub record Explained (budget : ℕ) (script schedule : List ℕ) (answer : Bool) : Type 0 where
   pub commands : List Command
   pub ticket : ℕ
   pub f : Fault
@@ -79,7 +79,7 @@ pub record Explained (budget : ℕ) (script schedule : List ℕ) (yes : Bool) : 
   pub is : IsScript script commands
   pub file : IsScheduleFile schedule ticket f runs
   pub led : Leads (opening budget) (take ticket commands) machine
-  pub tells : Tells machine commands ticket f runs yes
+  pub tells : Tells machine commands ticket f runs answer
 
 -- why a script and a schedule file have no answer
 pub record IsUntold (budget : ℕ) (script schedule : List ℕ) (why : ExplainFault) : Type 0 where
@@ -106,7 +106,7 @@ pub record HasFirst (budget : ℕ) (script : List ℕ) : Type 0 where
   pub ticket : ℕ
   pub machine : Machine
   pub is : IsScript script commands
-  pub first : ((f : Fault) × (runs : List EventRun) × IsFirst (opening budget) commands machine ticket (reply.Fault f runs))
+  pub found : ((f : Fault) × (runs : List EventRun) × IsFirst (opening budget) commands machine ticket (reply.Fault f runs))
       ⊎ ((f : BuildFault) × IsFirst (opening budget) commands machine ticket (reply.Refused (refusal.BuildFailed f)))
 
 -- no reply to a script's commands is a fault or the refusal of a build
@@ -129,7 +129,7 @@ Unread script fault.BadSchedule = ⊥
 Unread script (fault.NotALaunch ticket) = ⊥
 Unread script (fault.CommandRefused ticket) = ⊥
 
--- yes exactly where a source isn't built
+-- true exactly where a source isn't built
 abbrev pub IsRefused : List ℕ → Bool → Type 0
 IsRefused source true = (f : BuildFault) × Builds source (Err f)
 IsRefused source false = (p : Program) × Builds source (Ok p)
@@ -140,9 +140,9 @@ is_source name = ends_with nat_eq name (codes ".cl")
 
 -- the answer to what is given
 abbrev pub Explains : ℕ → Given → Bool → Type 0
-Explains budget given yes =
-    MatchBool (is_source given.name.now) (IsRefused given.script.now yes)
-    (MatchOption given.schedule (Found budget given.script.now yes) (λ schedule. Explained budget given.script.now schedule.now yes))
+Explains budget given answer =
+    MatchBool (is_source given.name.now) (IsRefused given.script.now answer)
+    (MatchOption given.schedule (Found budget given.script.now answer) (λ schedule. Explained budget given.script.now schedule.now answer))
 
 -- why there is none
 abbrev pub Unanswered : ℕ → Given → ExplainFault → Type 0

@@ -96,7 +96,14 @@ fn explain_script(
                 commands: commands.as_slice(),
                 done: walk.done.as_slice(),
             };
-            let told = explain_case(alloc, &device, &asked, case.ticket, &case.fault, case.schedule)?;
+            let told = explain_case(
+                alloc,
+                &device,
+                &asked,
+                case.ticket,
+                &case.fault,
+                case.schedule,
+            )?;
             Ok(answer_of(alloc, told, options.format, "no\n")?)
         }
     }

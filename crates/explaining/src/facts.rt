@@ -78,7 +78,11 @@ pub(crate) fn items_of(fault: &Fault) -> (u32, u32) {
 
 /// The items that a fault names, with the events that are their accesses, for a shorter schedule: the earlier access
 /// first.
-pub(crate) fn named_of(alloc: Global, played: &Played, fault: &Fault) -> Result<Vec<Named>, AllocError> {
+pub(crate) fn named_of(
+    alloc: Global,
+    played: &Played,
+    fault: &Fault,
+) -> Result<Vec<Named>, AllocError> {
     let (item, other) = items_of(fault);
     let marks = played.marks.as_slice();
     let (first, second) = match played.pair {

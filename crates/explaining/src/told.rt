@@ -92,7 +92,16 @@ fn explain_launch(
         return Ok(None);
     };
     let short = chosen(context, buffers, fault, schedule, &first, as_given)?;
-    let Some(played) = play(alloc, launch, buffers, fault, &short.schedule, items, MOST_STEPS)? else {
+    let Some(played) = play(
+        alloc,
+        launch,
+        buffers,
+        fault,
+        &short.schedule,
+        items,
+        MOST_STEPS,
+    )?
+    else {
         return Ok(None);
     };
     let marks = played.marks.as_slice();
@@ -180,5 +189,12 @@ pub(crate) fn explain_case(
         budget: asked.options.budget,
     };
     let as_given = asked.options.as_given;
-    Ok(explain_launch(&context, device.buffers(), &place, fault, schedule, as_given)?)
+    Ok(explain_launch(
+        &context,
+        device.buffers(),
+        &place,
+        fault,
+        schedule,
+        as_given,
+    )?)
 }

@@ -51,11 +51,7 @@ fn lacked_memory(reply: &Reply) -> bool
 }
 
 /// Performs a command, and notes whether it was done. An error is out of memory.
-fn perform(
-    device: &mut Device,
-    command: Command,
-    done: &mut Vec<bool>,
-) -> Result<Reply, AllocError>
+fn perform(device: &mut Device, command: Command, done: &mut Vec<bool>) -> Result<Reply, AllocError>
     ensures step { IfOk result (λ reply. Step (machine_of device.old) command reply (machine_of device.new)) }
     ensures memory { IfOk result HadMemory }
     ensures counted { OnOk result (length done.new.items ≡ length done.old.items + 1) }

@@ -61,35 +61,40 @@ none_marked l z s old at h = ([], s, sym (nil old), refl, refl, h)
     nil (x ∷ xs) = ap (λ ys. x ∷ ys) (nil xs)
 
 pub one_marked :
-    (l : Launch) (z : ℕ) (s : State) (mark : Mark) (old new : List Mark) (at : State → Type 0) (yes : Bool) → yes ≡ true → ActsFrom l s (item_of z mark.event) mark.place
-    → IsPlayed l s mark.event at yes → new ≡ old ++ mark ∷ [] → AreMarked l z s (mark.event ∷ []) old new at true
+    (l : Launch) (z : ℕ) (s : State) (mark : Mark) (old new : List Mark) (at : State → Type 0) (answer : Bool) → answer ≡ true → ActsFrom l s (item_of z mark.event) mark.place
+    → IsPlayed l s mark.event at answer → new ≡ old ++ mark ∷ [] → AreMarked l z s (mark.event ∷ []) old new at true
 one_marked l z s mark old new at true all acts (t, goes, h) e = (mark ∷ [], t, e, refl, (acts, t, goes, refl), h)
 one_marked l z s mark old new at false all acts played e = absurd (false≢true all)
 
 pub one_never :
-    (l : Launch) (z : ℕ) (s : State) (e : Event) (old new : List Mark) (at at' : State → Type 0) (yes : Bool) → yes ≡ false → IsPlayed l s e at yes
+    (l : Launch) (z : ℕ) (s : State) (e : Event) (old new : List Mark) (at at' : State → Type 0) (answer : Bool) → answer ≡ false → IsPlayed l s e at answer
     → AreMarked l z s (e ∷ []) old new at' false
 one_never l z s e old new at at' true ended played = absurd (false≢true (sym ended))
 one_never l z s e old new at at' false ended (never, h) = ap (option_and_then (λ n. Some n)) never
 
 -- events behind those that were marked
 pub more_marked :
-    (l : Launch) (z : ℕ) (s : State) (xs ys : Events) (m0 m1 m2 : List Mark) (at at' : State → Type 0) (yes : Bool) → AreMarked l z s xs m0 m1 at true
-    → ((t : State) → at t → AreMarked l z t ys m1 m2 at' yes) → AreMarked l z s (xs ++ ys) m0 m2 at' yes
+    (l : Launch) (z : ℕ) (s : State) (xs ys : Events) (m0 m1 m2 : List Mark) (at at' : State → Type 0) (answer : Bool) → AreMarked l z s xs m0 m1 at true
+    → ((t : State) → at t → AreMarked l z t ys m1 m2 at' answer) → AreMarked l z s (xs ++ ys) m0 m2 at' answer
 more_marked l z s xs ys m0 m1 m2 at at' true (made, t, e, v, led, h) then = join (then t h)
   where
     join : AreMarked l z t ys m1 m2 at' true → AreMarked l z s (xs ++ ys) m0 m2 at' true
-    join (more, u, e', v', led', h') =
-        (made ++ more, u, e' ∙ ap (λ m. m ++ more) e ∙ append_assoc m0 made more,
-        events_append made more ∙ ap (λ es. es ++ events_in more) v ∙ ap (λ es. xs ++ es) v', lead_append l z s t u made more led led', h')
+    join (more, u, e', v', led', h') = (
+      made ++ more,
+      u,
+      e' ∙ ap (λ m. m ++ more) e ∙ append_assoc m0 made more,
+      events_append made more ∙ ap (λ es. es ++ events_in more) v ∙ ap (λ es. xs ++ es) v',
+      lead_append l z s t u made more led led',
+      h',
+    )
 more_marked l z s xs ys m0 m1 m2 at at' false (made, t, e, v, led, h) then =
     after_then l s t xs ys (ap (after l s) (sym v) ∙ lead_after l z s t made led) ∙ then t h
 
 -- the same list of events, written another way
 pub marked_as :
-    (l : Launch) (z : ℕ) (s : State) (xs ys : Events) (old new : List Mark) (at : State → Type 0) (yes : Bool) → xs ≡ ys → AreMarked l z s xs old new at yes
-    → AreMarked l z s ys old new at yes
-marked_as l z s xs ys old new at yes e h = subst (λ es. AreMarked l z s es old new at yes) e h
+    (l : Launch) (z : ℕ) (s : State) (xs ys : Events) (old new : List Mark) (at : State → Type 0) (answer : Bool) → xs ≡ ys → AreMarked l z s xs old new at answer
+    → AreMarked l z s ys old new at answer
+marked_as l z s xs ys old new at answer e h = subst (λ es. AreMarked l z s es old new at answer) e h
 
 -- where events led is a state that is kept
 pub marked_state : (l : Launch) (z : ℕ) (s : State) (xs : Events) (old new : List Mark) (at : State → Type 0) → AreMarked l z s xs old new at true → (t : State) × at t
@@ -98,22 +103,22 @@ marked_state l z s xs old new at (made, t, e, v, led, h) = (t, h)
 -- ---- events of an item, and runs, as a loop plays them
 
 pub item_marked :
-    (l : Launch) (z : ℕ) (s : State) (e : Event) (i : ℕ) (m0 m1 m2 : List Mark) (at at' : State → Type 0) (yes : Bool) → yes ≡ true
-    → AreMarked l z s (replicate i e) m0 m1 at true → ((t : State) → at t → AreMarked l z t (e ∷ []) m1 m2 at' yes) → AreMarked l z s (replicate (i + 1) e) m0 m2 at' true
+    (l : Launch) (z : ℕ) (s : State) (e : Event) (i : ℕ) (m0 m1 m2 : List Mark) (at at' : State → Type 0) (answer : Bool) → answer ≡ true
+    → AreMarked l z s (replicate i e) m0 m1 at true → ((t : State) → at t → AreMarked l z t (e ∷ []) m1 m2 at' answer) → AreMarked l z s (replicate (i + 1) e) m0 m2 at' true
 item_marked l z s e i m0 m1 m2 at at' true all h then =
     marked_as l z s (replicate i e ++ e ∷ []) (replicate (i + 1) e) m0 m2 at' true (sym (replicate_more e i)) (more_marked l z s (replicate i e) (e ∷ []) m0 m1 m2 at at' true h then)
 item_marked l z s e i m0 m1 m2 at at' false all h then = absurd (false≢true all)
 
 pub item_unmarked :
-    (l : Launch) (z : ℕ) (s : State) (e : Event) (i n : ℕ) (m0 m1 m2 m3 : List Mark) (at at' at'' : State → Type 0) (yes : Bool) → yes ≡ false → i < n
-    → AreMarked l z s (replicate i e) m0 m1 at true → ((t : State) → at t → AreMarked l z t (e ∷ []) m1 m2 at' yes) → AreMarked l z s (replicate n e) m0 m3 at'' false
+    (l : Launch) (z : ℕ) (s : State) (e : Event) (i n : ℕ) (m0 m1 m2 m3 : List Mark) (at at' at'' : State → Type 0) (answer : Bool) → answer ≡ false → i < n
+    → AreMarked l z s (replicate i e) m0 m1 at true → ((t : State) → at t → AreMarked l z t (e ∷ []) m1 m2 at' answer) → AreMarked l z s (replicate n e) m0 m3 at'' false
 item_unmarked l z s e i n m0 m1 m2 m3 at at' at'' true ended below h then = absurd (false≢true (sym ended))
 item_unmarked l z s e i n m0 m1 m2 m3 at at' at'' false ended below (made, t, same, v, led, h) then =
     replicate_never l s t e i n below (ap (after l s) (sym v) ∙ lead_after l z s t made led) (then t h)
 
 pub run_marked :
-    (l : Launch) (z : ℕ) (s : State) (runs : List EventRun) (i : ℕ) (d : EventRun) (m0 m1 m2 : List Mark) (at at' : State → Type 0) (yes : Bool) → yes ≡ true → i < length runs
-    → AreMarked l z s (events_of (take i runs)) m0 m1 at true → ((t : State) → at t → AreMarked l z t (events_of (get_or runs i d ∷ [])) m1 m2 at' yes)
+    (l : Launch) (z : ℕ) (s : State) (runs : List EventRun) (i : ℕ) (d : EventRun) (m0 m1 m2 : List Mark) (at at' : State → Type 0) (answer : Bool) → answer ≡ true → i < length runs
+    → AreMarked l z s (events_of (take i runs)) m0 m1 at true → ((t : State) → at t → AreMarked l z t (events_of (get_or runs i d ∷ [])) m1 m2 at' answer)
     → AreMarked l z s (events_of (take (i + 1) runs)) m0 m2 at' true
 run_marked l z s runs i d m0 m1 m2 at at' true all below h then =
     marked_as l z s (events_of (take i runs) ++ events_of (get_or runs i d ∷ [])) (events_of (take (i + 1) runs)) m0 m2 at' true (sym (events_more runs i d below))
@@ -121,8 +126,8 @@ run_marked l z s runs i d m0 m1 m2 at at' true all below h then =
 run_marked l z s runs i d m0 m1 m2 at at' false all below h then = absurd (false≢true all)
 
 pub run_unmarked :
-    (l : Launch) (z : ℕ) (s : State) (runs : List EventRun) (i : ℕ) (d : EventRun) (m0 m1 m2 m3 : List Mark) (at at' at'' : State → Type 0) (yes : Bool) → yes ≡ false → i < length runs
-    → AreMarked l z s (events_of (take i runs)) m0 m1 at true → ((t : State) → at t → AreMarked l z t (events_of (get_or runs i d ∷ [])) m1 m2 at' yes)
+    (l : Launch) (z : ℕ) (s : State) (runs : List EventRun) (i : ℕ) (d : EventRun) (m0 m1 m2 m3 : List Mark) (at at' at'' : State → Type 0) (answer : Bool) → answer ≡ false → i < length runs
+    → AreMarked l z s (events_of (take i runs)) m0 m1 at true → ((t : State) → at t → AreMarked l z t (events_of (get_or runs i d ∷ [])) m1 m2 at' answer)
     → AreMarked l z s (events_of runs) m0 m3 at'' false
 run_unmarked l z s runs i d m0 m1 m2 m3 at at' at'' true ended below h then = absurd (false≢true (sym ended))
 run_unmarked l z s runs i d m0 m1 m2 m3 at at' at'' false ended below (made, t, same, v, led, h) then =
@@ -132,12 +137,12 @@ run_unmarked l z s runs i d m0 m1 m2 m3 at at' at'' false ended below (made, t, 
 
 -- what was marked, by the answer
 pub marked :
-    (l : Launch) (z : ℕ) (s : State) (xs : Events) (old new : List Mark) (at : State → Type 0) (yes : Bool) → yes ≡ true → AreMarked l z s xs old new at yes
+    (l : Launch) (z : ℕ) (s : State) (xs : Events) (old new : List Mark) (at : State → Type 0) (answer : Bool) → answer ≡ true → AreMarked l z s xs old new at answer
     → AreMarked l z s xs old new at true
 marked l z s xs old new at true all h = h
 marked l z s xs old new at false all h = absurd (false≢true all)
 
 pub unmarked :
-    (l : Launch) (z : ℕ) (s : State) (xs : Events) (old new : List Mark) (at : State → Type 0) (yes : Bool) → yes ≡ false → AreMarked l z s xs old new at yes → after l s xs ≡ None
+    (l : Launch) (z : ℕ) (s : State) (xs : Events) (old new : List Mark) (at : State → Type 0) (answer : Bool) → answer ≡ false → AreMarked l z s xs old new at answer → after l s xs ≡ None
 unmarked l z s xs old new at true ended h = absurd (false≢true (sym ended))
 unmarked l z s xs old new at false ended h = h

@@ -12,7 +12,8 @@ abbrev pub item_of : ℕ → Event → ℕ
 item_of size (event.Item item) = item
 item_of size (event.Release group) = group * size
 
--- a machine stands at a place, where one is told, and the instruction there makes the item's next action, whatever follows it (own)
+-- a machine stands at a place, where one is told, and the instruction there makes the item's next action, whatever
+-- follows it (own)
 abbrev pub ActsFrom : Launch → State → ℕ → Option ℕ → Type 0
 ActsFrom launch state item None = ⊤
 ActsFrom launch state item (Some place) = (running : Running) × (running.state.place ≡ place) × Makes running (next_action launch state item)
@@ -27,8 +28,8 @@ Lead launch size state [] end = state ≡ end
 Lead launch size state (mark ∷ marks) end =
     ActsFrom launch state (item_of size mark.event) mark.place × (next : State) × (step launch state mark.event ≡ Some next) × Lead launch size next marks end
 
--- events were played one after another, their marks were added, and what is kept tells of the state that they lead to; or one of them isn't
--- possible in its turn (own)
+-- events were played one after another, their marks were added, and what is kept tells of the state that they lead to;
+-- or one of them isn't possible in its turn (own)
 abbrev pub AreMarked : Launch → ℕ → State → Events → List Mark → List Mark → (State → Type 0) → Bool → Type 0
 AreMarked launch size state events old new at true =
     (made : List Mark) × (end : State) × (new ≡ old ++ made) × (events_in made ≡ events) × Lead launch size state made end × at end

@@ -1,4 +1,4 @@
-use Rattle.std.proofs.Common.{◌≡◌, ◌∙◌, ◌++◌, None, Some, map, ap, ap₂, sym, subst}
+use Rattle.std.proofs.Common.{◌≡◌, ◌∙◌, [], None, Some, map, ap, ap₂, sym, subst}
 use Rattle.std.specs.Option.{IfSome}
 use Rattle.clmodel.specs.Launch.{Launch}
 use Rattle.clmodel.specs.Law.{Reaches}
@@ -48,19 +48,18 @@ pub returns-clause-played : goal.returns-clause-played
 returns-clause-played c =
     let same = ap₂ (λ x b. launch_of (setup_of x) (bytes_in b)) c.new-loaded.ensures.launch c.new-loaded.ensures.buffers in
     let l = of_loaded c.new-loaded.result in
-    let (made, end, added, events, led, at) =
-    marked l c.group_size-size.result (start l) _ _ _ (IsAt {D = LoadedLaunch} of_loaded l c.mark_schedule.new.player) c.in_ok-mark_schedule.field-0 c.if-not-branch.false
+    let at = IsAt {D = LoadedLaunch} of_loaded l c.mark_schedule.new.player in
+    let m =
+    marked l c.group_size-size.result (start l) (events_of c.as_slice.result.now) [] c.mark_schedule.new.marks.items at c.in_ok-mark_schedule.field-0 c.if-not-branch.false
     (c.in_ok-mark_schedule.ensures l (start l) c.in_ok-player.ensures) in
-    let marks : c.mark_schedule.new.marks.items ≡ made = added ∙ ap (λ xs. xs ++ made) c.new-marks.ensures in
-    let first = c.standing_of-first.ensures.same l end at in
+    let here = m.5 in
     subst (λ z. IsPlayedOut z _ (events_of c.args.schedule.now) c.args.fault.now _) same
     (subst (λ n. IsPlayedOut l n (events_of c.args.schedule.now) c.args.fault.now _) c.group_size-size.ensures.value
     (record {
-      end = end;
-      marked = ap events_in marks ∙ events ∙ ap events_of c.as_slice.ensures;
-      led = subst (λ ms. Lead l c.group_size-size.result (start l) ms end) (sym marks) led;
-      paired =
-      subst (λ log. IfSome c.in_ok-pair.pair (λ pair. (told : Told) × Tells c.args.fault.now told × IsFoundPair l told log pair)) (c.log.ensures l end at) c.in_ok-pair.ensures;
-      first_acts = c.in_ok-first.ensures.acts l end at;
-      second_acts = c.in_ok-second.ensures.acts l end first;
+      end = m.1;
+      marked = ap events_in m.2 ∙ m.3 ∙ ap events_of c.as_slice.ensures;
+      led = subst (λ ms. Lead l c.group_size-size.result (start l) ms m.1) (sym m.2) m.4;
+      paired = subst (λ log. IfSome c.in_ok-pair.pair (λ pair. (told : Told) × Tells c.args.fault.now told × IsFoundPair l told log pair)) (c.log.ensures l m.1 here) c.in_ok-pair.ensures;
+      first_acts = c.in_ok-first.ensures.acts l m.1 here;
+      second_acts = c.in_ok-second.ensures.acts l m.1 (c.standing_of-first.ensures.same l m.1 here);
     }))

@@ -16,7 +16,7 @@ loop-command-preserved c = record {
   split = c.loop-command.invariant.split ∙ (ap (λ l. c.loop-command.yielded ++ l) c.in-Some.ensures.steps.0 ∙ sym (append_assoc c.loop-command.yielded (c.in-Some.command ∷ []) (into_iter_items c.next.new.self)));
   counted = c.in_ok-reply.ensures.counted ∙ ap (λ n. n + 1) c.loop-command.invariant.counted ∙ sym (length_push c.loop-command.yielded c.in-Some.command);
   led =
-  cleanly_more _ _ _ c.loop-command.yielded c.in-Some.command _ c.loop-command.invariant.led c.in_ok-reply.ensures.step c.in_ok-reply.ensures.memory c.end_of.ensures.goes_on;
+      cleanly_more _ _ _ c.loop-command.yielded c.in-Some.command _ c.loop-command.invariant.led c.in_ok-reply.ensures.step c.in_ok-reply.ensures.memory c.end_of.ensures.goes_on;
 }
 
 pub returns-in-Some : goal.returns-in-Some
