@@ -1,0 +1,148 @@
+-- Events played with their marks.
+use Rattle.std.proofs.Common.{◌≡◌, ℕ, ◌+◌, ◌<◌, ◌≤◌, Bool, true, false, Option, None, Some, List, [], ◌∷◌, ◌++◌, length, take, drop, get_or, map, replicate, refl, sym, ap, ◌∙◌, subst, append_assoc, arith}
+use Rattle.std.specs.Option.{IfSome, option_and_then}
+use Rattle.std.specs.List.{slice_get}
+use Rattle.std.proofs.lemmas.Bool.{false≢true}
+use Rattle.std.proofs.lemmas.Option.{slice_get_past}
+use Rattle.clmodel.specs.Launch.{Launch}
+use Rattle.clmodel.specs.Outcome.{events_of}
+use Rattle.clmodel.specs.Run.{State, Events, after, next_action, step}
+use Rattle.clmodel.specs.declared.action.Action.{Action}
+use Rattle.clmodel.specs.declared.schedule.Event.{Event}
+use Rattle.clmodel.specs.declared.schedule.EventRun.{EventRun}
+use Rattle.item_step.specs.Running.{Makes}
+use Rattle.replay.proofs.Played.{after_then, after_never, replicate_more, replicate_never, events_more, events_split}
+use Rattle.replay_play.specs.Items.{Stands, StandsAt, place_of, place_in}
+use Rattle.replay_play.specs.States.{ActsNext, IsAt, IsPlayed}
+use Rattle.replay_play.specs.declared.player.Player.{Player}
+use Rattle.replay_play.specs.declared.slot.Slot.{Slot}
+use Rattle.replay_play.specs.declared.slot.Slot.TheVariants as slot
+use Rattle.marked_play.specs.Marks.{ActsFrom, AreMarked, Lead, events_in, item_of}
+use Rattle.marked_play.specs.declared.marks.Mark.{Mark}
+
+-- ---- the place of an item
+
+at_slot :
+    (l : Launch) (s : State) (item : ℕ) (a : Action) (o : Option Slot) → next_action l s item ≡ a → ((i : Slot) → o ≡ Some i → Stands i a)
+    → ActsFrom l s item (option_and_then place_of o)
+at_slot l s item a None e h = tt
+at_slot l s item a (Some slot.Waiting) e h = tt
+at_slot l s item a (Some (slot.Running r)) e h = (r, refl, subst (Makes r) (sym e) (h (slot.Running r) refl))
+at_slot l s item a (Some slot.Ended) e h = tt
+
+pub acts_from :
+    {D : Type 0} (launch_of : D → Launch) (l : Launch) (p : Player D) (s : State) (item : ℕ) (action : Option Action) (place : Option ℕ)
+    → IsAt launch_of l p s → ActsNext l s item action → IfSome action (StandsAt p.items.items item) → place ≡ place_in p.items.items item → ActsFrom l s item place
+acts_from launch_of l p s item None place at past stands e =
+    let none : slice_get p.items.items item ≡ None = slice_get_past p.items.items item (subst (λ n. n ≤ item) (sym at.tells.many) past) in
+    subst (ActsFrom l s item) (sym (e ∙ ap (option_and_then place_of) none)) tt
+acts_from launch_of l p s item (Some a) place at next stands e = subst (ActsFrom l s item) (sym e) (at_slot l s item a (slice_get p.items.items item) next.1 stands)
+
+-- ---- marks one behind another
+
+events_append : (xs ys : List Mark) → events_in (xs ++ ys) ≡ events_in xs ++ events_in ys
+events_append [] ys = refl
+events_append (x ∷ xs) ys = ap (λ es. x.event ∷ es) (events_append xs ys)
+
+lead_append : (l : Launch) (z : ℕ) (s t u : State) (xs ys : List Mark) → Lead l z s xs t → Lead l z t ys u → Lead l z s (xs ++ ys) u
+lead_append l z s t u [] ys e h = subst (λ x. Lead l z x ys u) (sym e) h
+lead_append l z s t u (x ∷ xs) ys (acts, next, goes, rest) h = (acts, next, goes, lead_append l z next t u xs ys rest h)
+
+-- marks lead where their events do
+pub lead_after : (l : Launch) (z : ℕ) (s t : State) (xs : List Mark) → Lead l z s xs t → after l s (events_in xs) ≡ Some t
+lead_after l z s t [] e = ap Some e
+lead_after l z s t (x ∷ xs) (acts, next, goes, rest) = ap (option_and_then (λ n. after l n (events_in xs))) goes ∙ lead_after l z next t xs rest
+
+pub none_marked : (l : Launch) (z : ℕ) (s : State) (old : List Mark) (at : State → Type 0) → at s → AreMarked l z s [] old old at true
+none_marked l z s old at h = ([], s, sym (nil old), refl, refl, h)
+  where
+    nil : (xs : List Mark) → xs ++ [] ≡ xs
+    nil [] = refl
+    nil (x ∷ xs) = ap (λ ys. x ∷ ys) (nil xs)
+
+pub one_marked :
+    (l : Launch) (z : ℕ) (s : State) (mark : Mark) (old new : List Mark) (at : State → Type 0) (answer : Bool) → answer ≡ true → ActsFrom l s (item_of z mark.event) mark.place
+    → IsPlayed l s mark.event at answer → new ≡ old ++ mark ∷ [] → AreMarked l z s (mark.event ∷ []) old new at true
+one_marked l z s mark old new at true all acts (t, goes, h) e = (mark ∷ [], t, e, refl, (acts, t, goes, refl), h)
+one_marked l z s mark old new at false all acts played e = absurd (false≢true all)
+
+pub one_never :
+    (l : Launch) (z : ℕ) (s : State) (e : Event) (old new : List Mark) (at at' : State → Type 0) (answer : Bool) → answer ≡ false → IsPlayed l s e at answer
+    → AreMarked l z s (e ∷ []) old new at' false
+one_never l z s e old new at at' true ended played = absurd (false≢true (sym ended))
+one_never l z s e old new at at' false ended (never, h) = ap (option_and_then (λ n. Some n)) never
+
+-- events behind those that were marked
+pub more_marked :
+    (l : Launch) (z : ℕ) (s : State) (xs ys : Events) (m0 m1 m2 : List Mark) (at at' : State → Type 0) (answer : Bool) → AreMarked l z s xs m0 m1 at true
+    → ((t : State) → at t → AreMarked l z t ys m1 m2 at' answer) → AreMarked l z s (xs ++ ys) m0 m2 at' answer
+more_marked l z s xs ys m0 m1 m2 at at' true (made, t, e, v, led, h) then = join (then t h)
+  where
+    join : AreMarked l z t ys m1 m2 at' true → AreMarked l z s (xs ++ ys) m0 m2 at' true
+    join (more, u, e', v', led', h') = (
+      made ++ more,
+      u,
+      e' ∙ ap (λ m. m ++ more) e ∙ append_assoc m0 made more,
+      events_append made more ∙ ap (λ es. es ++ events_in more) v ∙ ap (λ es. xs ++ es) v',
+      lead_append l z s t u made more led led',
+      h',
+    )
+more_marked l z s xs ys m0 m1 m2 at at' false (made, t, e, v, led, h) then =
+    after_then l s t xs ys (ap (after l s) (sym v) ∙ lead_after l z s t made led) ∙ then t h
+
+-- the same list of events, written another way
+pub marked_as :
+    (l : Launch) (z : ℕ) (s : State) (xs ys : Events) (old new : List Mark) (at : State → Type 0) (answer : Bool) → xs ≡ ys → AreMarked l z s xs old new at answer
+    → AreMarked l z s ys old new at answer
+marked_as l z s xs ys old new at answer e h = subst (λ es. AreMarked l z s es old new at answer) e h
+
+-- where events led is a state that is kept
+pub marked_state : (l : Launch) (z : ℕ) (s : State) (xs : Events) (old new : List Mark) (at : State → Type 0) → AreMarked l z s xs old new at true → (t : State) × at t
+marked_state l z s xs old new at (made, t, e, v, led, h) = (t, h)
+
+-- ---- events of an item, and runs, as a loop plays them
+
+pub item_marked :
+    (l : Launch) (z : ℕ) (s : State) (e : Event) (i : ℕ) (m0 m1 m2 : List Mark) (at at' : State → Type 0) (answer : Bool) → answer ≡ true
+    → AreMarked l z s (replicate i e) m0 m1 at true → ((t : State) → at t → AreMarked l z t (e ∷ []) m1 m2 at' answer) → AreMarked l z s (replicate (i + 1) e) m0 m2 at' true
+item_marked l z s e i m0 m1 m2 at at' true all h then =
+    marked_as l z s (replicate i e ++ e ∷ []) (replicate (i + 1) e) m0 m2 at' true (sym (replicate_more e i)) (more_marked l z s (replicate i e) (e ∷ []) m0 m1 m2 at at' true h then)
+item_marked l z s e i m0 m1 m2 at at' false all h then = absurd (false≢true all)
+
+pub item_unmarked :
+    (l : Launch) (z : ℕ) (s : State) (e : Event) (i n : ℕ) (m0 m1 m2 m3 : List Mark) (at at' at'' : State → Type 0) (answer : Bool) → answer ≡ false → i < n
+    → AreMarked l z s (replicate i e) m0 m1 at true → ((t : State) → at t → AreMarked l z t (e ∷ []) m1 m2 at' answer) → AreMarked l z s (replicate n e) m0 m3 at'' false
+item_unmarked l z s e i n m0 m1 m2 m3 at at' at'' true ended below h then = absurd (false≢true (sym ended))
+item_unmarked l z s e i n m0 m1 m2 m3 at at' at'' false ended below (made, t, same, v, led, h) then =
+    replicate_never l s t e i n below (ap (after l s) (sym v) ∙ lead_after l z s t made led) (then t h)
+
+pub run_marked :
+    (l : Launch) (z : ℕ) (s : State) (runs : List EventRun) (i : ℕ) (d : EventRun) (m0 m1 m2 : List Mark) (at at' : State → Type 0) (answer : Bool) → answer ≡ true → i < length runs
+    → AreMarked l z s (events_of (take i runs)) m0 m1 at true → ((t : State) → at t → AreMarked l z t (events_of (get_or runs i d ∷ [])) m1 m2 at' answer)
+    → AreMarked l z s (events_of (take (i + 1) runs)) m0 m2 at' true
+run_marked l z s runs i d m0 m1 m2 at at' true all below h then =
+    marked_as l z s (events_of (take i runs) ++ events_of (get_or runs i d ∷ [])) (events_of (take (i + 1) runs)) m0 m2 at' true (sym (events_more runs i d below))
+    (more_marked l z s (events_of (take i runs)) (events_of (get_or runs i d ∷ [])) m0 m1 m2 at at' true h then)
+run_marked l z s runs i d m0 m1 m2 at at' false all below h then = absurd (false≢true all)
+
+pub run_unmarked :
+    (l : Launch) (z : ℕ) (s : State) (runs : List EventRun) (i : ℕ) (d : EventRun) (m0 m1 m2 m3 : List Mark) (at at' at'' : State → Type 0) (answer : Bool) → answer ≡ false → i < length runs
+    → AreMarked l z s (events_of (take i runs)) m0 m1 at true → ((t : State) → at t → AreMarked l z t (events_of (get_or runs i d ∷ [])) m1 m2 at' answer)
+    → AreMarked l z s (events_of runs) m0 m3 at'' false
+run_unmarked l z s runs i d m0 m1 m2 m3 at at' at'' true ended below h then = absurd (false≢true (sym ended))
+run_unmarked l z s runs i d m0 m1 m2 m3 at at' at'' false ended below (made, t, same, v, led, h) then =
+    ap (after l s) (events_split runs i d below)
+    ∙ after_never l s (events_of (take i runs) ++ events_of (get_or runs i d ∷ [])) (events_of (drop (i + 1) runs))
+    (after_then l s t (events_of (take i runs)) (events_of (get_or runs i d ∷ [])) (ap (after l s) (sym v) ∙ lead_after l z s t made led) ∙ then t h)
+
+-- what was marked, by the answer
+pub marked :
+    (l : Launch) (z : ℕ) (s : State) (xs : Events) (old new : List Mark) (at : State → Type 0) (answer : Bool) → answer ≡ true → AreMarked l z s xs old new at answer
+    → AreMarked l z s xs old new at true
+marked l z s xs old new at true all h = h
+marked l z s xs old new at false all h = absurd (false≢true all)
+
+pub unmarked :
+    (l : Launch) (z : ℕ) (s : State) (xs : Events) (old new : List Mark) (at : State → Type 0) (answer : Bool) → answer ≡ false → AreMarked l z s xs old new at answer → after l s xs ≡ None
+unmarked l z s xs old new at true ended h = absurd (false≢true (sym ended))
+unmarked l z s xs old new at false ended h = h

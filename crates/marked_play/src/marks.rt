@@ -1,0 +1,133 @@
+//! The events of a schedule, each with the place of its item.
+#![tactic(auto)]
+
+ghost use Rattle.std.specs.Prelude.{◌≡◌, true, [], ◌∷◌, replicate, IfOk};
+ghost use Rattle.clmodel.specs.Launch.{Launch};
+ghost use Rattle.clmodel.specs.Outcome.{events_of};
+ghost use Rattle.clmodel.specs.Run.{State};
+ghost use Rattle.clmodel.specs.declared.schedule.Event.TheVariants as event;
+ghost use Rattle.replay_play.specs.States.{IsAt};
+ghost use Rattle.marked_play.specs.Marks.{ActsFrom, AreMarked, item_of};
+
+use clmodel::schedule::{Event, EventRun};
+use launches::Runnable;
+use replay_play::Player;
+use std::alloc::AllocError;
+
+/// An event with the place in its code of the instruction from which its item acts: of a release, the group's first
+/// item.
+#[derive(Clone, Copy)]
+pub struct Mark {
+    pub event: Event,
+    pub place: Option<usize>,
+}
+
+/// The place from which an item acts next, if it is under way. An error is out of memory.
+pub fn place_of<D: Runnable>(
+    player: &mut Player<'_, D>,
+    item: u32,
+) -> Result<Option<usize>, AllocError>
+    ensures same { (launch : Launch) (state : State) → IsAt D.launch launch player.old state → IsAt D.launch launch player.new state }
+    ensures acts { IfOk result (λ place. (launch : Launch) (state : State) → IsAt D.launch launch player.old state → ActsFrom launch state item place) }
+{
+    player.action(item)?;
+    Ok(player.place(item))
+}
+
+/// The place at which an event is told, before it is played. An error is out of memory.
+fn place_before<D: Runnable>(
+    player: &mut Player<'_, D>,
+    group_size: u32,
+    event: Event,
+) -> Result<Option<usize>, AllocError>
+    ensures same { (launch : Launch) (state : State) → IsAt D.launch launch player.old state → IsAt D.launch launch player.new state }
+    ensures acts { IfOk result (λ place. (launch : Launch) (state : State) → IsAt D.launch launch player.old state → ActsFrom launch state (item_of group_size event) place) }
+{
+    match event {
+        Event::Item(item) => place_of(player, item),
+        Event::Release(group) => match group.checked_mul(group_size) {
+            Some(first) => place_of(player, first),
+            None => Ok(None),
+        },
+    }
+}
+
+/// Plays an event, where it is possible, and adds its mark. Answers whether it is possible. An error is out of memory.
+fn mark_event<D: Runnable>(
+    player: &mut Player<'_, D>,
+    group_size: u32,
+    event: Event,
+    marks: &mut Vec<Mark>,
+) -> Result<bool, AllocError>
+    requires { (launch : Launch) × (state : State) × IsAt D.launch launch player.old state }
+    ensures { IfOk result (λ yes. (launch : Launch) (state : State) → IsAt D.launch launch player.old state
+        → AreMarked launch group_size state (event ∷ []) marks.old.items marks.new.items (IsAt D.launch launch player.new) yes) }
+{
+    let place = place_before(player, group_size, event)?;
+    if !player.play(event)? {
+        return Ok(false);
+    }
+    marks.push(Mark { event, place })?;
+    Ok(true)
+}
+
+/// Plays events of an item, up to one that isn't possible, and adds their marks. Answers whether all are. An error is
+/// out of memory.
+fn mark_items<D: Runnable>(
+    player: &mut Player<'_, D>,
+    group_size: u32,
+    item: u32,
+    count: u64,
+    marks: &mut Vec<Mark>,
+) -> Result<bool, AllocError>
+    requires { (launch : Launch) × (state : State) × IsAt D.launch launch player.old state }
+    ensures { IfOk result (λ yes. (launch : Launch) (state : State) → IsAt D.launch launch player.old state
+        → AreMarked launch group_size state (replicate count (event.Item item)) marks.old.items marks.new.items (IsAt D.launch launch player.new) yes) }
+{
+    for _ in 0..count {
+        if !mark_event(player, group_size, Event::Item(item), marks)? {
+            return Ok(false);
+        }
+    }
+    Ok(true)
+}
+
+/// Plays the events of a run, up to one that isn't possible, and adds their marks. Answers whether all are. An error is
+/// out of memory.
+fn mark_run<D: Runnable>(
+    player: &mut Player<'_, D>,
+    group_size: u32,
+    run: EventRun,
+    marks: &mut Vec<Mark>,
+) -> Result<bool, AllocError>
+    requires { (launch : Launch) × (state : State) × IsAt D.launch launch player.old state }
+    ensures { IfOk result (λ yes. (launch : Launch) (state : State) → IsAt D.launch launch player.old state
+        → AreMarked launch group_size state (events_of (run ∷ [])) marks.old.items marks.new.items (IsAt D.launch launch player.new) yes) }
+{
+    match run {
+        EventRun::Item { item, count } => mark_items(player, group_size, item, count, marks),
+        EventRun::Release { group } => {
+            mark_event(player, group_size, Event::Release(group), marks)
+        }
+    }
+}
+
+/// Plays the events of a schedule (OpenCL 1.2, section 3.2), up to one that isn't possible, and adds each with its
+/// place. Answers whether all are. An error is out of memory.
+pub fn mark_schedule<D: Runnable>(
+    player: &mut Player<'_, D>,
+    group_size: u32,
+    runs: &[EventRun],
+    marks: &mut Vec<Mark>,
+) -> Result<bool, AllocError>
+    requires { (launch : Launch) × (state : State) × IsAt D.launch launch player.old state }
+    ensures { IfOk result (λ yes. (launch : Launch) (state : State) → IsAt D.launch launch player.old state
+        → AreMarked launch group_size state (events_of runs.now) marks.old.items marks.new.items (IsAt D.launch launch player.new) yes) }
+{
+    for run in runs {
+        if !mark_run(player, group_size, *run, marks)? {
+            return Ok(false);
+        }
+    }
+    Ok(true)
+}
