@@ -16,7 +16,7 @@ last_more p n true old new h e i = subst (IsLast p (n + 1)) (sym e) (omega arith
 last_more p n false old new h e i = subst (IsLast p (n + 1)) (sym e) (last_before p n old (sym h) i)
 
 -- the places of what is true, with one more
-places_more : (n : ℕ) (bs : List Bool) (b : Bool) → true_places n (bs ++ b ∷ []) ≡ true_places n bs ++ (if b then n + length bs ∷ [] else [])
+places_more : (n : ℕ) (bs : List Bool) (b : Bool) → true_places n (bs ++ b ∷ []) ≡ true_places n bs ++ (if b then (n + length bs) ∷ [] else [])
 places_more n [] true = ap (λ k. k ∷ []) (omega arith)
 places_more n [] false = refl
 places_more n (true ∷ bs) b = ap (λ ks. n ∷ ks) (places_more (suc n) bs b ∙ ap (λ k. true_places (suc n) bs ++ (if b then k ∷ [] else [])) (omega arith))

@@ -22,11 +22,15 @@ space_word space.Global = codes "__global"
 space_word space.Local = codes "__local"
 space_word space.Constant = codes "__constant"
 
+abbrev pub const_word : Bool → List ℕ
+const_word true = codes "const "
+const_word false = []
+
 -- the type of a variable as a source has it (OpenCL 1.2, sections 6.1 and 6.5)
 abbrev pub type_text : VariableType → List ℕ
 type_text (variable.Integer kind) = type_word kind
 type_text (variable.Pointer pointer) =
-    space_word pointer.space ++ codes " " ++ (if pointer.is_const then codes "const " else []) ++ type_word pointer.element ++ codes " *"
+    space_word pointer.space ++ codes " " ++ const_word pointer.is_const ++ type_word pointer.element ++ codes " *"
 
 -- the name that a source has at a place
 abbrev pub name_of : List (List ℕ) → ℕ → List ℕ

@@ -4,7 +4,7 @@
 ghost use Rattle.std.specs.Prelude.{◌≡◌, ◌++◌, [], ◌∷◌, false, length, slice_get, string_bytes, IfOk, OnOk, if◌then◌else◌};
 ghost use Rattle.std.specs.Option.{option_map_or};
 ghost use Rattle.launch_facts.specs.Commands.{did, IsLast};
-ghost use Rattle.launch_facts.specs.Parameters.{type_text, is_buffer, sets, gave_buffer, is_named, indexes, IsFacts, IsGiven, AreChosen};
+ghost use Rattle.launch_facts.specs.Parameters.{space_word, const_word, type_text, is_buffer, sets, gave_buffer, is_named, indexes, IsFacts, IsGiven, AreChosen};
 
 use crate::commands::{this_or_earlier, was_done};
 use clmodel::setup::Argument;
@@ -14,6 +14,23 @@ use explanation::ParameterFacts;
 use host_commands::command::Command;
 use std::alloc::{AllocError, Global};
 
+fn space_word(space: AddressSpace) -> &'static str
+    ensures { result.now ≡ space_word space }
+{
+    match space {
+        AddressSpace::Global => "__global",
+        AddressSpace::Local => "__local",
+        AddressSpace::Constant => "__constant",
+    }
+}
+
+/// The word in front of an element's type where it can't be stored to.
+fn const_word(is_const: bool) -> &'static str
+    ensures { result.now ≡ const_word is_const }
+{
+    if is_const { "const " } else { "" }
+}
+
 /// The type of a variable as a source has it (OpenCL 1.2, sections 6.1 and 6.5).
 pub fn type_text(alloc: Global, kind: VariableType) -> Result<String, AllocError>
     ensures { IfOk result (λ text. string_bytes text ≡ type_text kind) }
@@ -21,12 +38,8 @@ pub fn type_text(alloc: Global, kind: VariableType) -> Result<String, AllocError
     match kind {
         VariableType::Integer(kind) => String::from_str(alloc, kind.name()),
         VariableType::Pointer(pointer) => {
-            let space = match pointer.space {
-                AddressSpace::Global => "__global",
-                AddressSpace::Local => "__local",
-                AddressSpace::Constant => "__constant",
-            };
-            let constant = if pointer.is_const { "const " } else { "" };
+            let space = space_word(pointer.space);
+            let constant = const_word(pointer.is_const);
             let element = pointer.element.name();
             format!(in alloc; "{space} {constant}{element} *")
         }
