@@ -32,12 +32,14 @@ before : (bs : List Bool) (b : Bool) (n j : ℕ) → length bs ≡ n → j < n �
 before bs b n j e h = get_or-append bs (b ∷ []) false j (omega arith)
 
 pub chosen_more : (q : ℕ → Bool → Type 0) (n : ℕ) (b : Bool) (old new : List ℕ) → q n b → new ≡ old ++ (if b then n ∷ [] else []) → AreChosen q n old → AreChosen q (n + 1) new
-chosen_more q n b old new h e c = record {
-  chosen = c.chosen ++ b ∷ [];
-  each = omega (arith, length-append c.chosen (b ∷ []), c.each);
-  values = below_more (λ j. q j (get_or (c.chosen ++ b ∷ []) j false)) n
-      (λ j l. subst (q j) (sym (before c.chosen b n j c.each l)) (c.values j l))
-      (subst (q n) (sym (seam c.chosen b n c.each)) h);
-  are = e ∙ ap (λ ks. ks ++ (if b then n ∷ [] else [])) c.are
-      ∙ sym (places_more 0 c.chosen b ∙ ap (λ k. true_places 0 c.chosen ++ (if b then k ∷ [] else [])) c.each);
-}
+chosen_more q n b old new h e c =
+    let z : 0 + length c.chosen ≡ n = omega (arith, c.each) in
+    record {
+      chosen = c.chosen ++ b ∷ [];
+      each = omega (arith, length-append c.chosen (b ∷ []), c.each);
+      values = below_more (λ j. q j (get_or (c.chosen ++ b ∷ []) j false)) n
+          (λ j l. subst (q j) (sym (before c.chosen b n j c.each l)) (c.values j l))
+          (subst (q n) (sym (seam c.chosen b n c.each)) h);
+      are = e ∙ ap (λ ks. ks ++ (if b then n ∷ [] else [])) c.are
+          ∙ sym (places_more 0 c.chosen b ∙ ap (λ k. true_places 0 c.chosen ++ (if b then k ∷ [] else [])) z);
+    }

@@ -1,7 +1,7 @@
 //! The parameters of a kernel, with their types.
 #![tactic(auto)]
 
-ghost use Rattle.std.specs.Prelude.{◌≡◌, ◌++◌, [], ◌∷◌, false, length, slice_get, string_bytes, IfOk, OnOk, if◌then◌else◌};
+ghost use Rattle.std.specs.Prelude.{◌≡◌, ◌++◌, [], ◌∷◌, codes, false, length, slice_get, string_bytes, IfOk, OnOk, if◌then◌else◌};
 ghost use Rattle.std.specs.Option.{option_map_or};
 ghost use Rattle.launch_facts.specs.Commands.{did, IsLast};
 ghost use Rattle.launch_facts.specs.Parameters.{space_word, const_word, type_text, is_buffer, sets, gave_buffer, is_named, indexes, IsFacts, IsGiven, AreChosen};
@@ -31,6 +31,23 @@ fn const_word(is_const: bool) -> &'static str
     if is_const { "const " } else { "" }
 }
 
+/// The type of a pointer, by its words.
+fn pointer_text(
+    alloc: Global,
+    space: &str,
+    constant: &str,
+    element: &str,
+) -> Result<String, AllocError>
+    ensures { IfOk result (λ text. string_bytes text ≡ space.now ++ codes " " ++ constant.now ++ element.now ++ codes " *") }
+{
+    let mut out = String::from_str(alloc, space)?;
+    out.push_str(" ")?;
+    out.push_str(constant)?;
+    out.push_str(element)?;
+    out.push_str(" *")?;
+    Ok(out)
+}
+
 /// The type of a variable as a source has it (OpenCL 1.2, sections 6.1 and 6.5).
 pub fn type_text(alloc: Global, kind: VariableType) -> Result<String, AllocError>
     ensures { IfOk result (λ text. string_bytes text ≡ type_text kind) }
@@ -41,7 +58,7 @@ pub fn type_text(alloc: Global, kind: VariableType) -> Result<String, AllocError
             let space = space_word(pointer.space);
             let constant = const_word(pointer.is_const);
             let element = pointer.element.name();
-            format!(in alloc; "{space} {constant}{element} *")
+            pointer_text(alloc, space, constant, element)
         }
     }
 }
