@@ -8,7 +8,7 @@ and a picture of the schedule, a lane a work-item. The status is 0, or 2 where t
 import re
 from xml.sax.saxutils import escape
 
-from reading import explanations, item_text, place_of, run
+from reading import explanations, item_text, lines_of, place_of, run
 
 # the picture: how far lanes and events stand from one another, and where the first ones stand, in pixels
 LANE = 132
@@ -176,20 +176,13 @@ def places_of(whole):
 
 
 def lines_round(whole, places):
-    """The lines of the script round places, by their numbers, where the script can be read and has these places; else none."""
-    try:
-        with open(whole["script"], encoding="utf-8", errors="replace") as file:
-            lines = file.read().split("\n")
-    except OSError:
-        return {}
-    numbers = [place["script_line"] for place in places]
-    if any(number > len(lines) or lines[number - 1] != place["text"] for number, place in zip(numbers, places)):
-        return {}
-    near = {number + step for number in numbers for step in range(-ROUND, ROUND + 1)}
+    """The lines of the program's source round places by their numbers, as far as they are known."""
+    lines = lines_of(whole)
+    near = {place["script_line"] + step for place in places for step in range(-ROUND, ROUND + 1)}
     first = min((place["script_line"] - place["line"] + 1 for place in places), default=1)
-    count = re.fullmatch(r"program \S+ (\d+)", lines[first - 2]) if first > 1 else None
-    last = first + int(count[1]) - 1 if count else max(numbers, default=0)
-    return {number: lines[number - 1] for number in near if first <= number <= min(last, len(lines))}
+    count = re.fullmatch(r"program \S+ (\d+)", lines.get(first - 1, ""))
+    last = first + int(count[1]) - 1 if count else max(lines, default=0)
+    return {number: lines[number] for number in near if first <= number <= last and number in lines}
 
 
 def source_table(whole):

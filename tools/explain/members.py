@@ -17,7 +17,7 @@ KINDS = {
         "partialFingerprints": dict, "codeFlows": ["flow"],
     },
     "location": {"id": int, "physicalLocation!": "physical", "message": "text"},
-    "physical": {"artifactLocation!": "artifact", "region!": "region"},
+    "physical": {"artifactLocation!": "artifact", "region!": "region", "contextRegion": "region"},
     "artifact": {"uri!": str},
     "region": {"startLine!": int, "startColumn": int, "endColumn": int, "snippet": "text"},
     "flow": {"threadFlows!": ["thread", "+"], "message": "text"},
