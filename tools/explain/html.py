@@ -136,7 +136,8 @@ def picture(whole):
     """The schedule as SVG: a lane a work-item, events from top to bottom, the two accesses in red, a ring for what comes next."""
     lanes = {item: LEFT + LANE * place for place, item in enumerate(lanes_of(whole))}
     steps = shown_steps(whole)
-    wide, high = LEFT + LANE * max(1, len(lanes)) + 40, TOP + ROW * (len(steps) + 1)
+    going = [] if whole["steps_left"] else [item for item in whole["items"] if item["event"] is None and item["spot"] and item["item"] in lanes]
+    wide, high = LEFT + LANE * max(1, len(lanes)) + 40, TOP + ROW * (len(steps) + bool(going))
     size = f'width="{wide}" height="{high}"'
     parts = [f'<svg {size} role="img" aria-label="schedule">']
     for item, x in lanes.items():
@@ -145,9 +146,8 @@ def picture(whole):
                      f'<line class="lane" x1="{x}" y1="42" x2="{x}" y2="{high - 6}"/>')
     for row, (number, step) in enumerate(steps):
         parts.append(step_mark(step, number, TOP + ROW * row, whole, lanes))
-    for item in whole["items"]:
-        if item["event"] is None and item["spot"] and item["item"] in lanes and not whole["steps_left"]:
-            parts.append(next_ring(lanes[item["item"]], TOP + ROW * len(steps), item))
+    for item in going:
+        parts.append(next_ring(lanes[item["item"]], TOP + ROW * len(steps), item))
     parts.append("</svg>")
     left = whole["steps_left"] + len(whole["steps"]) - len(steps)
     more = f'<p class="dim">{left} of {whole["schedule"]["events"]} events aren\'t drawn</p>' if left else ""
