@@ -154,13 +154,11 @@ def picture(whole):
     return "".join(parts) + more
 
 
-def marked_text(place):
+def marked_text(raw, place):
     """A line of source with what stands at a place marked."""
-    text, begin = place["text"], place["column"] - 1
+    begin = place["column"] - 1
     end = begin + max(1, place["length"])
-    raw = text.encode("utf-8", "surrogateescape")
-    pieces = [raw[:begin], raw[begin:end], raw[end:]]
-    first, middle, last = (quoted(piece.decode("utf-8", "replace")) for piece in pieces)
+    first, middle, last = (quoted(piece.decode(errors="replace")) for piece in (raw[:begin], raw[begin:end], raw[end:]))
     return f"{first}<mark>{middle}</mark>{last}"
 
 
@@ -175,24 +173,24 @@ def places_of(whole):
                 yield {**call, "length": 0}, f"called at column {call['column']}"
 
 
-def lines_round(whole, places):
+def lines_round(lines, places):
     """The lines of the program's source round places by their numbers, as far as they are known."""
-    lines = lines_of(whole)
     near = {place["script_line"] + step for place in places for step in range(-ROUND, ROUND + 1)}
     first = min((place["script_line"] - place["line"] + 1 for place in places), default=1)
-    count = re.fullmatch(r"program \S+ (\d+)", lines.get(first - 1, ""))
+    count = re.fullmatch(rb"program \S+ (\d+)", lines.get(first - 1, b""))
     last = first + int(count[1]) - 1 if count else max(lines, default=0)
     return {number: lines[number] for number in near if first <= number <= last and number in lines}
 
 
 def source_table(whole):
     """The lines of the named items, and those of the calls of helpers round them, with the lines round these where they are known."""
-    told = list(places_of(whole))
-    rows = [(number, "", quoted(text), "") for number, text in lines_round(whole, [place for place, _ in told]).items()]
+    lines, told = lines_of(whole), list(places_of(whole))
     marked = {place["script_line"] for place, _ in told}
-    rows = [row for row in rows if row[0] not in marked]
+    near = lines_round(lines, [place for place, _ in told])
+    rows = [(number, "", quoted(raw.decode(errors="replace")), "") for number, raw in near.items() if number not in marked]
     for place, words in told:
-        text = marked_text(place) if place["length"] else quoted(place["text"])
+        raw = lines[place["script_line"]]
+        text = marked_text(raw, place) if place["length"] else quoted(raw.decode(errors="replace"))
         row = (place["script_line"], ' class="marked"' if place["length"] else "", text, words)
         if row not in rows:
             rows.append(row)

@@ -81,13 +81,15 @@ def place_of(item):
 
 
 def lines_of(whole):
-    """The lines of an explanation's script by their numbers: all where the file of its name is there and has the lines that the explanation
-    tells, else these alone."""
+    """The lines of an explanation's script as bytes, by their numbers: all where the file of its name is there and has the lines that the
+    explanation tells, else these alone."""
     places = [place for item in whole["items"] for place in (item["spot"], item["last_access"]) if place]
     told = {place["script_line"]: place["text"] for spot in places for place in [spot, *spot["calls"]]}
     try:
-        with open(whole["script"], encoding="utf-8", errors="replace", newline="") as file:
-            lines = dict(enumerate(file.read().split("\n"), 1))
+        with open(whole["script"], "rb") as file:
+            lines = dict(enumerate(file.read().split(b"\n"), 1))
     except OSError:
-        return told
-    return lines if all(lines.get(number) == text for number, text in told.items()) else told
+        lines = {}
+    if all(lines.get(number, b"").decode(errors="replace") == text for number, text in told.items()):
+        return lines
+    return {number: text.encode() for number, text in told.items()}

@@ -30,7 +30,7 @@ def units(raw):
 
 def column_of(line, column):
     """The column in UTF-16 code units of a column of a line in bytes; both count from 1. Of a line that isn't known each byte is one."""
-    return column if line is None else units(line.encode()[: column - 1]) + 1
+    return column if line is None else units(line[: column - 1]) + 1
 
 
 def location(whole, lines, place, words=None):
@@ -38,14 +38,14 @@ def location(whole, lines, place, words=None):
     number, column, line = place["script_line"], place["column"], lines.get(place["script_line"])
     text = place["text"]
     if "length" in place:
-        text = text.encode()[column - 1 : column - 1 + place["length"]].decode(errors="replace")
+        text = lines[number][column - 1 : column - 1 + place["length"]].decode(errors="replace")
     start = column_of(line, column)
     physical = {
         "artifactLocation": {"uri": quote(whole["script"])},
         "region": {"startLine": number, "startColumn": start, "endColumn": start + max(1, units(text.encode())), "snippet": {"text": text}},
     }
     if line is not None:
-        physical["contextRegion"] = {"startLine": number, "snippet": {"text": line}}
+        physical["contextRegion"] = {"startLine": number, "snippet": {"text": line.decode(errors="replace")}}
     return {"physicalLocation": physical, **({"message": {"text": words}} if words else {})}
 
 
