@@ -36,15 +36,15 @@ def column_of(line, column):
 def location(whole, lines, place, words=None):
     """A place of the script: that of a work-item, or of a step, which has only its own text."""
     number, column, line = place["script_line"], place["column"], lines.get(place["script_line"])
-    text = place["text"]
-    if "length" in place:
+    text, is_whole = place["text"], "length" in place
+    if is_whole:
         text = lines[number][column - 1 : column - 1 + place["length"]].decode(errors="replace")
     start = column_of(line, column)
     physical = {
         "artifactLocation": {"uri": quote(whole["script"])},
         "region": {"startLine": number, "startColumn": start, "endColumn": start + max(1, units(text.encode())), "snippet": {"text": text}},
     }
-    if line is not None:
+    if is_whole:
         physical["contextRegion"] = {"startLine": number, "snippet": {"text": line.decode(errors="replace")}}
     return {"physicalLocation": physical, **({"message": {"text": words}} if words else {})}
 
@@ -106,7 +106,7 @@ def main(paths):
             "results": [result(whole) for whole in found],
         }],
     }
-    return json.dumps(log, indent=2) + "\n"
+    return json.dumps(log) + "\n"
 
 
 if __name__ == "__main__":
