@@ -2,12 +2,13 @@
 """Turns explanations into one page: `clsim explain FILE --format json | tools/explain/html.py > explained.html`.
 
 Reads the files that are named, or standard input, with an explanation a line. The page is one file without script,
-link and network: the source with marked lines, and a picture of the schedule, a lane a work-item. The status is 0, or 2
-where the input is bad."""
+link and network: the lines of the source that are meant, with those round them where the script can be read by its name,
+and a picture of the schedule, a lane a work-item. The status is 0, or 2 where the input is bad."""
 
+import re
 from xml.sax.saxutils import escape
 
-from reading import explanations, item_text, place_of, run
+from reading import explanations, item_text, lines_of, place_of, run
 
 # the picture: how far lanes and events stand from one another, and where the first ones stand, in pixels
 LANE = 132
@@ -17,6 +18,10 @@ TOP = 60
 # how many lanes and events are drawn at most
 LANES = 24
 EVENTS = 400
+# how many lanes are few, so that all are seen at once
+FEW = 6
+# how many lines of the script are shown before and behind a marked one
+ROUND = 3
 
 STYLE = """
 :root {
@@ -50,8 +55,9 @@ svg text { font: 12px system-ui, sans-serif; fill: var(--ink); }
 .lane { stroke: var(--line); }
 .event { fill: var(--good); }
 .bad { fill: var(--bad); }
+.ring { fill: var(--paper); stroke: var(--bad); stroke-width: 2; }
 .bar { stroke: var(--bar); stroke-width: 3; }
-svg .note { fill: var(--dim); }
+svg .note, tspan.note { fill: var(--dim); }
 svg .barnote { fill: var(--bar); }
 """
 
@@ -70,11 +76,11 @@ def group_of(whole, item):
 
 
 def lanes_of(whole):
-    """The work-items of the picture: those that a fault names, and those of the first steps, by their numbers."""
+    """The work-items of the picture by their numbers; where they are many, those that the fault names come first."""
     named = [item["item"] for item in whole["items"]]
-    acting = [step["item"] for step in whole["steps"][:EVENTS] if "item" in step]
-    found = list(dict.fromkeys(named + acting))[:LANES]
-    return sorted(found)
+    acting = [step["item"] for _, step in shown_steps(whole) if "item" in step]
+    found = list(dict.fromkeys(named + sorted(acting)))[:LANES]
+    return sorted(found) if len(found) <= FEW else found
 
 
 def event_dot(x, y, step, bad):
@@ -87,7 +93,16 @@ def event_dot(x, y, step, bad):
     tip = quoted(f"{place['text']} ({words})" if place else words)
     kind = "bad" if bad else "event"
     return (f'<circle class="{kind}" cx="{x}" cy="{y}" r="6"><title>{tip}</title></circle>'
-            f'<text x="{x + 11}" y="{y + 4}">{where}<title>{tip}</title></text>')
+            f'<text x="{x + 11}" y="{y + 4}">{where} <tspan class="note">{step["does"]}</tspan><title>{tip}</title></text>')
+
+
+def next_ring(x, y, item):
+    """What a work-item would do next: a ring."""
+    spot, words = item["spot"], "waits" if item["does"] == "waits" else f"next: {item['does']}"
+    where = f"{spot['script_line']}:{spot['column']}"
+    tip = quoted(spot["text"].strip())
+    return (f'<circle class="ring" cx="{x}" cy="{y}" r="6"><title>{tip}</title></circle>'
+            f'<text x="{x + 11}" y="{y + 4}">{where} <tspan class="note">{words}</tspan><title>{tip}</title></text>')
 
 
 def release_bar(lanes, y, step, whole):
@@ -100,56 +115,91 @@ def release_bar(lanes, y, step, whole):
             f'<text class="barnote" x="{max(xs) + 24}" y="{y + 4}">{words}</text>')
 
 
+def shown_steps(whole):
+    """The steps that are drawn, with their numbers: all, or the first and the last ones."""
+    steps = list(enumerate(whole["steps"], 1))
+    return steps if len(steps) <= EVENTS else steps[: EVENTS // 2] + steps[-EVENTS // 2 :]
+
+
+def step_mark(step, number, y, whole, lanes):
+    """A step with its number: a dot, a bar, or a word where its work-item has no lane."""
+    front = f'<text class="note" x="8" y="{y + 4}">{number}</text>'
+    if "release" in step:
+        return front + release_bar(lanes, y, step, whole)
+    if step["item"] not in lanes:
+        return front + f'<text class="note" x="{LEFT - 24}" y="{y + 4}">item {step["item"]}</text>'
+    bad = number in {item["event"] for item in whole["items"]}
+    return front + event_dot(lanes[step["item"]], y, step, bad)
+
+
 def picture(whole):
-    """The schedule as SVG: a lane a work-item, events from top to bottom, the two accesses in red."""
+    """The schedule as SVG: a lane a work-item, events from top to bottom, the two accesses in red, a ring for what comes next."""
     lanes = {item: LEFT + LANE * place for place, item in enumerate(lanes_of(whole))}
-    steps = whole["steps"][:EVENTS]
-    bad = {item["event"] for item in whole["items"] if item["event"] is not None}
-    wide, high = LEFT + LANE * max(1, len(lanes)) + 40, TOP + ROW * (len(steps) + 1)
+    steps = shown_steps(whole)
+    going = [] if whole["steps_left"] else [item for item in whole["items"] if item["event"] is None and item["spot"] and item["item"] in lanes]
+    wide, high = LEFT + LANE * max(1, len(lanes)) + 40, TOP + ROW * (len(steps) + bool(going))
     size = f'width="{wide}" height="{high}"'
     parts = [f'<svg {size} role="img" aria-label="schedule">']
     for item, x in lanes.items():
         parts.append(f'<text x="{x}" y="18" text-anchor="middle" font-weight="bold">item {item}</text>'
                      f'<text class="note" x="{x}" y="34" text-anchor="middle">group {group_of(whole, item)}</text>'
                      f'<line class="lane" x1="{x}" y1="42" x2="{x}" y2="{high - 6}"/>')
-    for number, step in enumerate(steps, 1):
-        y = TOP + ROW * (number - 1)
-        parts.append(f'<text class="note" x="8" y="{y + 4}">{number}</text>')
-        if "release" in step:
-            parts.append(release_bar(lanes, y, step, whole))
-        elif step["item"] in lanes:
-            parts.append(event_dot(lanes[step["item"]], y, step, number in bad))
+    for row, (number, step) in enumerate(steps):
+        parts.append(step_mark(step, number, TOP + ROW * row, whole, lanes))
+    for item in going:
+        parts.append(next_ring(lanes[item["item"]], TOP + ROW * len(steps), item))
     parts.append("</svg>")
     left = whole["steps_left"] + len(whole["steps"]) - len(steps)
-    more = f'<p class="dim">and {left} events more</p>' if left else ""
+    more = f'<p class="dim">{left} of {whole["schedule"]["events"]} events aren\'t drawn</p>' if left else ""
     return "".join(parts) + more
 
 
-def marked_text(place):
+def marked_text(raw, place):
     """A line of source with what stands at a place marked."""
-    text, begin = place["text"], place["column"] - 1
+    begin = place["column"] - 1
     end = begin + max(1, place["length"])
-    raw = text.encode("utf-8", "surrogateescape")
-    pieces = [raw[:begin], raw[begin:end], raw[end:]]
-    first, middle, last = (quoted(piece.decode("utf-8", "replace")) for piece in pieces)
+    first, middle, last = (quoted(piece.decode(errors="replace")) for piece in (raw[:begin], raw[begin:end], raw[end:]))
     return f"{first}<mark>{middle}</mark>{last}"
 
 
-def places_table(whole):
-    """The lines of the named items, and those of the calls of helpers round them."""
-    rows = []
+def places_of(whole):
+    """The places of the named items and of the calls of helpers round them, each with what is said of it."""
     for item in whole["items"]:
         place = place_of(item)
-        if not place:
-            continue
-        does = "its last access" if not item["spot"] else item["does"]
-        rows.append((place["script_line"], True, marked_text(place), f"item {item['item']}: {does}"))
-        for call in reversed(place["calls"]):
-            rows.append((call["script_line"], False, quoted(call["text"]), f"called at column {call['column']}"))
-    cells = []
-    for line, marked, text, words in rows:
-        kind = ' class="marked"' if marked else ""
+        if place:
+            does = item["does"] if item["spot"] else "its last access"
+            yield place, f"item {item['item']}: {does}"
+            for call in place["calls"]:
+                yield {**call, "length": 0}, f"called at column {call['column']}"
+
+
+def lines_round(lines, places):
+    """The lines of the program's source round places by their numbers, as far as they are known."""
+    near = {place["script_line"] + step for place in places for step in range(-ROUND, ROUND + 1)}
+    first = min((place["script_line"] - place["line"] + 1 for place in places), default=1)
+    count = re.fullmatch(rb"program \S+ (\d+)", lines.get(first - 1, b""))
+    last = first + int(count[1]) - 1 if count else max(lines, default=0)
+    return {number: lines[number] for number in near if first <= number <= last and number in lines}
+
+
+def source_table(whole):
+    """The lines of the named items, and those of the calls of helpers round them, with the lines round these where they are known."""
+    lines, told = lines_of(whole), list(places_of(whole))
+    marked = {place["script_line"] for place, _ in told}
+    near = lines_round(lines, [place for place, _ in told])
+    rows = [(number, "", quoted(raw.decode(errors="replace")), "") for number, raw in near.items() if number not in marked]
+    for place, words in told:
+        raw = lines[place["script_line"]]
+        text = marked_text(raw, place) if place["length"] else quoted(raw.decode(errors="replace"))
+        row = (place["script_line"], ' class="marked"' if place["length"] else "", text, words)
+        if row not in rows:
+            rows.append(row)
+    cells, last = [], None
+    for line, kind, text, words in sorted(rows, key=lambda row: row[0]):
+        if last is not None and line > last + 1:
+            cells.append('<tr><td></td><td class="dim">..</td><td></td></tr>')
         cells.append(f'<tr{kind}><td>{line}</td><td>{text}</td><td class="dim">{quoted(words)}</td></tr>')
+        last = line
     return "<table>" + "".join(cells) + "</table>"
 
 
@@ -163,9 +213,12 @@ def section(whole):
     ]
     parts += [f"<p>{quoted(item_text(item))}</p>" for item in whole["items"]]
     parts += [f"<p><b>Why:</b> {quoted(sentence)}</p>" for sentence in whole["why"]]
-    parts += ["<h2>Source</h2>", f'<div class="wide">{places_table(whole)}</div>']
+    parts += ["<h2>Source</h2>", f'<div class="wide">{source_table(whole)}</div>']
     if whole["steps"]:
-        parts += [f"<h2>One way there, {schedule['events']} events</h2>", f'<div class="wide">{picture(whole)}</div>']
+        events = "1 event" if schedule["events"] == 1 else f"{schedule['events']} events"
+        parts += [f"<h2>One way there, {events}</h2>", f'<div class="wide">{picture(whole)}</div>']
+    else:
+        parts += ["<p>It comes about before any access of the launch.</p>"]
     parts += [f'<p class="dim">schedule <code>{quoted(schedule["short"])}</code></p>']
     return "".join(parts)
 

@@ -78,3 +78,18 @@ def item_text(item):
 def place_of(item):
     """Where an item stands: its spot, or that of its last access where it has ended; None where it has none."""
     return item["spot"] or item["last_access"]
+
+
+def lines_of(whole):
+    """The lines of an explanation's script as bytes, by their numbers: all where the file of its name is there and has the lines that the
+    explanation tells, else these alone."""
+    places = [place for item in whole["items"] for place in (item["spot"], item["last_access"]) if place]
+    told = {place["script_line"]: place["text"] for spot in places for place in [spot, *spot["calls"]]}
+    try:
+        with open(whole["script"], "rb") as file:
+            lines = dict(enumerate(file.read().split(b"\n"), 1))
+    except OSError:
+        lines = {}
+    if all(lines.get(number, b"").decode(errors="replace") == text for number, text in told.items()):
+        return lines
+    return {number: text.encode() for number, text in told.items()}

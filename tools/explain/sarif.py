@@ -5,8 +5,9 @@ Reads the files that are named, or standard input, with an explanation a line, a
 The status is 0, or 2 where the input is bad."""
 
 import json
+from urllib.parse import quote
 
-from reading import explanations, item_text, place_of, run
+from reading import explanations, item_text, lines_of, place_of, run
 
 SCHEMA = "https://json.schemastore.org/sarif-2.1.0.json"
 
@@ -22,38 +23,39 @@ RULES = {
 }
 
 
-def column_of(text, column):
-    """The column in UTF-16 code units of a column in bytes; both count from 1, and the end of the line is the last."""
-    front = text.encode()[: column - 1].decode(errors="replace")
-    return len(front.encode("utf-16-le")) // 2 + 1
+def units(raw):
+    """How many UTF-16 code units bytes of a script have."""
+    return len(raw.decode(errors="replace").encode("utf-16-le")) // 2
 
 
-def region(place, length):
-    """Part of a line of the script. The end is the column behind it."""
-    found = {"startLine": place["script_line"], "startColumn": column_of(place["text"], place["column"])}
-    if length:
-        found["endColumn"] = column_of(place["text"], place["column"] + length)
-    return found
+def column_of(line, column):
+    """The column in UTF-16 code units of a column of a line in bytes; both count from 1. Of a line that isn't known each byte is one."""
+    return column if line is None else units(line[: column - 1]) + 1
 
 
-def location(script, place, words=None, length=None):
-    """A place of the script."""
-    found = {"physicalLocation": {
-        "artifactLocation": {"uri": script},
-        "region": {**region(place, length), "snippet": {"text": place["text"]}},
-    }}
-    if words:
-        found["message"] = {"text": words}
-    return found
+def location(whole, lines, place, words=None):
+    """A place of the script: that of a work-item, or of a step, which has only its own text."""
+    number, column, line = place["script_line"], place["column"], lines.get(place["script_line"])
+    text, is_whole = place["text"], "length" in place
+    if is_whole:
+        text = lines[number][column - 1 : column - 1 + place["length"]].decode(errors="replace")
+    start = column_of(line, column)
+    physical = {
+        "artifactLocation": {"uri": quote(whole["script"])},
+        "region": {"startLine": number, "startColumn": start, "endColumn": start + max(1, units(text.encode())), "snippet": {"text": text}},
+    }
+    if is_whole:
+        physical["contextRegion"] = {"startLine": number, "snippet": {"text": line.decode(errors="replace")}}
+    return {"physicalLocation": physical, **({"message": {"text": words}} if words else {})}
 
 
-def flows(whole):
+def flows(whole, lines):
     """The steps of the schedule, a thread flow for each work-item; the order of events is that of the schedule."""
     threads = {}
     for number, step in enumerate(whole["steps"], 1):
         if "item" in step and step["place"]:
             words = f"{step['does']} {step['memory']} byte {step['byte']}"
-            place = location(whole["script"], step["place"], words)
+            place = location(whole, lines, step["place"], words)
             threads.setdefault(step["item"], []).append({"location": place, "executionOrder": number})
     return [{"id": f"work-item {item}", "locations": places} for item, places in sorted(threads.items())]
 
@@ -66,23 +68,23 @@ def fingerprint(whole, places):
 
 def result(whole):
     """A result of an explanation."""
+    lines = lines_of(whole)
     spots = [(item, place_of(item)) for item in whole["items"]]
     spots = [(item, spot) for item, spot in spots if spot]
-    sentences = [whole["fault"]["line"]] + [sentence[:1].upper() + sentence[1:] for sentence in whole["why"]]
+    places = [location(whole, lines, spot, item_text(item)) for item, spot in spots]
+    if not places:
+        line = {"script_line": whole["launch"]["script_line"], "column": 1, "text": whole["launch"]["text"]}
+        places = [location(whole, lines, line, "the launch")]
     found = {
         "ruleId": "clsim/" + whole["fault"]["name"],
         "level": "error",
-        "message": {"text": " ".join(sentence + "." for sentence in sentences)},
-        "locations": [location(whole["script"], spot, item_text(item), spot["length"]) for item, spot in spots[:1]],
+        "message": {"text": "; ".join([whole["fault"]["line"], *whole["why"]])},
+        "locations": places[:1],
         "partialFingerprints": {"clsim/v1": fingerprint(whole, [spot for _, spot in spots])},
     }
-    if not spots:
-        line = {"script_line": whole["launch"]["script_line"], "column": 1, "text": whole["launch"]["text"]}
-        found["locations"] = [location(whole["script"], line, "the launch")]
-    related = [location(whole["script"], spot, item_text(item), spot["length"]) for item, spot in spots[1:]]
-    if related:
-        found["relatedLocations"] = [{"id": number, **place} for number, place in enumerate(related, 1)]
-    threads = flows(whole)
+    if places[1:]:
+        found["relatedLocations"] = [{"id": number, **place} for number, place in enumerate(places[1:], 1)]
+    threads = flows(whole, lines)
     if threads:
         found["codeFlows"] = [{"message": {"text": "schedule " + whole["schedule"]["short"]}, "threadFlows": threads}]
     return found
@@ -104,7 +106,7 @@ def main(paths):
             "results": [result(whole) for whole in found],
         }],
     }
-    return json.dumps(log, indent=2) + "\n"
+    return json.dumps(log) + "\n"
 
 
 if __name__ == "__main__":

@@ -1,0 +1,93 @@
+-- A launch that was performed and has a fault is explained.
+use Rattle.std.proofs.Common.{◌≡◌, ℕ, Bool, true, false, Option, None, Some, Result, Ok, Err, List, refl, inl, inr, sym, ap, ◌∙◌, subst}
+use Rattle.std.specs.Prelude.{MatchOption, slice_get}
+use Rattle.std.proofs.lemmas.Bool.{false≢true}
+use Rattle.clmodel.proofs.Steps.{none_some, some_inj}
+use Rattle.clmodel.specs.Law.{Reaches}
+use Rattle.clmodel.specs.Next.{launch_of}
+use Rattle.clmodel.specs.Outcome.{events_of}
+use Rattle.clmodel.specs.Tree.{Program}
+use Rattle.clmodel.specs.declared.fault.Fault.{Fault}
+use Rattle.clmodel.specs.declared.schedule.EventRun.{EventRun}
+use Rattle.device.specs.Machine.{Machine, Built, Does, Step, bytes_of, first, kernel_of, row, setup_of}
+use Rattle.host_commands.specs.declared.command.BuildFault.{BuildFault}
+use Rattle.host_commands.specs.declared.command.Command.{Command}
+use Rattle.host_commands.specs.declared.command.Command.TheVariants as command
+use Rattle.host_commands.specs.declared.command.Refusal.{Refusal}
+use Rattle.host_commands.specs.declared.command.Reply.{Reply}
+use Rattle.host_commands.specs.declared.command.Reply.TheVariants as reply
+use Rattle.explaining.specs.Explaining.{NoLaunch, Refuses, Tells, Unread, Untold}
+use Rattle.explaining.specs.declared.faults.ExplainFault.{ExplainFault}
+use Rattle.explaining.specs.declared.faults.ExplainFault.TheVariants as fault
+
+-- a command is a launch that its row doesn't refuse, and that a schedule leads to a fault
+abbrev pub Faults : Machine → Fault → List EventRun → Command → Type 0
+Faults m f runs (command.Launch kernel range) =
+    (first (row m (command.Launch kernel range)) ≡ None) × Reaches (launch_of (setup_of m (kernel_of m kernel) range) (bytes_of m)) (events_of runs) f
+Faults m f runs _ = ⊥
+
+is_fault : Reply → Bool
+is_fault (reply.Fault f runs) = true
+is_fault _ = false
+
+no_fault : (f : Fault) (runs : List EventRun) (r : Reply) → is_fault r ≡ false → reply.Fault f runs ≡ r → ⊥
+unfolding is_fault
+no_fault f runs r none e = false≢true (sym none ∙ sym (ap is_fault e))
+
+built : (old new : Machine) (name : List ℕ) (b : Result Program BuildFault) (f : Fault) (runs : List EventRun) → Built old name b (reply.Fault f runs) new → ⊥
+unfolding is_fault
+built old new name (Ok p) f runs h = no_fault f runs reply.Done refl h.0
+built old new name (Err e) f runs h = no_fault f runs _ refl h.0
+
+does : (old new : Machine) (c : Command) (f : Fault) (runs : List EventRun) → first (row old c) ≡ None → Does old c (reply.Fault f runs) new → Faults new f runs c
+unfolding is_fault
+does old new (command.Buffer name size) f runs e h = absurd (no_fault f runs reply.Done refl h.0)
+does old new (command.Write name at bytes) f runs e h = absurd (no_fault f runs reply.Done refl h.0)
+does old new (command.Fill name at count pattern) f runs e h = absurd (no_fault f runs reply.Done refl h.0)
+does old new (command.Copy source at target to count) f runs e h = absurd (no_fault f runs reply.Done refl h.0)
+does old new (command.Read name at count) f runs e h = absurd (no_fault f runs _ refl h.0)
+does old new (command.Release name) f runs e h = absurd (no_fault f runs reply.Done refl h.0)
+does old new (command.Program name source) f runs e h = absurd (built old new name h.0 f runs h.2)
+does old new (command.Kernel name program function) f runs e h = absurd (no_fault f runs reply.Done refl h.0)
+does old new (command.Arg kernel index argument) f runs e h = absurd (no_fault f runs reply.Done refl h.0)
+does old new (command.Launch kernel range) f runs e (reaches, reported, merged, same) = subst (λ m. Faults m f runs (command.Launch kernel range)) (sym same) (e, reaches)
+
+-- a command whose reply is a fault
+pub faults : (old new : Machine) (c : Command) (f : Fault) (runs : List EventRun) → Step old c (reply.Fault f runs) new → Faults new f runs c
+unfolding is_fault
+faults old new c f runs (inr h) = absurd (no_fault f runs _ refl h.1)
+faults old new c f runs (inl h) = go (first (row old c)) refl h
+  where
+    go :
+        (o : Option Refusal) → first (row old c) ≡ o → MatchOption o (Does old c (reply.Fault f runs) new) (λ refusal. (reply.Fault f runs ≡ reply.Refused refusal) × (new ≡ old))
+        → Faults new f runs c
+    go None e d = does old new c f runs e d
+    go (Some r) e d = absurd (no_fault f runs _ refl d.0)
+
+launches : (m : Machine) (commands : List Command) (ticket : ℕ) (c : Command) (f : Fault) (runs : List EventRun) → slice_get commands ticket ≡ Some c → Faults m f runs c → NoLaunch commands ticket → ⊥
+launches m commands ticket (command.Launch kernel range) f runs at h none = none kernel range at
+launches m commands ticket _ f runs at h none = absurd h
+
+-- it is explained
+pub told_yes :
+    (m : Machine) (commands : List Command) (ticket : ℕ) (c : Command) (f : Fault) (runs : List EventRun) (answer : Bool) → slice_get commands ticket ≡ Some c → Faults m f runs c
+    → Tells m commands ticket f runs answer → answer ≡ true
+told_yes m commands ticket c f runs answer at h t =
+    let there : Faults m f runs (command.Launch t.kernel t.range) = subst (Faults m f runs) (some_inj c (command.Launch t.kernel t.range) (sym at ∙ t.at)) h in
+    t.replays.decides.1 there.1
+
+refused : (m : Machine) (commands : List Command) (ticket : ℕ) (c : Command) (f : Fault) (runs : List EventRun) → slice_get commands ticket ≡ Some c → Faults m f runs c → Refuses m commands ticket → ⊥
+refused m commands ticket c f runs at h r =
+    let there : Faults m f runs (command.Launch r.kernel r.range) = subst (Faults m f runs) (some_inj c (command.Launch r.kernel r.range) (sym at ∙ r.at)) h in
+    none_some r.refusal (sym there.0 ∙ r.refused)
+
+-- and only want of memory stands in its way
+pub told_unless :
+    (script : List ℕ) (m : Machine) (commands : List Command) (ticket : ℕ) (c : Command) (f : Fault) (runs : List EventRun) (why : ExplainFault) → slice_get commands ticket ≡ Some c
+    → Faults m f runs c → Untold m commands ticket why → Unread script why
+told_unless script m commands ticket c f runs fault.Write at h u = absurd u
+told_unless script m commands ticket c f runs (fault.BadLine n) at h u = absurd u
+told_unless script m commands ticket c f runs fault.OutOfMemory at h u = tt
+told_unless script m commands ticket c f runs fault.BadSchedule at h u = absurd u
+told_unless script m commands ticket c f runs (fault.NotALaunch n) at h u = absurd (launches m commands ticket c f runs at h u.1)
+told_unless script m commands ticket c f runs (fault.CommandRefused n) at h u = absurd (refused m commands ticket c f runs at h u.1)

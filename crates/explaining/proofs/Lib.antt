@@ -1,0 +1,3 @@
+pub mod Faulting
+pub mod Performing
+pub mod Telling

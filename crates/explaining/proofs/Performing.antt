@@ -1,0 +1,57 @@
+-- Commands performed one behind another.
+use Rattle.std.proofs.Common.{◌≡◌, ◌+◌, ℕ, true, Some, List, [], ◌∷◌, ◌++◌, length, take, refl, sym, ap, ◌∙◌, subst, arith}
+use Rattle.std.specs.Prelude.{slice_get}
+use Rattle.std.proofs.lemmas.Grind.{common_steps}
+use Rattle.device.specs.Machine.{Machine, Step}
+use Rattle.host_commands.specs.declared.command.Command.{Command}
+use Rattle.host_commands.specs.declared.command.Refusal.TheVariants as refusal
+use Rattle.host_commands.specs.declared.command.Reply.{Reply}
+use Rattle.host_commands.specs.declared.command.Reply.TheVariants as reply
+use Rattle.explaining.specs.Leading.{EndsAt, HadMemory, IsFirst, Leads, LeadsCleanly, WalkedTo, goes_on}
+use Rattle.explaining.specs.declared.walks.Walked.{Walked}
+use Rattle.explaining.specs.declared.walks.Walked.TheVariants as walked
+
+pub leads_more : (old now new : Machine) (done : List Command) (c : Command) (r : Reply) → Leads old done now → Step now c r new → HadMemory r → Leads old (done ++ c ∷ []) new
+leads_more old now new [] c r led step memory = (new, r, subst (λ m. Step m c r new) led step, memory, refl)
+leads_more old now new (d ∷ done) c r (mid, s, first, had, rest) step memory = (mid, s, first, had, leads_more mid now new done c r rest step memory)
+
+pub cleanly_more :
+    (old now new : Machine) (done : List Command) (c : Command) (r : Reply) → LeadsCleanly old done now → Step now c r new → HadMemory r → goes_on r ≡ true
+    → LeadsCleanly old (done ++ c ∷ []) new
+cleanly_more old now new [] c r led step memory on = (new, r, subst (λ m. Step m c r new) led step, memory, on, refl)
+cleanly_more old now new (d ∷ done) c r (mid, s, first, had, went, rest) step memory on =
+    (mid, s, first, had, went, cleanly_more mid now new done c r rest step memory on)
+
+-- what led without a fault led
+pub leads_cleanly : (old new : Machine) (done : List Command) → LeadsCleanly old done new → Leads old done new
+leads_cleanly old new [] led = led
+leads_cleanly old new (c ∷ done) (mid, r, step, had, on, rest) = (mid, r, step, had, leads_cleanly mid new done rest)
+
+-- the first command behind others
+get_behind : (done rest : List Command) (c : Command) → slice_get (done ++ c ∷ rest) (length done) ≡ Some c
+get_behind [] rest c = refl
+get_behind (d ∷ done) rest c = ap (λ n. slice_get (d ∷ done ++ c ∷ rest) n) (omega arith) ∙ get_behind done rest c
+
+take_before : (done rest : List Command) → take (length done) (done ++ rest) ≡ done
+take_before done rest = grind (arith, common_steps)
+
+-- a walk that ends at a reply
+pub walk_ends :
+    (old : Machine) (commands done rest : List Command) (c : Command) (before new : Machine) → commands ≡ done ++ c ∷ rest → LeadsCleanly old done before → (r : Reply)
+    → Step before c r new → (ticket : ℕ) → ticket ≡ length done → (w : Walked) → EndsAt ticket r w → WalkedTo old commands new w
+walk_ends old commands done rest c before new split led r step ticket counted w ends = go w ends
+  where
+    at : IsFirst old commands new ticket r
+    at = record {
+      before = before;
+      command = c;
+      at = ap (λ l. slice_get l ticket) split ∙ ap (λ n. slice_get (done ++ c ∷ rest) n) counted ∙ get_behind done rest c;
+      led = subst (λ l. LeadsCleanly old l before) (sym (ap (λ l. take ticket l) split ∙ ap (λ n. take n (done ++ c ∷ rest)) counted ∙ take_before done (c ∷ rest))) led;
+      replied = step;
+    }
+
+    go : (w : Walked) → EndsAt ticket r w → WalkedTo old commands new w
+    go walked.Clean h = absurd h
+    go (walked.Faulted case) (same, is) = subst (λ n. IsFirst old commands new n (reply.Fault case.fault case.schedule)) (sym same) (subst (IsFirst old commands new ticket) is at)
+    go (walked.Unbuilt build) (same, is) =
+        subst (λ n. IsFirst old commands new n (reply.Refused (refusal.BuildFailed build.fault))) (sym same) (subst (IsFirst old commands new ticket) is at)

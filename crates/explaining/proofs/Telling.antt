@@ -1,0 +1,80 @@
+-- Launches that are explained.
+use Rattle.std.proofs.Common.{◌≡◌, ℕ, Bool, true, false, Option, None, Some, Result, Ok, Err, List, refl, inl, inr, sym, ◌∙◌, subst}
+use Rattle.std.specs.Prelude.{Decides, slice_get}
+use Rattle.std.specs.Option.{IfNone, IfSome, is_some}
+use Rattle.std.specs.Result.{IfOk}
+use Rattle.std.proofs.lemmas.Bool.{false≢true}
+use Rattle.clmodel.specs.Law.{Reaches}
+use Rattle.clmodel.specs.Next.{launch_of}
+use Rattle.clmodel.specs.Outcome.{events_of}
+use Rattle.clmodel.specs.Setup.{Setup}
+use Rattle.clmodel.specs.declared.fault.Fault.{Fault}
+use Rattle.clmodel.specs.declared.schedule.EventRun.{EventRun}
+use Rattle.clmodel.specs.declared.setup.Range.{Range}
+use Rattle.device.specs.Machine.{Machine, IsRefusal, first, kernel_of, row, setup_of}
+use Rattle.device.specs.Prepared.{IsPrepared}
+use Rattle.host_commands.specs.declared.command.Command.{Command}
+use Rattle.host_commands.specs.declared.command.Command.TheVariants as command
+use Rattle.host_commands.specs.declared.command.Refusal.{Refusal}
+use Rattle.host_commands.specs.declared.command.Refusal.TheVariants as refusal
+use Rattle.item_step.specs.Launches as launches
+use Rattle.item_step.specs.declared.launch.Launch.{Launch}
+use Rattle.spaces_base.specs.Buffers.{bytes_in}
+use Rattle.spaces_base.specs.Tables.{Table}
+use Rattle.explaining.specs.Explaining.{HasShort, IsShort, Refuses, Tells}
+use Rattle.explaining.specs.declared.told.Told.{Told}
+
+-- two facts of what was answered
+pub ok_both : {A E : Type 0} (r : Result A E) (P Q R : A → Type 0) → IfOk r P → IfOk r Q → ((x : A) → P x → Q x → R x) → IfOk r R
+ok_both (Ok x) P Q R p q h = h x p q
+ok_both (Err e) P Q R p q h = tt
+
+pub decided_not : {P : Type 0} (answer : Bool) → answer ≡ false → Decides answer P → P → ⊥
+decided_not answer not d p = false≢true (sym not ∙ d.1 p)
+
+-- a prepared launch whose explanation was found exactly if its schedule leads to the fault
+pub tells :
+    (m : Machine) (commands : List Command) (ticket : ℕ) (kernel : List ℕ) (range : Range) (launch : Launch) (buffers : Table (List ℕ)) (f : Fault) (runs : List EventRun) (found : Option Told)
+    → slice_get commands ticket ≡ Some (command.Launch kernel range) → IsPrepared m kernel range launch → buffers ≡ m.buffers
+    → IfNone found (Reaches (launch_of (launches.setup_of launch) (bytes_in buffers)) (events_of runs) f → ⊥)
+    → IfSome found (λ _. Reaches (launch_of (launches.setup_of launch) (bytes_in buffers)) (events_of runs) f) → Tells m commands ticket f runs (is_some found)
+tells m commands ticket kernel range launch buffers f runs found at p e none some = record {
+  kernel = kernel;
+  range = range;
+  at = at;
+  replays = record { admitted = p.admitted; decides = moved (go found none some) };
+}
+  where
+    D : Setup → Table (List ℕ) → Type 0
+    D s b = Decides (is_some found) (Reaches (launch_of s (bytes_in b)) (events_of runs) f)
+
+    moved : D (launches.setup_of launch) buffers → D (setup_of m (kernel_of m kernel) range) m.buffers
+    moved d = subst (λ (b : Table (List ℕ)). D (setup_of m (kernel_of m kernel) range) b) e (subst (λ (s : Setup). D s buffers) p.setup d)
+
+    go :
+        (o : Option Told) → IfNone o (Reaches (launch_of (launches.setup_of launch) (bytes_in buffers)) (events_of runs) f → ⊥)
+        → IfSome o (λ _. Reaches (launch_of (launches.setup_of launch) (bytes_in buffers)) (events_of runs) f)
+        → Decides (is_some o) (Reaches (launch_of (launches.setup_of launch) (bytes_in buffers)) (events_of runs) f)
+    go None n s = (λ e. absurd (false≢true e), λ r. absurd (n r))
+    go (Some told) n s = (λ _. s, λ _. refl)
+
+-- the schedule that is told of a prepared launch
+pub short :
+    (m : Machine) (commands : List Command) (ticket : ℕ) (kernel : List ℕ) (range : Range) (launch : Launch) (buffers : Table (List ℕ)) (f : Fault) (given runs : List EventRun)
+    → slice_get commands ticket ≡ Some (command.Launch kernel range) → IsPrepared m kernel range launch → buffers ≡ m.buffers
+    → IsShort (launch_of (launches.setup_of launch) (bytes_in buffers)) f given runs → HasShort m commands ticket f given runs
+short m commands ticket kernel range launch buffers f given runs at p e h = record {
+  kernel = kernel;
+  range = range;
+  at = at;
+  is_short =
+      subst (λ (b : Table (List ℕ)). IsShort (launch_of (setup_of m (kernel_of m kernel) range) (bytes_in b)) f given runs) e
+      (subst (λ (s : Setup). IsShort (launch_of s (bytes_in buffers)) f given runs) p.setup h);
+}
+
+-- a launch that is refused, and not for want of memory, is refused by its row
+pub refuses :
+    (m : Machine) (commands : List Command) (ticket : ℕ) (kernel : List ℕ) (range : Range) (r : Refusal) → slice_get commands ticket ≡ Some (command.Launch kernel range)
+    → IsRefusal m (command.Launch kernel range) r → (r ≡ refusal.OutOfMemory → ⊥) → Refuses m commands ticket
+refuses m commands ticket kernel range r at (inl h) other = record { kernel = kernel; range = range; refusal = r; at = at; refused = h }
+refuses m commands ticket kernel range r at (inr h) other = absurd (other h.1)

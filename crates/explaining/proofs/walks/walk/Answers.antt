@@ -1,0 +1,31 @@
+use Rattle.std.proofs.Common.{◌≡◌, ◌+◌, [], ◌∷◌, ◌++◌, ℕ, Some, length, take, ap, sym, ◌∙◌, append_assoc, refl, rules, arith, List, subst}
+use Rattle.std.specs.Prelude.{slice_get}
+use Rattle.std.specs.Vec.Iter.{into_iter_items}
+use Rattle.std.proofs.lemmas.List.{append-nil, nil_from_length, length_push}
+use Rattle.device.specs.Machine.{machine_of}
+use Rattle.host_commands.specs.declared.command.Command.{Command}
+use Rattle.explaining.specs.Leading.{IsFirst, LeadsCleanly}
+use Rattle.explaining.proofs.Performing.{cleanly_more, walk_ends}
+use Rattle.explaining.proofs.walks.walk.Goals as goal
+
+pub loop-command-init : goal.loop-command-init
+loop-command-init c = record { split = search rules; counted = search rules; led = refl }
+
+pub loop-command-preserved : goal.loop-command-preserved
+loop-command-preserved c = record {
+  split = c.loop-command.invariant.split ∙ (ap (λ l. c.loop-command.yielded ++ l) c.in-Some.ensures.steps.0 ∙ sym (append_assoc c.loop-command.yielded (c.in-Some.command ∷ []) (into_iter_items c.next.new.self)));
+  counted = c.in_ok-reply.ensures.counted ∙ ap (λ n. n + 1) c.loop-command.invariant.counted ∙ sym (length_push c.loop-command.yielded c.in-Some.command);
+  led =
+      cleanly_more _ _ _ c.loop-command.yielded c.in-Some.command _ c.loop-command.invariant.led c.in_ok-reply.ensures.step c.in_ok-reply.ensures.memory c.end_of.ensures.goes_on;
+}
+
+pub returns-in-Some : goal.returns-in-Some
+returns-in-Some c =
+    walk_ends _ c.args.commands.items c.loop-command.yielded _ c.in-Some.command _ _ (c.loop-command.invariant.split ∙ ap (λ l. c.loop-command.yielded ++ l) c.in-Some.ensures.steps.0)
+    c.loop-command.invariant.led c.in_ok-reply.ensures.step _ (c.len-ticket.ensures ∙ c.loop-command.invariant.counted) _ c.in-Some-end.ensures.ends
+
+pub returns : goal.returns
+returns c =
+    let empty = nil_from_length (into_iter_items c.loop-command.command-iterator) (omega (arith, c.in-None.ensures.steps.0, c.loop-command.command-iterator.rest.ok)) in
+    let all : c.args.commands.items ≡ c.loop-command.yielded = c.loop-command.invariant.split ∙ (ap (λ l. c.loop-command.yielded ++ l) empty ∙ append-nil c.loop-command.yielded) in
+    subst (λ (l : List Command). LeadsCleanly (machine_of c.args.device.now) l (machine_of c.loop-command.device)) (sym all) c.loop-command.invariant.led

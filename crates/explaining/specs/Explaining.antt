@@ -1,0 +1,160 @@
+-- What an explanation says of a script and a schedule file (own).
+use Rattle.std.specs.Prelude.{◌≡◌, ◌≤◌, ◌⊎◌, ℕ, Bool, true, false, ⊤, Decides, Option, None, Some, Result, Ok, Err, List, codes, length, take, slice_get, nat_eq, MatchOption, MatchBool}
+use Rattle.std.specs.List.{ends_with}
+use Rattle.clmodel.specs.Launch.{Launch}
+use Rattle.clmodel.specs.Law.{Reaches}
+use Rattle.clmodel.specs.Next.{launch_of}
+use Rattle.clmodel.specs.Outcome.{events_of}
+use Rattle.clmodel.specs.Tree.{Program}
+use Rattle.clmodel.specs.declared.fault.Fault.{Fault}
+use Rattle.clmodel.specs.declared.schedule.EventRun.{EventRun}
+use Rattle.clmodel.specs.declared.setup.Range.{Range}
+use Rattle.counted_io.specs.Sink.{Sink, Stopped}
+use Rattle.device.specs.Machine.{Machine, Builds, opening, first, row, kernel_of, setup_of, bytes_of}
+use Rattle.host_commands.specs.declared.command.BuildFault.{BuildFault}
+use Rattle.host_commands.specs.declared.command.Command.{Command}
+use Rattle.host_commands.specs.declared.command.Command.TheVariants as command
+use Rattle.host_commands.specs.declared.command.Refusal.{Refusal}
+use Rattle.host_commands.specs.declared.command.Refusal.TheVariants as refusal
+use Rattle.host_commands.specs.declared.command.Reply.TheVariants as reply
+use Rattle.replay_text.specs.ScheduleFile.{IsScheduleFile, NoScheduleFile}
+use Rattle.simfile.specs.Script.{IsScript, IsBadLine}
+use Rattle.explaining.specs.Leading.{IsFirst, Leads, LeadsCleanly}
+use Rattle.explaining.specs.declared.facts.Given.{Given}
+use Rattle.explaining.specs.declared.faults.ExplainFault.{ExplainFault}
+use Rattle.explaining.specs.declared.faults.ExplainFault.TheVariants as fault
+
+-- the command of a ticket launches nothing, or there is none
+abbrev pub NoLaunch : List Command → ℕ → Type 0
+NoLaunch commands ticket = (kernel : List ℕ) (range : Range) → slice_get commands ticket ≡ Some (command.Launch kernel range) → ⊥
+
+-- a schedule that leads where the given one leads, and isn't longer
+pub record IsShort (launch : Launch) (f : Fault) (given short : List EventRun) : Type 0 where
+  pub leads : Reaches launch (events_of short) f
+  pub not_longer : length (events_of short) ≤ length (events_of given)
+
+-- a launch that its row doesn't refuse: true exactly where the schedule leads it to a state that shows the fault
+pub record Replays (m : Machine) (kernel : List ℕ) (range : Range) (f : Fault) (runs : List EventRun) (answer : Bool) : Type 0 where
+  pub admitted : first (row m (command.Launch kernel range)) ≡ None
+  pub decides : Decides answer (Reaches (launch_of (setup_of m (kernel_of m kernel) range) (bytes_of m)) (events_of runs) f)
+
+-- the command of a ticket is a launch that is judged so
+pub record Tells (m : Machine) (commands : List Command) (ticket : ℕ) (f : Fault) (runs : List EventRun) (answer : Bool) : Type 0 where
+  pub kernel : List ℕ
+  pub range : Range
+  pub at : slice_get commands ticket ≡ Some (command.Launch kernel range)
+  pub replays : Replays m kernel range f runs answer
+
+-- the schedule that is told leads the launch of a ticket to the fault, and isn't longer than the given one
+pub record HasShort (m : Machine) (commands : List Command) (ticket : ℕ) (f : Fault) (given short : List EventRun) : Type 0 where
+  pub kernel : List ℕ
+  pub range : Range
+  pub at : slice_get commands ticket ≡ Some (command.Launch kernel range)
+  pub is_short : IsShort (launch_of (setup_of m (kernel_of m kernel) range) (bytes_of m)) f given short
+
+-- the launch of a ticket is refused by its row
+pub record Refuses (m : Machine) (commands : List Command) (ticket : ℕ) : Type 0 where
+  pub kernel : List ℕ
+  pub range : Range
+  pub refusal : Refusal
+  pub at : slice_get commands ticket ≡ Some (command.Launch kernel range)
+  pub refused : first (row m (command.Launch kernel range)) ≡ Some refusal
+
+-- why the launch of a ticket wasn't explained
+abbrev pub Untold : Machine → List Command → ℕ → ExplainFault → Type 0
+Untold m commands ticket fault.Write = ⊥
+Untold m commands ticket (fault.BadLine n) = ⊥
+Untold m commands ticket fault.OutOfMemory = ⊤
+Untold m commands ticket fault.BadSchedule = ⊥
+Untold m commands ticket (fault.NotALaunch named) = (named ≡ ticket) × NoLaunch commands ticket
+Untold m commands ticket (fault.CommandRefused named) = (named ≡ ticket) × Refuses m commands ticket
+
+-- The answer to a script and a schedule file: the launch of the ticket is judged on a new device, to which the commands before it led.
+pub record Explained (budget : ℕ) (script schedule : List ℕ) (answer : Bool) : Type 0 where
+  pub commands : List Command
+  pub ticket : ℕ
+  pub f : Fault
+  pub runs : List EventRun
+  pub machine : Machine
+  pub is : IsScript script commands
+  pub file : IsScheduleFile schedule ticket f runs
+  pub led : Leads (opening budget) (take ticket commands) machine
+  pub tells : Tells machine commands ticket f runs answer
+
+-- why a script and a schedule file have no answer
+pub record IsUntold (budget : ℕ) (script schedule : List ℕ) (why : ExplainFault) : Type 0 where
+  pub commands : List Command
+  pub ticket : ℕ
+  pub f : Fault
+  pub runs : List EventRun
+  pub is : IsScript script commands
+  pub file : IsScheduleFile schedule ticket f runs
+  pub untold : (NoLaunch commands ticket × (why ≡ fault.NotALaunch ticket))
+      ⊎ ((m : Machine) × Leads (opening budget) (take ticket commands) m × Refuses m commands ticket × (why ≡ fault.CommandRefused ticket))
+
+abbrev pub Unexplained : ℕ → List ℕ → List ℕ → ExplainFault → Type 0
+Unexplained budget script schedule fault.Write = ⊥
+Unexplained budget script schedule (fault.BadLine n) = IsBadLine script n
+Unexplained budget script schedule fault.OutOfMemory = ⊤
+Unexplained budget script schedule fault.BadSchedule = NoScheduleFile schedule
+Unexplained budget script schedule (fault.NotALaunch ticket) = IsUntold budget script schedule (fault.NotALaunch ticket)
+Unexplained budget script schedule (fault.CommandRefused ticket) = IsUntold budget script schedule (fault.CommandRefused ticket)
+
+-- a launch of a script has a fault, and it is the first; or a build is refused, and it is the first
+pub record HasFirst (budget : ℕ) (script : List ℕ) : Type 0 where
+  pub commands : List Command
+  pub ticket : ℕ
+  pub machine : Machine
+  pub is : IsScript script commands
+  pub found : ((f : Fault) × (runs : List EventRun) × IsFirst (opening budget) commands machine ticket (reply.Fault f runs))
+      ⊎ ((f : BuildFault) × IsFirst (opening budget) commands machine ticket (reply.Refused (refusal.BuildFailed f)))
+
+-- no reply to a script's commands is a fault or the refusal of a build
+pub record IsClean (budget : ℕ) (script : List ℕ) : Type 0 where
+  pub commands : List Command
+  pub machine : Machine
+  pub is : IsScript script commands
+  pub led : LeadsCleanly (opening budget) commands machine
+
+abbrev pub Found : ℕ → List ℕ → Bool → Type 0
+Found budget script true = HasFirst budget script
+Found budget script false = IsClean budget script
+
+-- why a script wasn't performed
+abbrev pub Unread : List ℕ → ExplainFault → Type 0
+Unread script fault.Write = ⊥
+Unread script (fault.BadLine n) = IsBadLine script n
+Unread script fault.OutOfMemory = ⊤
+Unread script fault.BadSchedule = ⊥
+Unread script (fault.NotALaunch ticket) = ⊥
+Unread script (fault.CommandRefused ticket) = ⊥
+
+-- true exactly where a source isn't built
+abbrev pub IsRefused : List ℕ → Bool → Type 0
+IsRefused source true = (f : BuildFault) × Builds source (Err f)
+IsRefused source false = (p : Program) × Builds source (Ok p)
+
+-- a name that ends as that of a source does
+abbrev pub is_source : List ℕ → Bool
+is_source name = ends_with nat_eq name (codes ".cl")
+
+-- the answer to what is given
+abbrev pub Explains : ℕ → Given → Bool → Type 0
+Explains budget given answer =
+    MatchBool (is_source given.name.now) (IsRefused given.script.now answer)
+    (MatchOption given.schedule (Found budget given.script.now answer) (λ schedule. Explained budget given.script.now schedule.now answer))
+
+-- why there is none
+abbrev pub Unanswered : ℕ → Given → ExplainFault → Type 0
+Unanswered budget given why =
+    MatchBool (is_source given.name.now) (why ≡ fault.OutOfMemory)
+    (MatchOption given.schedule (Unread given.script.now why) (λ schedule. Unexplained budget given.script.now schedule.now why))
+
+-- why there is none, and what was written: a beginning of a text where the writer failed, else nothing
+abbrev pub Unwritten : ℕ → Given → Sink → Sink → ExplainFault → Type 0
+Unwritten budget given old new fault.Write = (text : List ℕ) × Stopped old new text
+Unwritten budget given old new (fault.BadLine n) = Unanswered budget given (fault.BadLine n) × (new ≡ old)
+Unwritten budget given old new fault.OutOfMemory = new ≡ old
+Unwritten budget given old new fault.BadSchedule = Unanswered budget given fault.BadSchedule × (new ≡ old)
+Unwritten budget given old new (fault.NotALaunch ticket) = Unanswered budget given (fault.NotALaunch ticket) × (new ≡ old)
+Unwritten budget given old new (fault.CommandRefused ticket) = Unanswered budget given (fault.CommandRefused ticket) × (new ≡ old)

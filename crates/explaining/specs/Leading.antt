@@ -1,0 +1,53 @@
+-- Commands that are performed one after another, up to one whose reply is to be explained (own).
+use Rattle.std.specs.Prelude.{◌≡◌, ℕ, Bool, true, false, Some, List, [], ◌∷◌, take, slice_get}
+use Rattle.device.specs.Machine.{Machine, Step}
+use Rattle.host_commands.specs.declared.command.Command.{Command}
+use Rattle.host_commands.specs.declared.command.Refusal.{Refusal}
+use Rattle.host_commands.specs.declared.command.Refusal.TheVariants as refusal
+use Rattle.host_commands.specs.declared.command.Reply.{Reply}
+use Rattle.host_commands.specs.declared.command.Reply.TheVariants as reply
+use Rattle.explaining.specs.declared.walks.Walked.{Walked}
+use Rattle.explaining.specs.declared.walks.Walked.TheVariants as walked
+
+-- a reply other than the refusal for want of memory
+abbrev pub HadMemory : Reply → Type 0
+HadMemory r = r ≡ reply.Refused refusal.OutOfMemory → ⊥
+
+-- the commands lead from a machine to another, and none is refused for want of memory
+abbrev pub Leads : Machine → List Command → Machine → Type 0
+Leads old [] new = new ≡ old
+Leads old (c ∷ cs) new = (mid : Machine) × (r : Reply) × Step old c r mid × HadMemory r × Leads mid cs new
+
+-- whether a reply is neither a fault nor the refusal of a build
+abbrev pub goes_on : Reply → Bool
+goes_on reply.Done = true
+goes_on (reply.Data bytes) = true
+goes_on reply.Clean = true
+goes_on (reply.Fault f runs) = false
+goes_on (reply.Refused (refusal.BuildFailed f)) = false
+goes_on (reply.Refused _) = true
+
+-- the same, and no reply is a fault or the refusal of a build
+abbrev pub LeadsCleanly : Machine → List Command → Machine → Type 0
+LeadsCleanly old [] new = new ≡ old
+LeadsCleanly old (c ∷ cs) new = (mid : Machine) × (r : Reply) × Step old c r mid × HadMemory r × (goes_on r ≡ true) × LeadsCleanly mid cs new
+
+-- a walk ends at the command of a number, since this is the reply to it
+abbrev pub EndsAt : ℕ → Reply → Walked → Type 0
+EndsAt ticket r walked.Clean = ⊥
+EndsAt ticket r (walked.Faulted case) = (case.ticket ≡ ticket) × (r ≡ reply.Fault case.fault case.schedule)
+EndsAt ticket r (walked.Unbuilt build) = (build.ticket ≡ ticket) × (r ≡ reply.Refused (refusal.BuildFailed build.fault))
+
+-- The command of a number gets this reply, after those before it, whose replies are neither faults nor refusals of builds.
+pub record IsFirst (old : Machine) (commands : List Command) (new : Machine) (ticket : ℕ) (r : Reply) : Type 0 where
+  pub before : Machine
+  pub command : Command
+  pub at : slice_get commands ticket ≡ Some command
+  pub led : LeadsCleanly old (take ticket commands) before
+  pub replied : Step before command r new
+
+-- what a walk over commands comes to
+abbrev pub WalkedTo : Machine → List Command → Machine → Walked → Type 0
+WalkedTo old commands new walked.Clean = LeadsCleanly old commands new
+WalkedTo old commands new (walked.Faulted case) = IsFirst old commands new case.ticket (reply.Fault case.fault case.schedule)
+WalkedTo old commands new (walked.Unbuilt build) = IsFirst old commands new build.ticket (reply.Refused (refusal.BuildFailed build.fault))

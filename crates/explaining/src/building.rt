@@ -1,0 +1,62 @@
+//! Builds that are refused.
+#![tactic(auto)]
+
+ghost use Rattle.std.specs.Prelude.{◌≡◌, IfOk, IfErr};
+ghost use Rattle.explaining.specs.Explaining.{IsRefused};
+
+use crate::answers::{Answer, word_answer};
+use crate::faults::ExplainFault;
+use crate::walks::Unbuilt;
+use build_hints::{Refused, refusal_text};
+use device::{BuildFault, Command};
+use host_commands::build::{NotBuilt, build};
+use std::alloc::{AllocError, Global};
+
+fn refused_of(fault: BuildFault) -> Refused {
+    match fault {
+        BuildFault::Syntax(fault) => Refused::Syntax(fault),
+        BuildFault::Type(fault) => Refused::Type(fault),
+    }
+}
+
+/// The text of a refused build of a script whose command stands in a line.
+pub(crate) fn explain_unbuilt(
+    alloc: Global,
+    name: &[u8],
+    commands: &[Command],
+    unbuilt: Unbuilt,
+    line: usize,
+) -> Result<String, AllocError> {
+    let name = String::from_utf8_lossy(alloc, name)?;
+    let source = match commands.get(unbuilt.ticket) {
+        Some(Command::Program { source, .. }) => source.as_slice(),
+        _ => &[],
+    };
+    let first = line.saturating_add(1);
+    refusal_text(
+        alloc,
+        name.as_str(),
+        source,
+        first,
+        refused_of(unbuilt.fault),
+    )
+}
+
+/// The text of a source that isn't built; or `ok`.
+pub(crate) fn explain_source(
+    alloc: Global,
+    name: &[u8],
+    source: &[u8],
+) -> Result<Answer, ExplainFault>
+    ensures refused { IfOk result (λ answer. IsRefused source.now answer.yes) }
+    ensures failed { IfErr result (λ why. why ≡ ExplainFault.OutOfMemory) }
+{
+    let fault = match build(alloc, source) {
+        Ok(_) => return Ok(word_answer(alloc, "ok\n")?),
+        Err(NotBuilt::OutOfMemory) => return Err(ExplainFault::OutOfMemory),
+        Err(NotBuilt::Fault(fault)) => fault,
+    };
+    let name = String::from_utf8_lossy(alloc, name)?;
+    let text = refusal_text(alloc, name.as_str(), source, 1, refused_of(fault))?;
+    Ok(Answer { text, yes: true })
+}

@@ -1,0 +1,151 @@
+//! A script, or a script with a schedule, explained.
+#![tactic(auto)]
+
+ghost use Rattle.std.specs.Prelude.{◌≡◌, [], IfOk, IfErr, OnOk, List, ℕ, true, take};
+ghost use Rattle.counted_io.specs.Sink.{Wrote};
+ghost use Rattle.host_commands.specs.declared.command.Command.{Command};
+ghost use Rattle.explaining.specs.Explaining.{Explained, Explains, Found, Unanswered, Unexplained, Unread, Unwritten};
+ghost use Rattle.simfile.specs.Script.{IsScript};
+
+use crate::answers::{Answer, answer_of, tell, word_answer};
+use crate::building::{explain_source, explain_unbuilt};
+use crate::facts::{ExplainOptions, Given, lines_before};
+use crate::faults::ExplainFault;
+use crate::told::{Asked, explain_case};
+use crate::walks::{Unbuilt, Walked, lead, walk};
+use counted_io::Write;
+use device::{Command, Device};
+use launch_facts::line_of;
+use replay_text::read;
+use simfile::script::read_script;
+use std::alloc::{AllocError, Global};
+
+/// The same commands, and the first of them.
+fn read_first(alloc: Global, script: &[u8], count: usize) -> Result<Vec<Command>, ExplainFault>
+    ensures { (commands : List Command) → IsScript script.now commands → IfOk result (λ first. first.items ≡ take count commands) }
+{
+    let mut commands = read_script(alloc, script)?;
+    commands.truncate(count);
+    Ok(commands)
+}
+
+/// Explains the fault of a schedule file.
+fn explain_schedule(
+    alloc: Global,
+    given: Given<'_>,
+    schedule: &[u8],
+    options: ExplainOptions,
+) -> Result<Answer, ExplainFault>
+    ensures explained { IfOk result (λ answer. Explained options.budget given.entry.script.now schedule.now answer.yes) }
+    ensures failed { IfErr result (Unexplained options.budget given.entry.script.now schedule.now) }
+{
+    let commands = read_script(alloc, given.script)?;
+    let (number, fault, schedule) = read(alloc, schedule)?;
+    if number >= commands.len() as u64 {
+        return Err(ExplainFault::NotALaunch(number));
+    }
+    let ticket = number as usize;
+    let mut device = Device::new(alloc, options.budget);
+    let before = read_first(alloc, given.script, ticket)?;
+    let done = lead(alloc, &mut device, before)?;
+    let asked = Asked {
+        given,
+        options,
+        commands: commands.as_slice(),
+        done: done.as_slice(),
+    };
+    let told = explain_case(alloc, &device, &asked, ticket, &fault, schedule)?;
+    Ok(answer_of(alloc, told, options.format, "no\n")?)
+}
+
+/// The text of the first build of a script that is refused.
+fn unbuilt_answer(
+    alloc: Global,
+    given: Given<'_>,
+    commands: &[Command],
+    unbuilt: Unbuilt,
+) -> Result<Answer, AllocError>
+    ensures { IfOk result (λ answer. answer.yes ≡ true) }
+{
+    let line = line_of(commands, unbuilt.ticket, lines_before(given.script));
+    let text = explain_unbuilt(alloc, given.name, commands, unbuilt, line)?;
+    Ok(Answer { text, yes: true })
+}
+
+/// Explains the first fault of a script, or the first build that is refused.
+fn explain_script(
+    alloc: Global,
+    given: Given<'_>,
+    options: ExplainOptions,
+) -> Result<Answer, ExplainFault>
+    ensures found { IfOk result (λ answer. Found options.budget given.entry.script.now answer.yes) }
+    ensures failed { IfErr result (Unread given.entry.script.now) }
+{
+    let commands = read_script(alloc, given.script)?;
+    let mut device = Device::new(alloc, options.budget);
+    let walk = walk(alloc, &mut device, read_script(alloc, given.script)?)?;
+    match walk.end {
+        Walked::Clean => Ok(word_answer(alloc, "clean\n")?),
+        Walked::Unbuilt(unbuilt) => {
+            Ok(unbuilt_answer(alloc, given, commands.as_slice(), unbuilt)?)
+        }
+        Walked::Faulted(case) => {
+            let asked = Asked {
+                given,
+                options,
+                commands: commands.as_slice(),
+                done: walk.done.as_slice(),
+            };
+            let told = explain_case(
+                alloc,
+                &device,
+                &asked,
+                case.ticket,
+                &case.fault,
+                case.schedule,
+            )?;
+            Ok(answer_of(alloc, told, options.format, "no\n")?)
+        }
+    }
+}
+
+/// What is explained of what is given.
+fn answer_to(
+    alloc: Global,
+    given: Given<'_>,
+    options: ExplainOptions,
+) -> Result<Answer, ExplainFault>
+    ensures explains { IfOk result (λ answer. Explains options.budget given.entry answer.yes) }
+    ensures failed { IfErr result (Unanswered options.budget given.entry) }
+{
+    if given.name.ends_with(b".cl") {
+        return explain_source(alloc, given.name, given.script);
+    }
+    match given.schedule {
+        Some(schedule) => explain_schedule(alloc, given, schedule, options),
+        None => explain_script(alloc, given, options),
+    }
+}
+
+/// Explains a fault. With a schedule file: that of its line, for which its schedule is replayed. Without one: the first
+/// fault of the script, or its first build that is refused. A source, which is a file whose name ends in `.cl`, is
+/// built alone. Writes the explanation and answers true; or writes `no` where the schedule doesn't lead to the fault,
+/// `clean` where no launch has a fault and no build is refused, and `ok` where a source builds, and answers false.
+///
+/// After `Write` a beginning of the text was written, after every other error nothing. No memory may be left at any
+/// step.
+pub fn explain<W: Write>(
+    alloc: Global,
+    given: Given<'_>,
+    options: ExplainOptions,
+    writer: &mut W,
+) -> Result<bool, ExplainFault>
+    ensures explains { IfOk result (Explains options.budget given.entry) }
+    ensures wrote { OnOk result ((text : List ℕ) × Wrote (W.sink writer.old) (W.sink writer.new) text) }
+    ensures released { OnOk result ((W.sink writer.new).held ≡ []) }
+    ensures failed { IfErr result (Unwritten options.budget given.entry (W.sink writer.old) (W.sink writer.new)) }
+{
+    let answer = answer_to(alloc, given, options)?;
+    tell(answer.text.as_bytes(), writer)?;
+    Ok(answer.yes)
+}

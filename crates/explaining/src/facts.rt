@@ -1,0 +1,263 @@
+//! What an explanation tells of its launch, its fault, its memory and its schedule.
+#![tactic(auto)]
+
+ghost use Rattle.std.specs.Prelude.{◌≤◌};
+
+use clmodel::fault::{Fault, Location};
+use clmodel::schedule::Schedule;
+use clmodel::setup::Range;
+use clmodel::text::Name;
+use explain_play::{Played, event_of};
+use explain_reasons::{Context, items_in, named_items, reasons_of, steps_of};
+use explanation::{Explanation, FaultFacts, LaunchFacts, Memory, ScheduleFacts};
+use fault_facts::{fault_line, fault_name, fault_number, memory_of};
+use host_commands::kernel::parameters_of;
+use item_step::Launch;
+use launch_facts::{line_of, parameters_given, parameters_named};
+use marked_play::Mark;
+use shortening::{Named, Shortened, event_count};
+use source_lines::line_text;
+use spaces_base::Buffers;
+use std::alloc::{AllocError, Global};
+
+/// How an explanation is written.
+#[derive(Clone, Copy, Debug, PartialEq, Eq)]
+pub enum Format {
+    Text,
+    Json,
+}
+
+/// What is given beside the texts.
+#[derive(Clone, Copy)]
+pub struct ExplainOptions {
+    pub format: Format,
+    /// The most ticks of a work-item of a launch, from 1 to 1,000,000
+    pub budget: u32,
+    /// Whether the schedule is told as it was given, and not made shorter
+    pub as_given: bool,
+    pub ghost limited: { budget ≤ 1000000 },
+}
+
+/// The texts that are given: the name of the script as on the command line and its bytes, and those of a schedule file,
+/// if one is named. A name that ends in `.cl` is that of a source.
+#[derive(Clone, Copy)]
+pub struct Given<'a> {
+    pub name: &'a [u8],
+    pub script: &'a [u8],
+    pub schedule: Option<&'a [u8]>,
+}
+
+/// How many lines stand before the first command of a script: that of its version, if it has one.
+pub(crate) fn lines_before(script: &[u8]) -> usize {
+    if script.starts_with(b"clsim 2\n") {
+        1
+    } else {
+        0
+    }
+}
+
+/// The text of a line of a script, by its number from 1.
+fn script_line(alloc: Global, script: &[u8], number: usize) -> Result<String, AllocError> {
+    let mut line = 1usize;
+    for (at, byte) in script.iter().enumerate() {
+        if line == number {
+            return String::from_utf8_lossy(alloc, line_text(script, at));
+        }
+        if *byte == b'\n' {
+            line = line.saturating_add(1);
+        }
+    }
+    Ok(String::new(alloc))
+}
+
+/// The two items that a fault names; where it names one, that one twice.
+pub(crate) fn items_of(fault: &Fault) -> (u32, u32) {
+    let (item, other) = fault_facts::named_items(fault);
+    (item, other.unwrap_or(item))
+}
+
+/// The items that a fault names, with the events that are their accesses, for a shorter schedule: the earlier access
+/// first.
+pub(crate) fn named_of(
+    alloc: Global,
+    played: &Played,
+    fault: &Fault,
+) -> Result<Vec<Named>, AllocError> {
+    let (item, other) = items_of(fault);
+    let marks = played.marks.as_slice();
+    let (first, second) = match played.pair {
+        Some(pair) => (event_of(marks, pair.first), event_of(marks, pair.second)),
+        None => (None, None),
+    };
+    let mut named = Vec::new(alloc);
+    named.push(Named {
+        item,
+        event: first.map(|number| number as u64),
+    })?;
+    if other != item {
+        named.push(Named {
+            item: other,
+            event: second.map(|number| number as u64),
+        })?;
+    }
+    if first > second {
+        named.reverse();
+    }
+    Ok(named)
+}
+
+/// The size of the memory that a fault is about, and the parameters that it is an argument for.
+fn with_size(
+    context: &Context<'_>,
+    buffers: &Buffers,
+    location: &Location,
+    mut memory: Memory,
+) -> Result<Memory, AllocError> {
+    let alloc = context.alloc;
+    let launch = context.launch;
+    let tree = launch.tree();
+    let parameters = parameters_of(tree, launch.kernel());
+    let names = tree.names.as_slice();
+    match location {
+        Location::Buffer(name) => {
+            memory.size = Some(buffers.bytes_in(name).len() as u64);
+            memory.parameters = parameters_given(
+                alloc,
+                context.commands,
+                context.done,
+                context.kernel,
+                name,
+                parameters,
+                names,
+            )?;
+        }
+        Location::Local { name, .. } => {
+            memory.size = local_size(launch, name);
+            memory.parameters = parameters_named(alloc, name, parameters, names)?;
+        }
+    }
+    Ok(memory)
+}
+
+/// The size of the local object of a name.
+fn local_size(launch: &Launch<'_>, wanted: &Name) -> Option<u64> {
+    let names = launch.source_names();
+    for (number, size) in launch.local_names().iter().zip(launch.local_sizes()) {
+        if let Some(name) = names.get(*number as usize) {
+            if name == wanted {
+                return Some(*size);
+            }
+        }
+    }
+    None
+}
+
+/// Where a fault lies, if it lies in a buffer or in local memory.
+fn location_of(fault: &Fault) -> Option<&Location> {
+    match fault {
+        Fault::Conflict { location, .. }
+        | Fault::Bounds { location, .. }
+        | Fault::Unset { location, .. } => Some(location),
+        _ => None,
+    }
+}
+
+/// The memory that a fault is about.
+fn whole_memory(
+    context: &Context<'_>,
+    buffers: &Buffers,
+    fault: &Fault,
+) -> Result<Option<Memory>, AllocError> {
+    let Some(memory) = memory_of(context.alloc, fault)? else {
+        return Ok(None);
+    };
+    match location_of(fault) {
+        Some(location) => Ok(Some(with_size(context, buffers, location, memory)?)),
+        None => Ok(Some(memory)),
+    }
+}
+
+fn text(alloc: Global, bytes: &[u8]) -> Result<String, AllocError> {
+    String::from_utf8_lossy(alloc, bytes)
+}
+
+/// A launch with the texts that are given, as the rest of an explanation needs it.
+#[derive(Clone, Copy)]
+pub(crate) struct Place<'a> {
+    pub given: Given<'a>,
+    pub ticket: usize,
+    pub range: &'a Range,
+    pub budget: u32,
+}
+
+fn launch_facts(context: &Context<'_>, place: &Place<'_>) -> Result<LaunchFacts, AllocError> {
+    let alloc = context.alloc;
+    let script = place.given.script;
+    let line = line_of(context.commands, place.ticket, lines_before(script));
+    let range = place.range;
+    Ok(LaunchFacts {
+        command: place.ticket as u64,
+        script_line: line,
+        text: script_line(alloc, script, line)?,
+        kernel: text(alloc, context.kernel.as_slice())?,
+        function: text(alloc, context.program.function.as_slice())?,
+        program: text(alloc, context.program.program.as_slice())?,
+        global_size: range.global.as_slice().to_vec(alloc)?,
+        local_size: range.local.as_slice().to_vec(alloc)?,
+        offset: range.offset.as_slice().to_vec(alloc)?,
+        uniform: range.uniform,
+        budget: place.budget,
+    })
+}
+
+pub(crate) fn schedule_facts(
+    alloc: Global,
+    fault: &Fault,
+    given: String,
+    given_events: u64,
+    short: &Shortened,
+    marks: &[Mark],
+) -> Result<ScheduleFacts, AllocError> {
+    let line = fault_line(alloc, fault, &short.schedule)?;
+    Ok(ScheduleFacts {
+        given,
+        short: line.schedule,
+        given_events,
+        events: event_count(short.schedule.as_slice()),
+        items: items_in(alloc, marks)?,
+        replays: short.judged,
+    })
+}
+
+/// An explanation of what was played of the short schedule.
+pub(crate) fn explanation_of(
+    context: &Context<'_>,
+    buffers: &Buffers,
+    place: &Place<'_>,
+    fault: &Fault,
+    played: &Played,
+    schedule: ScheduleFacts,
+) -> Result<Explanation, AllocError> {
+    let alloc = context.alloc;
+    let number = fault_number(fault);
+    let line = fault_line(alloc, fault, &Schedule::new(Vec::new(alloc)))?;
+    let memory = whole_memory(context, buffers, fault)?;
+    let why = reasons_of(context, played, fault, &memory, place.budget)?;
+    let steps = steps_of(context, played)?;
+    let steps_left = played.marks.len().saturating_sub(steps.len()) as u64;
+    Ok(Explanation {
+        script: text(alloc, place.given.name)?,
+        launch: launch_facts(context, place)?,
+        fault: FaultFacts {
+            number,
+            name: String::from_str(alloc, fault_name(number))?,
+            line: line.fault,
+        },
+        memory,
+        items: named_items(context, played, fault)?,
+        why,
+        schedule,
+        steps,
+        steps_left,
+    })
+}

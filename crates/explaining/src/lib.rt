@@ -1,0 +1,17 @@
+//! A fault of a launch explained: where in the source, in whose ids, by which schedule, and why. A script's commands
+//! are performed on a device up to the launch; a schedule that leads to the fault is judged by `replay`, made shorter,
+//! and played with the places of its items, which lead back to the source. Which schedules lead there, and the errors,
+//! are those defined; the text is only tested. It knows no file and no option's text.
+#![tactic(auto)]
+
+mod answers;
+mod building;
+mod explained;
+mod facts;
+mod faults;
+mod told;
+mod walks;
+
+pub use explained::explain;
+pub use facts::{ExplainOptions, Format, Given};
+pub use faults::ExplainFault;

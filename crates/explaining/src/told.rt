@@ -1,0 +1,200 @@
+//! A fault of a launch explained, where a schedule leads to it.
+#![tactic(auto)]
+
+ghost use Rattle.std.specs.Prelude.{◌≡◌, Some, IfOk, IfErr, IfSome, IfNone, is_some, slice_get};
+ghost use Rattle.clmodel.specs.Law.{Reaches};
+ghost use Rattle.clmodel.specs.Next.{launch_of};
+ghost use Rattle.clmodel.specs.Outcome.{events_of};
+ghost use Rattle.device.specs.Machine.{machine_of};
+ghost use Rattle.item_step.specs.Launches.{setup_of};
+ghost use Rattle.launches.specs.Groups.{HasGroups};
+ghost use Rattle.spaces_base.specs.Buffers.{bytes_in};
+ghost use Rattle.explaining.specs.Explaining.{HasShort, IsShort, NoLaunch, Tells, Untold};
+
+use crate::facts::{
+    ExplainOptions, Given, Place, explanation_of, items_of, lines_before, named_of, schedule_facts,
+};
+use crate::faults::ExplainFault;
+use clmodel::fault::Fault;
+use clmodel::schedule::Schedule;
+use clmodel::setup::Range;
+use clmodel::text::Name;
+use device::{Command, Device, Launch, Refusal};
+use explain_play::{Played, play, shorter};
+use explain_reasons::{Context, MOST_STEPS};
+use explanation::Explanation;
+use fault_facts::fault_line;
+use launch_facts::{ProgramSource, source_of};
+use replay::replay;
+use shortening::{Shortened, event_count};
+use spaces_base::Buffers;
+use std::alloc::{AllocError, Global};
+
+/// An explanation, and the schedule that it tells.
+#[derive(Drop)]
+pub(crate) struct Told {
+    pub whole: Explanation,
+    pub schedule: Schedule,
+}
+
+/// The schedule that is told: a shorter one, or the given one.
+fn chosen(
+    context: &Context<'_>,
+    buffers: &Buffers,
+    fault: &Fault,
+    given: Schedule,
+    played: &Played,
+    as_given: bool,
+) -> Result<Shortened, AllocError>
+    requires groups { HasGroups (setup_of context.now.launch.now) }
+    requires leads { Reaches (launch_of (setup_of context.now.launch.now) (bytes_in buffers.now)) (events_of given) fault.now }
+    ensures { IfOk result (λ short. IsShort (launch_of (setup_of context.now.launch.now) (bytes_in buffers.now)) fault.now given short.schedule) }
+{
+    if as_given {
+        return Ok(Shortened {
+            schedule: given,
+            judged: 0,
+        });
+    }
+    let named = named_of(context.alloc, played, fault)?;
+    shorter(
+        context.alloc,
+        context.launch,
+        buffers,
+        fault,
+        &given,
+        named.as_slice(),
+    )
+}
+
+/// An explanation of a schedule that leads a launch to a fault, if it leads there.
+fn explain_launch(
+    context: &Context<'_>,
+    buffers: &Buffers,
+    place: &Place<'_>,
+    fault: &Fault,
+    schedule: Schedule,
+    as_given: bool,
+) -> Result<Option<Told>, AllocError>
+    requires { HasGroups (setup_of context.now.launch.now) }
+    ensures none { IfOk result (λ found. IfNone found (Reaches (launch_of (setup_of context.now.launch.now) (bytes_in buffers.now)) (events_of schedule) fault.now → ⊥)) }
+    ensures leads { IfOk result (λ found. IfSome found (λ _. Reaches (launch_of (setup_of context.now.launch.now) (bytes_in buffers.now)) (events_of schedule) fault.now)) }
+    ensures told { IfOk result (λ found. IfSome found (λ told. IsShort (launch_of (setup_of context.now.launch.now) (bytes_in buffers.now)) fault.now schedule told.schedule)) }
+{
+    let (alloc, launch) = (context.alloc, context.launch);
+    if !replay(alloc, launch, buffers, &schedule, fault)? {
+        return Ok(None);
+    }
+    let items = items_of(fault);
+    let line = fault_line(alloc, fault, &schedule)?;
+    let events = event_count(schedule.as_slice());
+    let Some(first) = play(alloc, launch, buffers, fault, &schedule, items, 0)? else {
+        return Ok(None);
+    };
+    let short = chosen(context, buffers, fault, schedule, &first, as_given)?;
+    let Some(played) = play(
+        alloc,
+        launch,
+        buffers,
+        fault,
+        &short.schedule,
+        items,
+        MOST_STEPS,
+    )?
+    else {
+        return Ok(None);
+    };
+    let marks = played.marks.as_slice();
+    let facts = schedule_facts(alloc, fault, line.schedule, events, &short, marks)?;
+    let whole = explanation_of(context, buffers, place, fault, &played, facts)?;
+    Ok(Some(Told {
+        whole,
+        schedule: short.schedule,
+    }))
+}
+
+/// The source of a launch's program; an empty one, without a line, where none of the commands made it.
+fn program_of<'a>(
+    commands: &'a [Command],
+    done: &[bool],
+    kernel: &'a Name,
+    before: usize,
+) -> ProgramSource<'a> {
+    match source_of(commands, done, kernel, before) {
+        Some(program) => program,
+        None => ProgramSource {
+            text: &[],
+            first_line: 0,
+            program: kernel,
+            function: kernel,
+            kernel_command: 0,
+        },
+    }
+}
+
+/// What was asked, with the commands of the script, and of those before the launch whether they were done.
+#[derive(Clone, Copy)]
+pub(crate) struct Asked<'a> {
+    pub given: Given<'a>,
+    pub options: ExplainOptions,
+    pub commands: &'a [Command],
+    pub done: &'a [bool],
+}
+
+/// What a command of a script launches, if it is a launch.
+fn launch_in(commands: &[Command], ticket: usize) -> Option<(&Name, &Range)>
+    ensures launch { IfSome result (λ found. slice_get commands.now ticket ≡ Some (Command.Launch found.0.now found.1.now)) }
+    ensures none { IfNone result (NoLaunch commands.now ticket) }
+{
+    match commands.get(ticket) {
+        Some(Command::Launch { kernel, range }) => Some((kernel, range)),
+        _ => None,
+    }
+}
+
+/// Explains a case on a device to which the commands before its ticket led.
+pub(crate) fn explain_case(
+    alloc: Global,
+    device: &Device,
+    asked: &Asked<'_>,
+    ticket: usize,
+    fault: &Fault,
+    schedule: Schedule,
+) -> Result<Option<Told>, ExplainFault>
+    ensures told { IfOk result (λ found. Tells (machine_of device.now) asked.now.commands.now ticket fault.now schedule (is_some found)) }
+    ensures short { IfOk result (λ found. IfSome found (λ told. HasShort (machine_of device.now) asked.now.commands.now ticket fault.now schedule told.schedule)) }
+    ensures failed { IfErr result (Untold (machine_of device.now) asked.now.commands.now ticket) }
+{
+    let Some((kernel, range)) = launch_in(asked.commands, ticket) else {
+        return Err(ExplainFault::NotALaunch(ticket as u64));
+    };
+    let launch = match device.prepare(kernel, range) {
+        Ok(launch) => launch,
+        Err(Refusal::OutOfMemory) => return Err(ExplainFault::OutOfMemory),
+        Err(_) => return Err(ExplainFault::CommandRefused(ticket as u64)),
+    };
+    let before = lines_before(asked.given.script);
+    let context = Context {
+        alloc,
+        launch: &launch,
+        program: program_of(asked.commands, asked.done, kernel, before),
+        commands: asked.commands,
+        done: asked.done,
+        kernel,
+    };
+    let place = Place {
+        given: asked.given,
+        ticket,
+        range,
+        budget: asked.options.budget,
+    };
+    let as_given = asked.options.as_given;
+    Ok(explain_launch(
+        &context,
+        device.buffers(),
+        &place,
+        fault,
+        schedule,
+        as_given,
+    )?)
+}

@@ -1,0 +1,122 @@
+//! The commands of a script, performed up to what is to be explained.
+#![tactic(auto)]
+
+ghost use Rattle.std.specs.Prelude.{◌≡◌, ◌+◌, length, IfOk, IfSome, IfNone, OnOk, Decides, true};
+ghost use Rattle.device.specs.Machine.{Step, machine_of};
+ghost use Rattle.explaining.specs.Leading.{HadMemory, Leads, WalkedTo, EndsAt, goes_on};
+
+use clmodel::fault::Fault;
+use clmodel::schedule::Schedule;
+use device::{BuildFault, Command, Device, Refusal, Reply};
+use std::alloc::{AllocError, Global};
+
+/// A fault with a schedule, and the number of the launch's command.
+#[derive(Drop)]
+pub(crate) struct Case {
+    pub ticket: usize,
+    pub fault: Fault,
+    pub schedule: Schedule,
+}
+
+/// A build that is refused: the number of its command, and the fault of its source.
+#[derive(Clone, Copy)]
+pub(crate) struct Unbuilt {
+    pub ticket: usize,
+    pub fault: BuildFault,
+}
+
+/// What a walk over commands came to.
+#[derive(Drop)]
+pub(crate) enum Walked {
+    /// The last one, and none was a fault or a refused build
+    Clean,
+    /// A launch's fault
+    Faulted(Case),
+    /// A build that is refused
+    Unbuilt(Unbuilt),
+}
+
+/// What a walk came to, and of each command that was performed whether it was done.
+#[derive(Drop)]
+pub(crate) struct Walk {
+    pub end: Walked,
+    pub done: Vec<bool>,
+}
+
+/// Whether a reply is the refusal for want of memory.
+fn lacked_memory(reply: &Reply) -> bool
+    ensures { Decides result (reply.now ≡ Reply.Refused Refusal.OutOfMemory) }
+{
+    matches!(reply, Reply::Refused(Refusal::OutOfMemory))
+}
+
+/// Performs a command, and notes whether it was done. An error is out of memory.
+fn perform(device: &mut Device, command: Command, done: &mut Vec<bool>) -> Result<Reply, AllocError>
+    ensures step { IfOk result (λ reply. Step (machine_of device.old) command reply (machine_of device.new)) }
+    ensures memory { IfOk result HadMemory }
+    ensures counted { OnOk result (length done.new.items ≡ length done.old.items + 1) }
+{
+    let reply = device.apply(command);
+    if lacked_memory(&reply) {
+        return Err(AllocError);
+    }
+    done.push(!matches!(reply, Reply::Refused(_)))?;
+    Ok(reply)
+}
+
+/// Performs commands, and notes of each whether it was done. An error is out of memory.
+pub(crate) fn lead(
+    alloc: Global,
+    device: &mut Device,
+    commands: Vec<Command>,
+) -> Result<Vec<bool>, AllocError>
+    ensures { OnOk result (Leads (machine_of device.old) commands.items (machine_of device.new)) }
+{
+    let mut done = Vec::new(alloc);
+    for command in commands {
+        perform(device, command, &mut done)?;
+    }
+    Ok(done)
+}
+
+/// What a reply to the command of a number comes to, if a walk ends there.
+fn end_of(ticket: usize, reply: Reply) -> Option<Walked>
+    ensures ends { IfSome result (EndsAt ticket reply) }
+    ensures goes_on { IfNone result (goes_on reply ≡ true) }
+{
+    match reply {
+        Reply::Fault { fault, schedule } => Some(Walked::Faulted(Case {
+            ticket,
+            fault,
+            schedule,
+        })),
+        Reply::Refused(Refusal::BuildFailed(fault)) => {
+            Some(Walked::Unbuilt(Unbuilt { ticket, fault }))
+        }
+        Reply::Done | Reply::Data(_) | Reply::Clean | Reply::Refused(_) => None,
+    }
+}
+
+/// Performs commands up to the first launch that has a fault, or to the first build that is refused, and notes of each
+/// whether it was done. A launch with a fault changes no buffer, so that the device is then as before it. An error is
+/// out of memory.
+pub(crate) fn walk(
+    alloc: Global,
+    device: &mut Device,
+    commands: Vec<Command>,
+) -> Result<Walk, AllocError>
+    ensures { IfOk result (λ walk. WalkedTo (machine_of device.old) commands.items (machine_of device.new) walk.end) }
+{
+    let mut done = Vec::new(alloc);
+    for command in commands {
+        let ticket = done.len();
+        let reply = perform(device, command, &mut done)?;
+        if let Some(end) = end_of(ticket, reply) {
+            return Ok(Walk { end, done });
+        }
+    }
+    Ok(Walk {
+        end: Walked::Clean,
+        done,
+    })
+}

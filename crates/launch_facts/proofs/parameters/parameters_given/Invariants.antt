@@ -1,0 +1,5 @@
+use Rattle.launch_facts.specs.Parameters.{IsGiven, AreChosen, indexes}
+use Rattle.launch_facts.proofs.parameters.parameters_given.Given as goal
+
+abbrev pub invariant-loop-index : goal.invariant-loop-index
+invariant-loop-index l = AreChosen (IsGiven l.commands l.done l.kernel l.buffer) l.index (indexes l.found.items)
