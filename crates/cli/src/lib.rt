@@ -11,7 +11,7 @@ pub mod command_line;
 mod desk;
 pub mod dialogue;
 pub mod dumping;
-mod reading;
+pub mod reading;
 pub mod replaying;
 pub mod session;
 

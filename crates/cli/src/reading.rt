@@ -12,7 +12,7 @@ use simfile::script::read_script;
 use std::alloc::Global;
 
 /// All that a reader has left. The fault names the reader, so no `From` can make it.
-pub(crate) fn bytes_of<R: Read>(
+pub fn bytes_of<R: Read>(
     alloc: Global,
     reader: &mut R,
     named: Reader,

@@ -1,8 +1,16 @@
 -- Fields as loops find them.
-use Rattle.std.proofs.Common.{◌≡◌, ℕ, ◌+◌, ◌-◌, ◌*◌, ◌<◌, ◌≤◌, List, [], ◌∷◌, length, drop, get_or, None, Some, refl, ap, sym, ◌∙◌, arith}
-use Rattle.std.proofs.lemmas.List.{at_drop_more, at_drop_all}
+use Rattle.std.proofs.Common.{◌≡◌, ℕ, zero, suc, ◌+◌, ◌-◌, ◌*◌, ◌<◌, ◌≤◌, Bool, true, false, ◌&&◌, cond, if◌then◌else◌, List, [], ◌∷◌, ◌++◌, append_assoc, length, length-set, take, drop, set, get_or, None, Some, refl, ap, sym, ◌∙◌, arith}
+use Rattle.std.proofs.lemmas.Bool.{false≢true}
 use Rattle.std.proofs.lemmas.Bool.Decides.{nat_tests}
-use Rattle.simfile.specs.Fields.{bytes_of, hex_value}
+use Rattle.std.proofs.lemmas.List.{append-nil, at_drop_more, at_drop_all, drop-take, take-append-drop, take-take, take_all, take_more, take_more_set}
+use Rattle.std.proofs.lemmas.List.Concat.{flat_map-append}
+use Rattle.std.proofs.lemmas.List.Folds.{list_all-append}
+use Rattle.std.proofs.lemmas.List.Sums.{sum_by-append}
+use Rattle.std.specs.List.{count_by, flat_map, list_all}
+use Rattle.counted_io.specs.Sink.{Sink, Wrote, Stopped}
+use Rattle.counted_io.proofs.Puts.{wrote_then, stopped_then, stopped_more}
+use Rattle.simfile_fields.specs.Fronts.{front_length}
+use Rattle.simfile.specs.Fields.{byte_text, bytes_of, hex_value}
 use Rattle.simfile.specs.Reading.{lines_end}
 
 -- the steps through the lines
@@ -44,3 +52,75 @@ pub bytes_last : (ds : List ℕ) → length ds < 2 → bytes_of ds ≡ []
 bytes_last [] h = refl
 bytes_last (a ∷ []) h = refl
 bytes_last (a ∷ b ∷ ds) h = absurd (omega (arith, h))
+
+-- pairs of digits are read over bytes
+
+pub pairs_more : (i v : ℕ) (bs ds : List ℕ) → i < length bs → 2 * i + 1 < length ds → v ≡ 16 * hex_value (get_or ds (2 * i) 0) + hex_value (get_or ds (2 * i + 1) 0) → take i bs ++ bytes_of (drop (2 * i) ds) ≡ bytes_of ds → take (i + 1) (set bs i v) ++ bytes_of (drop (2 * (i + 1)) ds) ≡ bytes_of ds
+pairs_more i v bs ds h k e p =
+    let front : take (i + 1) (set bs i v) ≡ take i bs ++ v ∷ [] = take_more_set bs i v h in
+    let more : bytes_of (drop (2 * i) ds) ≡ v ∷ bytes_of (drop (2 * (i + 1)) ds) = bytes_more i ds k ∙ ap (λ n. n ∷ bytes_of (drop (2 * (i + 1)) ds)) (sym e) in
+    rw front (append_assoc (take i bs) (v ∷ []) (bytes_of (drop (2 * (i + 1)) ds)) ∙ (ap (λ l. take i bs ++ l) (sym more) ∙ p))
+
+pub pairs_all : (i : ℕ) (bs ds : List ℕ) → length bs ≤ i → length (drop (2 * i) ds) < 2 → take i bs ++ bytes_of (drop (2 * i) ds) ≡ bytes_of ds → bs ≡ bytes_of ds
+pairs_all i bs ds h short p = sym (take_all i bs h) ∙ (sym (append-nil (take i bs)) ∙ (ap (λ l. take i bs ++ l) (sym (bytes_last (drop (2 * i) ds) short)) ∙ p))
+
+-- blocks of a list
+
+pub take_block : {X : Type 0} (n k : ℕ) (xs : List X) → take (n + k) xs ≡ take n xs ++ take k (drop n xs)
+take_block n k xs =
+    sym (take-append-drop n (take (n + k) xs)) ∙ (ap (λ l. l ++ drop n (take (n + k) xs)) (take-take n (n + k) xs (omega arith)) ∙ ap (λ l. take n xs ++ l) (drop-take n k xs))
+
+-- a front is what lies before a place, and what lies behind
+pub take_between : {X : Type 0} (n e m : ℕ) (xs : List X) → n ≤ e → m ≡ e → take m xs ≡ take n xs ++ take (e - n) (drop n xs)
+take_between n e m xs h is = let same : m ≡ n + (e - n) = omega (arith, h, is) in ap (λ k. take k xs) same ∙ take_block n (e - n) xs
+
+pub count_between : (p : ℕ → Bool) (n e m : ℕ) (xs : List ℕ) → n ≤ e → m ≡ e → count_by p (take m xs) ≡ count_by p (take n xs) + count_by p (take (e - n) (drop n xs))
+count_between p n e m xs h is = ap (count_by p) (take_between n e m xs h is) ∙ sum_by-append (λ x. cond (p x) 1 0) (take n xs) (take (e - n) (drop n xs))
+
+pub count_rest : (p : ℕ → Bool) (n : ℕ) (xs : List ℕ) → n ≤ length xs → count_by p xs ≡ count_by p (take n xs) + count_by p (take (length xs - n) (drop n xs))
+count_rest p n xs h = ap (count_by p) (sym (take_all (length xs) xs (omega arith))) ∙ count_between p n (length xs) (length xs) xs h refl
+
+pub all_between : (p : ℕ → Bool) (n e m : ℕ) (xs : List ℕ) → n ≤ e → m ≡ e → list_all p (take n xs) ≡ true → list_all p (take (e - n) (drop n xs)) ≡ true → list_all p (take m xs) ≡ true
+all_between p n e m xs h is before behind =
+    ap (list_all p) (take_between n e m xs h is) ∙ (list_all-append p (take n xs) (take (e - n) (drop n xs)) ∙ (ap (λ v. v && list_all p (take (e - n) (drop n xs))) before ∙ behind))
+
+-- a front of a list whose items pass
+pub front_past : (p : ℕ → Bool) (n : ℕ) (bs : List ℕ) → n ≤ length bs → list_all p (take n bs) ≡ true → n + front_length p (drop n bs) ≡ front_length p bs
+front_past p zero bs h e = omega arith
+front_past p (suc n) [] h e = absurd (omega (arith, h))
+front_past p (suc n) (b ∷ bs) h e =
+    let more : list_all p (take n bs) ≡ true → n + front_length p (drop n bs) ≡ front_length p bs = front_past p n bs (omega (arith, h)) in
+    (elim (p b) as (λ v. (v && list_all p (take n bs)) ≡ true → suc n + front_length p (drop n bs) ≡ (if v then front_length p bs + 1 else 0)) [
+      | true ↦ λ q. let same = more q in omega (arith, same)
+      | false ↦ λ q. absurd (false≢true q)
+    ]) e
+
+-- two digits more
+
+flat_more : (f : ℕ → List ℕ) (i : ℕ) (xs : List ℕ) → i < length xs → flat_map f (take (i + 1) xs) ≡ flat_map f (take i xs) ++ f (get_or xs i 0)
+flat_more f i xs h = ap (flat_map f) (take_more xs i 0 h) ∙ (flat_map-append f (take i xs) (get_or xs i 0 ∷ []) ∙ ap (λ l. flat_map f (take i xs) ++ l) (append-nil (f (get_or xs i 0))))
+
+pub digits_more : (i a b : ℕ) (bs ts : List ℕ) → i < length bs → 2 * i + 1 < length ts → a ∷ b ∷ [] ≡ byte_text (get_or bs i 0) → take (2 * i) ts ≡ flat_map byte_text (take i bs) → take (2 * (i + 1)) (set (set ts (2 * i) a) (2 * i + 1) b) ≡ flat_map byte_text (take (i + 1) bs)
+digits_more i a b bs ts h k e p =
+    let next : 2 * (i + 1) ≡ 2 * i + 1 + 1 = omega arith in
+    let first : take (2 * i + 1) (set ts (2 * i) a) ≡ take (2 * i) ts ++ a ∷ [] = take_more_set ts (2 * i) a (omega (arith, k)) in
+    let second : take (2 * i + 1 + 1) (set (set ts (2 * i) a) (2 * i + 1) b) ≡ take (2 * i + 1) (set ts (2 * i) a) ++ b ∷ [] =
+    take_more_set (set ts (2 * i) a) (2 * i + 1) b (omega (arith, k, length-set ts (2 * i) a)) in
+    let front : take (2 * i + 1) (set ts (2 * i) a) ≡ flat_map byte_text (take i bs) ++ a ∷ [] = first ∙ ap (λ l. l ++ a ∷ []) p in
+    let both : (flat_map byte_text (take i bs) ++ a ∷ []) ++ b ∷ [] ≡ flat_map byte_text (take i bs) ++ a ∷ b ∷ [] = append_assoc (flat_map byte_text (take i bs)) (a ∷ []) (b ∷ []) in
+    ap (λ n. take n (set (set ts (2 * i) a) (2 * i + 1) b)) next ∙ (second ∙ (ap (λ l. l ++ b ∷ []) front ∙ (both ∙ (ap (λ l. flat_map byte_text (take i bs) ++ l) e ∙ sym (flat_more byte_text i bs h)))))
+
+-- chunks that are written
+
+flat_between : (f : ℕ → List ℕ) (n e m : ℕ) (xs : List ℕ) → n ≤ e → m ≡ e → flat_map f (take m xs) ≡ flat_map f (take n xs) ++ flat_map f (take (e - n) (drop n xs))
+flat_between f n e m xs h is = ap (flat_map f) (take_between n e m xs h is) ∙ flat_map-append f (take n xs) (take (e - n) (drop n xs))
+
+pub flat_rest : (f : ℕ → List ℕ) (n : ℕ) (xs : List ℕ) → n ≤ length xs → flat_map f xs ≡ flat_map f (take n xs) ++ flat_map f (take (length xs - n) (drop n xs))
+flat_rest f n xs h = ap (flat_map f) (sym (take_all (length xs) xs (omega arith))) ∙ flat_between f n (length xs) (length xs) xs h refl
+
+pub chunk_wrote : {a b c : Sink} (f : ℕ → List ℕ) (n e m : ℕ) (xs : List ℕ) → n ≤ e → m ≡ e → Wrote a b (flat_map f (take n xs)) → Wrote b c (flat_map f (take (e - n) (drop n xs))) → Wrote a c (flat_map f (take m xs))
+chunk_wrote f n e m xs h is p q = rw (flat_between f n e m xs h is) (wrote_then p q)
+
+pub chunk_stopped : {a b c : Sink} (f : ℕ → List ℕ) (n e m : ℕ) (xs : List ℕ) → n ≤ e → e ≤ m → Wrote a b (flat_map f (take n xs)) → Stopped b c (flat_map f (take (e - n) (drop n xs))) → Stopped a c (flat_map f (take m xs))
+chunk_stopped f n e m xs h k p q =
+    rw (flat_between f e m m xs k refl, flat_between f n e e xs h refl) (stopped_more (flat_map f (take (m - e) (drop e xs))) (stopped_then p q))

@@ -1,7 +1,8 @@
 //! The fields of a script's line.
 #![tactic(auto)]
 
-ghost use Rattle.std.specs.Prelude.{◌≡◌, ◌<◌, ◌≤◌, not, length, position, IfSome, IfOk};
+ghost use Rattle.std.specs.Prelude.{◌≡◌, ◌<◌, ◌≤◌, ◌/◌, not, true, length, take, position, IfSome, IfOk};
+ghost use Rattle.std.specs.List.{list_all};
 ghost use Rattle.std.specs.Option.{option_map};
 ghost use Rattle.simfile_fields.specs.Fronts.{front_length, before};
 ghost use Rattle.simfile.specs.Fields.{numbers_of, is_hex_digit, hex_value, bytes_of};
@@ -61,6 +62,34 @@ fn is_hex_digit(byte: u8) -> bool
     byte.is_ascii_digit() || (b'a'..=b'f').contains(&byte)
 }
 
+/// The bytes that are tested at once.
+const BLOCK: usize = 128;
+
+/// Whether all bytes are hexadecimal digits. It tests each, so that none is waited for.
+fn are_hex_digits(bytes: &[u8]) -> bool
+    ensures { result ≡ list_all is_hex_digit bytes.now }
+{
+    let mut all = true;
+    for byte in bytes {
+        all = all & is_hex_digit(*byte);
+    }
+    all
+}
+
+/// Where the first block ends that isn't of digits alone, or the last whole block.
+fn hex_blocks(bytes: &[u8]) -> usize
+    ensures digits { list_all is_hex_digit (take result bytes.now) ≡ true }
+    ensures within { result ≤ length bytes.now }
+{
+    let blocks = bytes.len() / BLOCK;
+    for index in 0..blocks {
+        if !are_hex_digits(&bytes[BLOCK * index..BLOCK * index + BLOCK]) {
+            return BLOCK * index;
+        }
+    }
+    BLOCK * blocks
+}
+
 fn hex_end(bytes: &[u8]) -> Option<usize>
     ensures value { result ≡ position (λ b. not (is_hex_digit b)) bytes.now }
     ensures within { IfSome result (λ end. end < length bytes.now) }
@@ -68,11 +97,20 @@ fn hex_end(bytes: &[u8]) -> Option<usize>
     bytes.iter().position(|byte| !is_hex_digit(*byte))
 }
 
-fn hex_length(bytes: &[u8]) -> usize
+/// How many digits stand in front, found one by one.
+fn digits_in_front(bytes: &[u8]) -> usize
     ensures value { result ≡ front_length is_hex_digit bytes.now }
     ensures within { result ≤ length bytes.now }
 {
     hex_end(bytes).unwrap_or(bytes.len())
+}
+
+fn hex_length(bytes: &[u8]) -> usize
+    ensures value { result ≡ front_length is_hex_digit bytes.now }
+    ensures within { result ≤ length bytes.now }
+{
+    let whole = hex_blocks(bytes);
+    whole + digits_in_front(&bytes[whole..])
 }
 
 /// The most digits of the bytes of a line.
@@ -112,14 +150,22 @@ fn hex_value(byte: u8) -> u8
     }
 }
 
+/// Writes the bytes that pairs of digits write over others, of which there are as many.
+fn read_pairs(digits: &[u8], bytes: &mut [u8])
+    requires { length bytes.old ≡ length digits.now / 2 }
+    ensures { bytes.new ≡ bytes_of digits.now }
+{
+    for index in 0..bytes.len() {
+        bytes[index] = 16 * hex_value(digits[2 * index]) + hex_value(digits[2 * index + 1]);
+    }
+}
+
 /// The bytes that pairs of digits write.
 pub fn bytes_of(alloc: Global, digits: &[u8]) -> Result<Bytes, AllocError>
     ensures { IfOk result (λ bytes. bytes ≡ bytes_of digits.now) }
 {
-    let mut bytes = Vec::with_capacity(alloc, digits.len() / 2)?;
-    for index in 0..digits.len() / 2 {
-        bytes.push(16 * hex_value(digits[2 * index]) + hex_value(digits[2 * index + 1]))?;
-    }
+    let mut bytes = vec![in alloc; 0; digits.len() / 2]?;
+    read_pairs(digits, bytes.as_mut_slice());
     Ok(Bytes::new(bytes))
 }
 

@@ -1,13 +1,14 @@
-use Rattle.std.proofs.Common.{rules}
+use Rattle.std.proofs.Common.{◌*◌, arith}
 use Rattle.std.proofs.lemmas.Result.{err_from_is_err_and}
 use Rattle.simfile.specs.Fields.{byte_text}
-use Rattle.counted_io.proofs.Puts.{stopped_at, wrote_more}
+use Rattle.counted_io.proofs.Puts.{stopped_more, puts_then}
+use Rattle.simfile.proofs.FieldLemmas.{flat_rest}
 use Rattle.simfile.proofs.hex.write_hex.Goals as goal
 
-pub returns-in_err-write_byte : goal.returns-in_err-write_byte
-returns-in_err-write_byte g c =
+pub returns-in_err-write_chunks : goal.returns-in_err-write_chunks
+returns-in_err-write_chunks g c =
     let p = err_from_is_err_and c.from_residual.result c.from_residual.ensures.1 in
-    rw p.1 (stopped_at byte_text c.args.bytes.now c.loop-byte.byte-index 0 (search rules) c.loop-byte.invariant c.in_err-write_byte.ensures)
+    rw (p.1, flat_rest byte_text (256 * c.args.chunks) c.args.bytes.now (omega arith)) (stopped_more _ c.in_err-write_chunks.ensures)
 
-pub loop-byte-preserved : goal.loop-byte-preserved
-loop-byte-preserved g c = wrote_more byte_text c.args.bytes.now c.loop-byte.byte-index 0 (search rules) c.loop-byte.invariant c.in_ok-write_byte.ensures
+pub returns : goal.returns
+returns g c = rw (flat_rest byte_text _ c.args.bytes.now (omega arith)) (puts_then _ _ c.write_chunk.result c.in_ok-write_chunks.ensures c.write_chunk.ensures)
