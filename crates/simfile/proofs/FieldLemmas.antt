@@ -1,8 +1,8 @@
 -- Fields as loops find them.
-use Rattle.std.proofs.Common.{◌≡◌, ℕ, zero, suc, ◌+◌, ◌-◌, ◌*◌, ◌<◌, ◌≤◌, Bool, true, false, ◌&&◌, cond, if◌then◌else◌, List, [], ◌∷◌, ◌++◌, append_assoc, length, length-set, take, drop, set, get_or, None, Some, refl, ap, sym, ◌∙◌, arith}
+use Rattle.std.proofs.Common.{◌≡◌, ℕ, zero, suc, ◌+◌, ◌-◌, ◌*◌, ◌<◌, ◌≤◌, Bool, true, false, ◌&&◌, cond, if◌then◌else◌, List, [], ◌∷◌, ◌++◌, append_assoc, length, take, drop, set, get_or, None, Some, refl, ap, sym, ◌∙◌, arith}
 use Rattle.std.proofs.lemmas.Bool.{false≢true}
 use Rattle.std.proofs.lemmas.Bool.Decides.{nat_tests}
-use Rattle.std.proofs.lemmas.List.{append-nil, at_drop_more, at_drop_all, drop-take, take-append-drop, take-take, take_all, take_more, take_more_set}
+use Rattle.std.proofs.lemmas.List.{append-nil, at_drop_more, at_drop_all, drop-take, take-append-drop, take-take, take_all, take_more_set}
 use Rattle.std.proofs.lemmas.List.Concat.{flat_map-append}
 use Rattle.std.proofs.lemmas.List.Folds.{list_all-append}
 use Rattle.std.proofs.lemmas.List.Sums.{sum_by-append}
@@ -10,7 +10,7 @@ use Rattle.std.specs.List.{count_by, flat_map, list_all}
 use Rattle.counted_io.specs.Sink.{Sink, Wrote, Stopped}
 use Rattle.counted_io.proofs.Puts.{wrote_then, stopped_then, stopped_more}
 use Rattle.simfile_fields.specs.Fronts.{front_length}
-use Rattle.simfile.specs.Fields.{byte_text, bytes_of, hex_value}
+use Rattle.simfile.specs.Fields.{bytes_of, hex_value}
 use Rattle.simfile.specs.Reading.{lines_end}
 
 -- the steps through the lines
@@ -94,21 +94,6 @@ front_past p (suc n) (b ∷ bs) h e =
       | true ↦ λ q. let same = more q in omega (arith, same)
       | false ↦ λ q. absurd (false≢true q)
     ]) e
-
--- two digits more
-
-flat_more : (f : ℕ → List ℕ) (i : ℕ) (xs : List ℕ) → i < length xs → flat_map f (take (i + 1) xs) ≡ flat_map f (take i xs) ++ f (get_or xs i 0)
-flat_more f i xs h = ap (flat_map f) (take_more xs i 0 h) ∙ (flat_map-append f (take i xs) (get_or xs i 0 ∷ []) ∙ ap (λ l. flat_map f (take i xs) ++ l) (append-nil (f (get_or xs i 0))))
-
-pub digits_more : (i a b : ℕ) (bs ts : List ℕ) → i < length bs → 2 * i + 1 < length ts → a ∷ b ∷ [] ≡ byte_text (get_or bs i 0) → take (2 * i) ts ≡ flat_map byte_text (take i bs) → take (2 * (i + 1)) (set (set ts (2 * i) a) (2 * i + 1) b) ≡ flat_map byte_text (take (i + 1) bs)
-digits_more i a b bs ts h k e p =
-    let next : 2 * (i + 1) ≡ 2 * i + 1 + 1 = omega arith in
-    let first : take (2 * i + 1) (set ts (2 * i) a) ≡ take (2 * i) ts ++ a ∷ [] = take_more_set ts (2 * i) a (omega (arith, k)) in
-    let second : take (2 * i + 1 + 1) (set (set ts (2 * i) a) (2 * i + 1) b) ≡ take (2 * i + 1) (set ts (2 * i) a) ++ b ∷ [] =
-    take_more_set (set ts (2 * i) a) (2 * i + 1) b (omega (arith, k, length-set ts (2 * i) a)) in
-    let front : take (2 * i + 1) (set ts (2 * i) a) ≡ flat_map byte_text (take i bs) ++ a ∷ [] = first ∙ ap (λ l. l ++ a ∷ []) p in
-    let both : (flat_map byte_text (take i bs) ++ a ∷ []) ++ b ∷ [] ≡ flat_map byte_text (take i bs) ++ a ∷ b ∷ [] = append_assoc (flat_map byte_text (take i bs)) (a ∷ []) (b ∷ []) in
-    ap (λ n. take n (set (set ts (2 * i) a) (2 * i + 1) b)) next ∙ (second ∙ (ap (λ l. l ++ b ∷ []) front ∙ (both ∙ (ap (λ l. flat_map byte_text (take i bs) ++ l) e ∙ sym (flat_more byte_text i bs h)))))
 
 -- chunks that are written
 

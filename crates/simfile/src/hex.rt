@@ -44,11 +44,7 @@ fn write_chunk<W: Write>(bytes: &[u8], writer: &mut W) -> Result<(), WriteFailed
 }
 
 /// Writes two lower-case hexadecimal digits for each byte of so many whole chunks in front.
-fn write_chunks<W: Write>(
-    chunks: usize,
-    bytes: &[u8],
-    writer: &mut W,
-) -> Result<(), WriteFailed>
+fn write_chunks<W: Write>(chunks: usize, bytes: &[u8], writer: &mut W) -> Result<(), WriteFailed>
     requires { 256 * chunks ≤ length bytes.now }
     ensures { Puts (W.sink writer.old) result (W.sink writer.new) (flat_map byte_text (take (256 * chunks) bytes.now)) }
 {

@@ -1,4 +1,4 @@
-use Rattle.std.proofs.Common.{◌*◌, arith}
+use Rattle.std.proofs.Common.{◌*◌, ◌/◌, length, arith}
 use Rattle.std.proofs.lemmas.Result.{err_from_is_err_and}
 use Rattle.simfile.specs.Fields.{byte_text}
 use Rattle.counted_io.proofs.Puts.{stopped_more, puts_then}
@@ -8,7 +8,7 @@ use Rattle.simfile.proofs.hex.write_hex.Goals as goal
 pub returns-in_err-write_chunks : goal.returns-in_err-write_chunks
 returns-in_err-write_chunks g c =
     let p = err_from_is_err_and c.from_residual.result c.from_residual.ensures.1 in
-    rw (p.1, flat_rest byte_text (256 * c.args.chunks) c.args.bytes.now (omega arith)) (stopped_more _ c.in_err-write_chunks.ensures)
+    rw (p.1, flat_rest byte_text (256 * (length c.args.bytes.now / 256)) c.args.bytes.now (omega arith)) (stopped_more _ c.in_err-write_chunks.ensures)
 
 pub returns : goal.returns
-returns g c = rw (flat_rest byte_text _ c.args.bytes.now (omega arith)) (puts_then _ _ c.write_chunk.result c.in_ok-write_chunks.ensures c.write_chunk.ensures)
+returns g c = rw (flat_rest byte_text (256 * (length c.args.bytes.now / 256)) c.args.bytes.now (omega arith)) (puts_then _ _ c.write_chunk.result c.in_ok-write_chunks.ensures c.write_chunk.ensures)
