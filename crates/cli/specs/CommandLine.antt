@@ -103,13 +103,13 @@ abbrev pub GivesFormat : List Row → Bool → Type 0
 GivesFormat rows json = IsFormat (first_of (codes "format") rows) json
 
 -- whether a flag is there
-pub record IsFlag (found : Option Text) (yes : Bool) : Type 0 where
-  pub there : found ≡ Some (codes "true") → yes ≡ true
-  pub absent : found ≡ Some (codes "false") → yes ≡ false
-  pub unknown : found ≡ None → yes ≡ false
+pub record IsFlag (found : Option Text) (given : Bool) : Type 0 where
+  pub there : found ≡ Some (codes "true") → given ≡ true
+  pub absent : found ≡ Some (codes "false") → given ≡ false
+  pub unknown : found ≡ None → given ≡ false
 
 abbrev pub GivesFlag : List Row → Bool → Type 0
-GivesFlag rows yes = IsFlag (one_of (codes "as-given") rows) yes
+GivesFlag rows given = IsFlag (one_of (codes "as-given") rows) given
 
 -- a run of the file of these matches, by their workers and under their budget
 abbrev pub IsRun : List Row → Invocation → Type 0

@@ -8,36 +8,38 @@ ghost use Rattle.clap.specs.declared.builder.command.Command.TheViews.{out-Comma
 ghost use Rattle.cli.specs.CommandLine.{file, workers, budget, kernel, script, schedule, some_schedule, format, as_given, run_form, check_form, dump_form, replay_form, serve_form, explain_form, runs, program, GivesWorkers, GivesBudget, GivesFormat, GivesFlag, IsRun, IsCheck, IsDump, IsReplay, IsServe, IsExplain, Holds, AsksFor};
 
 use crate::session::Options;
+use crate::wish::ExplainWish;
 use clap::builder::ValueParser;
 use clap::error::ErrorKind;
 use clap::{Arg, ArgAction, ArgMatches, Command, Error};
 use std::alloc::{AllocError, Global};
 
-/// How an explanation is to be made.
-#[derive(Clone, Copy, Debug, PartialEq, Eq)]
-pub struct ExplainWish {
-    /// The most ticks of a work-item of a launch, from 1 to 1,000,000
-    pub budget: u32,
-    /// Whether it is written as JSON, and not as text
-    pub json: bool,
-    /// Whether the schedule is told as it was given, and not made shorter
-    pub as_given: bool,
-    pub ghost limited: { budget ≤ 1000000 },
-}
-
 /// What a command line asks for.
 #[derive(Clone, Copy, Debug, PartialEq, Eq)]
 pub enum Invocation<'a> {
     /// Runs the script of a file
-    Run { file: &'a str, options: Options },
+    Run {
+        file: &'a str,
+        options: Options,
+    },
     /// Checks the source of a file
-    Check { file: &'a str },
+    Check {
+        file: &'a str,
+    },
     /// Writes the code of a kernel of the source of a file
-    Dump { file: &'a str, kernel: &'a str },
+    Dump {
+        file: &'a str,
+        kernel: &'a str,
+    },
     /// Replays a schedule file on the script of a file
-    Replay { script: &'a str, schedule: &'a str },
+    Replay {
+        script: &'a str,
+        schedule: &'a str,
+    },
     /// Answers the commands of standard input one by one
-    Serve { options: Options },
+    Serve {
+        options: Options,
+    },
     /// Explains the fault of a schedule file, or without one the first fault of a script
     Explain {
         script: &'a str,
@@ -117,8 +119,9 @@ fn some_schedule<'a>(alloc: Global) -> Arg<'a>
     ensures rule { rule_of result ≡ some_schedule }
     ensures local { result.global ≡ false }
 {
-    Arg::new(alloc, "SCHEDULE")
-        .help("The schedule file; without one the first fault of the script is explained")
+    Arg::new(alloc, "SCHEDULE").help(
+        "The schedule file; without one the first fault of the script is explained",
+    )
 }
 
 /// The option `--format text|json`.

@@ -14,6 +14,7 @@ pub mod dumping;
 pub mod reading;
 pub mod replaying;
 pub mod session;
+pub mod wish;
 
 pub use checking::check_file;
 pub use command_line::command;

@@ -14,11 +14,12 @@ mod named_file;
 
 use crate::named_file::NamedFile;
 use cli::checking::{check_file, source_status};
-use cli::command_line::{ExplainWish, Invocation, command};
+use cli::command_line::{Invocation, command};
 use cli::dialogue::serve;
 use cli::dumping::dump_file;
 use cli::replaying::{replay_files, replay_status};
 use cli::session::{Options, Reader, RunEnd, RunFault, run, status};
+use cli::wish::ExplainWish;
 use explain_files::{explain_schedule, explain_script};
 use explaining::{ExplainOptions, Format};
 use peers::StreamPeer;
