@@ -1,8 +1,9 @@
 -- The forms of the command line, and what a command line asks for.
-use Rattle.std.specs.Prelude.{◌≡◌, ◌⊎◌, ◌≤◌, ℕ, true, Option, Some, None, List, codes}
+use Rattle.std.specs.Prelude.{◌≡◌, ◌⊎◌, ◌≤◌, ℕ, Bool, true, false, Option, Some, None, option_map, List, codes}
 use Rattle.std.specs.Str.Parse.{IsNumeral, digits_value, without_leading_plus}
 use Rattle.clap.specs.Simple.{on_top}
 use Rattle.clap.specs.Words.{App, Rule, Row, Text, new_app, new_rule, with_rule, with_subcommand, subcommand_of, first_of, one_of}
+use Rattle.clap.specs.declared.builder.action.ArgAction.TheVariants as action
 use Rattle.clap.specs.declared.builder.value_parser.ValueParser.TheVariants as parser
 use Rattle.cli.specs.declared.command_line.Invocation.{Invocation}
 use Rattle.cli.specs.declared.command_line.Invocation.TheVariants as invocation
@@ -54,14 +55,30 @@ replay_form = with_rule (with_rule (new_app (codes "replay")) script) schedule
 abbrev pub serve_form : App
 serve_form = with_rule (with_rule (new_app (codes "serve")) workers) budget
 
+-- `SCHEDULE`, which may be left out
+abbrev pub some_schedule : Rule
+some_schedule = new_rule (codes "SCHEDULE")
+
+-- `--format FORMAT`
+abbrev pub format : Rule
+format = record (new_rule (codes "format")) { long = Some (codes "format"); value_names = 1 }
+
+-- `--as-given`
+abbrev pub as_given : Rule
+as_given = record (new_rule (codes "as-given")) { long = Some (codes "as-given"); action = Some action.SetTrue }
+
+abbrev pub explain_form : App
+explain_form = with_rule (with_rule (with_rule (with_rule (with_rule (new_app (codes "explain")) script) some_schedule) format) budget) as_given
+
 -- `clsim run FILE [--workers N] [--budget N]`
 abbrev pub runs : App
 runs = with_subcommand (on_top (λ top. record top { subcommand_required = true }) (new_app (codes "clsim"))) run_form.top
 
 -- `clsim run FILE [--workers N] [--budget N]`, `clsim check FILE`, `clsim dump FILE KERNEL`,
--- `clsim replay SCRIPT SCHEDULE` or `clsim serve [--workers N] [--budget N]`
+-- `clsim replay SCRIPT SCHEDULE`, `clsim serve [--workers N] [--budget N]` or
+-- `clsim explain SCRIPT [SCHEDULE] [--format text|json] [--budget N] [--as-given]`
 abbrev pub program : App
-program = with_subcommand (with_subcommand (with_subcommand (with_subcommand runs check_form.top) dump_form.top) replay_form.top) serve_form.top
+program = with_subcommand (with_subcommand (with_subcommand (with_subcommand (with_subcommand runs check_form.top) dump_form.top) replay_form.top) serve_form.top) explain_form.top
 
 -- the number of an option, from 1 to the most, or what it is where the option isn't there
 abbrev pub IsNumber : ℕ → ℕ → Option Text → ℕ → Type 0
@@ -77,6 +94,23 @@ GivesWorkers rows n = IsNumber 1 16 (one_of (codes "workers") rows) n
 abbrev pub GivesBudget : List Row → ℕ → Type 0
 GivesBudget rows n = IsNumber 100000 1000000 (one_of (codes "budget") rows) n
 
+-- whether the format is JSON: it is text where the option isn't there
+abbrev pub IsFormat : Option Text → Bool → Type 0
+IsFormat None json = json ≡ false
+IsFormat (Some text) json = (text ≡ codes "text") × (json ≡ false) ⊎ (text ≡ codes "json") × (json ≡ true)
+
+abbrev pub GivesFormat : List Row → Bool → Type 0
+GivesFormat rows json = IsFormat (first_of (codes "format") rows) json
+
+-- whether a flag is there
+pub record IsFlag (found : Option Text) (given : Bool) : Type 0 where
+  pub there : found ≡ Some (codes "true") → given ≡ true
+  pub absent : found ≡ Some (codes "false") → given ≡ false
+  pub unknown : found ≡ None → given ≡ false
+
+abbrev pub GivesFlag : List Row → Bool → Type 0
+GivesFlag rows given = IsFlag (one_of (codes "as-given") rows) given
+
 -- a run of the file of these matches, by their workers and under their budget
 abbrev pub IsRun : List Row → Invocation → Type 0
 IsRun rows (invocation.Run path options) =
@@ -85,6 +119,7 @@ IsRun rows (invocation.Check path) = ⊥
 IsRun rows (invocation.Dump path name) = ⊥
 IsRun rows (invocation.Replay script schedule) = ⊥
 IsRun rows (invocation.Serve options) = ⊥
+IsRun rows (invocation.Explain script schedule wish) = ⊥
 
 -- a check of the file of these matches
 abbrev pub IsCheck : List Row → Invocation → Type 0
@@ -93,6 +128,7 @@ IsCheck rows (invocation.Check path) = first_of (codes "FILE") rows ≡ Some pat
 IsCheck rows (invocation.Dump path name) = ⊥
 IsCheck rows (invocation.Replay script schedule) = ⊥
 IsCheck rows (invocation.Serve options) = ⊥
+IsCheck rows (invocation.Explain script schedule wish) = ⊥
 
 -- a dump of the kernel and of the file of these matches
 abbrev pub IsDump : List Row → Invocation → Type 0
@@ -101,6 +137,7 @@ IsDump rows (invocation.Check path) = ⊥
 IsDump rows (invocation.Dump path name) = (first_of (codes "FILE") rows ≡ Some path.now) × (first_of (codes "KERNEL") rows ≡ Some name.now)
 IsDump rows (invocation.Replay script schedule) = ⊥
 IsDump rows (invocation.Serve options) = ⊥
+IsDump rows (invocation.Explain script schedule wish) = ⊥
 
 -- a replay of the schedule file on the script of these matches
 abbrev pub IsReplay : List Row → Invocation → Type 0
@@ -110,6 +147,7 @@ IsReplay rows (invocation.Dump path name) = ⊥
 IsReplay rows (invocation.Replay script schedule) =
     (first_of (codes "SCRIPT") rows ≡ Some script.now) × (first_of (codes "SCHEDULE") rows ≡ Some schedule.now)
 IsReplay rows (invocation.Serve options) = ⊥
+IsReplay rows (invocation.Explain script schedule wish) = ⊥
 
 -- serving, by these matches' workers and under their budget
 abbrev pub IsServe : List Row → Invocation → Type 0
@@ -118,6 +156,18 @@ IsServe rows (invocation.Check path) = ⊥
 IsServe rows (invocation.Dump path name) = ⊥
 IsServe rows (invocation.Replay script schedule) = ⊥
 IsServe rows (invocation.Serve options) = GivesWorkers rows options.workers × GivesBudget rows options.budget
+IsServe rows (invocation.Explain script schedule wish) = ⊥
+
+-- an explanation of the script and of the schedule file of these matches, if one is named
+abbrev pub IsExplain : List Row → Invocation → Type 0
+IsExplain rows (invocation.Run path options) = ⊥
+IsExplain rows (invocation.Check path) = ⊥
+IsExplain rows (invocation.Dump path name) = ⊥
+IsExplain rows (invocation.Replay script schedule) = ⊥
+IsExplain rows (invocation.Serve options) = ⊥
+IsExplain rows (invocation.Explain script schedule wish) =
+    (first_of (codes "SCRIPT") rows ≡ Some script.now) × (first_of (codes "SCHEDULE") rows ≡ option_map (λ s. s.now) schedule)
+    × GivesBudget rows wish.budget × GivesFormat rows wish.json × GivesFlag rows wish.as_given
 
 -- the subcommand that was met, with its matches, is the form that is asked for
 abbrev pub Holds : Option (Text × List Row) → Invocation → Type 0
@@ -127,7 +177,8 @@ Holds (Some (name, rows)) asked =
     ⊎ ((name ≡ codes "check") × IsCheck rows asked
     ⊎ ((name ≡ codes "dump") × IsDump rows asked
     ⊎ ((name ≡ codes "replay") × IsReplay rows asked
-    ⊎ (name ≡ codes "serve") × IsServe rows asked)))
+    ⊎ ((name ≡ codes "serve") × IsServe rows asked
+    ⊎ (name ≡ codes "explain") × IsExplain rows asked))))
 
 -- the words' matches hold what is asked for
 abbrev pub AsksFor : List Text → Invocation → Type 0

@@ -5,27 +5,47 @@ ghost use Rattle.std.specs.Prelude.{◌≡◌, ◌≤◌, false, map, Ok, IfOk, 
 ghost use Rattle.clap.specs.Words.{AddsSubcommand, app_of, new_app, rule_of, found_of, rows_of, subcommand_rows_of};
 ghost use Rattle.clap.specs.declared.builder.command.Command.{Command};
 ghost use Rattle.clap.specs.declared.builder.command.Command.TheViews.{out-Command};
-ghost use Rattle.cli.specs.CommandLine.{file, workers, budget, kernel, script, schedule, run_form, check_form, dump_form, replay_form, serve_form, runs, program, GivesWorkers, GivesBudget, IsRun, IsCheck, IsDump, IsReplay, IsServe, Holds, AsksFor};
+ghost use Rattle.cli.specs.CommandLine.{file, workers, budget, kernel, script, schedule, some_schedule, format, as_given, run_form, check_form, dump_form, replay_form, serve_form, explain_form, runs, program, GivesWorkers, GivesBudget, GivesFormat, GivesFlag, IsRun, IsCheck, IsDump, IsReplay, IsServe, IsExplain, Holds, AsksFor};
 
 use crate::session::Options;
+use crate::wish::ExplainWish;
 use clap::builder::ValueParser;
 use clap::error::ErrorKind;
-use clap::{Arg, ArgMatches, Command, Error};
+use clap::{Arg, ArgAction, ArgMatches, Command, Error};
 use std::alloc::{AllocError, Global};
 
 /// What a command line asks for.
 #[derive(Clone, Copy, Debug, PartialEq, Eq)]
 pub enum Invocation<'a> {
     /// Runs the script of a file
-    Run { file: &'a str, options: Options },
+    Run {
+        file: &'a str,
+        options: Options,
+    },
     /// Checks the source of a file
-    Check { file: &'a str },
+    Check {
+        file: &'a str,
+    },
     /// Writes the code of a kernel of the source of a file
-    Dump { file: &'a str, kernel: &'a str },
+    Dump {
+        file: &'a str,
+        kernel: &'a str,
+    },
     /// Replays a schedule file on the script of a file
-    Replay { script: &'a str, schedule: &'a str },
+    Replay {
+        script: &'a str,
+        schedule: &'a str,
+    },
     /// Answers the commands of standard input one by one
-    Serve { options: Options },
+    Serve {
+        options: Options,
+    },
+    /// Explains the fault of a schedule file, or without one the first fault of a script
+    Explain {
+        script: &'a str,
+        schedule: Option<&'a str>,
+        wish: ExplainWish,
+    },
 }
 
 /// The greatest budget of a run.
@@ -92,6 +112,38 @@ fn schedule<'a>(alloc: Global) -> Arg<'a>
     Arg::new(alloc, "SCHEDULE")
         .required(true)
         .help("The schedule file: a line `ticket T`, and a fault's line")
+}
+
+/// The argument `SCHEDULE`, where it may be left out.
+fn some_schedule<'a>(alloc: Global) -> Arg<'a>
+    ensures rule { rule_of result ≡ some_schedule }
+    ensures local { result.global ≡ false }
+{
+    Arg::new(alloc, "SCHEDULE").help(
+        "The schedule file; without one the first fault of the script is explained",
+    )
+}
+
+/// The option `--format text|json`.
+fn format<'a>(alloc: Global) -> Arg<'a>
+    ensures rule { rule_of result ≡ format }
+    ensures local { result.global ≡ false }
+{
+    Arg::new(alloc, "format")
+        .long("format")
+        .value_name("FORMAT")
+        .help("How the explanation is written: text or json")
+}
+
+/// The option `--as-given`.
+fn as_given<'a>(alloc: Global) -> Arg<'a>
+    ensures rule { rule_of result ≡ as_given }
+    ensures local { result.global ≡ false }
+{
+    Arg::new(alloc, "as-given")
+        .long("as-given")
+        .action(ArgAction::SetTrue)
+        .help("Explains the schedule as it is given, and looks for no shorter one")
 }
 
 /// A form without arguments, and what help says of it.
@@ -168,6 +220,23 @@ fn serve_form<'a>(alloc: Global) -> Result<Command<'a>, AllocError>
     form.arg(budget(alloc))
 }
 
+/// The form `explain SCRIPT [SCHEDULE] [--format text|json] [--budget N] [--as-given]`.
+fn explain_form<'a>(alloc: Global) -> Result<Command<'a>, AllocError>
+    ensures form { IfOk result (λ form. app_of form ≡ explain_form) }
+    ensures local { IfOk result (λ form. (out-Command form).has_globals ≡ false) }
+{
+    let form = named(
+        alloc,
+        "explain",
+        "Explains a fault: where in the source, in whose ids, and how it comes about",
+    )
+    .arg(script(alloc))?;
+    let with_files = form.arg(some_schedule(alloc))?;
+    let with_format = with_files.arg(format(alloc))?;
+    let with_budget = with_format.arg(budget(alloc))?;
+    with_budget.arg(as_given(alloc))
+}
+
 /// The budget of a run, the default where the option isn't there, and `None` where it is no budget.
 fn budget_of(run: &ArgMatches<'_>) -> Option<u32>
     ensures given { IfSome result (λ number. GivesBudget (rows_of (found_of run.now)) number) }
@@ -242,6 +311,42 @@ fn serve_of<'a>(serve: &ArgMatches<'a>) -> Option<Invocation<'a>>
     })
 }
 
+/// Whether the format of an explanation is JSON, and `None` where it is neither this nor text.
+fn format_of(explain: &ArgMatches<'_>) -> Option<bool>
+    ensures { IfSome result (λ json. GivesFormat (rows_of (found_of explain.now)) json) }
+{
+    let Some(format) = explain.get_str("format") else {
+        return Some(false);
+    };
+    if format == "text" {
+        return Some(false);
+    }
+    if format == "json" {
+        return Some(true);
+    }
+    None
+}
+
+/// What the matches of `explain` ask for.
+fn explain_of<'a>(explain: &ArgMatches<'a>) -> Option<Invocation<'a>>
+    ensures { IfSome result (λ asked. IsExplain (rows_of (found_of explain.now)) asked) }
+{
+    let script = explain.get_str("SCRIPT")?;
+    let schedule = explain.get_str("SCHEDULE");
+    let budget = budget_of(explain)?;
+    let json = format_of(explain)?;
+    let as_given = explain.get_flag("as-given");
+    Some(Invocation::Explain {
+        script,
+        schedule,
+        wish: ExplainWish {
+            budget,
+            json,
+            as_given,
+        },
+    })
+}
+
 /// What the matches of a command line ask for, by the form that they hold.
 fn asked<'a>(matches: &ArgMatches<'a>) -> Option<Invocation<'a>>
     ensures { IfSome result (λ asked. Holds (subcommand_rows_of matches.now) asked) }
@@ -258,7 +363,10 @@ fn asked<'a>(matches: &ArgMatches<'a>) -> Option<Invocation<'a>>
     if let Some(replay) = matches.subcommand_matches("replay") {
         return replay_of(replay);
     }
-    serve_of(matches.subcommand_matches("serve")?)
+    if let Some(serve) = matches.subcommand_matches("serve") {
+        return serve_of(serve);
+    }
+    explain_of(matches.subcommand_matches("explain")?)
 }
 
 /// The forms of the command line, `run` alone.
@@ -289,7 +397,8 @@ fn forms<'a>(alloc: Global) -> Result<Command<'a>, AllocError>
     let runs_and_checks = with_form(runs, check_form(alloc))?;
     let with_dumps = with_form(runs_and_checks, dump_form(alloc))?;
     let with_replays = with_form(with_dumps, replay_form(alloc))?;
-    with_form(with_replays, serve_form(alloc))
+    let with_serving = with_form(with_replays, serve_form(alloc))?;
+    with_form(with_serving, explain_form(alloc))
 }
 
 /// Reads the words of a command line by its forms.
@@ -300,13 +409,14 @@ fn command_by<'a>(forms: &mut Command<'a>, words: &'a [&'a str]) -> Result<Invoc
     let matches = forms.try_get_matches_from_mut(words)?;
     match asked(&matches) {
         Some(asked) => Ok(asked),
-        None => Err(forms.error(ErrorKind::MissingSubcommand, "a command is missing")?),
+        None => Err(forms.error(ErrorKind::InvalidValue, "the format is text or json")?),
     }
 }
 
 /// Reads the words of a command line, the program's name first. The forms are
 /// `clsim run FILE [--workers N] [--budget N]`, `clsim check FILE`, `clsim dump FILE KERNEL`,
-/// `clsim replay SCRIPT SCHEDULE` and `clsim serve [--workers N] [--budget N]`.
+/// `clsim replay SCRIPT SCHEDULE`, `clsim serve [--workers N] [--budget N]` and
+/// `clsim explain SCRIPT [SCHEDULE] [--format text|json] [--budget N] [--as-given]`.
 pub fn command<'a>(alloc: Global, words: &'a [&'a str]) -> Result<Invocation<'a>, Error>
     ensures { IfOk result (λ asked. AsksFor (map (λ word. word.now) words.entry.now) asked) }
 {

@@ -11,9 +11,10 @@ pub mod command_line;
 mod desk;
 pub mod dialogue;
 pub mod dumping;
-mod reading;
+pub mod reading;
 pub mod replaying;
 pub mod session;
+pub mod wish;
 
 pub use checking::check_file;
 pub use command_line::command;

@@ -12,11 +12,7 @@ use simfile::script::read_script;
 use std::alloc::Global;
 
 /// All that a reader has left. The fault names the reader, so no `From` can make it.
-pub(crate) fn bytes_of<R: Read>(
-    alloc: Global,
-    reader: &mut R,
-    named: Reader,
-) -> Result<Vec<u8>, RunFault>
+pub fn bytes_of<R: Read>(alloc: Global, reader: &mut R, named: Reader) -> Result<Vec<u8>, RunFault>
     ensures read { IfOk result (λ bytes. Are (R.rest reader.old) bytes.items) }
     ensures failed { IfErr result (ReadFails named (R.failures reader.old) (R.failures reader.new)) }
 {

@@ -19,6 +19,9 @@ use cli::dialogue::serve;
 use cli::dumping::dump_file;
 use cli::replaying::{replay_files, replay_status};
 use cli::session::{Options, Reader, RunEnd, RunFault, run, status};
+use cli::wish::ExplainWish;
+use explain_files::{explain_schedule, explain_script};
+use explaining::{ExplainOptions, Format};
 use peers::StreamPeer;
 use std::env::Env;
 use std::io::{BufReader, BufWriter, Printer};
@@ -100,6 +103,43 @@ fn replay_schedule<R: Files + Print + AllocGlobal>(
     replay_files(rt.alloc(), &mut reader, &mut file, &mut writer)
 }
 
+/// How an explanation is made, as it is wished.
+fn options_of(wish: ExplainWish) -> ExplainOptions {
+    ExplainOptions {
+        format: if wish.json {
+            Format::Json
+        } else {
+            Format::Text
+        },
+        budget: wish.budget,
+        as_given: wish.as_given,
+    }
+}
+
+/// Explains the fault of a schedule file, or without one the first fault of a script, with the explanation on standard
+/// output.
+fn explain_fault<R: Files + Print + AllocGlobal>(
+    rt: &R,
+    script: &str,
+    schedule: Option<&str>,
+    wish: ExplainWish,
+) -> Result<bool, RunFault> {
+    let (mut reader, mut writer) = open(rt, script)?;
+    let options = options_of(wish);
+    let Some(schedule) = schedule else {
+        return explain_script(rt.alloc(), script, &mut reader, options, &mut writer);
+    };
+    let mut file = NamedFile::new(rt, schedule);
+    explain_schedule(
+        rt.alloc(),
+        script,
+        &mut reader,
+        &mut file,
+        options,
+        &mut writer,
+    )
+}
+
 /// Tells on standard error why a file came to no end. Where that fails too, the status alone tells it.
 fn tell(rt: &impl Eprint, fault: RunFault, file: &str) {
     let _ = match fault {
@@ -128,7 +168,7 @@ fn end_source(rt: &impl Eprint, outcome: Result<bool, RunFault>, file: &str) -> 
     source_status(&outcome)
 }
 
-/// The status of a replay. A fault is told, with the file that couldn't be read.
+/// The status of a replay or of an explanation. A fault is told, with the file that couldn't be read.
 fn end_replay(rt: &impl Eprint, outcome: Result<bool, RunFault>, script: &str, schedule: &str) -> u8
     ensures { result ≡ replay_status_of outcome }
 {
@@ -159,6 +199,14 @@ fn perform<R: Files + io::Input + Print + Eprint + AllocGlobal + Threads + Wait 
         }
         Ok(Invocation::Serve { options }) => {
             end_run(rt, serve_input(rt, options), "standard input")
+        }
+        Ok(Invocation::Explain {
+            script,
+            schedule,
+            wish,
+        }) => {
+            let outcome = explain_fault(rt, script, schedule, wish);
+            end_replay(rt, outcome, script, schedule.unwrap_or(script))
         }
         Err(error) => {
             let _ = rt.eprint(&error);

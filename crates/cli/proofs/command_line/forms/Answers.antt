@@ -19,4 +19,5 @@ returns c =
     let checks = next c.check_form.result c.in_ok-runs.runs c.in_ok-runs_and_checks.runs_and_checks _ _ c.check_form.ensures.form c.check_form.ensures.local c.in_ok-runs.ensures c.in_ok-runs_and_checks.ensures in
     let dumps = next c.dump_form.result c.in_ok-runs_and_checks.runs_and_checks c.in_ok-with_dumps.with_dumps _ _ c.dump_form.ensures.form c.dump_form.ensures.local checks c.in_ok-with_dumps.ensures in
     let replays = next c.replay_form.result c.in_ok-with_dumps.with_dumps c.in_ok-with_replays.with_replays _ _ c.replay_form.ensures.form c.replay_form.ensures.local dumps c.in_ok-with_replays.ensures in
-    IfOk-weaker c.with_form-4.result _ _ (λ forms h. next c.serve_form.result c.in_ok-with_replays.with_replays forms _ _ c.serve_form.ensures.form c.serve_form.ensures.local replays h) c.with_form-4.ensures
+    let serving = next c.serve_form.result c.in_ok-with_replays.with_replays c.in_ok-with_serving.with_serving _ _ c.serve_form.ensures.form c.serve_form.ensures.local replays c.in_ok-with_serving.ensures in
+    IfOk-weaker c.with_form-5.result _ _ (λ forms h. next c.explain_form.result c.in_ok-with_serving.with_serving forms _ _ c.explain_form.ensures.form c.explain_form.ensures.local serving h) c.with_form-5.ensures

@@ -1,0 +1,18 @@
+-- The fault of an explanation as that of a command.
+use Rattle.std.proofs.Common.{◌≡◌, ℕ}
+use Rattle.cli.specs.declared.session.RunFault.{RunFault}
+use Rattle.counted_io.specs.Sink.{Sink}
+use Rattle.explaining.specs.Explaining.{Unwritten}
+use Rattle.explaining.specs.declared.facts.Given.{Given}
+use Rattle.explaining.specs.declared.faults.ExplainFault.{ExplainFault}
+use Rattle.explaining.specs.declared.faults.ExplainFault.TheVariants as explain
+use Rattle.explain_files.specs.Files.{explain_fault, Untold}
+
+pub untold_as : (budget : ℕ) (given : Given) (old new : Sink) (why : ExplainFault) (named : RunFault) → named ≡ explain_fault why
+    → Unwritten budget given old new why → Untold budget given old new named
+untold_as budget given old new explain.Write named is h = rw is h
+untold_as budget given old new (explain.BadLine n) named is h = rw is h
+untold_as budget given old new explain.OutOfMemory named is h = rw is h
+untold_as budget given old new explain.BadSchedule named is h = rw is h
+untold_as budget given old new (explain.NotALaunch ticket) named is h = rw is h
+untold_as budget given old new (explain.CommandRefused ticket) named is h = rw is h

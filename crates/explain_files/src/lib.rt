@@ -1,0 +1,97 @@
+//! Files explained: a script is read, with a schedule file where one is named, and the explanation is written.
+//!
+//! What is explained, and which answer is given, `explaining` defines. A reader's failure is told apart from its faults,
+//! which become those of the other commands.
+#![tactic(auto)]
+
+ghost use Rattle.std.specs.Prelude.{◌≡◌, IfOk, IfErr};
+ghost use Rattle.explain_files.specs.Files.{explain_fault, Told, Untold, ScriptTold, ScriptUntold, FileTold, FileUntold};
+
+use cli::reading::bytes_of;
+use cli::session::{Reader, RunFault};
+use counted_io::{Read, Write};
+use explaining::{ExplainFault, ExplainOptions, Given, explain};
+use std::alloc::Global;
+
+/// Which fault of a command the fault of an explanation is.
+fn fault_of(fault: ExplainFault) -> RunFault
+    ensures { result ≡ explain_fault fault }
+{
+    match fault {
+        ExplainFault::Write => RunFault::Write,
+        ExplainFault::BadLine(number) => RunFault::BadLine(number),
+        ExplainFault::OutOfMemory => RunFault::OutOfMemory,
+        ExplainFault::BadSchedule => RunFault::BadSchedule,
+        ExplainFault::NotALaunch(ticket) => RunFault::NotALaunch(ticket),
+        ExplainFault::CommandRefused(ticket) => RunFault::CommandRefused(ticket),
+    }
+}
+
+/// Explains texts.
+fn explain_given<W: Write>(
+    alloc: Global,
+    given: Given<'_>,
+    options: ExplainOptions,
+    writer: &mut W,
+) -> Result<bool, RunFault>
+    ensures told { IfOk result (Told options.budget given.entry (W.sink writer.old) (W.sink writer.new)) }
+    ensures untold { IfErr result (Untold options.budget given.entry (W.sink writer.old) (W.sink writer.new)) }
+{
+    match explain(alloc, given, options, writer) {
+        Ok(answer) => Ok(answer),
+        Err(fault) => Err(fault_of(fault)),
+    }
+}
+
+/// Reads a script and explains its first fault, or its first build that is refused; a source, which is a file whose
+/// name ends in `.cl`, is built alone. Writes the explanation and answers true, or the word `clean` or `ok` and answers
+/// false.
+///
+/// Faults are `Read(First)`, `BadLine`, `OutOfMemory`, and `Write`, after which a beginning of the text was written;
+/// after the others nothing was.
+pub fn explain_script<R: Read, W: Write>(
+    alloc: Global,
+    name: &str,
+    reader: &mut R,
+    options: ExplainOptions,
+    writer: &mut W,
+) -> Result<bool, RunFault>
+    ensures told { IfOk result (ScriptTold options.budget name.now (R.rest reader.old) (W.sink writer.old) (W.sink writer.new)) }
+    ensures untold { IfErr result
+        (ScriptUntold options.budget name.now (R.rest reader.old) (R.failures reader.old) (R.failures reader.new) (W.sink writer.old) (W.sink writer.new)) }
+{
+    let script = bytes_of(alloc, reader, Reader::First)?;
+    let given = Given {
+        name: name.as_bytes(),
+        script: script.as_slice(),
+        schedule: None,
+    };
+    explain_given(alloc, given, options, writer)
+}
+
+/// Reads a script and a schedule file, and explains the fault of that file. Writes the explanation and answers true, or
+/// the word `no` and answers false where the schedule doesn't lead to the fault.
+///
+/// No fault is a `NoSuchKernel`; after `Write` a beginning of the text was written, after the others nothing.
+pub fn explain_schedule<R: Read, S: Read, W: Write>(
+    alloc: Global,
+    name: &str,
+    reader: &mut R,
+    file: &mut S,
+    options: ExplainOptions,
+    writer: &mut W,
+) -> Result<bool, RunFault>
+    ensures told { IfOk result (FileTold options.budget name.now (R.rest reader.old) (S.rest file.old) (W.sink writer.old) (W.sink writer.new)) }
+    ensures untold { IfErr result
+        (FileUntold options.budget name.now (R.rest reader.old) (S.rest file.old) (R.failures reader.old) (R.failures reader.new) (S.failures file.old) (S.failures file.new)
+        (W.sink writer.old) (W.sink writer.new)) }
+{
+    let script = bytes_of(alloc, reader, Reader::First)?;
+    let schedule = bytes_of(alloc, file, Reader::Second)?;
+    let given = Given {
+        name: name.as_bytes(),
+        script: script.as_slice(),
+        schedule: Some(schedule.as_slice()),
+    };
+    explain_given(alloc, given, options, writer)
+}
