@@ -1,21 +1,28 @@
 -- Items that a fault names, with their places in the source (own).
-use Rattle.std.specs.Prelude.{◌≡◌, ℕ, Some, List, length, min}
+use Rattle.std.specs.Prelude.{◌≡◌, ℕ, Some, List, length, min, slice_get}
 use Rattle.std.specs.Option.{IfSome}
-use Rattle.clmodel.specs.Setup.{Setup}
+use Rattle.clmodel.specs.Setup.{Setup, kernel_in, functions_before}
+use Rattle.clmodel.specs.Tree.{Func}
 use Rattle.explanation.specs.declared.places.Spot.{Spot}
 use Rattle.explanation.specs.declared.told.NamedItem.{NamedItem}
 use Rattle.item_ids.specs.Ids.{AreIds}
-use Rattle.origins.specs.Finding.{IsOriginIn}
-use Rattle.origins.specs.Origins.{node_at, node_of}
+use Rattle.origins.specs.Finding.{plain}
+use Rattle.origins.specs.Origins.{kernel_origins, node_at, node_of}
 use Rattle.origins.specs.declared.origin.Origin.{Origin}
 use Rattle.source_spots.specs.Spots.{IsPlace}
 
--- a place of code in the source: where the node begins whose own instruction stands there
-pub record IsSpotted (setup : Setup) (place : ℕ) (text : List ℕ) (first : ℕ) (spot : Spot) : Type 0 where
-  pub origin : Origin
-  pub is : IsOriginIn setup.program.functions setup.kernel place (Some origin)
+-- a place in the source is where the node of an origin begins
+pub record BeginsAt (text : List ℕ) (first : ℕ) (origin : Origin) (spot : Spot) : Type 0 where
   pub begins : spot.offset ≡ min (node_at (node_of origin.node)) (length text)
   pub stands : IsPlace text first spot.offset spot.line spot.column spot.script_line
+
+-- a place of a kernel's code in the source: where the node begins whose own instruction stands there
+pub record IsSpotted (setup : Setup) (place : ℕ) (text : List ℕ) (first : ℕ) (spot : Spot) : Type 0 where
+  pub kernel : Func
+  pub known : kernel_in setup.program.functions setup.kernel ≡ Some kernel
+  pub origin : Origin
+  pub is : slice_get (kernel_origins (functions_before setup.program.functions setup.kernel) kernel) place ≡ Some (plain origin)
+  pub begins_at : BeginsAt text first origin spot
 
 -- a place in the source is one of the code
 abbrev pub HasSpot : Setup → List ℕ → ℕ → Spot → Type 0

@@ -4,6 +4,7 @@
 #![tactic(auto)]
 
 mod context;
+mod events;
 mod named;
 mod reasons;
 mod steps;

@@ -7,6 +7,7 @@ ghost use Rattle.item_step.specs.Launches.{setup_of};
 ghost use Rattle.explain_reasons.specs.Spotted.{IsNamed};
 
 use crate::context::Context;
+use crate::events::place_at;
 use clmodel::access::AccessKind;
 use clmodel::action::Stop;
 use clmodel::fault::Fault;
@@ -53,10 +54,10 @@ fn named(
     })
 }
 
-/// The place of an event.
-fn place_at(played: &Played, event: Option<usize>) -> Option<usize> {
-    match played.marks.get(event?) {
-        Some(mark) => mark.place,
+/// The number of an event from 1.
+fn from_one(event: Option<usize>) -> Option<usize> {
+    match event {
+        Some(number) => Some(number.saturating_add(1)),
         None => None,
     }
 }
@@ -71,13 +72,10 @@ fn accessing(
 ) -> Result<NamedItem, AllocError>
     ensures { IfOk result (IsNamed (setup_of context.now.launch.now) context.now.program.text.now context.now.program.first_line) }
 {
-    let event = event_of(played.marks.as_slice(), access);
-    let number = match event {
-        Some(number) => Some(number.saturating_add(1)),
-        None => None,
-    };
-    let place = place_at(played, event);
-    named(context, item, Does::Access(kind), number, place)
+    let marks = played.marks.as_slice();
+    let event = event_of(marks, access);
+    let place = place_at(marks, event);
+    named(context, item, Does::Access(kind), from_one(event), place)
 }
 
 /// An item where it stands.
@@ -91,8 +89,8 @@ fn standing(context: &Context<'_>, standing: Standing, does: Does) -> Result<Nam
 fn ended(context: &Context<'_>, played: &Played, item: u32) -> Result<NamedItem, AllocError>
     ensures { IfOk result (IsNamed (setup_of context.now.launch.now) context.now.program.text.now context.now.program.first_line) }
 {
-    let event = last_of(played.marks.as_slice(), item);
-    let last = context.spot(place_at(played, event))?;
+    let marks = played.marks.as_slice();
+    let last = context.spot(place_at(marks, last_of(marks, item)))?;
     Ok(NamedItem {
         item,
         ids: ids_of(context, item)?,
