@@ -1,0 +1,2 @@
+mod Ordering
+mod Spotting

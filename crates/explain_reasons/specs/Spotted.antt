@@ -28,8 +28,9 @@ pub record IsSpotted (setup : Setup) (place : ℕ) (text : List ℕ) (first : �
 abbrev pub HasSpot : Setup → List ℕ → ℕ → Spot → Type 0
 HasSpot setup text first spot = (place : ℕ) × IsSpotted setup place text first spot
 
--- an item with its own ids; its places are of instructions of the kernel's code (OpenCL 1.2, sections 3.2 and 6.12.1)
-pub record IsNamed (setup : Setup) (text : List ℕ) (first : ℕ) (named : NamedItem) : Type 0 where
-  pub ids : AreIds setup.range named.item named.ids
+-- the item of a number with its own ids; its places are of instructions of the kernel's code (OpenCL 1.2, sections 3.2 and 6.12.1)
+pub record IsNamed (setup : Setup) (text : List ℕ) (first : ℕ) (item : ℕ) (named : NamedItem) : Type 0 where
+  pub number : named.item ≡ item
+  pub ids : AreIds setup.range item named.ids
   pub spotted : IfSome named.spot (HasSpot setup text first)
   pub last_spotted : IfSome named.last (HasSpot setup text first)

@@ -1,10 +1,11 @@
 //! The items that a fault names.
 #![tactic(auto)]
 
-ghost use Rattle.std.specs.Prelude.{◌≡◌, [], ◌∷◌, All, IfOk};
+ghost use Rattle.std.specs.Prelude.{◌≡◌, [], ◌∷◌, IfOk};
+ghost use Rattle.std.specs.Option.{option_map_or};
 ghost use Rattle.item_ids.specs.Ids.{AreIds};
 ghost use Rattle.item_step.specs.Launches.{setup_of};
-ghost use Rattle.explain_reasons.specs.Spotted.{IsNamed};
+ghost use Rattle.explain_reasons.specs.Named.{AreTold, IsTold, in_order, told_items};
 
 use crate::context::Context;
 use crate::events::place_at;
@@ -14,6 +15,7 @@ use clmodel::fault::Fault;
 use explain_play::{Played, Standing, event_of, last_of};
 use explanation::{Does, Ids, NamedItem};
 use item_value::position::{ItemPosition, group_counts};
+use marked_play::Pair;
 use std::alloc::{AllocError, Global};
 
 /// The ids of an item of a launch.
@@ -41,15 +43,15 @@ fn named(
     event: Option<usize>,
     place: Option<usize>,
 ) -> Result<NamedItem, AllocError>
-    ensures { IfOk result (IsNamed (setup_of context.now.launch.now) context.now.program.text.now context.now.program.first_line) }
+    ensures { IfOk result (IsTold context.now item) }
 {
-    let spot = context.spot(place)?;
+    let ids = ids_of(context, item)?;
     Ok(NamedItem {
         item,
-        ids: ids_of(context, item)?,
+        ids,
         does,
         event,
-        spot,
+        spot: context.spot(place)?,
         last: None,
     })
 }
@@ -70,7 +72,7 @@ fn accessing(
     kind: AccessKind,
     access: usize,
 ) -> Result<NamedItem, AllocError>
-    ensures { IfOk result (IsNamed (setup_of context.now.launch.now) context.now.program.text.now context.now.program.first_line) }
+    ensures { IfOk result (IsTold context.now item) }
 {
     let marks = played.marks.as_slice();
     let event = event_of(marks, access);
@@ -80,24 +82,25 @@ fn accessing(
 
 /// An item where it stands.
 fn standing(context: &Context<'_>, standing: Standing, does: Does) -> Result<NamedItem, AllocError>
-    ensures { IfOk result (IsNamed (setup_of context.now.launch.now) context.now.program.text.now context.now.program.first_line) }
+    ensures { IfOk result (IsTold context.now standing.item) }
 {
     named(context, standing.item, does, None, standing.place)
 }
 
 /// An item that has ended, with its last access.
 fn ended(context: &Context<'_>, played: &Played, item: u32) -> Result<NamedItem, AllocError>
-    ensures { IfOk result (IsNamed (setup_of context.now.launch.now) context.now.program.text.now context.now.program.first_line) }
+    ensures { IfOk result (IsTold context.now item) }
 {
     let marks = played.marks.as_slice();
-    let last = context.spot(place_at(marks, last_of(marks, item)))?;
+    let place = place_at(marks, last_of(marks, item));
+    let ids = ids_of(context, item)?;
     Ok(NamedItem {
         item,
-        ids: ids_of(context, item)?,
+        ids,
         does: Does::Ended,
         event: None,
         spot: None,
-        last,
+        last: context.spot(place)?,
     })
 }
 
@@ -108,17 +111,14 @@ fn stopped(
     at: Standing,
     stop: &Stop,
 ) -> Result<NamedItem, AllocError>
-    ensures { IfOk result (IsNamed (setup_of context.now.launch.now) context.now.program.text.now context.now.program.first_line) }
+    ensures { IfOk result (IsTold context.now at.item) }
 {
     match stop {
         Stop::Ended => ended(context, played, at.item),
         Stop::At(instance) => {
             let turns = instance.turns.as_slice().to_vec(context.alloc)?;
-            let does = Does::Waits {
-                barrier: instance.site,
-                turns,
-            };
-            standing(context, at, does)
+            let barrier = instance.site;
+            standing(context, at, Does::Waits { barrier, turns })
         }
     }
 }
@@ -142,24 +142,49 @@ fn both(alloc: Global, first: NamedItem, second: NamedItem) -> Result<Vec<NamedI
     Ok(items)
 }
 
-/// Both items of a conflict, the earlier access first; none where the accesses weren't found.
+/// The items of two accesses, in the order in which these were made.
+fn ordered(
+    alloc: Global,
+    pair: Pair,
+    first: NamedItem,
+    second: NamedItem,
+) -> Result<Vec<NamedItem>, AllocError>
+    ensures { IfOk result (λ items. items.items ≡ in_order pair first second) }
+{
+    if pair.second < pair.first {
+        both(alloc, second, first)
+    } else {
+        both(alloc, first, second)
+    }
+}
+
+/// Both items of a conflict whose accesses were found.
 fn conflicting(
+    context: &Context<'_>,
+    played: &Played,
+    pair: Pair,
+    first: (u32, AccessKind),
+    second: (u32, AccessKind),
+) -> Result<Vec<NamedItem>, AllocError>
+    ensures { IfOk result (λ items. AreTold context.now (in_order pair first.0 second.0) items.items) }
+{
+    let item = accessing(context, played, first.0, first.1, pair.first)?;
+    let other = accessing(context, played, second.0, second.1, pair.second)?;
+    ordered(context.alloc, pair, item, other)
+}
+
+/// Both items of a conflict, the earlier access first; none where the accesses weren't found.
+fn clashing(
     context: &Context<'_>,
     played: &Played,
     first: (u32, AccessKind),
     second: (u32, AccessKind),
 ) -> Result<Vec<NamedItem>, AllocError>
-    ensures { IfOk result (λ items. All (IsNamed (setup_of context.now.launch.now) context.now.program.text.now context.now.program.first_line) items.items) }
+    ensures { IfOk result (λ items. AreTold context.now (option_map_or (λ pair. in_order pair first.0 second.0) played.now.pair []) items.items) }
 {
-    let Some(pair) = played.pair else {
-        return Ok(Vec::new(context.alloc));
-    };
-    let item = accessing(context, played, first.0, first.1, pair.first)?;
-    let other = accessing(context, played, second.0, second.1, pair.second)?;
-    if pair.first <= pair.second {
-        both(context.alloc, item, other)
-    } else {
-        both(context.alloc, other, item)
+    match played.pair {
+        Some(pair) => conflicting(context, played, pair, first, second),
+        None => Ok(Vec::new(context.alloc)),
     }
 }
 
@@ -170,7 +195,7 @@ fn diverging(
     stop: &Stop,
     other_stop: &Stop,
 ) -> Result<Vec<NamedItem>, AllocError>
-    ensures { IfOk result (λ items. All (IsNamed (setup_of context.now.launch.now) context.now.program.text.now context.now.program.first_line) items.items) }
+    ensures { IfOk result (λ items. AreTold context.now (played.now.first.item ∷ played.now.second.item ∷ []) items.items) }
 {
     let item = stopped(context, played, played.first, stop)?;
     let other = stopped(context, played, played.second, other_stop)?;
@@ -185,13 +210,25 @@ fn deed_of(fault: &Fault) -> Does {
     }
 }
 
+/// The one item of a fault.
+fn alone(
+    context: &Context<'_>,
+    at: Standing,
+    does: Does,
+) -> Result<Vec<NamedItem>, AllocError>
+    ensures { IfOk result (λ items. AreTold context.now (at.item ∷ []) items.items) }
+{
+    let item = standing(context, at, does)?;
+    one(context.alloc, item)
+}
+
 /// The items that a fault names, with what they do and where. An error is out of memory.
 pub fn named_items(
     context: &Context<'_>,
     played: &Played,
     fault: &Fault,
 ) -> Result<Vec<NamedItem>, AllocError>
-    ensures { IfOk result (λ items. All (IsNamed (setup_of context.now.launch.now) context.now.program.text.now context.now.program.first_line) items.items) }
+    ensures { IfOk result (λ items. AreTold context.now (told_items fault.now played.now) items.items) }
 {
     match fault {
         Fault::Conflict {
@@ -200,15 +237,19 @@ pub fn named_items(
             other_item,
             other_kind,
             ..
-        } => conflicting(context, played, (*item, *kind), (*other_item, *other_kind)),
+        } => clashing(context, played, (*item, *kind), (*other_item, *other_kind)),
         Fault::Divergence {
             stop,
             other_stop,
             ..
         } => diverging(context, played, stop, other_stop),
-        _ => {
-            let item = standing(context, played.first, deed_of(fault))?;
-            one(context.alloc, item)
-        }
+        Fault::Bounds { .. }
+        | Fault::PrivateBounds { .. }
+        | Fault::Unset { .. }
+        | Fault::UnsetVariable { .. }
+        | Fault::UnsetElement { .. }
+        | Fault::DivideByZero { .. }
+        | Fault::DivideOverflow { .. }
+        | Fault::Budget { .. } => alone(context, played.first, deed_of(fault)),
     }
 }
