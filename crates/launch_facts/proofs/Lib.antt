@@ -1,1 +1,3 @@
 mod Lasts
+mod Sources
+mod Told

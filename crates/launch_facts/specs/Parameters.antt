@@ -46,6 +46,12 @@ pub record IsFacts (names : List (List ℕ)) (i : ℕ) (parameter : Parameter) (
   pub name : string_bytes p.name ≡ utf8_lossy (name_of names parameter.name)
   pub type_name : string_bytes p.type_name ≡ type_text parameter.kind
 
+-- what is told of a parameter is right, by its index
+pub record TellsOf (parameters : List Parameter) (names : List (List ℕ)) (p : ParameterFacts) : Type 0 where
+  pub parameter : Parameter
+  pub at : slice_get parameters p.index ≡ Some parameter
+  pub facts : IsFacts names p.index parameter p
+
 abbrev pub indexes : List ParameterFacts → List ℕ
 indexes found = map (λ p. p.index) found
 
