@@ -1,3 +1,2 @@
 mod Lasts
-mod Sources
 mod Told

@@ -185,14 +185,7 @@ pub fn parameters_given(
     let mut found = Vec::new(alloc);
     for index in 0..parameters.len() {
         let is_chosen = is_given(commands, done, kernel, buffer, index);
-        push_chosen(
-            alloc,
-            is_chosen,
-            index,
-            parameters,
-            names,
-            &mut found,
-        )?;
+        push_chosen(alloc, is_chosen, index, parameters, names, &mut found)?;
     }
     Ok(found)
 }
@@ -223,14 +216,7 @@ pub fn parameters_named(
     let mut found = Vec::new(alloc);
     for index in 0..parameters.len() {
         let is_chosen = is_named(parameters, index, name, names);
-        push_chosen(
-            alloc,
-            is_chosen,
-            index,
-            parameters,
-            names,
-            &mut found,
-        )?;
+        push_chosen(alloc, is_chosen, index, parameters, names, &mut found)?;
     }
     Ok(found)
 }

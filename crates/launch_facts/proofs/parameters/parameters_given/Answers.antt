@@ -13,6 +13,6 @@ loop-index-init c = (
 pub loop-index-preserved : goal.loop-index-preserved
 loop-index-preserved c = (
   chosen_more (IsGiven c.args.commands.now c.args.done.now c.args.kernel.now c.args.buffer.now) c.loop-index.index c.is_given-is_chosen.result (indexes c.loop-index.found.items) (indexes c.push_chosen.new.found.items)
-  c.is_given-is_chosen.ensures c.in_ok-push_chosen.ensures.indexes c.loop-index.invariant.0,
+      c.is_given-is_chosen.ensures c.in_ok-push_chosen.ensures.indexes c.loop-index.invariant.0,
   c.in_ok-push_chosen.ensures.told c.loop-index.invariant.1,
 )

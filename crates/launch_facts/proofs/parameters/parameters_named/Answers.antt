@@ -14,6 +14,6 @@ loop-index-init c = (
 pub loop-index-preserved : goal.loop-index-preserved
 loop-index-preserved c = (
   chosen_more (λ j is. is ≡ option_map_or (is_named c.args.names.now c.args.name.now) (slice_get c.args.parameters.now j) false) c.loop-index.index c.is_named-is_chosen.result (indexes c.loop-index.found.items) (indexes c.push_chosen.new.found.items)
-  c.is_named-is_chosen.ensures c.in_ok-push_chosen.ensures.indexes c.loop-index.invariant.0,
+      c.is_named-is_chosen.ensures c.in_ok-push_chosen.ensures.indexes c.loop-index.invariant.0,
   c.in_ok-push_chosen.ensures.told c.loop-index.invariant.1,
 )
