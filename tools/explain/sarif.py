@@ -5,6 +5,7 @@ Reads the files that are named, or standard input, with an explanation a line, a
 The status is 0, or 2 where the input is bad."""
 
 import json
+from urllib.parse import quote
 
 from reading import explanations, item_text, place_of, run
 
@@ -39,7 +40,7 @@ def region(place, length):
 def location(script, place, words=None, length=None):
     """A place of the script."""
     found = {"physicalLocation": {
-        "artifactLocation": {"uri": script},
+        "artifactLocation": {"uri": quote(script)},
         "region": {**region(place, length), "snippet": {"text": place["text"]}},
     }}
     if words:

@@ -1,7 +1,7 @@
 //! A schedule played with the places of its items.
 #![tactic(auto)]
 
-ghost use Rattle.std.specs.Prelude.{◌≡◌, map, Some, IfOk, IfNone, IfSome};
+ghost use Rattle.std.specs.Prelude.{◌≡◌, ◌≤◌, map, count_by, take, Some, IfOk, IfNone, IfSome};
 ghost use Rattle.clmodel.specs.Launch.{Launch};
 ghost use Rattle.clmodel.specs.Law.{Reaches};
 ghost use Rattle.clmodel.specs.Next.{launch_of};
@@ -16,7 +16,7 @@ ghost use Rattle.marked_play.specs.Pairs.{IsFoundPair};
 ghost use Rattle.marked_play.specs.declared.pairs.Told.{Told};
 ghost use Rattle.replay_play.specs.States.{IsAt};
 ghost use Rattle.spaces_base.specs.Buffers.{bytes_in};
-ghost use Rattle.explain_play.specs.PlayedOut.{IsPlayedOut, Tells};
+ghost use Rattle.explain_play.specs.PlayedOut.{IsEventOf, IsPlayedOut, MadeAccess, Tells, is_access, touch_of, without_value};
 
 use crate::values::Values;
 use clmodel::access::{Access, AccessKind};
@@ -29,6 +29,7 @@ use launches::laws::setups_are_runnable;
 use launches::{Described, LoadedLaunch, Runnable, group_count};
 use marked_play::{Mark, Pair, Partner, Told, find_pair, mark_schedule, place_of};
 use replay_play::Player;
+use shadow_list::both_store;
 use spaces_base::{Buffers, Plain};
 use std::alloc::{AllocError, Global};
 
@@ -77,8 +78,8 @@ fn copies(alloc: Global, names: &[Name], buffers: &Buffers) -> Result<Vec<Plain>
 }
 
 /// The conflict that a fault tells, if it tells one.
-fn told_of<'a>(launch: &Launch<'_>, fault: &'a Fault) -> Option<Told<'a>>
-    ensures { IfSome result (Tells fault.now) }
+fn told_of<'a, D: Runnable>(launch: &D, fault: &'a Fault) -> Option<Told<'a>>
+    ensures { IfSome result (Tells (D.launch launch.now) fault.now) }
 {
     let Fault::Conflict {
         item,
@@ -93,7 +94,6 @@ fn told_of<'a>(launch: &Launch<'_>, fault: &'a Fault) -> Option<Told<'a>>
         return None;
     };
     let size = launch.group_size();
-    let stores = *kind == AccessKind::Store && *other_kind == AccessKind::Store;
     Some(Told {
         first: Partner {
             item: *item,
@@ -106,38 +106,49 @@ fn told_of<'a>(launch: &Launch<'_>, fault: &'a Fault) -> Option<Told<'a>>
         location,
         byte: *byte,
         one_group: *item / size == *other_item / size,
-        by_byte: stores && launch.range().uniform,
+        by_byte: both_store(*kind, *other_kind) && launch.uniform(),
     })
 }
 
 /// The two accesses of a log that a fault tells as a conflict, if it tells one and they are found.
-fn pair_of<D: Described>(
+fn pair_of<D: Runnable>(
     alloc: Global,
-    launch: &Launch<'_>,
-    described: &D,
+    launch: &D,
     fault: &Fault,
     log: &[Access],
 ) -> Result<Option<Pair>, AllocError>
-    ensures { IfOk result (λ found. IfSome found (λ pair. (told : Told) × Tells fault.now told × IsFoundPair (D.launch described.now) told log.now pair)) }
+    ensures { IfOk result (λ found. IfSome found (λ pair. (told : Told) × Tells (D.launch launch.now) fault.now told × IsFoundPair (D.launch launch.now) told log.now pair)) }
 {
     match told_of(launch, fault) {
-        Some(told) => find_pair(alloc, described, &told, log),
+        Some(told) => find_pair(alloc, launch, &told, log),
         None => Ok(None),
     }
 }
 
-/// The accesses of a log with their locations and values, those of the first events alone.
-fn touches_of(
+/// The first accesses of a log.
+fn first_of(log: &[Access], most: usize) -> &[Access]
+    ensures { result.now ≡ take most log.now }
+{
+    if most < log.len() {
+        &log[..most]
+    } else {
+        log
+    }
+}
+
+/// The accesses of a log with their locations and values.
+fn touches_of<D: Described>(
     alloc: Global,
-    loaded: &LoadedLaunch<'_>,
+    launch: &D,
     buffers: &Buffers,
     log: &[Access],
-    most: usize,
-) -> Result<Vec<Touch>, AllocError> {
+) -> Result<Vec<Touch>, AllocError>
+    ensures { IfOk result (λ touches. map without_value touches.items ≡ map (touch_of (D.launch launch.now)) log.now) }
+{
     let mut values = Values::new(alloc, buffers);
     let mut touches = Vec::new(alloc);
-    for access in log.iter().take(most) {
-        let location = launches::location_of(loaded, access.region)?;
+    for access in log {
+        let location = launches::location_of(launch, access.region)?;
         let value = values.take(&location, access)?;
         touches.push(Touch {
             item: access.item,
@@ -179,7 +190,7 @@ pub fn play(
     requires { HasGroups (setup_of launch.now) }
     ensures none { IfOk result (λ found. IfNone found ((other : Fault) → Reaches (launch_of (setup_of launch.now) (bytes_in buffers.now)) (events_of schedule.now) other → ⊥)) }
     ensures played { IfOk result (λ found. IfSome found
-        (IsPlayedOut (launch_of (setup_of launch.now) (bytes_in buffers.now)) (group_items (setup_of launch.now).range) (events_of schedule.now) fault.now)) }
+        (IsPlayedOut (launch_of (setup_of launch.now) (bytes_in buffers.now)) (group_items (setup_of launch.now).range) (events_of schedule.now) fault.now items.0 items.1 most)) }
 {
     setups_are_runnable();
     let loaded = LoadedLaunch::new(alloc, launch, buffers);
@@ -191,8 +202,8 @@ pub fn play(
     if !mark_schedule(&mut player, size, schedule.as_slice(), &mut marks)? {
         return Ok(None);
     }
-    let pair = pair_of(alloc, launch, &loaded, fault, player.log())?;
-    let touches = touches_of(alloc, &loaded, buffers, player.log(), most)?;
+    let pair = pair_of(alloc, &loaded, fault, player.log())?;
+    let touches = touches_of(alloc, &loaded, buffers, first_of(player.log(), most))?;
     let first = standing_of(&mut player, items.0)?;
     let second = standing_of(&mut player, items.1)?;
     Ok(Some(Played {
@@ -204,22 +215,37 @@ pub fn play(
     }))
 }
 
-/// The number of the event that made an access, from 0.
-pub fn event_of(marks: &[Mark], access: usize) -> Option<usize> {
-    let mut count = 0usize;
+/// Whether an event makes an access.
+fn is_access(event: Event) -> bool
+    ensures { result ≡ is_access event }
+{
+    match event {
+        Event::Item(_) => true,
+        Event::Release(_) => false,
+    }
+}
+
+/// The number of the event that made an access, from 0. None where there are fewer accesses.
+pub fn event_of(marks: &[Mark], access: usize) -> Option<usize>
+    ensures made { IfSome result (MadeAccess marks.now access) }
+    ensures none { IfNone result (count_by (λ mark. is_access mark.event) marks.now ≤ access) }
+{
+    let mut left = access;
     for (number, mark) in marks.iter().enumerate() {
-        if let Event::Item(_) = mark.event {
-            if count == access {
+        if is_access(mark.event) {
+            if left == 0 {
                 return Some(number);
             }
-            count = count.saturating_add(1);
+            left -= 1;
         }
     }
     None
 }
 
 /// The number of the last event of an item.
-pub fn last_of(marks: &[Mark], item: u32) -> Option<usize> {
+pub fn last_of(marks: &[Mark], item: u32) -> Option<usize>
+    ensures { IfSome result (IsEventOf marks.now item) }
+{
     let mut last = None;
     for (number, mark) in marks.iter().enumerate() {
         if let Event::Item(other) = mark.event {

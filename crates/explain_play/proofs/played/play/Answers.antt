@@ -1,4 +1,4 @@
-use Rattle.std.proofs.Common.{◌≡◌, ◌∙◌, [], None, Some, map, ap, ap₂, sym, subst}
+use Rattle.std.proofs.Common.{◌≡◌, ◌∙◌, [], None, Some, map, take, ap, ap₂, sym, subst}
 use Rattle.std.specs.Option.{IfSome}
 use Rattle.clmodel.specs.Launch.{Launch}
 use Rattle.clmodel.specs.Law.{Reaches}
@@ -16,7 +16,7 @@ use Rattle.marked_play.specs.Marks.{Lead, events_in}
 use Rattle.marked_play.specs.Pairs.{IsFoundPair}
 use Rattle.marked_play.specs.declared.pairs.Told.{Told}
 use Rattle.marked_play.proofs.Marking.{marked, unmarked}
-use Rattle.explain_play.specs.PlayedOut.{IsPlayedOut, Tells}
+use Rattle.explain_play.specs.PlayedOut.{IsPlayedOut, Tells, touch_of}
 use Rattle.explain_play.proofs.played.play.Goals as goal
 
 pub new-requires-clause-runnable : goal.new-requires-clause-runnable
@@ -53,13 +53,16 @@ returns-clause-played c =
     marked l c.group_size-size.result (start l) (events_of c.as_slice.result.now) [] c.mark_schedule.new.marks.items at c.in_ok-mark_schedule.field-0 c.if-not-branch.false
     (c.in_ok-mark_schedule.ensures l (start l) c.in_ok-player.ensures) in
     let here = m.5 in
-    subst (λ z. IsPlayedOut z _ (events_of c.args.schedule.now) c.args.fault.now _) same
-    (subst (λ n. IsPlayedOut l n (events_of c.args.schedule.now) c.args.fault.now _) c.group_size-size.ensures.value
+    subst (λ z. IsPlayedOut z _ (events_of c.args.schedule.now) c.args.fault.now c.args.items.0 c.args.items.1 c.args.most _) same
+    (subst (λ n. IsPlayedOut l n (events_of c.args.schedule.now) c.args.fault.now c.args.items.0 c.args.items.1 c.args.most _) c.group_size-size.ensures.value
     (record {
       end = m.1;
       marked = ap events_in m.2 ∙ m.3 ∙ ap events_of c.as_slice.ensures;
       led = subst (λ ms. Lead l c.group_size-size.result (start l) ms m.1) (sym m.2) m.4;
-      paired = subst (λ log. IfSome c.in_ok-pair.pair (λ pair. (told : Told) × Tells c.args.fault.now told × IsFoundPair l told log pair)) (c.log.ensures l m.1 here) c.in_ok-pair.ensures;
+      touched = c.in_ok-touches.ensures ∙ ap (map (touch_of l)) (c.first_of.ensures ∙ ap (take c.args.most) (c.log-2.ensures l m.1 here));
+      paired = subst (λ log. IfSome c.in_ok-pair.pair (λ pair. (told : Told) × Tells l c.args.fault.now told × IsFoundPair l told log pair)) (c.log.ensures l m.1 here) c.in_ok-pair.ensures;
+      first_named = c.in_ok-first.ensures.item;
+      second_named = c.in_ok-second.ensures.item;
       first_acts = c.in_ok-first.ensures.acts l m.1 here;
       second_acts = c.in_ok-second.ensures.acts l m.1 (c.standing_of-first.ensures.same l m.1 here);
     }))
