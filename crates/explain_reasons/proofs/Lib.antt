@@ -1,2 +1,1 @@
-mod Ordering
 mod Spotting

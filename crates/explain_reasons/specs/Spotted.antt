@@ -24,13 +24,14 @@ pub record IsSpotted (setup : Setup) (place : ℕ) (text : List ℕ) (first : �
   pub is : slice_get (kernel_origins (functions_before setup.program.functions setup.kernel) kernel) place ≡ Some (plain origin)
   pub begins_at : BeginsAt text first origin spot
 
--- a place in the source is one of the code
-abbrev pub HasSpot : Setup → List ℕ → ℕ → Spot → Type 0
-HasSpot setup text first spot = (place : ℕ) × IsSpotted setup place text first spot
+-- a place in the source is that of a place of the code of which p holds
+abbrev pub HasSpot : Setup → List ℕ → ℕ → (ℕ → Type 0) → Spot → Type 0
+HasSpot setup text first p spot = (place : ℕ) × p place × IsSpotted setup place text first spot
 
--- the item of a number with its own ids; its places are of instructions of the kernel's code (OpenCL 1.2, sections 3.2 and 6.12.1)
-pub record IsNamed (setup : Setup) (text : List ℕ) (first : ℕ) (item : ℕ) (named : NamedItem) : Type 0 where
+-- The item of a number with its own ids (OpenCL 1.2, sections 3.2 and 6.12.1). What it does is told at a place of which `here` holds, and its
+-- last access at one of which `before` holds.
+pub record IsNamed (setup : Setup) (text : List ℕ) (first : ℕ) (here before : ℕ → Type 0) (item : ℕ) (named : NamedItem) : Type 0 where
   pub number : named.item ≡ item
   pub ids : AreIds setup.range item named.ids
-  pub spotted : IfSome named.spot (HasSpot setup text first)
-  pub last_spotted : IfSome named.last (HasSpot setup text first)
+  pub spotted : IfSome named.spot (HasSpot setup text first here)
+  pub last_spotted : IfSome named.last (HasSpot setup text first before)

@@ -1,7 +1,7 @@
 //! What is known of a launch: its source, its tree, its commands.
 #![tactic(auto)]
 
-ghost use Rattle.std.specs.Prelude.{◌≡◌, None, IfOk, IfSome};
+ghost use Rattle.std.specs.Prelude.{◌≡◌, None, Some, IfOk, IfSome};
 ghost use Rattle.clmodel.specs.Setup.{kernel_in};
 ghost use Rattle.item_step.specs.Launches.{setup_of};
 ghost use Rattle.origins.specs.Finding.{IsOriginIn};
@@ -126,7 +126,7 @@ impl<'a> Context<'a> {
 
     /// The place in the source of the instruction at a place of the code, if one is given. An error is out of memory.
     pub(crate) fn spot(&self, place: Option<usize>) -> Result<Option<Spot>, AllocError>
-        ensures { IfOk result (λ found. IfSome found (HasSpot (setup_of self.now.launch.now) self.now.program.text.now self.now.program.first_line)) }
+        ensures { IfOk result (λ found. IfSome found (HasSpot (setup_of self.now.launch.now) self.now.program.text.now self.now.program.first_line (λ p. place ≡ Some p))) }
     {
         match place {
             Some(place) => self.spot_at(place),

@@ -1,6 +1,9 @@
 //! What an event is, and where it is made.
 #![tactic(auto)]
 
+ghost use Rattle.std.specs.Prelude.{◌≡◌};
+ghost use Rattle.explain_reasons.specs.Named.{place_of};
+
 use clmodel::schedule::Event;
 use marked_play::Mark;
 
@@ -21,7 +24,9 @@ pub(crate) fn is_release(event: Event, group: u32) -> bool {
 }
 
 /// The place of an event, by its number.
-pub(crate) fn place_at(marks: &[Mark], event: Option<usize>) -> Option<usize> {
+pub(crate) fn place_at(marks: &[Mark], event: Option<usize>) -> Option<usize>
+    ensures { result ≡ place_of marks.now event }
+{
     match marks.get(event?) {
         Some(mark) => mark.place,
         None => None,

@@ -1,11 +1,12 @@
 //! The items that a fault names.
 #![tactic(auto)]
 
-ghost use Rattle.std.specs.Prelude.{◌≡◌, [], ◌∷◌, IfOk};
+ghost use Rattle.std.specs.Prelude.{◌≡◌, [], ◌∷◌, Some, IfOk};
 ghost use Rattle.std.specs.Option.{option_map_or};
 ghost use Rattle.item_ids.specs.Ids.{AreIds};
 ghost use Rattle.item_step.specs.Launches.{setup_of};
-ghost use Rattle.explain_reasons.specs.Named.{AreTold, IsTold, in_order, told_items};
+ghost use Rattle.explain_reasons.specs.Named.{AreTold, AtAccess, AtEnd, AtPlace, IsTold, in_order, site_of, told_items};
+ghost use Rattle.explain_reasons.specs.Spotted.{IsNamed};
 
 use crate::context::Context;
 use crate::events::place_at;
@@ -43,7 +44,7 @@ fn named(
     event: Option<usize>,
     place: Option<usize>,
 ) -> Result<NamedItem, AllocError>
-    ensures { IfOk result (IsTold context.now item) }
+    ensures { IfOk result (IsNamed (setup_of context.now.launch.now) context.now.program.text.now context.now.program.first_line (λ p. place ≡ Some p) (λ _. ⊥) item) }
 {
     let ids = ids_of(context, item)?;
     Ok(NamedItem {
@@ -72,7 +73,7 @@ fn accessing(
     kind: AccessKind,
     access: usize,
 ) -> Result<NamedItem, AllocError>
-    ensures { IfOk result (IsTold context.now item) }
+    ensures { IfOk result (IsTold context.now played.now.marks.items (item, AtAccess access)) }
 {
     let marks = played.marks.as_slice();
     let event = event_of(marks, access);
@@ -82,14 +83,14 @@ fn accessing(
 
 /// An item where it stands.
 fn standing(context: &Context<'_>, standing: Standing, does: Does) -> Result<NamedItem, AllocError>
-    ensures { IfOk result (IsTold context.now standing.item) }
+    ensures { IfOk result (IsNamed (setup_of context.now.launch.now) context.now.program.text.now context.now.program.first_line (λ p. standing.place ≡ Some p) (λ _. ⊥) standing.item) }
 {
     named(context, standing.item, does, None, standing.place)
 }
 
 /// An item that has ended, with its last access.
 fn ended(context: &Context<'_>, played: &Played, item: u32) -> Result<NamedItem, AllocError>
-    ensures { IfOk result (IsTold context.now item) }
+    ensures { IfOk result (IsTold context.now played.now.marks.items (item, AtEnd)) }
 {
     let marks = played.marks.as_slice();
     let place = place_at(marks, last_of(marks, item));
@@ -111,7 +112,7 @@ fn stopped(
     at: Standing,
     stop: &Stop,
 ) -> Result<NamedItem, AllocError>
-    ensures { IfOk result (IsTold context.now at.item) }
+    ensures { IfOk result (IsTold context.now played.now.marks.items (at.item, site_of stop.now at.place)) }
 {
     match stop {
         Stop::Ended => ended(context, played, at.item),
@@ -166,7 +167,7 @@ fn conflicting(
     first: (u32, AccessKind),
     second: (u32, AccessKind),
 ) -> Result<Vec<NamedItem>, AllocError>
-    ensures { IfOk result (λ items. AreTold context.now (in_order pair first.0 second.0) items.items) }
+    ensures { IfOk result (λ items. AreTold context.now played.now.marks.items (in_order pair (first.0, AtAccess pair.first) (second.0, AtAccess pair.second)) items.items) }
 {
     let item = accessing(context, played, first.0, first.1, pair.first)?;
     let other = accessing(context, played, second.0, second.1, pair.second)?;
@@ -180,7 +181,7 @@ fn clashing(
     first: (u32, AccessKind),
     second: (u32, AccessKind),
 ) -> Result<Vec<NamedItem>, AllocError>
-    ensures { IfOk result (λ items. AreTold context.now (option_map_or (λ pair. in_order pair first.0 second.0) played.now.pair []) items.items) }
+    ensures { IfOk result (λ items. AreTold context.now played.now.marks.items (option_map_or (λ pair. in_order pair (first.0, AtAccess pair.first) (second.0, AtAccess pair.second)) played.now.pair []) items.items) }
 {
     match played.pair {
         Some(pair) => conflicting(context, played, pair, first, second),
@@ -195,7 +196,7 @@ fn diverging(
     stop: &Stop,
     other_stop: &Stop,
 ) -> Result<Vec<NamedItem>, AllocError>
-    ensures { IfOk result (λ items. AreTold context.now (played.now.first.item ∷ played.now.second.item ∷ []) items.items) }
+    ensures { IfOk result (λ items. AreTold context.now played.now.marks.items ((played.now.first.item, site_of stop.now played.now.first.place) ∷ (played.now.second.item, site_of other_stop.now played.now.second.place) ∷ []) items.items) }
 {
     let item = stopped(context, played, played.first, stop)?;
     let other = stopped(context, played, played.second, other_stop)?;
@@ -213,12 +214,12 @@ fn deed_of(fault: &Fault) -> Does {
 /// The one item of a fault.
 fn alone(
     context: &Context<'_>,
-    at: Standing,
+    played: &Played,
     does: Does,
 ) -> Result<Vec<NamedItem>, AllocError>
-    ensures { IfOk result (λ items. AreTold context.now (at.item ∷ []) items.items) }
+    ensures { IfOk result (λ items. AreTold context.now played.now.marks.items ((played.now.first.item, AtPlace played.now.first.place) ∷ []) items.items) }
 {
-    let item = standing(context, at, does)?;
+    let item = standing(context, played.first, does)?;
     one(context.alloc, item)
 }
 
@@ -228,7 +229,7 @@ pub fn named_items(
     played: &Played,
     fault: &Fault,
 ) -> Result<Vec<NamedItem>, AllocError>
-    ensures { IfOk result (λ items. AreTold context.now (told_items fault.now played.now) items.items) }
+    ensures { IfOk result (λ items. AreTold context.now played.now.marks.items (told_items fault.now played.now) items.items) }
 {
     match fault {
         Fault::Conflict {
@@ -250,6 +251,6 @@ pub fn named_items(
         | Fault::UnsetElement { .. }
         | Fault::DivideByZero { .. }
         | Fault::DivideOverflow { .. }
-        | Fault::Budget { .. } => alone(context, played.first, deed_of(fault)),
+        | Fault::Budget { .. } => alone(context, played, deed_of(fault)),
     }
 }
