@@ -5,8 +5,8 @@
 
 mod judging;
 mod played;
-mod shorter;
+mod short_way;
 mod values;
 
 pub use played::{Played, Standing, Touch, event_of, last_of, play};
-pub use shorter::shorter;
+pub use short_way::shorter;

@@ -2,7 +2,7 @@
 #![tactic(auto)]
 
 ghost use Rattle.std.specs.Prelude.{◌≡◌, ◌≤◌, map, count_by, take, Some, IfOk, IfNone, IfSome};
-ghost use Rattle.clmodel.specs.Launch.{Launch};
+ghost use Rattle.clmodel.specs.Launch.{Launch as TheLaunch};
 ghost use Rattle.clmodel.specs.Law.{Reaches};
 ghost use Rattle.clmodel.specs.Next.{launch_of};
 ghost use Rattle.clmodel.specs.Outcome.{events_of};
@@ -129,11 +129,7 @@ fn pair_of<D: Runnable>(
 fn first_of(log: &[Access], most: usize) -> &[Access]
     ensures { result.now ≡ take most log.now }
 {
-    if most < log.len() {
-        &log[..most]
-    } else {
-        log
-    }
+    if most < log.len() { &log[..most] } else { log }
 }
 
 /// The accesses of a log with their locations and values.
@@ -164,9 +160,9 @@ fn touches_of<D: Described>(
 
 /// Where an item stands.
 fn standing_of<D: Runnable>(player: &mut Player<'_, D>, item: u32) -> Result<Standing, AllocError>
-    ensures same { (launch : Launch) (state : State) → IsAt D.launch launch player.old state → IsAt D.launch launch player.new state }
+    ensures same { (launch : TheLaunch) (state : State) → IsAt D.launch launch player.old state → IsAt D.launch launch player.new state }
     ensures item { IfOk result (λ standing. standing.item ≡ item) }
-    ensures acts { IfOk result (λ standing. (launch : Launch) (state : State) → IsAt D.launch launch player.old state → ActsFrom launch state item standing.place) }
+    ensures acts { IfOk result (λ standing. (launch : TheLaunch) (state : State) → IsAt D.launch launch player.old state → ActsFrom launch state item standing.place) }
 {
     let place = place_of(player, item)?;
     let width = match player.action(item)? {
