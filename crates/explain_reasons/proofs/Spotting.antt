@@ -11,7 +11,7 @@ use Rattle.marked_play.specs.declared.marks.Mark.{Mark}
 use Rattle.origins.specs.Finding.{IsOriginIn}
 use Rattle.origins.specs.declared.origin.Origin.{Origin}
 use Rattle.explain_reasons.specs.Named.{IsAccessPlace, IsItemPlace, place_of}
-use Rattle.explain_reasons.specs.Spotted.{BeginsAt, HasSpot, IsNamed, IsSpotted}
+use Rattle.explain_reasons.specs.Spotted.{BeginsAt, IsNamed, IsSpotted}
 
 pub spotted :
     (setup : Setup) (place : ℕ) (text : List ℕ) (first : ℕ) (origin : Origin) (spot : Spot) → IsOriginIn setup.program.functions setup.kernel place (Some origin)

@@ -212,11 +212,7 @@ fn deed_of(fault: &Fault) -> Does {
 }
 
 /// The one item of a fault.
-fn alone(
-    context: &Context<'_>,
-    played: &Played,
-    does: Does,
-) -> Result<Vec<NamedItem>, AllocError>
+fn alone(context: &Context<'_>, played: &Played, does: Does) -> Result<Vec<NamedItem>, AllocError>
     ensures { IfOk result (λ items. AreTold context.now played.now.marks.items ((played.now.first.item, AtPlace played.now.first.place) ∷ []) items.items) }
 {
     let item = standing(context, played.first, does)?;
