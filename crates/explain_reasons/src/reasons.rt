@@ -118,33 +118,50 @@ fn classes_reason(alloc: Global, one: Class, other: Class) -> Result<String, All
     )
 }
 
-/// Why the order of two accesses matters of which one isn't an update.
-fn clash_words(clash: Clash, both_store: bool) -> &'static str {
-    match clash {
-        Clash::Order =>
-            "the value that an atomic function gives, or what an exchange leaves, shows which of the two came first",
-        Clash::Race => {
-            if both_store {
-                "both store: which value is left depends on which comes last"
-            } else {
-                "one of the two stores: what the other one finds depends on which comes first"
-            }
+/// Whether the two accesses of a conflict, which are stores, are known to leave the same.
+fn store_the_same(played: &Played) -> bool {
+    let Some(pair) = played.pair else {
+        return false;
+    };
+    let touches = played.touches.as_slice();
+    match (touches.get(pair.first), touches.get(pair.second)) {
+        (Some(one), Some(other)) => {
+            one.byte == other.byte && one.bytes == other.bytes && one.value == other.value
         }
+        _ => false,
+    }
+}
+
+/// Why the order of two accesses matters of which at least one stores.
+fn race_words(played: &Played, both_store: bool) -> &'static str {
+    if !both_store {
+        "one of the two stores: what the other one finds depends on which comes first"
+    } else if store_the_same(played) {
+        "both store the same value, which is a race in a launch that isn't uniform"
+    } else {
+        "both store: which value is left depends on which comes last"
     }
 }
 
 /// Why the order of two accesses matters.
 fn clash_reason(
     alloc: Global,
+    played: &Played,
     clash: Clash,
-    kind: AccessKind,
-    other: AccessKind,
+    kinds: (AccessKind, AccessKind),
 ) -> Result<String, AllocError> {
-    if let (AccessKind::Update(one), AccessKind::Update(two)) = (kind, other) {
+    if let (AccessKind::Update(one), AccessKind::Update(two)) = kinds {
         return classes_reason(alloc, one, two);
     }
-    let both_store = kind == AccessKind::Store && other == AccessKind::Store;
-    String::from_str(alloc, clash_words(clash, both_store))
+    let words = match clash {
+        Clash::Order =>
+            "the value that an atomic function gives, or what an exchange leaves, shows which of the two came first",
+        Clash::Race => {
+            let both_store = kinds.0 == AccessKind::Store && kinds.1 == AccessKind::Store;
+            race_words(played, both_store)
+        }
+    };
+    String::from_str(alloc, words)
 }
 
 /// How many elements an object has, where it has this many bytes.
@@ -336,7 +353,7 @@ fn conflict_reasons(
     location: &Location,
 ) -> Result<Vec<String>, AllocError> {
     let order = order_reason(context, played, location)?;
-    let clash = clash_reason(context.alloc, clash, kinds.0, kinds.1)?;
+    let clash = clash_reason(context.alloc, played, clash, kinds)?;
     both(context.alloc, order, clash)
 }
 
