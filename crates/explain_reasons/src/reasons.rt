@@ -2,38 +2,35 @@
 #![tactic(auto)]
 
 use crate::context::Context;
+use crate::events::{is_access, is_release, place_at};
 use clmodel::access::{AccessKind, Clash, Class};
 use clmodel::fault::{Fault, Location};
-use clmodel::schedule::Event;
-use explain_play::{Played, event_of};
+use explain_play::{Played, Touch, event_of};
 use explanation::Memory;
 use marked_play::Mark;
 use std::alloc::{AllocError, Global};
-use std::fmt::Write;
 
-/// Adds a sentence.
-fn say(alloc: Global, why: &mut Vec<String>, sentence: &str) -> Result<(), AllocError> {
-    let sentence = String::from_str(alloc, sentence)?;
-    why.push(sentence)?;
-    Ok(())
-}
-
-/// The release of a group between two events, if there is one: the last, with its place.
+/// The last release of a group between two events, with its place, if there is one.
 fn release_between(marks: &[Mark], group: u32, from: usize, to: usize) -> Option<Mark> {
     let mut found = None;
     for (number, mark) in marks.iter().enumerate() {
-        if number > from && number < to {
-            if let Event::Release(released) = mark.event {
-                if released == group {
-                    found = Some(*mark);
-                }
-            }
+        if number > from && number < to && is_release(mark.event, group) {
+            found = Some(*mark);
         }
     }
     found
 }
 
-/// What a barrier has to fence to order accesses at a location (OpenCL 1.2, section 6.12.8).
+/// The last release of a group between the two accesses of a conflict, if there is one.
+fn barrier_between(played: &Played, group: u32) -> Option<Mark> {
+    let pair = played.pair?;
+    let marks = played.marks.as_slice();
+    let from = event_of(marks, pair.first.min(pair.second))?;
+    let to = event_of(marks, pair.first.max(pair.second))?;
+    release_between(marks, group, from, to)
+}
+
+/// What a barrier has to fence to order accesses at a location, and the flag for it (OpenCL 1.2, section 6.12.8).
 fn fence_of(location: &Location) -> (&'static str, &'static str) {
     match location {
         Location::Buffer(_) => ("global", "CLK_GLOBAL_MEM_FENCE"),
@@ -41,64 +38,65 @@ fn fence_of(location: &Location) -> (&'static str, &'static str) {
     }
 }
 
+/// The text of a place of the code behind a comma, if one is known.
+fn text_at(context: &Context<'_>, place: Option<usize>) -> Result<String, AllocError> {
+    let alloc = context.alloc;
+    match context.code(place)? {
+        Some(code) => {
+            let (line, column, text) = (code.script_line, code.column, code.text.as_str());
+            format!(in alloc; ", {text} at {line}:{column}")
+        }
+        None => Ok(String::new(alloc)),
+    }
+}
+
+/// Why a barrier between two accesses of its group doesn't order them.
+fn unfenced_reason(
+    context: &Context<'_>,
+    group: u32,
+    barrier: Mark,
+    location: &Location,
+) -> Result<String, AllocError> {
+    let alloc = context.alloc;
+    let (space, flag) = fence_of(location);
+    let at = text_at(context, barrier.place)?;
+    let at = at.as_str();
+    format!(in alloc;
+        "group {group} passes a barrier between the two accesses{at}, but it does not fence {space} memory: {flag} is missing"
+    )
+}
+
 /// Why no barrier orders two accesses of one group.
-fn say_unordered(
+fn unordered_reason(
     context: &Context<'_>,
     played: &Played,
     group: u32,
     location: &Location,
-    why: &mut Vec<String>,
-) -> Result<(), AllocError> {
+) -> Result<String, AllocError> {
     let alloc = context.alloc;
-    let marks = played.marks.as_slice();
-    let between = match played.pair {
-        Some(pair) => {
-            let first = event_of(marks, pair.first.min(pair.second)).unwrap_or(0);
-            let last = event_of(marks, pair.first.max(pair.second)).unwrap_or(0);
-            release_between(marks, group, first, last)
-        }
-        None => None,
-    };
-    let Some(mark) = between else {
-        let sentence = format!(in alloc;
+    match barrier_between(played, group) {
+        Some(barrier) => unfenced_reason(context, group, barrier, location),
+        None => format!(in alloc;
             "both work-items are of group {group}, and no barrier of it stands between the two accesses"
-        )?;
-        why.push(sentence)?;
-        return Ok(());
-    };
-    let (space, flag) = fence_of(location);
-    let mut sentence = format!(in alloc;
-        "group {group} passes a barrier between the two accesses"
-    )?;
-    if let Some(code) = context.code(mark.place)? {
-        let (line, column, text) = (code.script_line, code.column, code.text.as_str());
-        write!(sentence, ", {text} at {line}:{column}")?;
+        ),
     }
-    write!(
-        sentence,
-        ", but it does not fence {space} memory: {flag} is missing"
-    )?;
-    why.push(sentence)?;
-    Ok(())
 }
 
 /// Why nothing orders two accesses.
-fn say_no_order(
+fn order_reason(
     context: &Context<'_>,
     played: &Played,
     location: &Location,
-    why: &mut Vec<String>,
-) -> Result<(), AllocError> {
+) -> Result<String, AllocError> {
+    let alloc = context.alloc;
     let size = context.launch.group_size();
     let (group, other) = (played.first.item / size, played.second.item / size);
     if group == other {
-        return say_unordered(context, played, group, location, why);
+        return unordered_reason(context, played, group, location);
     }
-    let sentence = format!(in context.alloc;
+    format!(in alloc;
         "the work-items are of groups {group} and {other}, and no barrier orders two work-groups of a launch"
-    )?;
-    why.push(sentence)?;
-    Ok(())
+    )
 }
 
 fn class_word(class: Class) -> &'static str {
@@ -112,64 +110,81 @@ fn class_word(class: Class) -> &'static str {
     }
 }
 
-/// Why the order of two accesses matters.
-fn say_clash(
-    context: &Context<'_>,
-    clash: Clash,
-    kind: AccessKind,
-    other: AccessKind,
-    why: &mut Vec<String>,
-) -> Result<(), AllocError> {
-    let alloc = context.alloc;
-    match (clash, kind, other) {
-        (Clash::Order, AccessKind::Update(one), AccessKind::Update(two)) => {
-            let (one, two) = (class_word(one), class_word(two));
-            let sentence = format!(in alloc;
-                "atomic {one} and atomic {two} do not commute: what is left depends on which comes first"
-            )?;
-            why.push(sentence)?;
-            Ok(())
+/// Why the order of two updates of different classes matters.
+fn classes_reason(alloc: Global, one: Class, other: Class) -> Result<String, AllocError> {
+    let (one, two) = (class_word(one), class_word(other));
+    format!(in alloc;
+        "atomic {one} and atomic {two} do not commute: what is left depends on which comes first"
+    )
+}
+
+/// Whether the two accesses of a conflict, which are stores, are known to leave the same.
+fn store_the_same(played: &Played) -> bool {
+    let Some(pair) = played.pair else {
+        return false;
+    };
+    let touches = played.touches.as_slice();
+    match (touches.get(pair.first), touches.get(pair.second)) {
+        (Some(one), Some(other)) => {
+            one.byte == other.byte && one.bytes == other.bytes && one.value == other.value
         }
-        (Clash::Order, _, _) => say(
-            alloc,
-            why,
-            "the value that an atomic function gives, or what an exchange leaves, shows which of the two came first",
-        ),
-        (Clash::Race, AccessKind::Store, AccessKind::Store) => say(
-            alloc,
-            why,
-            "both store: which value is left depends on which comes last",
-        ),
-        (Clash::Race, _, _) => say(
-            alloc,
-            why,
-            "one of the two stores: what the other one finds depends on which comes first",
-        ),
+        _ => false,
     }
 }
 
+/// Why the order of two accesses matters of which at least one stores.
+fn race_words(played: &Played, both_store: bool) -> &'static str {
+    if !both_store {
+        "one of the two stores: what the other one finds depends on which comes first"
+    } else if store_the_same(played) {
+        "both store the same value, which is a race in a launch that isn't uniform"
+    } else {
+        "both store: which value is left depends on which comes last"
+    }
+}
+
+/// Why the order of two accesses matters.
+fn clash_reason(
+    alloc: Global,
+    played: &Played,
+    clash: Clash,
+    kinds: (AccessKind, AccessKind),
+) -> Result<String, AllocError> {
+    if let (AccessKind::Update(one), AccessKind::Update(two)) = kinds {
+        return classes_reason(alloc, one, two);
+    }
+    let words = match clash {
+        Clash::Order =>
+            "the value that an atomic function gives, or what an exchange leaves, shows which of the two came first",
+        Clash::Race => {
+            let both_store = kinds.0 == AccessKind::Store && kinds.1 == AccessKind::Store;
+            race_words(played, both_store)
+        }
+    };
+    String::from_str(alloc, words)
+}
+
+/// How many elements an object has, where it has this many bytes.
+fn count_reason(alloc: Global, name: &str, size: u64, width: u64) -> Result<String, AllocError> {
+    let count = if width == 0 { 0 } else { size / width };
+    format!(in alloc;
+        "{name} has {size} bytes, which are {count} elements of {width} bytes, numbered from 0"
+    )
+}
+
 /// Why an element is out of bounds, where the size of the object and of the element are known.
-fn say_bounds(
-    context: &Context<'_>,
+fn bounds_reason(
+    alloc: Global,
     played: &Played,
     memory: &Option<Memory>,
-    why: &mut Vec<String>,
-) -> Result<(), AllocError> {
+) -> Result<Option<String>, AllocError> {
     let (Some(memory), Some(width)) = (memory, played.first.width) else {
-        return Ok(());
+        return Ok(None);
     };
-    let Some(size) = memory.size else {
-        return Ok(());
-    };
-    if width == 0 {
-        return Ok(());
+    match memory.size {
+        Some(size) => Ok(Some(count_reason(alloc, memory.name.as_str(), size, width)?)),
+        None => Ok(None),
     }
-    let (name, count) = (memory.name.as_str(), size / width);
-    let sentence = format!(in context.alloc;
-        "{name} has {size} bytes, which are {count} elements of {width} bytes, numbered from 0"
-    )?;
-    why.push(sentence)?;
-    Ok(())
 }
 
 /// Whether two locations have one name and one group.
@@ -182,109 +197,179 @@ fn is_same(location: &Location, other: &Location) -> bool {
                 group: other_group,
                 name: other,
             },
-        ) => group == other_group && name == other,
+        ) => *group == *other_group && name == other,
         _ => false,
     }
 }
 
 /// How far two numbers are apart.
 fn distance_of(one: u64, other: u64) -> u64 {
-    if one < other {
-        other - one
-    } else {
-        one - other
+    one.max(other) - one.min(other)
+}
+
+/// A store, by its number, with its distance from a byte.
+#[derive(Clone, Copy)]
+struct Near {
+    distance: u64,
+    number: usize,
+}
+
+/// The nearer of two stores; of two that are equally near, the earlier one.
+fn nearer(known: Option<Near>, found: Near) -> Near {
+    match known {
+        Some(near) if near.distance <= found.distance => near,
+        _ => found,
     }
 }
 
+/// The store that is nearest to a byte of a location, if there is one.
+fn nearest_store(touches: &[Touch], location: &Location, byte: u64) -> Option<Near> {
+    let mut nearest = None;
+    for (number, touch) in touches.iter().enumerate() {
+        if touch.kind == AccessKind::Store && is_same(&touch.location, location) {
+            let distance = distance_of(byte, touch.byte);
+            nearest = Some(nearer(nearest, Near { distance, number }));
+        }
+    }
+    nearest
+}
+
+/// Which bytes were set by a store.
+fn store_reason(
+    context: &Context<'_>,
+    touch: &Touch,
+    place: Option<usize>,
+) -> Result<String, AllocError> {
+    let alloc = context.alloc;
+    let (item, first) = (touch.item, touch.byte);
+    let last = first.saturating_add(touch.bytes.saturating_sub(1));
+    let at = text_at(context, place)?;
+    let at = at.as_str();
+    format!(in alloc;
+        "the nearest bytes that were set are {first} to {last}, by work-item {item}{at}; if another work-item sets this byte later, a barrier between the two is missing"
+    )
+}
+
 /// Which bytes beside an unset one were set, and where: those of the nearest store.
-fn say_unset(
+fn unset_reason(
     context: &Context<'_>,
     played: &Played,
     location: &Location,
     byte: u64,
-    why: &mut Vec<String>,
-) -> Result<(), AllocError> {
-    let alloc = context.alloc;
-    let mut nearest: Option<(u64, usize)> = None;
-    for (number, touch) in played.touches.as_slice().iter().enumerate() {
-        if touch.kind == AccessKind::Store && is_same(&touch.location, location) {
-            let distance = distance_of(byte, touch.byte);
-            let is_nearer = match nearest {
-                Some((least, _)) => distance < least,
-                None => true,
-            };
-            if is_nearer {
-                nearest = Some((distance, number));
-            }
+) -> Result<String, AllocError> {
+    let (marks, touches) = (played.marks.as_slice(), played.touches.as_slice());
+    if let Some(near) = nearest_store(touches, location, byte) {
+        if let Some(touch) = touches.get(near.number) {
+            let place = place_at(marks, event_of(marks, near.number));
+            return store_reason(context, touch, place);
         }
     }
-    let Some((_, number)) = nearest else {
-        return say(
-            alloc,
-            why,
-            "no work-item has stored anything there by then: if another one does so later, a barrier between the two is missing",
-        );
-    };
-    let Some(touch) = played.touches.get(number) else {
-        return Ok(());
-    };
-    let (item, first) = (touch.item, touch.byte);
-    let last = first.saturating_add(touch.bytes.saturating_sub(1));
-    let mut sentence = format!(in alloc;
-        "the nearest bytes that were set are {first} to {last}, by work-item {item}"
-    )?;
-    let place = match event_of(played.marks.as_slice(), number) {
-        Some(event) => match played.marks.get(event) {
-            Some(mark) => mark.place,
-            None => None,
-        },
-        None => None,
-    };
-    if let Some(code) = context.code(place)? {
-        let (line, column, text) = (code.script_line, code.column, code.text.as_str());
-        write!(sentence, " at {line}:{column} {text}")?;
-    }
-    write!(
-        sentence,
-        "; if another work-item sets this byte later, a barrier between the two is missing"
-    )?;
-    why.push(sentence)?;
-    Ok(())
+    String::from_str(
+        context.alloc,
+        "no work-item has stored anything there by then: if another one does so later, a barrier between the two is missing",
+    )
 }
 
-/// How many accesses an item made, and how many barriers its group passed.
-fn counts_of(marks: &[Mark], item: u32, group: u32) -> (u64, u64) {
-    let mut accesses = 0u64;
-    let mut releases = 0u64;
+/// How many accesses an item made.
+fn accesses_of(marks: &[Mark], item: u32) -> u64 {
+    let mut count = 0u64;
     for mark in marks {
-        match mark.event {
-            Event::Item(other) if other == item => accesses = accesses.saturating_add(1),
-            Event::Release(other) if other == group => releases = releases.saturating_add(1),
-            _ => {}
+        if is_access(mark.event, item) {
+            count = count.saturating_add(1);
         }
     }
-    (accesses, releases)
+    count
+}
+
+/// How many barriers a group passed.
+fn barriers_of(marks: &[Mark], group: u32) -> u64 {
+    let mut count = 0u64;
+    for mark in marks {
+        if is_release(mark.event, group) {
+            count = count.saturating_add(1);
+        }
+    }
+    count
 }
 
 /// What a budget went to: each tick is an access, a barrier or a turn of a loop.
-fn say_budget(
+fn budget_reason(
     context: &Context<'_>,
     played: &Played,
     budget: u32,
-    why: &mut Vec<String>,
-) -> Result<(), AllocError> {
+) -> Result<String, AllocError> {
+    let alloc = context.alloc;
     let item = played.first.item;
-    let group = item / context.launch.group_size();
-    let (accesses, barriers) = counts_of(played.marks.as_slice(), item, group);
+    let marks = played.marks.as_slice();
+    let accesses = accesses_of(marks, item);
+    let barriers = barriers_of(marks, item / context.launch.group_size());
     let turns = u64::from(budget).saturating_sub(accesses.saturating_add(barriers));
-    let sentence = format!(in context.alloc;
+    format!(in alloc;
         "the budget of {budget} ticks went to {accesses} accesses, {barriers} barriers and {turns} turns of loops; a loop without end uses up any budget"
-    )?;
-    why.push(sentence)?;
-    Ok(())
+    )
 }
 
-/// Why a fault comes about.
+/// Why a fault comes about whose reason needs no number.
+fn plain_reason(fault: &Fault) -> &'static str {
+    match fault {
+        Fault::Divergence { .. } =>
+            "all work-items of a group have to come to the same barrier, in the same turns of the loops round it, before one passes it; these two never will",
+        Fault::PrivateBounds { .. } => "the array is shorter",
+        Fault::UnsetVariable { .. } =>
+            "the variable was declared without a value, and no assignment came before this read",
+        Fault::UnsetElement { .. } =>
+            "a private array begins without values, and no assignment to this element came before this read",
+        Fault::DivideByZero { .. } => "the right operand is 0",
+        Fault::DivideOverflow { .. } =>
+            "the left operand is the least number of its type and the right one is -1: their quotient is one above the greatest",
+        Fault::Conflict { .. }
+        | Fault::Bounds { .. }
+        | Fault::Unset { .. }
+        | Fault::Budget { .. } => "",
+    }
+}
+
+/// A list of one sentence.
+fn one(alloc: Global, reason: String) -> Result<Vec<String>, AllocError> {
+    let mut reasons = Vec::new(alloc);
+    reasons.push(reason)?;
+    Ok(reasons)
+}
+
+/// A list of two sentences.
+fn both(alloc: Global, reason: String, other: String) -> Result<Vec<String>, AllocError> {
+    let mut reasons = Vec::new(alloc);
+    reasons.push(reason)?;
+    reasons.push(other)?;
+    Ok(reasons)
+}
+
+/// Why a conflict comes about.
+fn conflict_reasons(
+    context: &Context<'_>,
+    played: &Played,
+    clash: Clash,
+    kinds: (AccessKind, AccessKind),
+    location: &Location,
+) -> Result<Vec<String>, AllocError> {
+    let order = order_reason(context, played, location)?;
+    let clash = clash_reason(context.alloc, played, clash, kinds)?;
+    both(context.alloc, order, clash)
+}
+
+/// Why an element is out of bounds, if more is known than that it is.
+fn bounds_reasons(
+    alloc: Global,
+    played: &Played,
+    memory: &Option<Memory>,
+) -> Result<Vec<String>, AllocError> {
+    match bounds_reason(alloc, played, memory)? {
+        Some(reason) => one(alloc, reason),
+        None => Ok(Vec::new(alloc)),
+    }
+}
+
+/// Why a fault comes about. An error is out of memory.
 pub fn reasons_of(
     context: &Context<'_>,
     played: &Played,
@@ -293,7 +378,6 @@ pub fn reasons_of(
     budget: u32,
 ) -> Result<Vec<String>, AllocError> {
     let alloc = context.alloc;
-    let mut why = Vec::new(alloc);
     match fault {
         Fault::Conflict {
             clash,
@@ -301,37 +385,12 @@ pub fn reasons_of(
             other_kind,
             location,
             ..
-        } => {
-            say_no_order(context, played, location, &mut why)?;
-            say_clash(context, *clash, *kind, *other_kind, &mut why)?;
-        }
-        Fault::Divergence { .. } => say(
-            alloc,
-            &mut why,
-            "all work-items of a group have to come to the same barrier, in the same turns of the loops round it, before one passes it; these two never will",
-        )?,
-        Fault::Bounds { .. } => say_bounds(context, played, memory, &mut why)?,
-        Fault::PrivateBounds { .. } => say(alloc, &mut why, "the array is shorter")?,
+        } => conflict_reasons(context, played, *clash, (*kind, *other_kind), location),
+        Fault::Bounds { .. } => bounds_reasons(alloc, played, memory),
         Fault::Unset { location, byte, .. } => {
-            say_unset(context, played, location, *byte, &mut why)?;
+            one(alloc, unset_reason(context, played, location, *byte)?)
         }
-        Fault::UnsetVariable { .. } => say(
-            alloc,
-            &mut why,
-            "the variable was declared without a value, and no assignment came before this read",
-        )?,
-        Fault::UnsetElement { .. } => say(
-            alloc,
-            &mut why,
-            "a private array begins without values, and no assignment to this element came before this read",
-        )?,
-        Fault::DivideByZero { .. } => say(alloc, &mut why, "the right operand is 0")?,
-        Fault::DivideOverflow { .. } => say(
-            alloc,
-            &mut why,
-            "the left operand is the least number of its type and the right one is -1: their quotient is one above the greatest",
-        )?,
-        Fault::Budget { .. } => say_budget(context, played, budget, &mut why)?,
+        Fault::Budget { .. } => one(alloc, budget_reason(context, played, budget)?),
+        _ => one(alloc, String::from_str(alloc, plain_reason(fault))?),
     }
-    Ok(why)
 }

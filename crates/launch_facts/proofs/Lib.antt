@@ -1,1 +1,2 @@
 mod Lasts
+mod Told

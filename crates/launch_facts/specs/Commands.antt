@@ -1,5 +1,5 @@
 -- What the commands before a launch, each of which was done or refused, tell of its program (own; OpenCL 1.2, sections 5.6 and 5.7).
-use Rattle.std.specs.Prelude.{◌≡◌, ℕ, ◌+◌, ◌-◌, ◌^◌, ◌<◌, ◌==◌, ◌&&◌, Bool, true, false, Option, None, Some, List, take, length, min, count_by, slice_get, option_and_then}
+use Rattle.std.specs.Prelude.{◌≡◌, ◌⊎◌, ℕ, ◌+◌, ◌-◌, ◌^◌, ◌<◌, ◌==◌, ◌&&◌, Bool, true, false, Option, None, Some, List, take, length, min, count_by, slice_get, option_and_then}
 use Rattle.std.specs.List.{sum_by}
 use Rattle.std.specs.Option.{option_map_or, unwrap_or}
 use Rattle.clmodel.specs.Setup.{same_text}
@@ -51,3 +51,16 @@ pub record IsSource (commands : List Command) (done : List Bool) (kernel : List 
   pub names : option_and_then kernel_names (slice_get commands kernel_at) ≡ Some (program, function)
   pub program_last : IsLast (did (makes_program program) commands done) kernel_at (Some program_at)
   pub source : option_and_then program_source (slice_get commands program_at) ≡ Some text
+
+-- the kernel of a name is that of the last command that was done and made it, and no command before it that was done made its program
+pub record LacksProgram (commands : List Command) (done : List Bool) (kernel : List ℕ) : Type 0 where
+  pub kernel_at : ℕ
+  pub program : List ℕ
+  pub function : List ℕ
+  pub kernel_last : IsLast (did (makes_kernel kernel) commands done) (length commands) (Some kernel_at)
+  pub names : option_and_then kernel_names (slice_get commands kernel_at) ≡ Some (program, function)
+  pub no_program : IsLast (did (makes_program program) commands done) kernel_at None
+
+-- there is no source: no command that was done made the kernel, or none before it its program
+abbrev pub HasNoSource : List Command → List Bool → List ℕ → Type 0
+HasNoSource commands done kernel = IsLast (did (makes_kernel kernel) commands done) (length commands) None ⊎ LacksProgram commands done kernel

@@ -1,5 +1,5 @@
 -- The parameters of a kernel as an explanation tells them (own), and which of them the commands before a launch give a buffer.
-use Rattle.std.specs.Prelude.{◌≡◌, ℕ, ◌==◌, ◌&&◌, ◌<◌, suc, Bool, true, false, Option, None, Some, List, [], ◌∷◌, ◌++◌, length, codes, map, slice_get, slice_index_or, string_bytes, if◌then◌else◌}
+use Rattle.std.specs.Prelude.{◌≡◌, ℕ, ◌==◌, ◌&&◌, ◌<◌, suc, Bool, true, false, Option, Some, List, [], ◌∷◌, ◌++◌, length, codes, map, slice_get, slice_index_or, string_bytes, if◌then◌else◌}
 use Rattle.std.specs.Option.{option_map_or, unwrap_or}
 use Rattle.std.specs.Str.Lossy.{utf8_lossy}
 use Rattle.clnum.specs.Integer.{type_word}
@@ -45,6 +45,12 @@ pub record IsFacts (names : List (List ℕ)) (i : ℕ) (parameter : Parameter) (
   pub index : p.index ≡ i
   pub name : string_bytes p.name ≡ utf8_lossy (name_of names parameter.name)
   pub type_name : string_bytes p.type_name ≡ type_text parameter.kind
+
+-- what is told of a parameter is right, by its index
+pub record TellsOf (parameters : List Parameter) (names : List (List ℕ)) (p : ParameterFacts) : Type 0 where
+  pub parameter : Parameter
+  pub at : slice_get parameters p.index ≡ Some parameter
+  pub facts : IsFacts names p.index parameter p
 
 abbrev pub indexes : List ParameterFacts → List ℕ
 indexes found = map (λ p. p.index) found

@@ -1,8 +1,8 @@
 //! The commands of a script, by their lines.
 #![tactic(auto)]
 
-ghost use Rattle.std.specs.Prelude.{◌≡◌, ℕ, ◌+◌, ◌-◌, ◌^◌, ◌≤◌, ◌==◌, length, min, count_by, slice_get, option_map, option_and_then, IfSome, if◌then◌else◌};
-ghost use Rattle.launch_facts.specs.Commands.{makes_kernel, makes_program, kernel_names, program_source, was_done, did, lines_of, line_of, IsLast, IsSource};
+ghost use Rattle.std.specs.Prelude.{◌≡◌, ℕ, ◌+◌, ◌-◌, ◌^◌, ◌≤◌, ◌==◌, length, min, count_by, slice_get, option_map, option_and_then, IfNone, IfSome, if◌then◌else◌};
+ghost use Rattle.launch_facts.specs.Commands.{makes_kernel, makes_program, kernel_names, program_source, was_done, did, lines_of, line_of, IsLast, IsSource, HasNoSource};
 
 use clmodel::text::Name;
 use host_commands::command::Command;
@@ -160,9 +160,10 @@ pub fn source_of<'a>(
     kernel: &Name,
     before: usize,
 ) -> Option<ProgramSource<'a>>
-    ensures { IfSome result (λ s. (program_at : ℕ)
+    ensures source { IfSome result (λ s. (program_at : ℕ)
         × IsSource commands.now done.now kernel.now s.kernel_command s.program.now s.function.now s.text.now program_at
         × (s.first_line ≡ min (line_of commands.now program_at before + 1) (2 ^ 64 - 1))) }
+    ensures none { IfNone result (HasNoSource commands.now done.now kernel.now) }
 {
     let kernel_command = last_kernel(commands, done, kernel)?;
     let (program, function) = kernel_names(commands, kernel_command)?;

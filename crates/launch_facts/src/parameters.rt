@@ -1,10 +1,10 @@
 //! The parameters of a kernel, with their types.
 #![tactic(auto)]
 
-ghost use Rattle.std.specs.Prelude.{◌≡◌, ◌++◌, [], ◌∷◌, codes, false, length, slice_get, string_bytes, IfOk, OnOk, if◌then◌else◌};
+ghost use Rattle.std.specs.Prelude.{◌≡◌, ◌<◌, ◌++◌, [], ◌∷◌, All, codes, false, length, slice_get, string_bytes, IfOk, OnOk, if◌then◌else◌};
 ghost use Rattle.std.specs.Option.{option_map_or};
 ghost use Rattle.launch_facts.specs.Commands.{did, IsLast};
-ghost use Rattle.launch_facts.specs.Parameters.{space_word, const_word, type_text, is_buffer, sets, gave_buffer, is_named, indexes, IsFacts, IsGiven, AreChosen};
+ghost use Rattle.launch_facts.specs.Parameters.{space_word, const_word, type_text, is_buffer, sets, gave_buffer, is_named, indexes, IsFacts, TellsOf, IsGiven, AreChosen};
 
 use crate::commands::{this_or_earlier, was_done};
 use clmodel::setup::Argument;
@@ -147,21 +147,23 @@ fn is_given(commands: &[Command], done: &[bool], kernel: &Name, buffer: &Name, i
     }
 }
 
-/// Adds a parameter that is chosen.
+/// Adds the parameter of an index, if it is chosen.
 fn push_chosen(
     alloc: Global,
     is_chosen: bool,
     index: usize,
-    parameter: &Parameter,
+    parameters: &[Parameter],
     names: &[Name],
     found: &mut Vec<ParameterFacts>,
 ) -> Result<(), AllocError>
-    ensures { OnOk result (indexes found.new.items ≡ indexes found.old.items ++ (if is_chosen then index ∷ [] else [])) }
+    requires { index < length parameters.now }
+    ensures indexes { OnOk result (indexes found.new.items ≡ indexes found.old.items ++ (if is_chosen then index ∷ [] else [])) }
+    ensures told { OnOk result (All (TellsOf parameters.now names.now) found.old.items → All (TellsOf parameters.now names.now) found.new.items) }
 {
     if !is_chosen {
         return Ok(());
     }
-    let facts = facts_of(alloc, index, parameter, names)?;
+    let facts = facts_of(alloc, index, &parameters[index], names)?;
     found.push(facts)?;
     Ok(())
 }
@@ -177,19 +179,13 @@ pub fn parameters_given(
     parameters: &[Parameter],
     names: &[Name],
 ) -> Result<Vec<ParameterFacts>, AllocError>
-    ensures { IfOk result (λ found. AreChosen (IsGiven commands.now done.now kernel.now buffer.now) (length parameters.now) (indexes found.items)) }
+    ensures chosen { IfOk result (λ found. AreChosen (IsGiven commands.now done.now kernel.now buffer.now) (length parameters.now) (indexes found.items)) }
+    ensures told { IfOk result (λ found. All (TellsOf parameters.now names.now) found.items) }
 {
     let mut found = Vec::new(alloc);
     for index in 0..parameters.len() {
         let is_chosen = is_given(commands, done, kernel, buffer, index);
-        push_chosen(
-            alloc,
-            is_chosen,
-            index,
-            &parameters[index],
-            names,
-            &mut found,
-        )?;
+        push_chosen(alloc, is_chosen, index, parameters, names, &mut found)?;
     }
     Ok(found)
 }
@@ -214,19 +210,13 @@ pub fn parameters_named(
     parameters: &[Parameter],
     names: &[Name],
 ) -> Result<Vec<ParameterFacts>, AllocError>
-    ensures { IfOk result (λ found. AreChosen (λ j is. is ≡ option_map_or (is_named names.now name.now) (slice_get parameters.now j) false) (length parameters.now) (indexes found.items)) }
+    ensures chosen { IfOk result (λ found. AreChosen (λ j is. is ≡ option_map_or (is_named names.now name.now) (slice_get parameters.now j) false) (length parameters.now) (indexes found.items)) }
+    ensures told { IfOk result (λ found. All (TellsOf parameters.now names.now) found.items) }
 {
     let mut found = Vec::new(alloc);
     for index in 0..parameters.len() {
         let is_chosen = is_named(parameters, index, name, names);
-        push_chosen(
-            alloc,
-            is_chosen,
-            index,
-            &parameters[index],
-            names,
-            &mut found,
-        )?;
+        push_chosen(alloc, is_chosen, index, parameters, names, &mut found)?;
     }
     Ok(found)
 }
