@@ -6,7 +6,7 @@ ghost use Rattle.std.specs.Prelude.{◌≤◌, length};
 use crate::bytes::byte_hint;
 use crate::rules::token_hint;
 use crate::tokens::{Place, callee, kind_of, nth, nth_last, place_in, word_of};
-use crate::words::{constant_hint, function_hint, is_built_in, word_hint};
+use crate::words::{UNDECLARED, argument_hint, function_hint, is_built_in, value_hint, word_hint};
 use clmodel::tree::AddressSpace;
 use clmodel::type_fault::TypeFault;
 use clsyntax_lex::lex;
@@ -27,6 +27,12 @@ enum Hinted {
     Mismatch,
     /// A pointer of another address space
     Space,
+    /// What can't be stored to
+    Target,
+    /// A call with too few or too many arguments
+    Count,
+    /// A call of a function in its own body
+    Recursion,
 }
 
 /// Whether the token at a place is followed by its arguments.
@@ -54,19 +60,31 @@ fn unexpected_hint(place: Place<'_>) -> &'static str {
     token_hint(place)
 }
 
+/// A hint at a fence outside of the brackets of a barrier: they may be those of a function that is lacking.
+fn fence_hint(place: Place<'_>) -> &'static str {
+    let outer = word_of(place.source, callee(place.front));
+    if outer.is_empty() || is_built_in(outer) {
+        return "a fence stands in the brackets of barrier alone";
+    }
+    function_hint(outer)
+}
+
 /// A hint at a name that isn't known.
-fn name_hint(place: Place<'_>) -> Option<&'static str> {
+fn name_hint(place: Place<'_>) -> &'static str {
     let word = word_of(place.source, nth(place.rest, 0));
     if let Some(hint) = word_hint(word) {
-        return Some(hint);
+        return hint;
     }
     if is_called(place) {
-        return Some(function_hint(word));
+        return function_hint(word);
+    }
+    if is_built_in(word) {
+        return fence_hint(place);
     }
     if is_indexed(place) {
-        return None;
+        return UNDECLARED;
     }
-    constant_hint(word)
+    value_hint(word)
 }
 
 fn is_of_one_type(word: &[u8]) -> bool {
@@ -99,8 +117,14 @@ fn operand_hint(place: Place<'_>) -> Option<&'static str> {
             return Some(hint);
         }
     }
+    if is_built_in(word) && !is_called(place) {
+        return Some("a built-in function is called, with its arguments in brackets");
+    }
     if is_of_one_type(word_of(place.source, callee(place.front))) {
         return Some("min, max and rotate take two of one type: write a cast, as in min((int)x, y)");
+    }
+    if matches!(kind_of(nth_last(place.front, 0)), Some(TokenKind::Star)) {
+        return Some("* joins two integers, or stands in front of a pointer");
     }
     None
 }
@@ -132,13 +156,31 @@ fn space_hint(place: Place<'_>) -> &'static str {
     "a pointer stays in its address space: write a helper for each; nothing points to private memory, so a helper takes elements of a private array"
 }
 
+/// A hint at what can't be stored to: only an array's name is followed by an assignment.
+fn target_hint(place: Place<'_>) -> Option<&'static str> {
+    match kind_of(nth(place.rest, 1)) {
+        Some(TokenKind::Assign) => Some("an array is assigned one element after another"),
+        _ => None,
+    }
+}
+
+/// A hint at a call with too few or too many arguments.
+fn count_hint(place: Place<'_>) -> Option<&'static str> {
+    argument_hint(word_of(place.source, nth(place.rest, 0)))
+}
+
 /// A hint at a place.
 fn hint_at(hinted: Hinted, place: Place<'_>) -> Option<&'static str> {
     match hinted {
         Hinted::Unexpected => Some(unexpected_hint(place)),
-        Hinted::Name => name_hint(place),
+        Hinted::Name => Some(name_hint(place)),
         Hinted::Mismatch => mismatch_hint(place),
         Hinted::Space => Some(space_hint(place)),
+        Hinted::Target => target_hint(place),
+        Hinted::Count => count_hint(place),
+        Hinted::Recursion => Some(
+            "no function calls itself: write a loop, with an array for what it has to keep",
+        ),
     }
 }
 
@@ -163,6 +205,9 @@ fn hinted_of_type(fault: TypeFault) -> Option<Hinted> {
         TypeFault::UnknownName { .. } => Some(Hinted::Name),
         TypeFault::TypeMismatch { .. } => Some(Hinted::Mismatch),
         TypeFault::WrongSpace { .. } => Some(Hinted::Space),
+        TypeFault::NotAssignable { .. } => Some(Hinted::Target),
+        TypeFault::WrongArgumentCount { .. } => Some(Hinted::Count),
+        TypeFault::Recursion { .. } => Some(Hinted::Recursion),
         _ => None,
     }
 }

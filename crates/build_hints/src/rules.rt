@@ -89,7 +89,7 @@ const NO_CASTS: &str =
 const BRACKETS: &str = "brackets are wanted: if (..), while (..), for (..; ..; ..)";
 
 /// The rules: the first one that fits is taken.
-static RULES: [Rule; 77] = [
+static RULES: [Rule; 83] = [
     Rule {
         part: Part::Outside,
         second: Any,
@@ -110,6 +110,13 @@ static RULES: [Rule; 77] = [
         last: Any,
         here: One(Const),
         hint: NO_VARIABLES,
+    },
+    Rule {
+        part: Part::Outside,
+        second: Any,
+        last: One(Void),
+        here: One(Kernel),
+        hint: "__kernel stands in front of void",
     },
     Rule {
         part: Part::Outside,
@@ -303,9 +310,23 @@ static RULES: [Rule; 77] = [
     Rule {
         part: Part::Body,
         second: Any,
+        last: One(OpenRound),
+        here: One(Void),
+        hint: "there is no cast to void: leave it out",
+    },
+    Rule {
+        part: Part::Body,
+        second: Any,
         last: Any,
         here: One(Void),
         hint: NOT_NESTED,
+    },
+    Rule {
+        part: Part::Declared,
+        second: Any,
+        last: Type,
+        here: One(OpenRound),
+        hint: "there are no pointers to functions: choose among calls by if and else",
     },
     Rule {
         part: Part::Body,
@@ -379,10 +400,17 @@ static RULES: [Rule; 77] = [
     },
     Rule {
         part: Part::Body,
-        second: One(OpenRound),
-        last: Type,
-        here: One(Name),
-        hint: "a declaration stands in front of if and while, and of the brackets of a for in these alone",
+        second: One(If),
+        last: One(OpenRound),
+        here: Type,
+        hint: "a declaration stands in front of an if",
+    },
+    Rule {
+        part: Part::Body,
+        second: One(While),
+        last: One(OpenRound),
+        here: Type,
+        hint: "a declaration stands in front of a while",
     },
     Rule {
         part: Part::Body,
@@ -518,11 +546,25 @@ static RULES: [Rule; 77] = [
         hint: "a name is wanted behind the type",
     },
     Rule {
+        part: Part::Round,
+        second: Any,
+        last: Any,
+        here: Assigns,
+        hint: "an assignment is a statement and has no value: write it in front of the one round it, and == to compare",
+    },
+    Rule {
+        part: Part::Body,
+        second: Any,
+        last: One(CloseRound),
+        here: Assigns,
+        hint: "a call and brackets are no target: write a[i] for an element",
+    },
+    Rule {
         part: Part::Body,
         second: Any,
         last: Any,
         here: Assigns,
-        hint: "an assignment is a statement and has no value: write b = c; a = b; for a = b = c; and assign in front of a condition",
+        hint: "an assignment is a statement and has no value: write b = c; a = b; for a = b = c, and == to compare",
     },
     Rule {
         part: Part::Second,

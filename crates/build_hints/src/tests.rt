@@ -63,10 +63,10 @@ token ~ kernel void f(global @point *a) { } ~ this is no type
 token ~ kernel void f(@point p) { } ~ this is no type
 token ~ void f(int@, int y) { } ~ a name is wanted behind the type of a parameter
 token ~ void f(int x @int y) { } ~ a , or a ) is wanted
-token ~ void f(global @unsigned int *a) { } ~ a type is one word
-token ~ void f() { @unsigned i = 1; } ~ a type is one word
-token ~ void f() { for (@unsigned int i = 0; ; ) ; } ~ a type is one word
-token ~ void f(int x) { x = (@unsigned int)x; } ~ a type is one word
+token ~ void f(global @unsigned int *a) { } ~ unsigned types have names of one word
+token ~ void f() { @unsigned i = 1; } ~ unsigned types have names of one word
+token ~ void f() { for (@unsigned int i = 0; ; ) ; } ~ unsigned types have names of one word
+token ~ void f(int x) { x = (@unsigned int)x; } ~ unsigned types have names of one word
 token ~ void f() { long @long x = 1; } ~ a type is one word
 token ~ void f(long @int n) { } ~ a type is one word
 token ~ kernel void f(global @float *a) { } ~ there are no floating-point numbers
@@ -124,7 +124,7 @@ token ~ void f(global int *a) { @(*a)++; } ~ a statement begins with no bracket
 token ~ void f(int n) { if (n) @int x = 1; } ~ a declaration stands in a block
 token ~ void f(int n) { if (n) ; else @int x = 1; } ~ a declaration stands in a block
 token ~ void f(int n) { for (int i@; i < n; i++) ; } ~ the variable of a for has a value
-token ~ void f(int n) { if (int @x = n) ; } ~ a declaration stands in front of if
+token ~ void f(int n) { if (@int x = n) ; } ~ a declaration stands in front of an if
 token ~ void f(int n) { n = 1; n = 2 @} ~ an operator, a closing bracket or a ; is wanted
 token ~ void f(int n) { n = 1 @n = 2; } ~ an operator, a closing bracket or a ; is wanted
 token ~ void f(int n) { if (n) n = 1; n = 2; @else n = 3; } ~ an else stands behind
@@ -144,7 +144,7 @@ name ~ void f() { int y = @native_exp(4); } ~ there are no floating-point number
 name ~ void f() { int y = @clamp(4, 1, 2); } ~ there is no clamp
 name ~ void f() { int y = @mul24(4, 1); } ~ there is no mul24
 name ~ void f() { int y = @convert_int(4); } ~ write a cast
-name ~ void f() { @mem_fence(CLK_LOCAL_MEM_FENCE); } ~ there is no mem_fence
+name ~ void f() { mem_fence(@CLK_LOCAL_MEM_FENCE); } ~ there is no mem_fence
 name ~ void f(global int *a) { @atom_inc(a); } ~ write atomic_
 name ~ void f(global int *a) { @atomic_fetch_add(a, 1); } ~ there are atomic_add
 name ~ void f() { @printf(1); } ~ there is no printf
@@ -155,8 +155,8 @@ name ~ void f() { int y = @true; } ~ there is no bool
 name ~ void f(global int *a) { if (a == @NULL) ; } ~ there are no null pointers
 name ~ void f() { int y = @M_PI; } ~ there are no floating-point numbers
 name ~ void f() { int y = @CLK_LOCAL_MEM_FENCE; } ~ a fence stands in the brackets
-name ~ void f() { int y = @x; } ~ -
-name ~ void f() { int y = @A[1]; } ~ -
+name ~ void f() { int y = @x; } ~ a name is declared in front of its use
+name ~ void f() { int y = @A[1]; } ~ a name is declared in front of its use
 mismatch ~ int q(int x) { return x; } void f() { int y = @q(2) + 1; } ~ a helper's call is a statement
 mismatch ~ int q(int x) { return x; } int f() { return @q(2); } ~ a helper's call is a statement
 mismatch ~ int q(int x) { return x; } void f() { if (@q(2)) ; } ~ a helper's call is a statement
@@ -170,6 +170,25 @@ mismatch ~ void f(global int *a) { int y = @a; } ~ -
 space ~ void g() { local int @t[4]; } ~ an array in local memory
 space ~ kernel void f() { if (1) { local int @t[4]; } } ~ an array in local memory
 space ~ void g(local int *p) { } kernel void f() { int t[4]; g(@t); } ~ a pointer stays in its address space
+token ~ void @kernel f() { } ~ __kernel stands in front of void
+token ~ void f() { return (@void)0; } ~ there is no cast to void
+token ~ void f(global int *a) { @(void)a; } ~ a statement begins with no bracket
+token ~ void f() { int @(*g)(int); } ~ there are no pointers to functions
+token ~ void f(global int *a) { a(0) @= 1; } ~ a call and brackets are no target
+token ~ kernel void f(global @atomic_int *a) { } ~ write int
+token ~ void f(global int *a) { a[0] = a[1] > 0 ? a[1]@-- : 0; } ~ ++ and -- are statements
+token ~ void f(global int *a) { int i = get_global_id(0) @a[i] = 1; } ~ an operator, a closing bracket or a ; is wanted
+token ~ void f(int x) { while (@int y = x) ; } ~ a declaration stands in front of a while
+mismatch ~ void f() { @min = 3; } ~ a built-in function is called
+target ~ void f(global int *a) { int b[2]; @b = a; } ~ an array is assigned
+target ~ void f(constant int *a) { @a[0] = 1; } ~ -
+count ~ void f() { ulong x = @get_global_size(); } ~ it takes a dimension
+count ~ void f() { @barrier(); } ~ it takes fences
+count ~ void f(global int *a) { @atomic_add(a); } ~ it takes a pointer and a value
+count ~ void g() { } void f() { @g(1); } ~ -
+recursion ~ int f(int n) { int r = @f(n); return r; } ~ no function calls itself
+mismatch ~ void f(int x) { x = x / * @x; } ~ * joins two integers
+token ~ kernel void f() { if (get_global_id(0) @= 0) ; } ~ an assignment is a statement and has no value: write it in front
 ";
 
 /// The fault of a kind of row.
@@ -179,6 +198,9 @@ fn fault_at(kind: &str, at: u32) -> Refused {
         "token" => Refused::Syntax(SyntaxFault::Unexpected { at }),
         "name" => Refused::Type(TypeFault::UnknownName { at }),
         "mismatch" => Refused::Type(TypeFault::TypeMismatch { at }),
+        "target" => Refused::Type(TypeFault::NotAssignable { at }),
+        "count" => Refused::Type(TypeFault::WrongArgumentCount { at }),
+        "recursion" => Refused::Type(TypeFault::Recursion { at }),
         _ => Refused::Type(TypeFault::WrongSpace { at }),
     }
 }

@@ -11,13 +11,28 @@ pub(crate) const NO_FLOATS: &str =
 pub(crate) const NO_STRUCTS: &str =
     "there are no structs and no vectors: pass the fields as parameters, or an array for each field";
 
+/// What to write for a name that isn't declared.
+pub(crate) const UNDECLARED: &str =
+    "a name is declared in front of its use, in the same block or in one round it; that of a for is known in it alone";
+
 /// Words that stand nowhere in the language.
-static LACKING: [(&[u8], &str); 53] = [
+static LACKING: [(&[u8], &str); 55] = [
+    (
+        b"atomic_int",
+        "write int: atomic functions take a pointer to any int or uint",
+    ),
+    (
+        b"atomic_uint",
+        "write uint: atomic functions take a pointer to any int or uint",
+    ),
     (
         b"unsigned",
-        "a type is one word: uchar ushort uint ulong; write uint for unsigned and for unsigned int",
+        "unsigned types have names of one word: uchar, ushort, uint, ulong",
     ),
-    (b"signed", "a type is one word: char short int long"),
+    (
+        b"signed",
+        "signed types have names of one word: char, short, int, long",
+    ),
     (b"float", NO_FLOATS),
     (b"double", NO_FLOATS),
     (b"half", NO_FLOATS),
@@ -328,7 +343,7 @@ static PREFIXES: [(&[u8], &str); 17] = [
 ];
 
 /// Numbers whose names are lacking.
-static CONSTANTS: [(&[u8], &str); 24] = [
+static CONSTANTS: [(&[u8], &str); 22] = [
     (b"INT_MAX", "write 2147483647"),
     (b"INT_MIN", "write -2147483647 - 1"),
     (b"UINT_MAX", "write 4294967295u"),
@@ -342,14 +357,6 @@ static CONSTANTS: [(&[u8], &str); 24] = [
     (b"SHRT_MAX", "write 32767"),
     (b"SHRT_MIN", "write -32768"),
     (b"USHRT_MAX", "write 65535"),
-    (
-        b"CLK_LOCAL_MEM_FENCE",
-        "a fence stands in the brackets of barrier alone",
-    ),
-    (
-        b"CLK_GLOBAL_MEM_FENCE",
-        "a fence stands in the brackets of barrier alone",
-    ),
     (b"M_PI", NO_FLOATS),
     (b"M_PI_F", NO_FLOATS),
     (b"MAXFLOAT", NO_FLOATS),
@@ -359,6 +366,25 @@ static CONSTANTS: [(&[u8], &str); 24] = [
     (b"INFINITY", NO_FLOATS),
     (b"NAN", NO_FLOATS),
     (b"HUGE_VALF", NO_FLOATS),
+];
+
+/// What built-in functions take, by how their names begin.
+static ARGUMENTS: [(&[u8], &str); 12] = [
+    (b"get_work_dim", "it takes no argument: get_work_dim()"),
+    (b"get_", "it takes a dimension: get_global_id(0)"),
+    (b"barrier", "it takes fences: barrier(CLK_LOCAL_MEM_FENCE)"),
+    (b"min", "it takes two arguments"),
+    (b"max", "it takes two arguments"),
+    (b"rotate", "it takes two arguments"),
+    (b"abs", "it takes one argument"),
+    (b"clz", "it takes one argument"),
+    (b"popcount", "it takes one argument"),
+    (b"atomic_inc", "it takes a pointer alone"),
+    (b"atomic_dec", "it takes a pointer alone"),
+    (
+        b"atomic_cmpxchg",
+        "it takes a pointer, what it compares with, and what it stores",
+    ),
 ];
 
 /// Types that have vectors.
@@ -441,6 +467,17 @@ pub(crate) fn function_hint(word: &[u8]) -> &'static str {
     )
 }
 
+/// What a built-in function takes; none for any other function.
+pub(crate) fn argument_hint(word: &[u8]) -> Option<&'static str> {
+    if !is_built_in(word) {
+        return None;
+    }
+    match prefix_hint_in(&ARGUMENTS, word) {
+        Some(hint) => Some(hint),
+        None => Some("it takes a pointer and a value"),
+    }
+}
+
 /// Whether a word is as macros are written.
 fn is_capital(word: &[u8]) -> bool {
     for byte in word {
@@ -451,15 +488,13 @@ fn is_capital(word: &[u8]) -> bool {
     true
 }
 
-/// What to write for the name of a number that the language lacks.
-pub(crate) fn constant_hint(word: &[u8]) -> Option<&'static str> {
+/// What to write for the name of a number that the language lacks, or for one that isn't declared.
+pub(crate) fn value_hint(word: &[u8]) -> &'static str {
     if let Some(hint) = hint_in(&CONSTANTS, word) {
-        return Some(hint);
+        return hint;
     }
     if is_capital(word) {
-        return Some(
-            "there is no preprocessor, and no option -D: write the value of a macro in its place",
-        );
+        return "there is no preprocessor, and no option -D: write the value of a macro in its place";
     }
-    None
+    UNDECLARED
 }
