@@ -1,5 +1,5 @@
 -- Where a fault of a source lies, as its text tells it (own).
-use Rattle.std.specs.Prelude.{◌≡◌, ℕ, ◌+◌, ◌-◌, ◌^◌, ◌++◌, List, length, min}
+use Rattle.std.specs.Prelude.{◌≡◌, ℕ, ◌+◌, ◌-◌, ◌^◌, ◌++◌, List, min}
 use Rattle.clmodel.specs.Typing.Least.{offset}
 use Rattle.clsyntax_lex.specs.declared.token.SyntaxFault.{SyntaxFault}
 use Rattle.clsyntax_lex.specs.declared.token.SyntaxFault.TheVariants as syntax
