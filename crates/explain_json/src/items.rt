@@ -3,7 +3,7 @@
 
 ghost use Rattle.std.specs.Prelude.{◌≡◌, IfOk};
 ghost use Rattle.serde_json.specs.View.{view};
-ghost use Rattle.explain_json.specs.Members.{number_data, list_data, class_word, kind_word, does_word, barrier_data, item_data};
+ghost use Rattle.explain_json.specs.Members.{number_data, list_data, or_null, class_word, kind_word, does_word, barrier_data, item_data};
 
 use crate::places::spot_or_null;
 use clmodel::access::{AccessKind, Class};
@@ -49,6 +49,26 @@ fn does_word(does: &Does) -> &'static str
     }
 }
 
+/// A number, or null.
+pub(crate) fn number_or_null(number: Option<u64>) -> Value
+    ensures { view result ≡ or_null number_data number }
+{
+    match number {
+        Some(number) => Value::from(number),
+        None => Value::Null,
+    }
+}
+
+/// The number of an event, or null.
+fn event_value(event: Option<usize>) -> Value
+    ensures { view result ≡ or_null number_data event }
+{
+    match event {
+        Some(number) => Value::from(number),
+        None => Value::Null,
+    }
+}
+
 /// A list of numbers.
 pub(crate) fn numbers_value(alloc: Global, numbers: &[u64]) -> Result<Value, AllocError>
     ensures { IfOk result (λ value. view value ≡ list_data number_data numbers.now) }
@@ -89,7 +109,7 @@ fn item_value(alloc: Global, item: &NamedItem) -> Result<Value, AllocError>
     let local = numbers_value(alloc, item.ids.local.as_slice())?;
     let group = numbers_value(alloc, item.ids.group.as_slice())?;
     let barrier = barrier_value(alloc, &item.does)?;
-    let event = Value::from(item.event);
+    let event = event_value(item.event);
     let spot = spot_or_null(alloc, &item.spot)?;
     let last = spot_or_null(alloc, &item.last)?;
     json!(in alloc; {

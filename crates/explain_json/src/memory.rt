@@ -5,6 +5,7 @@ ghost use Rattle.std.specs.Prelude.{◌≡◌, IfOk};
 ghost use Rattle.serde_json.specs.View.{view};
 ghost use Rattle.explain_json.specs.Members.{list_data, or_null, memory_word, parameter_data, group_of, element_data, memory_data};
 
+use crate::items::number_or_null;
 use explanation::{Memory, MemoryKind, ParameterFacts};
 use serde_json::{Value, json};
 use std::alloc::{AllocError, Global};
@@ -38,11 +39,11 @@ fn kind_word(kind: MemoryKind) -> &'static str
     }
 }
 
-fn group_of(kind: MemoryKind) -> Option<u32>
+fn group_of(kind: MemoryKind) -> Option<u64>
     ensures { result ≡ group_of kind }
 {
     match kind {
-        MemoryKind::Local(group) => Some(group),
+        MemoryKind::Local(group) => Some(u64::from(group)),
         MemoryKind::Buffer | MemoryKind::Private | MemoryKind::Variable => None,
     }
 }
@@ -65,8 +66,8 @@ pub(crate) fn memory_value(alloc: Global, memory: &Option<Memory>) -> Result<Val
         return Ok(Value::Null);
     };
     let (kind, name) = (kind_word(memory.kind), memory.name.as_str());
-    let group = Value::from(group_of(memory.kind));
-    let (byte, bytes) = (Value::from(memory.byte), Value::from(memory.size));
+    let group = number_or_null(group_of(memory.kind));
+    let (byte, bytes) = (number_or_null(memory.byte), number_or_null(memory.size));
     let element = element_value(alloc, memory.element)?;
     let parameters = parameters_value(alloc, memory.parameters.as_slice())?;
     json!(in alloc; {
