@@ -1,0 +1,73 @@
+-- What a schedule came to that was played (own).
+use Rattle.std.specs.Prelude.{◌≡◌, ◌==◌, ◌&&◌, ℕ, Bool, true, false, None, Some, List, count_by, map, reverse, slice_get, take}
+use Rattle.std.specs.Option.{IfSome}
+use Rattle.clmodel.specs.Cells.{byte_count}
+use Rattle.clmodel.specs.Launch.{Launch, both_store, group_of, location_of}
+use Rattle.clmodel.specs.Run.{State, Events, start}
+use Rattle.clmodel.specs.declared.access.Access.{Access}
+use Rattle.clmodel.specs.declared.access.Clash.{Clash}
+use Rattle.clmodel.specs.declared.fault.Fault.{Fault}
+use Rattle.clmodel.specs.declared.fault.Fault.TheVariants as fault
+use Rattle.clmodel.specs.declared.schedule.Event.{Event}
+use Rattle.clmodel.specs.declared.schedule.Event.TheVariants as event
+use Rattle.marked_play.specs.Marks.{ActsFrom, Lead, events_in}
+use Rattle.marked_play.specs.Pairs.{IsFoundPair}
+use Rattle.marked_play.specs.declared.marks.Mark.{Mark}
+use Rattle.marked_play.specs.declared.pairs.Told.{Told}
+use Rattle.explain_play.specs.declared.played.Played.{Played}
+use Rattle.explain_play.specs.declared.played.Touch.{Touch}
+
+-- a fault is a conflict of these two partners, at this location and byte; barriers can order the two where they are of one group, and they have
+-- to leave different bytes where both store in a uniform launch (own)
+pub record Tells (launch : Launch) (f : Fault) (told : Told) : Type 0 where
+  pub clash : Clash
+  pub is : f ≡ fault.Conflict clash told.first.item told.first.kind told.second.item told.second.kind told.location.now told.byte
+  pub grouped : told.one_group ≡ (group_of launch told.first.item == group_of launch told.second.item)
+  pub stores : told.by_byte ≡ (both_store told.first.kind told.second.kind && launch.uniform)
+
+-- an access as it is told, without a value (own)
+abbrev pub touch_of : Launch → Access → Touch
+touch_of launch access =
+    record {
+      item = access.item;
+      kind = access.kind;
+      location = location_of launch access.region;
+      byte = access.first;
+      bytes = byte_count access.width;
+      value = None;
+    }
+
+abbrev pub without_value : Touch → Touch
+without_value touch = record touch { value = None }
+
+-- an event makes an access: that of an item (own)
+abbrev pub is_access : Event → Bool
+is_access (event.Item item) = true
+is_access (event.Release group) = false
+
+-- the event of this number made the access of that number, both from 0 (own)
+pub record MadeAccess (marks : List Mark) (access number : ℕ) : Type 0 where
+  pub mark : Mark
+  pub at : slice_get marks number ≡ Some mark
+  pub makes : is_access mark.event ≡ true
+  pub counted : count_by (λ mark. is_access mark.event) (take number marks) ≡ access
+
+-- the event of this number is one of an item (own)
+pub record IsEventOf (marks : List Mark) (item number : ℕ) : Type 0 where
+  pub mark : Mark
+  pub at : slice_get marks number ≡ Some mark
+  pub is : mark.event ≡ event.Item item
+
+-- The events were played from the start to a state, each with the place from which its item acts. The first accesses of the log there are told.
+-- If two accesses are found, they are in the log, and are those of the fault; and each of the two named items acts from the place that is told
+-- of it (own).
+pub record IsPlayedOut (launch : Launch) (size : ℕ) (events : Events) (f : Fault) (first second most : ℕ) (played : Played) : Type 0 where
+  pub end : State
+  pub marked : events_in played.marks.items ≡ events
+  pub led : Lead launch size (start launch) played.marks.items end
+  pub touched : map without_value played.touches.items ≡ map (touch_of launch) (take most (reverse end.log))
+  pub paired : IfSome played.pair (λ pair. (told : Told) × Tells launch f told × IsFoundPair launch told (reverse end.log) pair)
+  pub first_named : played.first.item ≡ first
+  pub second_named : played.second.item ≡ second
+  pub first_acts : ActsFrom launch end first played.first.place
+  pub second_acts : ActsFrom launch end second played.second.place

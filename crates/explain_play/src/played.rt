@@ -1,0 +1,254 @@
+//! A schedule played with the places of its items.
+#![tactic(auto)]
+
+ghost use Rattle.std.specs.Prelude.{◌≡◌, ◌≤◌, map, count_by, take, Some, IfOk, IfNone, IfSome};
+ghost use Rattle.clmodel.specs.Launch.{Launch as TheLaunch};
+ghost use Rattle.clmodel.specs.Law.{Reaches};
+ghost use Rattle.clmodel.specs.Next.{launch_of};
+ghost use Rattle.clmodel.specs.Outcome.{events_of};
+ghost use Rattle.clmodel.specs.Run.{State};
+ghost use Rattle.clmodel.specs.Setup.{group_items};
+ghost use Rattle.clmodel.specs.declared.fault.Fault.{Fault};
+ghost use Rattle.item_step.specs.Launches.{setup_of};
+ghost use Rattle.launches.specs.Groups.{HasGroups};
+ghost use Rattle.marked_play.specs.Marks.{ActsFrom};
+ghost use Rattle.marked_play.specs.Pairs.{IsFoundPair};
+ghost use Rattle.marked_play.specs.declared.pairs.Told.{Told};
+ghost use Rattle.replay_play.specs.States.{IsAt};
+ghost use Rattle.spaces_base.specs.Buffers.{bytes_in};
+ghost use Rattle.explain_play.specs.PlayedOut.{IsEventOf, IsPlayedOut, MadeAccess, Tells, is_access, touch_of, without_value};
+
+use crate::values::Values;
+use clmodel::access::{Access, AccessKind};
+use clmodel::action::Action;
+use clmodel::fault::{Fault, Location};
+use clmodel::schedule::{Event, Schedule};
+use clmodel::text::Name;
+use item_step::Launch;
+use launches::laws::setups_are_runnable;
+use launches::{Described, LoadedLaunch, Runnable, group_count};
+use marked_play::{Mark, Pair, Partner, Told, find_pair, mark_schedule, place_of};
+use replay_play::Player;
+use shadow_list::both_store;
+use spaces_base::{Buffers, Plain};
+use std::alloc::{AllocError, Global};
+
+/// An access of a schedule: what an item does where.
+#[derive(Drop)]
+pub struct Touch {
+    pub item: u32,
+    pub kind: AccessKind,
+    pub location: Location,
+    pub byte: u64,
+    pub bytes: u64,
+    /// What a store leaves or a load gives, where it is known
+    pub value: Option<u64>,
+}
+
+/// Where a named item stands behind a schedule: its place, if it hasn't ended, and the element size of its next access,
+/// if it is one.
+#[derive(Clone, Copy)]
+pub struct Standing {
+    pub item: u32,
+    pub place: Option<usize>,
+    pub width: Option<u64>,
+}
+
+/// What a schedule came to: its events with their places, its accesses, the conflicting two of these, and where the
+/// named items stand.
+#[derive(Drop)]
+pub struct Played {
+    pub marks: Vec<Mark>,
+    pub touches: Vec<Touch>,
+    pub pair: Option<Pair>,
+    pub first: Standing,
+    pub second: Standing,
+}
+
+/// A copy of the buffers of these names.
+fn copies(alloc: Global, names: &[Name], buffers: &Buffers) -> Result<Vec<Plain>, AllocError>
+    ensures { IfOk result (λ copies. copies.items ≡ map (λ name. map Some (bytes_in buffers.now name)) names.now) }
+{
+    let mut copies = Vec::with_capacity(alloc, names.len())?;
+    for name in names {
+        let bytes = buffers.bytes_in(name).to_vec(alloc)?;
+        copies.push(Plain::new(bytes))?;
+    }
+    Ok(copies)
+}
+
+/// The conflict that a fault tells, if it tells one.
+fn told_of<'a, D: Runnable>(launch: &D, fault: &'a Fault) -> Option<Told<'a>>
+    ensures { IfSome result (Tells (D.launch launch.now) fault.now) }
+{
+    let Fault::Conflict {
+        item,
+        kind,
+        other_item,
+        other_kind,
+        location,
+        byte,
+        ..
+    } = fault
+    else {
+        return None;
+    };
+    let size = launch.group_size();
+    Some(Told {
+        first: Partner {
+            item: *item,
+            kind: *kind,
+        },
+        second: Partner {
+            item: *other_item,
+            kind: *other_kind,
+        },
+        location,
+        byte: *byte,
+        one_group: *item / size == *other_item / size,
+        by_byte: both_store(*kind, *other_kind) && launch.uniform(),
+    })
+}
+
+/// The two accesses of a log that a fault tells as a conflict, if it tells one and they are found.
+fn pair_of<D: Runnable>(
+    alloc: Global,
+    launch: &D,
+    fault: &Fault,
+    log: &[Access],
+) -> Result<Option<Pair>, AllocError>
+    ensures { IfOk result (λ found. IfSome found (λ pair. (told : Told) × Tells (D.launch launch.now) fault.now told × IsFoundPair (D.launch launch.now) told log.now pair)) }
+{
+    match told_of(launch, fault) {
+        Some(told) => find_pair(alloc, launch, &told, log),
+        None => Ok(None),
+    }
+}
+
+/// The first accesses of a log.
+fn first_of(log: &[Access], most: usize) -> &[Access]
+    ensures { result.now ≡ take most log.now }
+{
+    if most < log.len() { &log[..most] } else { log }
+}
+
+/// The accesses of a log with their locations and values.
+fn touches_of<D: Described>(
+    alloc: Global,
+    launch: &D,
+    buffers: &Buffers,
+    log: &[Access],
+) -> Result<Vec<Touch>, AllocError>
+    ensures { IfOk result (λ touches. map without_value touches.items ≡ map (touch_of (D.launch launch.now)) log.now) }
+{
+    let mut values = Values::new(alloc, buffers);
+    let mut touches = Vec::new(alloc);
+    for access in log {
+        let location = launches::location_of(launch, access.region)?;
+        let value = values.take(&location, access)?;
+        touches.push(Touch {
+            item: access.item,
+            kind: access.kind,
+            location,
+            byte: access.first,
+            bytes: access.width.bytes(),
+            value,
+        })?;
+    }
+    Ok(touches)
+}
+
+/// Where an item stands.
+fn standing_of<D: Runnable>(player: &mut Player<'_, D>, item: u32) -> Result<Standing, AllocError>
+    ensures same { (launch : TheLaunch) (state : State) → IsAt D.launch launch player.old state → IsAt D.launch launch player.new state }
+    ensures item { IfOk result (λ standing. standing.item ≡ item) }
+    ensures acts { IfOk result (λ standing. (launch : TheLaunch) (state : State) → IsAt D.launch launch player.old state → ActsFrom launch state item standing.place) }
+{
+    let place = place_of(player, item)?;
+    let width = match player.action(item)? {
+        Some(Action::Access { operation, .. }) => Some(operation.width().bytes()),
+        _ => None,
+    };
+    Ok(Standing { item, place, width })
+}
+
+/// Plays a schedule on copies of the buffers. None where an event isn't possible, so that it leads to no fault. Of the
+/// accesses at most so many are told. An error is out of memory.
+pub fn play(
+    alloc: Global,
+    launch: &Launch<'_>,
+    buffers: &Buffers,
+    fault: &Fault,
+    schedule: &Schedule,
+    items: (u32, u32),
+    most: usize,
+) -> Result<Option<Played>, AllocError>
+    requires { HasGroups (setup_of launch.now) }
+    ensures none { IfOk result (λ found. IfNone found ((other : Fault) → Reaches (launch_of (setup_of launch.now) (bytes_in buffers.now)) (events_of schedule.now) other → ⊥)) }
+    ensures played { IfOk result (λ found. IfSome found
+        (IsPlayedOut (launch_of (setup_of launch.now) (bytes_in buffers.now)) (group_items (setup_of launch.now).range) (events_of schedule.now) fault.now items.0 items.1 most)) }
+{
+    setups_are_runnable();
+    let loaded = LoadedLaunch::new(alloc, launch, buffers);
+    let groups = group_count(launch);
+    let memory = copies(alloc, launch.buffer_names(), buffers)?;
+    let mut player = Player::new(alloc, &loaded, groups, memory)?;
+    let mut marks = Vec::new(alloc);
+    let size = launch.group_size();
+    if !mark_schedule(&mut player, size, schedule.as_slice(), &mut marks)? {
+        return Ok(None);
+    }
+    let pair = pair_of(alloc, &loaded, fault, player.log())?;
+    let touches = touches_of(alloc, &loaded, buffers, first_of(player.log(), most))?;
+    let first = standing_of(&mut player, items.0)?;
+    let second = standing_of(&mut player, items.1)?;
+    Ok(Some(Played {
+        marks,
+        touches,
+        pair,
+        first,
+        second,
+    }))
+}
+
+/// Whether an event makes an access.
+fn is_access(event: Event) -> bool
+    ensures { result ≡ is_access event }
+{
+    match event {
+        Event::Item(_) => true,
+        Event::Release(_) => false,
+    }
+}
+
+/// The number of the event that made an access, from 0. None where there are fewer accesses.
+pub fn event_of(marks: &[Mark], access: usize) -> Option<usize>
+    ensures made { IfSome result (MadeAccess marks.now access) }
+    ensures none { IfNone result (count_by (λ mark. is_access mark.event) marks.now ≤ access) }
+{
+    let mut left = access;
+    for (number, mark) in marks.iter().enumerate() {
+        if is_access(mark.event) {
+            if left == 0 {
+                return Some(number);
+            }
+            left -= 1;
+        }
+    }
+    None
+}
+
+/// The number of the last event of an item.
+pub fn last_of(marks: &[Mark], item: u32) -> Option<usize>
+    ensures { IfSome result (IsEventOf marks.now item) }
+{
+    let mut last = None;
+    for (number, mark) in marks.iter().enumerate() {
+        if let Event::Item(other) = mark.event {
+            if other == item {
+                last = Some(number);
+            }
+        }
+    }
+    last
+}
