@@ -1,0 +1,17 @@
+use Rattle.std.proofs.Common.{sym, subst, ◌∙◌}
+use Rattle.item_step.specs.Launches.{setup_of}
+use Rattle.origins.specs.Finding.{IsOriginIn}
+use Rattle.explain_reasons.specs.Spotted.{BeginsAt}
+use Rattle.explain_reasons.proofs.Spotting.{spotted}
+use Rattle.explain_reasons.proofs.context.Context.spot_at.Goals as goal
+
+pub returns-in_ok-spot_in-in-Some-2 : goal.returns-in_ok-spot_in-in-Some-2
+returns-in_ok-spot_in-in-Some-2 c =
+    let setup = setup_of c.args.self.now.launch.now in
+    let origin = c.in-Some-2.origin in
+    let spot = c.in_ok-spot_in-in-Some-2.field-0 in
+    spotted setup c.args.place c.args.self.now.program.text.now c.args.self.now.program.first_line origin spot
+    (subst (λ o. IsOriginIn setup.program.functions setup.kernel c.args.place o) c.in-Some-2.is c.in_ok-origin.ensures.origin)
+    (λ none. sym c.in-Some-2.is ∙ c.in_ok-origin.ensures.none none)
+    (subst (λ t. BeginsAt t c.args.self.now.program.first_line origin spot) c.in-Some.ensures.text
+    (subst (λ n. BeginsAt c.in-Some.source.text.now n origin spot) c.in-Some.ensures.first c.in_ok-spot_in-in-Some-2.ensures))

@@ -1,0 +1,37 @@
+-- Items that a fault names, with their places in the source (own).
+use Rattle.std.specs.Prelude.{◌≡◌, ℕ, Some, List, length, min, slice_get}
+use Rattle.std.specs.Option.{IfSome}
+use Rattle.clmodel.specs.Setup.{Setup, kernel_in, functions_before}
+use Rattle.clmodel.specs.Tree.{Func}
+use Rattle.explanation.specs.declared.places.Spot.{Spot}
+use Rattle.explanation.specs.declared.told.NamedItem.{NamedItem}
+use Rattle.item_ids.specs.Ids.{AreIds}
+use Rattle.origins.specs.Finding.{plain}
+use Rattle.origins.specs.Origins.{kernel_origins, node_at, node_of}
+use Rattle.origins.specs.declared.origin.Origin.{Origin}
+use Rattle.source_spots.specs.Spots.{IsPlace}
+
+-- a place in the source is where the node of an origin begins
+pub record BeginsAt (text : List ℕ) (first : ℕ) (origin : Origin) (spot : Spot) : Type 0 where
+  pub begins : spot.offset ≡ min (node_at (node_of origin.node)) (length text)
+  pub stands : IsPlace text first spot.offset spot.line spot.column spot.script_line
+
+-- a place of a kernel's code in the source: where the node begins whose own instruction stands there
+pub record IsSpotted (setup : Setup) (place : ℕ) (text : List ℕ) (first : ℕ) (spot : Spot) : Type 0 where
+  pub kernel : Func
+  pub known : kernel_in setup.program.functions setup.kernel ≡ Some kernel
+  pub origin : Origin
+  pub is : slice_get (kernel_origins (functions_before setup.program.functions setup.kernel) kernel) place ≡ Some (plain origin)
+  pub begins_at : BeginsAt text first origin spot
+
+-- a place in the source is that of a place of the code of which p holds
+abbrev pub HasSpot : Setup → List ℕ → ℕ → (ℕ → Type 0) → Spot → Type 0
+HasSpot setup text first p spot = (place : ℕ) × p place × IsSpotted setup place text first spot
+
+-- The item of a number with its own ids (OpenCL 1.2, sections 3.2 and 6.12.1). What it does is told at a place of which `here` holds, and its
+-- last access at one of which `before` holds.
+pub record IsNamed (setup : Setup) (text : List ℕ) (first : ℕ) (here before : ℕ → Type 0) (item : ℕ) (named : NamedItem) : Type 0 where
+  pub number : named.item ≡ item
+  pub ids : AreIds setup.range item named.ids
+  pub spotted : IfSome named.spot (HasSpot setup text first here)
+  pub last_spotted : IfSome named.last (HasSpot setup text first before)

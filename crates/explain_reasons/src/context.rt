@@ -1,0 +1,150 @@
+//! What is known of a launch: its source, its tree, its commands.
+#![tactic(auto)]
+
+ghost use Rattle.std.specs.Prelude.{◌≡◌, None, Some, IfOk, IfSome};
+ghost use Rattle.clmodel.specs.Setup.{kernel_in};
+ghost use Rattle.item_step.specs.Launches.{setup_of};
+ghost use Rattle.origins.specs.Finding.{IsOriginIn};
+ghost use Rattle.explain_reasons.specs.Spotted.{BeginsAt, HasSpot, IsSpotted};
+
+use clmodel::text::Name;
+use clmodel::tree::{Expression, Statement, Target};
+use explanation::{Code, NodeKind, Spot};
+use host_commands::command::Command;
+use item_step::Launch;
+use launch_facts::ProgramSource;
+use origins::{Node, Origin, origin_of};
+use source_spots::{Source, code_of, spot_of};
+use std::alloc::{AllocError, Global};
+
+/// A launch with its source, and what led to it.
+#[derive(Clone, Copy)]
+pub struct Context<'a> {
+    pub alloc: Global,
+    pub launch: &'a Launch<'a>,
+    pub program: ProgramSource<'a>,
+    pub commands: &'a [Command],
+    pub done: &'a [bool],
+    pub kernel: &'a Name,
+}
+
+fn expression_kind(expression: &Expression) -> NodeKind {
+    match expression {
+        Expression::Number { .. } | Expression::Variable { .. } => NodeKind::Operand,
+        Expression::Element { .. } => NodeKind::Element,
+        Expression::Dereference { .. } | Expression::ElementAddress { .. } => NodeKind::Dereference,
+        Expression::Call { .. } => NodeKind::Call,
+        Expression::Unary { .. }
+        | Expression::Cast { .. }
+        | Expression::Binary { .. }
+        | Expression::Choice { .. } => NodeKind::Operation,
+    }
+}
+
+fn target_kind(target: &Target) -> NodeKind {
+    match target {
+        Target::Variable { .. } => NodeKind::Operand,
+        Target::Element { .. } => NodeKind::Element,
+        Target::Dereference { .. } => NodeKind::Dereference,
+    }
+}
+
+fn statement_kind(statement: &Statement) -> NodeKind {
+    match statement {
+        Statement::Declare { .. } | Statement::DeclareArray { .. } => NodeKind::Declaration,
+        Statement::Assign { .. } | Statement::Step { .. } => NodeKind::Assignment,
+        Statement::Call { .. } => NodeKind::Call,
+        Statement::While { .. } | Statement::DoWhile { .. } | Statement::For { .. } => {
+            NodeKind::Loop
+        }
+        _ => NodeKind::Statement,
+    }
+}
+
+/// What stands at a node.
+fn kind_of(node: Node<'_>) -> NodeKind {
+    match node {
+        Node::Expression(expression) => expression_kind(expression),
+        Node::Target(target) => target_kind(target),
+        Node::Statement(statement) => statement_kind(statement),
+        Node::Function(_) => NodeKind::Function,
+    }
+}
+
+/// The place of an origin in a source. An error is out of memory.
+fn spot_in(alloc: Global, source: &Source<'_>, origin: &Origin<'_>) -> Result<Spot, AllocError>
+    ensures { IfOk result (BeginsAt source.now.text.now source.now.first_line origin.now) }
+{
+    let node = origin.node;
+    spot_of(
+        alloc,
+        source,
+        kind_of(node),
+        node.at(),
+        origin.through.as_slice(),
+    )
+}
+
+impl<'a> Context<'a> {
+    /// The source of the launch, if it isn't longer than a checked one is.
+    fn source(&self) -> Option<Source<'a>>
+        ensures text { IfSome result (λ source. source.text.now ≡ self.now.program.text.now) }
+        ensures first { IfSome result (λ source. source.first_line ≡ self.now.program.first_line) }
+    {
+        let text = self.program.text;
+        let first_line = self.program.first_line;
+        if text.len() >= 4294967296 || first_line >= 4294967296 || first_line == 0 {
+            return None;
+        }
+        Some(Source {
+            text,
+            first_line,
+            functions: self.launch.tree().functions.as_slice(),
+        })
+    }
+
+    /// The origin of the instruction at a place of the code. An error is out of memory.
+    fn origin(&self, place: usize) -> Result<Option<Origin<'a>>, AllocError>
+        ensures origin { IfOk result (IsOriginIn (setup_of self.now.launch.now).program.functions (setup_of self.now.launch.now).kernel place) }
+        ensures none { IfOk result (λ found. kernel_in (setup_of self.now.launch.now).program.functions (setup_of self.now.launch.now).kernel ≡ None → found ≡ None) }
+    {
+        origin_of(self.alloc, self.launch.tree(), self.launch.kernel(), place)
+    }
+
+    /// The place in the source of the instruction at a place of the code. An error is out of memory.
+    fn spot_at(&self, place: usize) -> Result<Option<Spot>, AllocError>
+        ensures { IfOk result (λ found. IfSome found (IsSpotted (setup_of self.now.launch.now) place self.now.program.text.now self.now.program.first_line)) }
+    {
+        let Some(source) = self.source() else {
+            return Ok(None);
+        };
+        match self.origin(place)? {
+            Some(origin) => Ok(Some(spot_in(self.alloc, &source, &origin)?)),
+            None => Ok(None),
+        }
+    }
+
+    /// The place in the source of the instruction at a place of the code, if one is given. An error is out of memory.
+    pub(crate) fn spot(&self, place: Option<usize>) -> Result<Option<Spot>, AllocError>
+        ensures { IfOk result (λ found. IfSome found (HasSpot (setup_of self.now.launch.now) self.now.program.text.now self.now.program.first_line (λ p. place ≡ Some p))) }
+    {
+        match place {
+            Some(place) => self.spot_at(place),
+            None => Ok(None),
+        }
+    }
+
+    /// The same in short.
+    pub(crate) fn code(&self, place: Option<usize>) -> Result<Option<Code>, AllocError> {
+        let (Some(place), Some(source)) = (place, self.source()) else {
+            return Ok(None);
+        };
+        match self.origin(place)? {
+            Some(origin) => {
+                let (kind, at) = (kind_of(origin.node), origin.node.at());
+                Ok(Some(code_of(self.alloc, &source, kind, at)?))
+            }
+            None => Ok(None),
+        }
+    }
+}

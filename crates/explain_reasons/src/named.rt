@@ -1,0 +1,252 @@
+//! The items that a fault names.
+#![tactic(auto)]
+
+ghost use Rattle.std.specs.Prelude.{◌≡◌, [], ◌∷◌, Some, IfOk};
+ghost use Rattle.std.specs.Option.{option_map_or};
+ghost use Rattle.item_ids.specs.Ids.{AreIds};
+ghost use Rattle.item_step.specs.Launches.{setup_of};
+ghost use Rattle.explain_reasons.specs.Named.{AreTold, AtAccess, AtEnd, AtPlace, IsTold, in_order, site_of, told_items};
+ghost use Rattle.explain_reasons.specs.Spotted.{IsNamed};
+
+use crate::context::Context;
+use crate::events::place_at;
+use clmodel::access::AccessKind;
+use clmodel::action::Stop;
+use clmodel::fault::Fault;
+use explain_play::{Played, Standing, event_of, last_of};
+use explanation::{Does, Ids, NamedItem};
+use item_value::position::{ItemPosition, group_counts};
+use marked_play::Pair;
+use std::alloc::{AllocError, Global};
+
+/// The ids of an item of a launch.
+fn ids_of(context: &Context<'_>, item: u32) -> Result<Ids, AllocError>
+    ensures { IfOk result (AreIds (setup_of context.now.launch.now).range item) }
+{
+    let alloc = context.alloc;
+    let range = context.launch.range();
+    let counts = group_counts(alloc, range)?;
+    let position = ItemPosition {
+        alloc,
+        item,
+        range,
+        group_counts: counts.as_slice(),
+        group_size: context.launch.group_size(),
+    };
+    item_ids::ids_of(alloc, &position)
+}
+
+/// An item that a fault names, at a place.
+fn named(
+    context: &Context<'_>,
+    item: u32,
+    does: Does,
+    event: Option<usize>,
+    place: Option<usize>,
+) -> Result<NamedItem, AllocError>
+    ensures { IfOk result (IsNamed (setup_of context.now.launch.now) context.now.program.text.now context.now.program.first_line (λ p. place ≡ Some p) (λ _. ⊥) item) }
+{
+    let ids = ids_of(context, item)?;
+    Ok(NamedItem {
+        item,
+        ids,
+        does,
+        event,
+        spot: context.spot(place)?,
+        last: None,
+    })
+}
+
+/// The number of an event from 1.
+fn from_one(event: Option<usize>) -> Option<usize> {
+    match event {
+        Some(number) => Some(number.saturating_add(1)),
+        None => None,
+    }
+}
+
+/// An item that made an access of a log.
+fn accessing(
+    context: &Context<'_>,
+    played: &Played,
+    item: u32,
+    kind: AccessKind,
+    access: usize,
+) -> Result<NamedItem, AllocError>
+    ensures { IfOk result (IsTold context.now played.now.marks.items (item, AtAccess access)) }
+{
+    let marks = played.marks.as_slice();
+    let event = event_of(marks, access);
+    let place = place_at(marks, event);
+    named(context, item, Does::Access(kind), from_one(event), place)
+}
+
+/// An item where it stands.
+fn standing(context: &Context<'_>, standing: Standing, does: Does) -> Result<NamedItem, AllocError>
+    ensures { IfOk result (IsNamed (setup_of context.now.launch.now) context.now.program.text.now context.now.program.first_line (λ p. standing.place ≡ Some p) (λ _. ⊥) standing.item) }
+{
+    named(context, standing.item, does, None, standing.place)
+}
+
+/// An item that has ended, with its last access.
+fn ended(context: &Context<'_>, played: &Played, item: u32) -> Result<NamedItem, AllocError>
+    ensures { IfOk result (IsTold context.now played.now.marks.items (item, AtEnd)) }
+{
+    let marks = played.marks.as_slice();
+    let place = place_at(marks, last_of(marks, item));
+    let ids = ids_of(context, item)?;
+    Ok(NamedItem {
+        item,
+        ids,
+        does: Does::Ended,
+        event: None,
+        spot: None,
+        last: context.spot(place)?,
+    })
+}
+
+/// An item at a stop.
+fn stopped(
+    context: &Context<'_>,
+    played: &Played,
+    at: Standing,
+    stop: &Stop,
+) -> Result<NamedItem, AllocError>
+    ensures { IfOk result (IsTold context.now played.now.marks.items (at.item, site_of stop.now at.place)) }
+{
+    match stop {
+        Stop::Ended => ended(context, played, at.item),
+        Stop::At(instance) => {
+            let turns = instance.turns.as_slice().to_vec(context.alloc)?;
+            let barrier = instance.site;
+            standing(context, at, Does::Waits { barrier, turns })
+        }
+    }
+}
+
+/// A list of one item.
+fn one(alloc: Global, item: NamedItem) -> Result<Vec<NamedItem>, AllocError>
+    ensures { IfOk result (λ items. items.items ≡ item ∷ []) }
+{
+    let mut items = Vec::new(alloc);
+    items.push(item)?;
+    Ok(items)
+}
+
+/// A list of two items.
+fn both(alloc: Global, first: NamedItem, second: NamedItem) -> Result<Vec<NamedItem>, AllocError>
+    ensures { IfOk result (λ items. items.items ≡ first ∷ second ∷ []) }
+{
+    let mut items = Vec::new(alloc);
+    items.push(first)?;
+    items.push(second)?;
+    Ok(items)
+}
+
+/// The items of two accesses, in the order in which these were made.
+fn ordered(
+    alloc: Global,
+    pair: Pair,
+    first: NamedItem,
+    second: NamedItem,
+) -> Result<Vec<NamedItem>, AllocError>
+    ensures { IfOk result (λ items. items.items ≡ in_order pair first second) }
+{
+    if pair.second < pair.first {
+        both(alloc, second, first)
+    } else {
+        both(alloc, first, second)
+    }
+}
+
+/// Both items of a conflict whose accesses were found.
+fn conflicting(
+    context: &Context<'_>,
+    played: &Played,
+    pair: Pair,
+    first: (u32, AccessKind),
+    second: (u32, AccessKind),
+) -> Result<Vec<NamedItem>, AllocError>
+    ensures { IfOk result (λ items. AreTold context.now played.now.marks.items (in_order pair (first.0, AtAccess pair.first) (second.0, AtAccess pair.second)) items.items) }
+{
+    let item = accessing(context, played, first.0, first.1, pair.first)?;
+    let other = accessing(context, played, second.0, second.1, pair.second)?;
+    ordered(context.alloc, pair, item, other)
+}
+
+/// Both items of a conflict, the earlier access first; none where the accesses weren't found.
+fn clashing(
+    context: &Context<'_>,
+    played: &Played,
+    first: (u32, AccessKind),
+    second: (u32, AccessKind),
+) -> Result<Vec<NamedItem>, AllocError>
+    ensures { IfOk result (λ items. AreTold context.now played.now.marks.items (option_map_or (λ pair. in_order pair (first.0, AtAccess pair.first) (second.0, AtAccess pair.second)) played.now.pair []) items.items) }
+{
+    match played.pair {
+        Some(pair) => conflicting(context, played, pair, first, second),
+        None => Ok(Vec::new(context.alloc)),
+    }
+}
+
+/// Both items of a divergence.
+fn diverging(
+    context: &Context<'_>,
+    played: &Played,
+    stop: &Stop,
+    other_stop: &Stop,
+) -> Result<Vec<NamedItem>, AllocError>
+    ensures { IfOk result (λ items. AreTold context.now played.now.marks.items ((played.now.first.item, site_of stop.now played.now.first.place) ∷ (played.now.second.item, site_of other_stop.now played.now.second.place) ∷ []) items.items) }
+{
+    let item = stopped(context, played, played.first, stop)?;
+    let other = stopped(context, played, played.second, other_stop)?;
+    both(context.alloc, item, other)
+}
+
+/// What the one item of a fault does, where it names one.
+fn deed_of(fault: &Fault) -> Does {
+    match fault {
+        Fault::Bounds { kind, .. } | Fault::Unset { kind, .. } => Does::Access(*kind),
+        _ => Does::Fails,
+    }
+}
+
+/// The one item of a fault.
+fn alone(context: &Context<'_>, played: &Played, does: Does) -> Result<Vec<NamedItem>, AllocError>
+    ensures { IfOk result (λ items. AreTold context.now played.now.marks.items ((played.now.first.item, AtPlace played.now.first.place) ∷ []) items.items) }
+{
+    let item = standing(context, played.first, does)?;
+    one(context.alloc, item)
+}
+
+/// The items that a fault names, with what they do and where. An error is out of memory.
+pub fn named_items(
+    context: &Context<'_>,
+    played: &Played,
+    fault: &Fault,
+) -> Result<Vec<NamedItem>, AllocError>
+    ensures { IfOk result (λ items. AreTold context.now played.now.marks.items (told_items fault.now played.now) items.items) }
+{
+    match fault {
+        Fault::Conflict {
+            item,
+            kind,
+            other_item,
+            other_kind,
+            ..
+        } => clashing(context, played, (*item, *kind), (*other_item, *other_kind)),
+        Fault::Divergence {
+            stop,
+            other_stop,
+            ..
+        } => diverging(context, played, stop, other_stop),
+        Fault::Bounds { .. }
+        | Fault::PrivateBounds { .. }
+        | Fault::Unset { .. }
+        | Fault::UnsetVariable { .. }
+        | Fault::UnsetElement { .. }
+        | Fault::DivideByZero { .. }
+        | Fault::DivideOverflow { .. }
+        | Fault::Budget { .. } => alone(context, played, deed_of(fault)),
+    }
+}

@@ -1,0 +1,396 @@
+//! Why a fault comes about, in sentences.
+#![tactic(auto)]
+
+use crate::context::Context;
+use crate::events::{is_access, is_release, place_at};
+use clmodel::access::{AccessKind, Clash, Class};
+use clmodel::fault::{Fault, Location};
+use explain_play::{Played, Touch, event_of};
+use explanation::Memory;
+use marked_play::Mark;
+use std::alloc::{AllocError, Global};
+
+/// The last release of a group between two events, with its place, if there is one.
+fn release_between(marks: &[Mark], group: u32, from: usize, to: usize) -> Option<Mark> {
+    let mut found = None;
+    for (number, mark) in marks.iter().enumerate() {
+        if number > from && number < to && is_release(mark.event, group) {
+            found = Some(*mark);
+        }
+    }
+    found
+}
+
+/// The last release of a group between the two accesses of a conflict, if there is one.
+fn barrier_between(played: &Played, group: u32) -> Option<Mark> {
+    let pair = played.pair?;
+    let marks = played.marks.as_slice();
+    let from = event_of(marks, pair.first.min(pair.second))?;
+    let to = event_of(marks, pair.first.max(pair.second))?;
+    release_between(marks, group, from, to)
+}
+
+/// What a barrier has to fence to order accesses at a location, and the flag for it (OpenCL 1.2, section 6.12.8).
+fn fence_of(location: &Location) -> (&'static str, &'static str) {
+    match location {
+        Location::Buffer(_) => ("global", "CLK_GLOBAL_MEM_FENCE"),
+        Location::Local { .. } => ("local", "CLK_LOCAL_MEM_FENCE"),
+    }
+}
+
+/// The text of a place of the code behind a comma, if one is known.
+fn text_at(context: &Context<'_>, place: Option<usize>) -> Result<String, AllocError> {
+    let alloc = context.alloc;
+    match context.code(place)? {
+        Some(code) => {
+            let (line, column, text) = (code.script_line, code.column, code.text.as_str());
+            format!(in alloc; ", {text} at {line}:{column}")
+        }
+        None => Ok(String::new(alloc)),
+    }
+}
+
+/// Why a barrier between two accesses of its group doesn't order them.
+fn unfenced_reason(
+    context: &Context<'_>,
+    group: u32,
+    barrier: Mark,
+    location: &Location,
+) -> Result<String, AllocError> {
+    let alloc = context.alloc;
+    let (space, flag) = fence_of(location);
+    let at = text_at(context, barrier.place)?;
+    let at = at.as_str();
+    format!(in alloc;
+        "group {group} passes a barrier between the two accesses{at}, but it does not fence {space} memory: {flag} is missing"
+    )
+}
+
+/// Why no barrier orders two accesses of one group.
+fn unordered_reason(
+    context: &Context<'_>,
+    played: &Played,
+    group: u32,
+    location: &Location,
+) -> Result<String, AllocError> {
+    let alloc = context.alloc;
+    match barrier_between(played, group) {
+        Some(barrier) => unfenced_reason(context, group, barrier, location),
+        None => format!(in alloc;
+            "both work-items are of group {group}, and no barrier of it stands between the two accesses"
+        ),
+    }
+}
+
+/// Why nothing orders two accesses.
+fn order_reason(
+    context: &Context<'_>,
+    played: &Played,
+    location: &Location,
+) -> Result<String, AllocError> {
+    let alloc = context.alloc;
+    let size = context.launch.group_size();
+    let (group, other) = (played.first.item / size, played.second.item / size);
+    if group == other {
+        return unordered_reason(context, played, group, location);
+    }
+    format!(in alloc;
+        "the work-items are of groups {group} and {other}, and no barrier orders two work-groups of a launch"
+    )
+}
+
+fn class_word(class: Class) -> &'static str {
+    match class {
+        Class::Add => "add",
+        Class::And => "and",
+        Class::Or => "or",
+        Class::Xor => "xor",
+        Class::SignedMin | Class::UnsignedMin => "min",
+        Class::SignedMax | Class::UnsignedMax => "max",
+    }
+}
+
+/// Why the order of two updates of different classes matters.
+fn classes_reason(alloc: Global, one: Class, other: Class) -> Result<String, AllocError> {
+    let (one, two) = (class_word(one), class_word(other));
+    format!(in alloc;
+        "atomic {one} and atomic {two} do not commute: what is left depends on which comes first"
+    )
+}
+
+/// Whether the two accesses of a conflict, which are stores, are known to leave the same.
+fn store_the_same(played: &Played) -> bool {
+    let Some(pair) = played.pair else {
+        return false;
+    };
+    let touches = played.touches.as_slice();
+    match (touches.get(pair.first), touches.get(pair.second)) {
+        (Some(one), Some(other)) => {
+            one.byte == other.byte && one.bytes == other.bytes && one.value == other.value
+        }
+        _ => false,
+    }
+}
+
+/// Why the order of two accesses matters of which at least one stores.
+fn race_words(played: &Played, both_store: bool) -> &'static str {
+    if !both_store {
+        "one of the two stores: what the other one finds depends on which comes first"
+    } else if store_the_same(played) {
+        "both store the same value, which is a race in a launch that isn't uniform"
+    } else {
+        "both store: which value is left depends on which comes last"
+    }
+}
+
+/// Why the order of two accesses matters.
+fn clash_reason(
+    alloc: Global,
+    played: &Played,
+    clash: Clash,
+    kinds: (AccessKind, AccessKind),
+) -> Result<String, AllocError> {
+    if let (AccessKind::Update(one), AccessKind::Update(two)) = kinds {
+        return classes_reason(alloc, one, two);
+    }
+    let words = match clash {
+        Clash::Order =>
+            "the value that an atomic function gives, or what an exchange leaves, shows which of the two came first",
+        Clash::Race => {
+            let both_store = kinds.0 == AccessKind::Store && kinds.1 == AccessKind::Store;
+            race_words(played, both_store)
+        }
+    };
+    String::from_str(alloc, words)
+}
+
+/// How many elements an object has, where it has this many bytes.
+fn count_reason(alloc: Global, name: &str, size: u64, width: u64) -> Result<String, AllocError> {
+    let count = if width == 0 { 0 } else { size / width };
+    format!(in alloc;
+        "{name} has {size} bytes, which are {count} elements of {width} bytes, numbered from 0"
+    )
+}
+
+/// Why an element is out of bounds, where the size of the object and of the element are known.
+fn bounds_reason(
+    alloc: Global,
+    played: &Played,
+    memory: &Option<Memory>,
+) -> Result<Option<String>, AllocError> {
+    let (Some(memory), Some(width)) = (memory, played.first.width) else {
+        return Ok(None);
+    };
+    match memory.size {
+        Some(size) => Ok(Some(count_reason(alloc, memory.name.as_str(), size, width)?)),
+        None => Ok(None),
+    }
+}
+
+/// Whether two locations have one name and one group.
+fn is_same(location: &Location, other: &Location) -> bool {
+    match (location, other) {
+        (Location::Buffer(name), Location::Buffer(other)) => name == other,
+        (
+            Location::Local { group, name },
+            Location::Local {
+                group: other_group,
+                name: other,
+            },
+        ) => *group == *other_group && name == other,
+        _ => false,
+    }
+}
+
+/// How far two numbers are apart.
+fn distance_of(one: u64, other: u64) -> u64 {
+    one.max(other) - one.min(other)
+}
+
+/// A store, by its number, with its distance from a byte.
+#[derive(Clone, Copy)]
+struct Near {
+    distance: u64,
+    number: usize,
+}
+
+/// The nearer of two stores; of two that are equally near, the earlier one.
+fn nearer(known: Option<Near>, found: Near) -> Near {
+    match known {
+        Some(near) if near.distance <= found.distance => near,
+        _ => found,
+    }
+}
+
+/// The store that is nearest to a byte of a location, if there is one.
+fn nearest_store(touches: &[Touch], location: &Location, byte: u64) -> Option<Near> {
+    let mut nearest = None;
+    for (number, touch) in touches.iter().enumerate() {
+        if touch.kind == AccessKind::Store && is_same(&touch.location, location) {
+            let distance = distance_of(byte, touch.byte);
+            nearest = Some(nearer(nearest, Near { distance, number }));
+        }
+    }
+    nearest
+}
+
+/// Which bytes were set by a store.
+fn store_reason(
+    context: &Context<'_>,
+    touch: &Touch,
+    place: Option<usize>,
+) -> Result<String, AllocError> {
+    let alloc = context.alloc;
+    let (item, first) = (touch.item, touch.byte);
+    let last = first.saturating_add(touch.bytes.saturating_sub(1));
+    let at = text_at(context, place)?;
+    let at = at.as_str();
+    format!(in alloc;
+        "the nearest bytes that were set are {first} to {last}, by work-item {item}{at}; if another work-item sets this byte later, a barrier between the two is missing"
+    )
+}
+
+/// Which bytes beside an unset one were set, and where: those of the nearest store.
+fn unset_reason(
+    context: &Context<'_>,
+    played: &Played,
+    location: &Location,
+    byte: u64,
+) -> Result<String, AllocError> {
+    let (marks, touches) = (played.marks.as_slice(), played.touches.as_slice());
+    if let Some(near) = nearest_store(touches, location, byte) {
+        if let Some(touch) = touches.get(near.number) {
+            let place = place_at(marks, event_of(marks, near.number));
+            return store_reason(context, touch, place);
+        }
+    }
+    String::from_str(
+        context.alloc,
+        "no work-item has stored anything there by then: if another one does so later, a barrier between the two is missing",
+    )
+}
+
+/// How many accesses an item made.
+fn accesses_of(marks: &[Mark], item: u32) -> u64 {
+    let mut count = 0u64;
+    for mark in marks {
+        if is_access(mark.event, item) {
+            count = count.saturating_add(1);
+        }
+    }
+    count
+}
+
+/// How many barriers a group passed.
+fn barriers_of(marks: &[Mark], group: u32) -> u64 {
+    let mut count = 0u64;
+    for mark in marks {
+        if is_release(mark.event, group) {
+            count = count.saturating_add(1);
+        }
+    }
+    count
+}
+
+/// What a budget went to: each tick is an access, a barrier or a turn of a loop.
+fn budget_reason(
+    context: &Context<'_>,
+    played: &Played,
+    budget: u32,
+) -> Result<String, AllocError> {
+    let alloc = context.alloc;
+    let item = played.first.item;
+    let marks = played.marks.as_slice();
+    let accesses = accesses_of(marks, item);
+    let barriers = barriers_of(marks, item / context.launch.group_size());
+    let turns = u64::from(budget).saturating_sub(accesses.saturating_add(barriers));
+    format!(in alloc;
+        "the budget of {budget} ticks went to {accesses} accesses, {barriers} barriers and {turns} turns of loops; a loop without end uses up any budget"
+    )
+}
+
+/// Why a fault comes about whose reason needs no number.
+fn plain_reason(fault: &Fault) -> &'static str {
+    match fault {
+        Fault::Divergence { .. } =>
+            "all work-items of a group have to come to the same barrier, in the same turns of the loops round it, before one passes it; these two never will",
+        Fault::PrivateBounds { .. } => "the array is shorter",
+        Fault::UnsetVariable { .. } =>
+            "the variable was declared without a value, and no assignment came before this read",
+        Fault::UnsetElement { .. } =>
+            "a private array begins without values, and no assignment to this element came before this read",
+        Fault::DivideByZero { .. } => "the right operand is 0",
+        Fault::DivideOverflow { .. } =>
+            "the left operand is the least number of its type and the right one is -1: their quotient is one above the greatest",
+        Fault::Conflict { .. }
+        | Fault::Bounds { .. }
+        | Fault::Unset { .. }
+        | Fault::Budget { .. } => "",
+    }
+}
+
+/// A list of one sentence.
+fn one(alloc: Global, reason: String) -> Result<Vec<String>, AllocError> {
+    let mut reasons = Vec::new(alloc);
+    reasons.push(reason)?;
+    Ok(reasons)
+}
+
+/// A list of two sentences.
+fn both(alloc: Global, reason: String, other: String) -> Result<Vec<String>, AllocError> {
+    let mut reasons = Vec::new(alloc);
+    reasons.push(reason)?;
+    reasons.push(other)?;
+    Ok(reasons)
+}
+
+/// Why a conflict comes about.
+fn conflict_reasons(
+    context: &Context<'_>,
+    played: &Played,
+    clash: Clash,
+    kinds: (AccessKind, AccessKind),
+    location: &Location,
+) -> Result<Vec<String>, AllocError> {
+    let order = order_reason(context, played, location)?;
+    let clash = clash_reason(context.alloc, played, clash, kinds)?;
+    both(context.alloc, order, clash)
+}
+
+/// Why an element is out of bounds, if more is known than that it is.
+fn bounds_reasons(
+    alloc: Global,
+    played: &Played,
+    memory: &Option<Memory>,
+) -> Result<Vec<String>, AllocError> {
+    match bounds_reason(alloc, played, memory)? {
+        Some(reason) => one(alloc, reason),
+        None => Ok(Vec::new(alloc)),
+    }
+}
+
+/// Why a fault comes about. An error is out of memory.
+pub fn reasons_of(
+    context: &Context<'_>,
+    played: &Played,
+    fault: &Fault,
+    memory: &Option<Memory>,
+    budget: u32,
+) -> Result<Vec<String>, AllocError> {
+    let alloc = context.alloc;
+    match fault {
+        Fault::Conflict {
+            clash,
+            kind,
+            other_kind,
+            location,
+            ..
+        } => conflict_reasons(context, played, *clash, (*kind, *other_kind), location),
+        Fault::Bounds { .. } => bounds_reasons(alloc, played, memory),
+        Fault::Unset { location, byte, .. } => {
+            one(alloc, unset_reason(context, played, location, *byte)?)
+        }
+        Fault::Budget { .. } => one(alloc, budget_reason(context, played, budget)?),
+        _ => one(alloc, String::from_str(alloc, plain_reason(fault))?),
+    }
+}
