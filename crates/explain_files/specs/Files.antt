@@ -1,6 +1,7 @@
 -- Files that are explained: what is read, and what is written (own).
-use Rattle.std.specs.Prelude.{◌≡◌, ◌⊎◌, ℕ, Bool, Option, None, List, [], IsSomeAnd}
+use Rattle.std.specs.Prelude.{◌≡◌, ◌⊎◌, ℕ, Bool, Option, None, Some, option_map, List, []}
 use Rattle.cli.specs.Reading.{ReadFails}
+use Rattle.cli.specs.declared.session.Reader.{Reader}
 use Rattle.cli.specs.declared.session.Reader.TheVariants as reader
 use Rattle.cli.specs.declared.session.RunFault.{RunFault}
 use Rattle.cli.specs.declared.session.RunFault.TheVariants as fault
@@ -37,39 +38,61 @@ Untold budget given old new fault.BadSchedule = Unwritten budget given old new e
 Untold budget given old new (fault.NotALaunch ticket) = Unwritten budget given old new (explain.NotALaunch ticket)
 Untold budget given old new (fault.CommandRefused ticket) = Unwritten budget given old new (explain.CommandRefused ticket)
 
--- a script of a name that was read, and no schedule file
-pub record IsScriptAlone (given : Given) (name : List ℕ) (rest : Option (List ℕ)) : Type 0 where
+-- these texts are given
+pub record IsGiven (given : Given) (name script : List ℕ) (schedule : Option (List ℕ)) : Type 0 where
   pub named : given.name.now ≡ name
-  pub script : Are rest given.script.now
-  pub alone : given.schedule ≡ None
+  pub told : given.script.now ≡ script
+  pub leads : option_map (λ bytes. bytes.now) given.schedule ≡ schedule
 
--- a script of a name and a schedule file that were read
-pub record AreFiles (given : Given) (name : List ℕ) (rest rest' : Option (List ℕ)) : Type 0 where
-  pub named : given.name.now ≡ name
-  pub script : Are rest given.script.now
-  pub file : IsSomeAnd given.schedule (λ bytes. Are rest' bytes.now)
+-- the answer to texts was written
+pub record Answered (budget : ℕ) (name script : List ℕ) (schedule : Option (List ℕ)) (old new : Sink) (answer : Bool) : Type 0 where
+  pub given : Given
+  pub is : IsGiven given name script schedule
+  pub told : Told budget given old new answer
+
+-- why there is no answer to texts
+pub record Unanswered (budget : ℕ) (name script : List ℕ) (schedule : Option (List ℕ)) (old new : Sink) (why : RunFault) : Type 0 where
+  pub given : Given
+  pub is : IsGiven given name script schedule
+  pub untold : Untold budget given old new why
 
 -- a script was read, and the answer to it was written
-abbrev pub ScriptTold : ℕ → List ℕ → Option (List ℕ) → Sink → Sink → Bool → Type 0
-ScriptTold budget name rest old new answer = (given : Given) × IsScriptAlone given name rest × Told budget given old new answer
+pub record ScriptTold (budget : ℕ) (name : List ℕ) (rest : Option (List ℕ)) (old new : Sink) (answer : Bool) : Type 0 where
+  pub script : List ℕ
+  pub read : Are rest script
+  pub answered : Answered budget name script None old new answer
 
 -- a script and a schedule file were read, and the answer to them was written
-abbrev pub FileTold : ℕ → List ℕ → Option (List ℕ) → Option (List ℕ) → Sink → Sink → Bool → Type 0
-FileTold budget name rest rest' old new answer = (given : Given) × AreFiles given name rest rest' × Told budget given old new answer
+pub record FileTold (budget : ℕ) (name : List ℕ) (rest rest' : Option (List ℕ)) (old new : Sink) (answer : Bool) : Type 0 where
+  pub script : List ℕ
+  pub schedule : List ℕ
+  pub read : Are rest script
+  pub file : Are rest' schedule
+  pub answered : Answered budget name script (Some schedule) old new answer
 
--- a reader wasn't read to its end, and nothing was written
-abbrev pub Unread : (ℕ → ℕ → RunFault → Type 0) → ℕ → ℕ → Sink → Sink → RunFault → Type 0
-Unread Fails failures failures' old new why = Fails failures failures' why × (new ≡ old)
+-- a script was read, and there is no answer to it
+pub record ScriptUnanswered (budget : ℕ) (name : List ℕ) (rest : Option (List ℕ)) (old new : Sink) (why : RunFault) : Type 0 where
+  pub script : List ℕ
+  pub read : Are rest script
+  pub unanswered : Unanswered budget name script None old new why
+
+-- a script and a schedule file were read, and there is no answer to them
+pub record FileUnanswered (budget : ℕ) (name : List ℕ) (rest rest' : Option (List ℕ)) (old new : Sink) (why : RunFault) : Type 0 where
+  pub script : List ℕ
+  pub schedule : List ℕ
+  pub read : Are rest script
+  pub file : Are rest' schedule
+  pub unanswered : Unanswered budget name script (Some schedule) old new why
+
+-- a reader wasn't read to its end, or no memory was left, and nothing was written
+abbrev pub Unread : Reader → ℕ → ℕ → Sink → Sink → RunFault → Type 0
+Unread named failures failures' old new why = ReadFails named failures failures' why × (new ≡ old)
 
 -- why there is no answer to a script
 abbrev pub ScriptUntold : ℕ → List ℕ → Option (List ℕ) → ℕ → ℕ → Sink → Sink → RunFault → Type 0
-ScriptUntold budget name rest failures failures' old new why =
-    Unread (ReadFails reader.First) failures failures' old new why
-    ⊎ ((given : Given) × IsScriptAlone given name rest × Untold budget given old new why)
+ScriptUntold budget name rest failures failures' old new why = Unread reader.First failures failures' old new why ⊎ ScriptUnanswered budget name rest old new why
 
 -- why there is no answer to a script and a schedule file; the script's reader and its failures come first
 abbrev pub FileUntold : ℕ → List ℕ → Option (List ℕ) → Option (List ℕ) → ℕ → ℕ → ℕ → ℕ → Sink → Sink → RunFault → Type 0
 FileUntold budget name rest rest' a a' b b' old new why =
-    Unread (ReadFails reader.First) a a' old new why
-    ⊎ (Unread (ReadFails reader.Second) b b' old new why
-    ⊎ ((given : Given) × AreFiles given name rest rest' × Untold budget given old new why))
+    Unread reader.First a a' old new why ⊎ (Unread reader.Second b b' old new why ⊎ FileUnanswered budget name rest rest' old new why)

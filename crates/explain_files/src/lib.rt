@@ -5,7 +5,8 @@
 #![tactic(auto)]
 
 ghost use Rattle.std.specs.Prelude.{◌≡◌, IfOk, IfErr};
-ghost use Rattle.explain_files.specs.Files.{explain_fault, Told, Untold, ScriptTold, ScriptUntold, FileTold, FileUntold};
+ghost use Rattle.std.specs.Option.{option_map};
+ghost use Rattle.explain_files.specs.Files.{explain_fault, IsGiven, Answered, Unanswered, ScriptTold, ScriptUntold, FileTold, FileUntold};
 
 use cli::reading::bytes_of;
 use cli::session::{Reader, RunFault};
@@ -27,16 +28,48 @@ fn fault_of(fault: ExplainFault) -> RunFault
     }
 }
 
+/// The texts that are explained: the script's name, its bytes, and those of a schedule file, if one is named.
+#[derive(Drop)]
+struct Texts {
+    name: Vec<u8>,
+    script: Vec<u8>,
+    schedule: Option<Vec<u8>>,
+}
+
+impl Texts {
+    fn schedule(&self) -> Option<&[u8]>
+        ensures { option_map (λ bytes. bytes.now) result ≡ option_map (λ bytes. bytes.items) self.now.schedule }
+    {
+        match &self.schedule {
+            Some(bytes) => Some(bytes.as_slice()),
+            None => None,
+        }
+    }
+
+    /// The texts, lent to an explanation.
+    fn given(&self) -> Given<'_>
+        ensures { IsGiven result self.now.name.items self.now.script.items (option_map (λ bytes. bytes.items) self.now.schedule) }
+    {
+        let schedule = self.schedule();
+        Given {
+            name: self.name.as_slice(),
+            script: self.script.as_slice(),
+            schedule,
+        }
+    }
+}
+
 /// Explains texts.
-fn explain_given<W: Write>(
+fn explain_texts<W: Write>(
     alloc: Global,
-    given: Given<'_>,
+    texts: &Texts,
     options: ExplainOptions,
     writer: &mut W,
 ) -> Result<bool, RunFault>
-    ensures told { IfOk result (Told options.budget given.entry (W.sink writer.old) (W.sink writer.new)) }
-    ensures untold { IfErr result (Untold options.budget given.entry (W.sink writer.old) (W.sink writer.new)) }
+    ensures told { IfOk result (Answered options.budget texts.now.name.items texts.now.script.items (option_map (λ bytes. bytes.items) texts.now.schedule) (W.sink writer.old) (W.sink writer.new)) }
+    ensures untold { IfErr result (Unanswered options.budget texts.now.name.items texts.now.script.items (option_map (λ bytes. bytes.items) texts.now.schedule) (W.sink writer.old) (W.sink writer.new)) }
 {
+    let given = texts.given();
     match explain(alloc, given, options, writer) {
         Ok(answer) => Ok(answer),
         Err(fault) => Err(fault_of(fault)),
@@ -61,12 +94,13 @@ pub fn explain_script<R: Read, W: Write>(
         (ScriptUntold options.budget name.now (R.rest reader.old) (R.failures reader.old) (R.failures reader.new) (W.sink writer.old) (W.sink writer.new)) }
 {
     let script = bytes_of(alloc, reader, Reader::First)?;
-    let given = Given {
-        name: name.as_bytes(),
-        script: script.as_slice(),
+    let name = name.as_bytes().to_vec(alloc)?;
+    let texts = Texts {
+        name,
+        script,
         schedule: None,
     };
-    explain_given(alloc, given, options, writer)
+    explain_texts(alloc, &texts, options, writer)
 }
 
 /// Reads a script and a schedule file, and explains the fault of that file. Writes the explanation and answers true, or
@@ -88,10 +122,11 @@ pub fn explain_schedule<R: Read, S: Read, W: Write>(
 {
     let script = bytes_of(alloc, reader, Reader::First)?;
     let schedule = bytes_of(alloc, file, Reader::Second)?;
-    let given = Given {
-        name: name.as_bytes(),
-        script: script.as_slice(),
-        schedule: Some(schedule.as_slice()),
+    let name = name.as_bytes().to_vec(alloc)?;
+    let texts = Texts {
+        name,
+        script,
+        schedule: Some(schedule),
     };
-    explain_given(alloc, given, options, writer)
+    explain_texts(alloc, &texts, options, writer)
 }
