@@ -1,5 +1,5 @@
 -- Commands performed one behind another.
-use Rattle.std.proofs.Common.{◌≡◌, ◌+◌, ℕ, true, Some, List, [], ◌∷◌, ◌++◌, length, take, refl, sym, ap, ◌∙◌, subst, arith}
+use Rattle.std.proofs.Common.{◌≡◌, ◌+◌, ℕ, suc, true, Some, List, [], ◌∷◌, ◌++◌, length, take, refl, sym, ap, ◌∙◌, subst, arith}
 use Rattle.std.specs.Prelude.{slice_get}
 use Rattle.std.proofs.lemmas.Grind.{common_steps}
 use Rattle.device.specs.Machine.{Machine, Step}
@@ -30,7 +30,9 @@ leads_cleanly old new (c ∷ done) (mid, r, step, had, on, rest) = (mid, r, step
 -- the first command behind others
 get_behind : (done rest : List Command) (c : Command) → slice_get (done ++ c ∷ rest) (length done) ≡ Some c
 get_behind [] rest c = refl
-get_behind (d ∷ done) rest c = ap (λ n. slice_get (d ∷ done ++ c ∷ rest) n) (omega arith) ∙ get_behind done rest c
+get_behind (d ∷ done) rest c =
+    let counted : length (d ∷ done) ≡ suc (length done) = omega arith in
+    subst (λ n. slice_get (d ∷ done ++ c ∷ rest) n ≡ Some c) (sym counted) (get_behind done rest c)
 
 take_before : (done rest : List Command) → take (length done) (done ++ rest) ≡ done
 take_before done rest = grind (arith, common_steps)

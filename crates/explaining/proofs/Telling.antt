@@ -29,6 +29,14 @@ pub ok_both : {A E : Type 0} (r : Result A E) (P Q R : A → Type 0) → IfOk r 
 ok_both (Ok x) P Q R p q h = h x p q
 ok_both (Err e) P Q R p q h = tt
 
+-- what is known where there is nothing
+pub if_none : {A : Type 0} (o : Option A) {P : Type 0} → o ≡ None → IfNone o P → P
+if_none o {P} e h = subst (λ p. IfNone p P) e h
+
+-- a schedule that leads to a fault can be played
+pub nowhere : {A : Type 0} (o : Option A) (P : Fault → Type 0) (f : Fault) → o ≡ None → IfNone o ((other : Fault) → P other → ⊥) → P f → ⊥
+nowhere o P f e h p = if_none o e h f p
+
 pub decided_not : {P : Type 0} (answer : Bool) → answer ≡ false → Decides answer P → P → ⊥
 decided_not answer not d p = false≢true (sym not ∙ d.1 p)
 

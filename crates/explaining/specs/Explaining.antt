@@ -10,7 +10,8 @@ use Rattle.clmodel.specs.declared.fault.Fault.{Fault}
 use Rattle.clmodel.specs.declared.schedule.EventRun.{EventRun}
 use Rattle.clmodel.specs.declared.setup.Range.{Range}
 use Rattle.counted_io.specs.Sink.{Sink, Stopped}
-use Rattle.device.specs.Machine.{Machine, Builds, opening, first, row, kernel_of, setup_of, bytes_of}
+use Rattle.device.specs.Machine.{Machine, opening, first, row, kernel_of, setup_of, bytes_of}
+use Rattle.host_commands.specs.Builds.{Builds}
 use Rattle.host_commands.specs.declared.command.BuildFault.{BuildFault}
 use Rattle.host_commands.specs.declared.command.Command.{Command}
 use Rattle.host_commands.specs.declared.command.Command.TheVariants as command
@@ -69,17 +70,36 @@ Untold m commands ticket fault.BadSchedule = ⊥
 Untold m commands ticket (fault.NotALaunch named) = (named ≡ ticket) × NoLaunch commands ticket
 Untold m commands ticket (fault.CommandRefused named) = (named ≡ ticket) × Refuses m commands ticket
 
--- The answer to a script and a schedule file: the launch of the ticket is judged on a new device, to which the commands before it led.
+-- a case that is judged on a new device, to which the commands before its ticket led
+pub record IsTold (budget : ℕ) (commands : List Command) (ticket : ℕ) (f : Fault) (runs : List EventRun) (answer : Bool) : Type 0 where
+  pub machine : Machine
+  pub led : Leads (opening budget) (take ticket commands) machine
+  pub tells : Tells machine commands ticket f runs answer
+
+-- the launch of a ticket is refused on a new device, to which the commands before it led
+pub record IsRefusedThere (budget : ℕ) (commands : List Command) (ticket : ℕ) : Type 0 where
+  pub machine : Machine
+  pub led : Leads (opening budget) (take ticket commands) machine
+  pub refuses : Refuses machine commands ticket
+
+-- why it wasn't
+abbrev pub Unled : ℕ → List ℕ → List Command → ℕ → ExplainFault → Type 0
+Unled budget script commands ticket fault.Write = ⊥
+Unled budget script commands ticket (fault.BadLine n) = IsBadLine script n
+Unled budget script commands ticket fault.OutOfMemory = ⊤
+Unled budget script commands ticket fault.BadSchedule = ⊥
+Unled budget script commands ticket (fault.NotALaunch named) = (named ≡ ticket) × NoLaunch commands ticket
+Unled budget script commands ticket (fault.CommandRefused named) = (named ≡ ticket) × IsRefusedThere budget commands ticket
+
+-- the answer to a script and a schedule file
 pub record Explained (budget : ℕ) (script schedule : List ℕ) (answer : Bool) : Type 0 where
   pub commands : List Command
   pub ticket : ℕ
   pub f : Fault
   pub runs : List EventRun
-  pub machine : Machine
   pub is : IsScript script commands
   pub file : IsScheduleFile schedule ticket f runs
-  pub led : Leads (opening budget) (take ticket commands) machine
-  pub tells : Tells machine commands ticket f runs answer
+  pub told : IsTold budget commands ticket f runs answer
 
 -- why a script and a schedule file have no answer
 pub record IsUntold (budget : ℕ) (script schedule : List ℕ) (why : ExplainFault) : Type 0 where
@@ -89,8 +109,7 @@ pub record IsUntold (budget : ℕ) (script schedule : List ℕ) (why : ExplainFa
   pub runs : List EventRun
   pub is : IsScript script commands
   pub file : IsScheduleFile schedule ticket f runs
-  pub untold : (NoLaunch commands ticket × (why ≡ fault.NotALaunch ticket))
-      ⊎ ((m : Machine) × Leads (opening budget) (take ticket commands) m × Refuses m commands ticket × (why ≡ fault.CommandRefused ticket))
+  pub untold : (NoLaunch commands ticket × (why ≡ fault.NotALaunch ticket)) ⊎ (IsRefusedThere budget commands ticket × (why ≡ fault.CommandRefused ticket))
 
 abbrev pub Unexplained : ℕ → List ℕ → List ℕ → ExplainFault → Type 0
 Unexplained budget script schedule fault.Write = ⊥

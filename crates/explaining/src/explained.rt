@@ -1,18 +1,22 @@
 //! A script, or a script with a schedule, explained.
 #![tactic(auto)]
 
-ghost use Rattle.std.specs.Prelude.{◌≡◌, [], IfOk, IfErr, OnOk, List, ℕ, true, take};
+ghost use Rattle.std.specs.Prelude.{◌≡◌, [], IfOk, IfErr, OnOk, List, ℕ, true, take, is_some};
 ghost use Rattle.counted_io.specs.Sink.{Wrote};
+ghost use Rattle.device.specs.Machine.{machine_of, opening};
 ghost use Rattle.host_commands.specs.declared.command.Command.{Command};
-ghost use Rattle.explaining.specs.Explaining.{Explained, Explains, Found, Unanswered, Unexplained, Unread, Unwritten};
 ghost use Rattle.simfile.specs.Script.{IsScript};
+ghost use Rattle.explaining.specs.Explaining.{Explained, Explains, Found, IsTold, Unanswered, Unexplained, Unled, Unread, Unwritten};
+ghost use Rattle.explaining.specs.Leading.{WalkedTo};
 
 use crate::answers::{Answer, answer_of, tell, word_answer};
 use crate::building::{explain_source, explain_unbuilt};
 use crate::facts::{ExplainOptions, Given, lines_before};
 use crate::faults::ExplainFault;
-use crate::told::{Asked, explain_case};
-use crate::walks::{Unbuilt, Walked, lead, walk};
+use crate::told::{Asked, Told, explain_case};
+use crate::walks::{Performed, Unbuilt, Walked, lead, walk_anew};
+use clmodel::fault::Fault;
+use clmodel::schedule::Schedule;
 use counted_io::Write;
 use device::{Command, Device};
 use launch_facts::line_of;
@@ -22,11 +26,65 @@ use std::alloc::{AllocError, Global};
 
 /// The same commands, and the first of them.
 fn read_first(alloc: Global, script: &[u8], count: usize) -> Result<Vec<Command>, ExplainFault>
-    ensures { (commands : List Command) → IsScript script.now commands → IfOk result (λ first. first.items ≡ take count commands) }
+    ensures first { (commands : List Command) → IsScript script.now commands → IfOk result (λ first. first.items ≡ take count commands) }
+    ensures failed { IfErr result (Unread script.now) }
 {
     let mut commands = read_script(alloc, script)?;
     commands.truncate(count);
     Ok(commands)
+}
+
+/// Explains a case on a new device, to which the commands before its ticket lead.
+fn told_at(
+    alloc: Global,
+    given: Given<'_>,
+    options: ExplainOptions,
+    commands: &[Command],
+    ticket: usize,
+    fault: &Fault,
+    schedule: Schedule,
+) -> Result<Option<Told>, ExplainFault>
+    requires { IsScript given.script.now commands.now }
+    ensures told { IfOk result (λ found. IsTold options.budget commands.now ticket fault.now schedule (is_some found)) }
+    ensures failed { IfErr result (Unled options.budget given.entry.script.now commands.now ticket) }
+{
+    let before = read_first(alloc, given.script, ticket)?;
+    let mut device = Device::new(alloc, options.budget);
+    let done = lead(alloc, &mut device, before)?;
+    let asked = Asked {
+        given,
+        options,
+        commands,
+        done: done.as_slice(),
+    };
+    explain_case(alloc, &device, &asked, ticket, fault, schedule)
+}
+
+/// Explains the case of a schedule file.
+fn told_in(
+    alloc: Global,
+    given: Given<'_>,
+    options: ExplainOptions,
+    commands: &[Command],
+    schedule: &[u8],
+) -> Result<Option<Told>, ExplainFault>
+    requires { IsScript given.script.now commands.now }
+    ensures explained { IfOk result (λ found. Explained options.budget given.entry.script.now schedule.now (is_some found)) }
+    ensures failed { IfErr result (Unexplained options.budget given.entry.script.now schedule.now) }
+{
+    let (number, fault, runs) = read(alloc, schedule)?;
+    if number >= commands.len() as u64 {
+        return Err(ExplainFault::NotALaunch(number));
+    }
+    told_at(
+        alloc,
+        given,
+        options,
+        commands,
+        number as usize,
+        &fault,
+        runs,
+    )
 }
 
 /// Explains the fault of a schedule file.
@@ -40,21 +98,7 @@ fn explain_schedule(
     ensures failed { IfErr result (Unexplained options.budget given.entry.script.now schedule.now) }
 {
     let commands = read_script(alloc, given.script)?;
-    let (number, fault, schedule) = read(alloc, schedule)?;
-    if number >= commands.len() as u64 {
-        return Err(ExplainFault::NotALaunch(number));
-    }
-    let ticket = number as usize;
-    let mut device = Device::new(alloc, options.budget);
-    let before = read_first(alloc, given.script, ticket)?;
-    let done = lead(alloc, &mut device, before)?;
-    let asked = Asked {
-        given,
-        options,
-        commands: commands.as_slice(),
-        done: done.as_slice(),
-    };
-    let told = explain_case(alloc, &device, &asked, ticket, &fault, schedule)?;
+    let told = told_in(alloc, given, options, commands.as_slice(), schedule)?;
     Ok(answer_of(alloc, told, options.format, "no\n")?)
 }
 
@@ -72,6 +116,53 @@ fn unbuilt_answer(
     Ok(Answer { text, yes: true })
 }
 
+/// Explains what a walk over the commands of a script came to, on the device that they led to it.
+fn answer_at(
+    alloc: Global,
+    device: &Device,
+    asked: &Asked<'_>,
+    end: Walked,
+) -> Result<Answer, ExplainFault>
+    requires script { IsScript asked.now.given.script.now asked.now.commands.now }
+    requires walked { WalkedTo (opening asked.now.options.budget) asked.now.commands.now (machine_of device.now) end }
+    ensures found { IfOk result (λ answer. Found asked.now.options.budget asked.now.given.script.now answer.yes) }
+    ensures failed { IfErr result (Unread asked.now.given.script.now) }
+{
+    match end {
+        Walked::Clean => Ok(word_answer(alloc, "clean\n")?),
+        Walked::Unbuilt(unbuilt) => {
+            Ok(unbuilt_answer(alloc, asked.given, asked.commands, unbuilt)?)
+        }
+        Walked::Faulted(case) => {
+            let (ticket, fault) = (case.ticket, case.fault);
+            let told = explain_case(alloc, device, asked, ticket, &fault, case.schedule)?;
+            Ok(answer_of(alloc, told, asked.options.format, "no\n")?)
+        }
+    }
+}
+
+/// Performs the commands of a script on a new device, and explains what they come to.
+fn explain_commands(
+    alloc: Global,
+    given: Given<'_>,
+    options: ExplainOptions,
+    commands: &[Command],
+) -> Result<Answer, ExplainFault>
+    requires { IsScript given.script.now commands.now }
+    ensures found { IfOk result (λ answer. Found options.budget given.entry.script.now answer.yes) }
+    ensures failed { IfErr result (Unread given.entry.script.now) }
+{
+    let same = read_script(alloc, given.script)?;
+    let Performed { device, end, done } = walk_anew(alloc, options, same)?;
+    let asked = Asked {
+        given,
+        options,
+        commands,
+        done: done.as_slice(),
+    };
+    answer_at(alloc, &device, &asked, end)
+}
+
 /// Explains the first fault of a script, or the first build that is refused.
 fn explain_script(
     alloc: Global,
@@ -82,31 +173,7 @@ fn explain_script(
     ensures failed { IfErr result (Unread given.entry.script.now) }
 {
     let commands = read_script(alloc, given.script)?;
-    let mut device = Device::new(alloc, options.budget);
-    let walk = walk(alloc, &mut device, read_script(alloc, given.script)?)?;
-    match walk.end {
-        Walked::Clean => Ok(word_answer(alloc, "clean\n")?),
-        Walked::Unbuilt(unbuilt) => {
-            Ok(unbuilt_answer(alloc, given, commands.as_slice(), unbuilt)?)
-        }
-        Walked::Faulted(case) => {
-            let asked = Asked {
-                given,
-                options,
-                commands: commands.as_slice(),
-                done: walk.done.as_slice(),
-            };
-            let told = explain_case(
-                alloc,
-                &device,
-                &asked,
-                case.ticket,
-                &case.fault,
-                case.schedule,
-            )?;
-            Ok(answer_of(alloc, told, options.format, "no\n")?)
-        }
-    }
+    explain_commands(alloc, given, options, commands.as_slice())
 }
 
 /// What is explained of what is given.

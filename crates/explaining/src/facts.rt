@@ -9,7 +9,9 @@ use clmodel::setup::Range;
 use clmodel::text::Name;
 use explain_play::{Played, event_of};
 use explain_reasons::{Context, items_in, named_items, reasons_of, steps_of};
-use explanation::{Explanation, FaultFacts, LaunchFacts, Memory, ScheduleFacts};
+use explanation::{
+    Explanation, FaultFacts, LaunchFacts, Memory, NamedItem, ParameterFacts, ScheduleFacts,
+};
 use fault_facts::{fault_line, fault_name, fault_number, memory_of};
 use host_commands::kernel::parameters_of;
 use item_step::Launch;
@@ -57,13 +59,13 @@ pub(crate) fn lines_before(script: &[u8]) -> usize {
 }
 
 /// The text of a line of a script, by its number from 1.
-fn script_line(alloc: Global, script: &[u8], number: usize) -> Result<String, AllocError> {
+fn text_at(alloc: Global, script: &[u8], number: usize) -> Result<String, AllocError> {
     let mut line = 1usize;
-    for (at, byte) in script.iter().enumerate() {
+    for at in 0..script.len() {
         if line == number {
             return String::from_utf8_lossy(alloc, line_text(script, at));
         }
-        if *byte == b'\n' {
+        if script[at] == b'\n' {
             line = line.saturating_add(1);
         }
     }
@@ -106,13 +108,12 @@ pub(crate) fn named_of(
     Ok(named)
 }
 
-/// The size of the memory that a fault is about, and the parameters that it is an argument for.
-fn with_size(
+/// The size of an object of memory, where it is known, and the parameters that it is an argument for.
+fn size_and_parameters(
     context: &Context<'_>,
     buffers: &Buffers,
     location: &Location,
-    mut memory: Memory,
-) -> Result<Memory, AllocError> {
+) -> Result<(Option<u64>, Vec<ParameterFacts>), AllocError> {
     let alloc = context.alloc;
     let launch = context.launch;
     let tree = launch.tree();
@@ -120,8 +121,8 @@ fn with_size(
     let names = tree.names.as_slice();
     match location {
         Location::Buffer(name) => {
-            memory.size = Some(buffers.bytes_in(name).len() as u64);
-            memory.parameters = parameters_given(
+            let size = buffers.bytes_in(name).len() as u64;
+            let given = parameters_given(
                 alloc,
                 context.commands,
                 context.done,
@@ -130,13 +131,13 @@ fn with_size(
                 parameters,
                 names,
             )?;
+            Ok((Some(size), given))
         }
         Location::Local { name, .. } => {
-            memory.size = local_size(launch, name);
-            memory.parameters = parameters_named(alloc, name, parameters, names)?;
+            let named = parameters_named(alloc, name, parameters, names)?;
+            Ok((local_size(launch, name), named))
         }
     }
-    Ok(memory)
 }
 
 /// The size of the local object of a name.
@@ -168,13 +169,15 @@ fn whole_memory(
     buffers: &Buffers,
     fault: &Fault,
 ) -> Result<Option<Memory>, AllocError> {
-    let Some(memory) = memory_of(context.alloc, fault)? else {
+    let Some(mut memory) = memory_of(context.alloc, fault)? else {
         return Ok(None);
     };
-    match location_of(fault) {
-        Some(location) => Ok(Some(with_size(context, buffers, location, memory)?)),
-        None => Ok(Some(memory)),
+    if let Some(location) = location_of(fault) {
+        let (size, parameters) = size_and_parameters(context, buffers, location)?;
+        memory.size = size;
+        memory.parameters = parameters;
     }
+    Ok(Some(memory))
 }
 
 fn text(alloc: Global, bytes: &[u8]) -> Result<String, AllocError> {
@@ -190,23 +193,69 @@ pub(crate) struct Place<'a> {
     pub budget: u32,
 }
 
-fn launch_facts(context: &Context<'_>, place: &Place<'_>) -> Result<LaunchFacts, AllocError> {
+/// The names that a launch runs by.
+#[derive(Drop)]
+struct Names {
+    kernel: String,
+    function: String,
+    program: String,
+}
+
+fn names_of(context: &Context<'_>) -> Result<Names, AllocError> {
     let alloc = context.alloc;
-    let script = place.given.script;
-    let line = line_of(context.commands, place.ticket, lines_before(script));
-    let range = place.range;
-    Ok(LaunchFacts {
-        command: place.ticket as u64,
-        script_line: line,
-        text: script_line(alloc, script, line)?,
+    Ok(Names {
         kernel: text(alloc, context.kernel.as_slice())?,
         function: text(alloc, context.program.function.as_slice())?,
         program: text(alloc, context.program.program.as_slice())?,
-        global_size: range.global.as_slice().to_vec(alloc)?,
-        local_size: range.local.as_slice().to_vec(alloc)?,
+    })
+}
+
+/// The numbers of an index space.
+#[derive(Drop)]
+struct Sizes {
+    global: Vec<u64>,
+    local: Vec<u64>,
+    offset: Vec<u64>,
+}
+
+fn sizes_of(alloc: Global, range: &Range) -> Result<Sizes, AllocError> {
+    Ok(Sizes {
+        global: range.global.as_slice().to_vec(alloc)?,
+        local: range.local.as_slice().to_vec(alloc)?,
         offset: range.offset.as_slice().to_vec(alloc)?,
-        uniform: range.uniform,
+    })
+}
+
+fn launch_facts(context: &Context<'_>, place: &Place<'_>) -> Result<LaunchFacts, AllocError> {
+    let alloc = context.alloc;
+    let script = place.given.script;
+    let script_line = line_of(context.commands, place.ticket, lines_before(script));
+    let text = text_at(alloc, script, script_line)?;
+    let names = names_of(context)?;
+    let sizes = sizes_of(alloc, place.range)?;
+    Ok(LaunchFacts {
+        command: place.ticket as u64,
+        script_line,
+        text,
+        kernel: names.kernel,
+        function: names.function,
+        program: names.program,
+        global_size: sizes.global,
+        local_size: sizes.local,
+        offset: sizes.offset,
+        uniform: place.range.uniform,
         budget: place.budget,
+    })
+}
+
+fn fault_facts_of(alloc: Global, fault: &Fault) -> Result<FaultFacts, AllocError> {
+    let number = fault_number(fault);
+    let name = String::from_str(alloc, fault_name(number))?;
+    let line = fault_line(alloc, fault, &Schedule::new(Vec::new(alloc)))?;
+    Ok(FaultFacts {
+        number,
+        name,
+        line: line.fault,
     })
 }
 
@@ -229,6 +278,43 @@ pub(crate) fn schedule_facts(
     })
 }
 
+/// What an explanation says of a launch and its fault before it says why.
+#[derive(Drop)]
+struct Head {
+    script: String,
+    launch: LaunchFacts,
+    fault: FaultFacts,
+}
+
+fn head_of(context: &Context<'_>, place: &Place<'_>, fault: &Fault) -> Result<Head, AllocError> {
+    Ok(Head {
+        script: text(context.alloc, place.given.name)?,
+        launch: launch_facts(context, place)?,
+        fault: fault_facts_of(context.alloc, fault)?,
+    })
+}
+
+/// The memory and the items of a fault, and why it comes about.
+#[derive(Drop)]
+struct Body {
+    memory: Option<Memory>,
+    items: Vec<NamedItem>,
+    why: Vec<String>,
+}
+
+fn body_of(
+    context: &Context<'_>,
+    buffers: &Buffers,
+    budget: u32,
+    fault: &Fault,
+    played: &Played,
+) -> Result<Body, AllocError> {
+    let memory = whole_memory(context, buffers, fault)?;
+    let why = reasons_of(context, played, fault, &memory, budget)?;
+    let items = named_items(context, played, fault)?;
+    Ok(Body { memory, items, why })
+}
+
 /// An explanation of what was played of the short schedule.
 pub(crate) fn explanation_of(
     context: &Context<'_>,
@@ -238,24 +324,17 @@ pub(crate) fn explanation_of(
     played: &Played,
     schedule: ScheduleFacts,
 ) -> Result<Explanation, AllocError> {
-    let alloc = context.alloc;
-    let number = fault_number(fault);
-    let line = fault_line(alloc, fault, &Schedule::new(Vec::new(alloc)))?;
-    let memory = whole_memory(context, buffers, fault)?;
-    let why = reasons_of(context, played, fault, &memory, place.budget)?;
+    let head = head_of(context, place, fault)?;
+    let body = body_of(context, buffers, place.budget, fault, played)?;
     let steps = steps_of(context, played)?;
     let steps_left = played.marks.len().saturating_sub(steps.len()) as u64;
     Ok(Explanation {
-        script: text(alloc, place.given.name)?,
-        launch: launch_facts(context, place)?,
-        fault: FaultFacts {
-            number,
-            name: String::from_str(alloc, fault_name(number))?,
-            line: line.fault,
-        },
-        memory,
-        items: named_items(context, played, fault)?,
-        why,
+        script: head.script,
+        launch: head.launch,
+        fault: head.fault,
+        memory: body.memory,
+        items: body.items,
+        why: body.why,
         schedule,
         steps,
         steps_left,

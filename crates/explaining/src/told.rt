@@ -20,13 +20,13 @@ use clmodel::schedule::Schedule;
 use clmodel::setup::Range;
 use clmodel::text::Name;
 use device::{Command, Device, Launch, Refusal};
-use explain_play::{Played, play, shorter};
+use explain_play::{play, shorter};
 use explain_reasons::{Context, MOST_STEPS};
 use explanation::Explanation;
 use fault_facts::fault_line;
 use launch_facts::{ProgramSource, source_of};
 use replay::replay;
-use shortening::{Shortened, event_count};
+use shortening::{Named, Shortened, event_count};
 use spaces_base::Buffers;
 use std::alloc::{AllocError, Global};
 
@@ -43,7 +43,6 @@ fn chosen(
     buffers: &Buffers,
     fault: &Fault,
     given: Schedule,
-    played: &Played,
     as_given: bool,
 ) -> Result<Shortened, AllocError>
     requires groups { HasGroups (setup_of context.now.launch.now) }
@@ -56,15 +55,88 @@ fn chosen(
             judged: 0,
         });
     }
-    let named = named_of(context.alloc, played, fault)?;
-    shorter(
-        context.alloc,
-        context.launch,
-        buffers,
-        fault,
-        &given,
-        named.as_slice(),
-    )
+    let (alloc, launch) = (context.alloc, context.launch);
+    let named = named_by(context, buffers, fault, &given)?;
+    shorter(alloc, launch, buffers, fault, &given, named.as_slice())
+}
+
+/// The items that a fault names, with the events of a schedule that are their accesses; none where it leads nowhere.
+fn named_by(
+    context: &Context<'_>,
+    buffers: &Buffers,
+    fault: &Fault,
+    given: &Schedule,
+) -> Result<Vec<Named>, AllocError>
+    requires { HasGroups (setup_of context.now.launch.now) }
+{
+    let (alloc, launch) = (context.alloc, context.launch);
+    match play(alloc, launch, buffers, fault, given, items_of(fault), 0)? {
+        Some(played) => named_of(alloc, &played, fault),
+        None => Ok(Vec::new(alloc)),
+    }
+}
+
+/// The schedule that was given, as a text, and the number of its events.
+#[derive(Drop)]
+struct GivenSchedule {
+    text: String,
+    events: u64,
+}
+
+fn given_schedule(
+    alloc: Global,
+    fault: &Fault,
+    schedule: &Schedule,
+) -> Result<GivenSchedule, AllocError> {
+    let line = fault_line(alloc, fault, schedule)?;
+    Ok(GivenSchedule {
+        text: line.schedule,
+        events: event_count(schedule.as_slice()),
+    })
+}
+
+/// An explanation of what is played of the schedule that is told.
+fn whole_of(
+    context: &Context<'_>,
+    buffers: &Buffers,
+    place: &Place<'_>,
+    fault: &Fault,
+    given: GivenSchedule,
+    short: &Shortened,
+) -> Result<Explanation, AllocError>
+    requires groups { HasGroups (setup_of context.now.launch.now) }
+    requires leads { Reaches (launch_of (setup_of context.now.launch.now) (bytes_in buffers.now)) (events_of short.now.schedule) fault.now }
+{
+    let (alloc, launch) = (context.alloc, context.launch);
+    let (items, schedule) = (items_of(fault), &short.schedule);
+    let Some(played) = play(alloc, launch, buffers, fault, schedule, items, MOST_STEPS)? else {
+        unreachable!();
+    };
+    let marks = played.marks.as_slice();
+    let facts = schedule_facts(alloc, fault, given.text, given.events, short, marks)?;
+    explanation_of(context, buffers, place, fault, &played, facts)
+}
+
+/// An explanation of a schedule that leads a launch to a fault.
+fn told_of(
+    context: &Context<'_>,
+    buffers: &Buffers,
+    place: &Place<'_>,
+    fault: &Fault,
+    schedule: Schedule,
+    as_given: bool,
+) -> Result<Told, AllocError>
+    requires groups { HasGroups (setup_of context.now.launch.now) }
+    requires leads { Reaches (launch_of (setup_of context.now.launch.now) (bytes_in buffers.now)) (events_of schedule) fault.now }
+    ensures { IfOk result (λ told. IsShort (launch_of (setup_of context.now.launch.now) (bytes_in buffers.now)) fault.now schedule told.schedule) }
+{
+    let given = given_schedule(context.alloc, fault, &schedule)?;
+    let short = chosen(context, buffers, fault, schedule, as_given)?;
+    let whole = whole_of(context, buffers, place, fault, given, &short)?;
+    Ok(Told {
+        whole,
+        schedule: short.schedule,
+    })
 }
 
 /// An explanation of a schedule that leads a launch to a fault, if it leads there.
@@ -85,32 +157,8 @@ fn explain_launch(
     if !replay(alloc, launch, buffers, &schedule, fault)? {
         return Ok(None);
     }
-    let items = items_of(fault);
-    let line = fault_line(alloc, fault, &schedule)?;
-    let events = event_count(schedule.as_slice());
-    let Some(first) = play(alloc, launch, buffers, fault, &schedule, items, 0)? else {
-        return Ok(None);
-    };
-    let short = chosen(context, buffers, fault, schedule, &first, as_given)?;
-    let Some(played) = play(
-        alloc,
-        launch,
-        buffers,
-        fault,
-        &short.schedule,
-        items,
-        MOST_STEPS,
-    )?
-    else {
-        return Ok(None);
-    };
-    let marks = played.marks.as_slice();
-    let facts = schedule_facts(alloc, fault, line.schedule, events, &short, marks)?;
-    let whole = explanation_of(context, buffers, place, fault, &played, facts)?;
-    Ok(Some(Told {
-        whole,
-        schedule: short.schedule,
-    }))
+    let told = told_of(context, buffers, place, fault, schedule, as_given)?;
+    Ok(Some(told))
 }
 
 /// The source of a launch's program; an empty one, without a line, where none of the commands made it.

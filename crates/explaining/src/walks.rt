@@ -2,9 +2,10 @@
 #![tactic(auto)]
 
 ghost use Rattle.std.specs.Prelude.{◌≡◌, ◌+◌, length, IfOk, IfSome, IfNone, OnOk, Decides, true};
-ghost use Rattle.device.specs.Machine.{Step, machine_of};
+ghost use Rattle.device.specs.Machine.{Step, machine_of, opening};
 ghost use Rattle.explaining.specs.Leading.{HadMemory, Leads, WalkedTo, EndsAt, goes_on};
 
+use crate::facts::ExplainOptions;
 use clmodel::fault::Fault;
 use clmodel::schedule::Schedule;
 use device::{BuildFault, Command, Device, Refusal, Reply};
@@ -38,7 +39,15 @@ pub(crate) enum Walked {
 
 /// What a walk came to, and of each command that was performed whether it was done.
 #[derive(Drop)]
-pub(crate) struct Walk {
+struct Walk {
+    end: Walked,
+    done: Vec<bool>,
+}
+
+/// A device on which commands were performed, and what a walk over them came to.
+#[derive(Drop)]
+pub(crate) struct Performed {
+    pub device: Device,
     pub end: Walked,
     pub done: Vec<bool>,
 }
@@ -100,7 +109,7 @@ fn end_of(ticket: usize, reply: Reply) -> Option<Walked>
 /// Performs commands up to the first launch that has a fault, or to the first build that is refused, and notes of each
 /// whether it was done. A launch with a fault changes no buffer, so that the device is then as before it. An error is
 /// out of memory.
-pub(crate) fn walk(
+fn walk_commands(
     alloc: Global,
     device: &mut Device,
     commands: Vec<Command>,
@@ -119,4 +128,17 @@ pub(crate) fn walk(
         end: Walked::Clean,
         done,
     })
+}
+
+/// The same on a new device with the budget that is wanted.
+pub(crate) fn walk_anew(
+    alloc: Global,
+    options: ExplainOptions,
+    commands: Vec<Command>,
+) -> Result<Performed, AllocError>
+    ensures { IfOk result (λ performed. WalkedTo (opening options.budget) commands.items (machine_of performed.device) performed.end) }
+{
+    let mut device = Device::new(alloc, options.budget);
+    let Walk { end, done } = walk_commands(alloc, &mut device, commands)?;
+    Ok(Performed { device, end, done })
 }

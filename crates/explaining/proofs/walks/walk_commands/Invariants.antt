@@ -2,7 +2,7 @@ use Rattle.std.proofs.Common.{◌≡◌, ◌++◌, length}
 use Rattle.std.specs.Vec.Iter.{into_iter_items}
 use Rattle.device.specs.Machine.{machine_of}
 use Rattle.explaining.specs.Leading.{LeadsCleanly}
-use Rattle.explaining.proofs.walks.walk.Given as goal
+use Rattle.explaining.proofs.walks.walk_commands.Given as goal
 
 abbrev pub invariant-loop-command : goal.invariant-loop-command
 invariant-loop-command l = record {

@@ -6,7 +6,8 @@ use Rattle.device.specs.Machine.{machine_of}
 use Rattle.host_commands.specs.declared.command.Command.{Command}
 use Rattle.explaining.specs.Leading.{IsFirst, LeadsCleanly}
 use Rattle.explaining.proofs.Performing.{cleanly_more, walk_ends}
-use Rattle.explaining.proofs.walks.walk.Goals as goal
+use Rattle.explaining.proofs.Telling.{if_none}
+use Rattle.explaining.proofs.walks.walk_commands.Goals as goal
 
 pub loop-command-init : goal.loop-command-init
 loop-command-init c = record { split = search rules; counted = search rules; led = refl }
@@ -16,13 +17,15 @@ loop-command-preserved c = record {
   split = c.loop-command.invariant.split ∙ (ap (λ l. c.loop-command.yielded ++ l) c.in-Some.ensures.steps.0 ∙ sym (append_assoc c.loop-command.yielded (c.in-Some.command ∷ []) (into_iter_items c.next.new.self)));
   counted = c.in_ok-reply.ensures.counted ∙ ap (λ n. n + 1) c.loop-command.invariant.counted ∙ sym (length_push c.loop-command.yielded c.in-Some.command);
   led =
-      cleanly_more _ _ _ c.loop-command.yielded c.in-Some.command _ c.loop-command.invariant.led c.in_ok-reply.ensures.step c.in_ok-reply.ensures.memory c.end_of.ensures.goes_on;
+      cleanly_more _ _ _ c.loop-command.yielded c.in-Some.command _ c.loop-command.invariant.led c.in_ok-reply.ensures.step c.in_ok-reply.ensures.memory (if_none _ c.in_default.is c.end_of.ensures.goes_on);
 }
 
-pub returns-in-Some : goal.returns-in-Some
-returns-in-Some c =
-    walk_ends _ c.args.commands.items c.loop-command.yielded _ c.in-Some.command _ _ (c.loop-command.invariant.split ∙ ap (λ l. c.loop-command.yielded ++ l) c.in-Some.ensures.steps.0)
-    c.loop-command.invariant.led c.in_ok-reply.ensures.step _ (c.len-ticket.ensures ∙ c.loop-command.invariant.counted) _ c.in-Some-end.ensures.ends
+pub returns-in-Some-end_of : goal.returns-in-Some-end_of
+returns-in-Some-end_of c =
+    let counted : c.len-ticket.result ≡ length c.loop-command.yielded = omega (arith, c.len-ticket.ensures, c.loop-command.done.ok.0, c.loop-command.invariant.counted) in
+    walk_ends (machine_of c.args.device.now) c.args.commands.items c.loop-command.yielded (into_iter_items c.next.new.self) c.in-Some.command (machine_of c.loop-command.device)
+    (machine_of c.perform.new.device) (c.loop-command.invariant.split ∙ ap (λ l. c.loop-command.yielded ++ l) c.in-Some.ensures.steps.0) c.loop-command.invariant.led c.in_ok-reply.reply
+    c.in_ok-reply.ensures.step c.len-ticket.result counted c.in-Some-end_of.end c.in-Some-end_of.ensures.ends
 
 pub returns : goal.returns
 returns c =

@@ -1,0 +1,46 @@
+-- What is given, explained by its kind: a source, a script with a schedule file, a script.
+use Rattle.std.proofs.Common.{◌≡◌, ℕ, Bool, true, false, Option, None, Some, List, refl, sym, subst}
+use Rattle.std.specs.Prelude.{MatchBool, MatchOption}
+use Rattle.std.proofs.lemmas.Bool.{false≢true}
+use Rattle.counted_io.specs.Sink.{Sink}
+use Rattle.explaining.specs.Explaining.{Explained, Explains, Found, IsRefused, Unanswered, Unexplained, Unread, Unwritten, is_source}
+use Rattle.explaining.specs.declared.facts.Given.{Given}
+use Rattle.explaining.specs.declared.faults.ExplainFault.{ExplainFault}
+use Rattle.explaining.specs.declared.faults.ExplainFault.TheVariants as fault
+
+at_true : (b : Bool) (P Q : Type 0) → b ≡ true → P → MatchBool b P Q
+at_true true P Q e h = h
+at_true false P Q e h = absurd (false≢true e)
+
+at_false : (b : Bool) (P Q : Type 0) → b ≡ false → Q → MatchBool b P Q
+at_false true P Q e h = absurd (false≢true (sym e))
+at_false false P Q e h = h
+
+at_some : {A : Type 0} (o : Option A) (x : A) (P : Type 0) (Q : A → Type 0) → o ≡ Some x → Q x → MatchOption o P Q
+at_some o x P Q e h = subst (λ p. MatchOption p P Q) (sym e) h
+
+at_none : {A : Type 0} (o : Option A) (P : Type 0) (Q : A → Type 0) → o ≡ None → P → MatchOption o P Q
+at_none o P Q e h = subst (λ p. MatchOption p P Q) (sym e) h
+
+not_bool : (b : Bool) (P Q : Type 0) → (P → ⊥) → (Q → ⊥) → MatchBool b P Q → ⊥
+not_bool true P Q p q h = p h
+not_bool false P Q p q h = q h
+
+not_option : {A : Type 0} (o : Option A) (P : Type 0) (Q : A → Type 0) → (P → ⊥) → ((x : A) → Q x → ⊥) → MatchOption o P Q → ⊥
+not_option None P Q p q h = p h
+not_option (Some x) P Q p q h = q x h
+
+-- a writer that fails is no reason for having no answer
+not_write : (budget : ℕ) (given : Given) → Unanswered budget given fault.Write → ⊥
+not_write budget given h =
+    not_bool (is_source given.name.now) (fault.Write ≡ fault.OutOfMemory) (MatchOption given.schedule (Unread given.script.now fault.Write) (λ s. Unexplained budget given.script.now s.now fault.Write))
+    (λ e. cc) (λ h. not_option given.schedule (Unread given.script.now fault.Write) (λ s. Unexplained budget given.script.now s.now fault.Write) (λ u. u) (λ s u. u) h) h
+
+-- nothing was written, and why
+pub unwritten : (budget : ℕ) (given : Given) (s : Sink) (why : ExplainFault) → Unanswered budget given why → Unwritten budget given s s why
+unwritten budget given s fault.Write h = absurd (not_write budget given h)
+unwritten budget given s (fault.BadLine n) h = (h, refl)
+unwritten budget given s fault.OutOfMemory h = refl
+unwritten budget given s fault.BadSchedule h = (h, refl)
+unwritten budget given s (fault.NotALaunch ticket) h = (h, refl)
+unwritten budget given s (fault.CommandRefused ticket) h = (h, refl)

@@ -1,0 +1,15 @@
+use Rattle.std.specs.Option.{is_some}
+use Rattle.device.specs.Machine.{machine_of}
+use Rattle.explaining.proofs.Walking.{faulted_case, unbuilt}
+use Rattle.explaining.proofs.explained.answer_at.Goals as goal
+
+pub returns-in_ok-unbuilt_answer-in-Unbuilt-clause-found : goal.returns-in_ok-unbuilt_answer-in-Unbuilt-clause-found
+returns-in_ok-unbuilt_answer-in-Unbuilt-clause-found c =
+    unbuilt c.args.asked.now.options.budget c.args.asked.now.given.script.now c.args.asked.now.commands.now (machine_of c.args.device.now) c.args.end c.in-Unbuilt.unbuilt
+    c.in_ok-unbuilt_answer-in-Unbuilt.field-0.yes c.requires.script c.requires.walked c.in-Unbuilt.is c.in_ok-unbuilt_answer-in-Unbuilt.ensures
+
+pub returns-in_ok-answer_of-in-Faulted-clause-found : goal.returns-in_ok-answer_of-in-Faulted-clause-found
+returns-in_ok-answer_of-in-Faulted-clause-found c =
+    faulted_case c.args.asked.now.options.budget c.args.asked.now.given.script.now c.args.asked.now.commands.now (machine_of c.args.device.now) c.args.end c.in-Faulted.case
+    (is_some c.in_ok-told-in-Faulted.told) c.in_ok-answer_of-in-Faulted.field-0.yes c.requires.script c.requires.walked c.in-Faulted.is c.in_ok-told-in-Faulted.ensures.told
+    c.in_ok-answer_of-in-Faulted.ensures

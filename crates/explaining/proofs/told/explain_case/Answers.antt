@@ -1,0 +1,16 @@
+use Rattle.std.proofs.lemmas.Option.{IfSome_then}
+use Rattle.device.specs.Machine.{machine_of}
+use Rattle.explaining.proofs.Telling.{short, tells}
+use Rattle.explaining.proofs.told.explain_case.Goals as goal
+
+pub returns-clause-told : goal.returns-clause-told
+returns-clause-told c =
+    tells (machine_of c.args.device.now) c.args.asked.now.commands.now c.args.ticket c.in-Some.kernel.now c.in-Some.range.now c.in-Ok.launch c.buffers.result.now c.args.fault.now
+    c.args.schedule c.in_ok-explain_launch.field-0 c.in-Some.ensures.launch c.in-Ok.ensures.prepared c.buffers.ensures c.in_ok-explain_launch.ensures.none c.in_ok-explain_launch.ensures.leads
+
+pub returns-clause-short : goal.returns-clause-short
+returns-clause-short c =
+    IfSome_then c.in_ok-explain_launch.field-0 c.in_ok-explain_launch.ensures.told
+    (λ told h.
+    short (machine_of c.args.device.now) c.args.asked.now.commands.now c.args.ticket c.in-Some.kernel.now c.in-Some.range.now c.in-Ok.launch c.buffers.result.now c.args.fault.now
+    c.args.schedule told.schedule c.in-Some.ensures.launch c.in-Ok.ensures.prepared c.buffers.ensures h)
