@@ -1,4 +1,4 @@
-//! Calls on a launch, a queue and a device, with a line for what came of each. `tools/rows` runs it with each request
+//! Calls on a launch and a device, with a line for what came of each. `tools/rows` runs it with each request
 //! for memory refused in turn. A call that is refused then answers so. What it was lent is as before, and the same
 //! call is made again and does its work. The calls that take no memory are made between two lines on standard error,
 //! `refuse: all` and `refuse: none`, between which every request is refused.
@@ -7,11 +7,8 @@
 mod came;
 mod launch_calls;
 mod one_thread;
-mod queue;
-mod queue_calls;
-mod requests;
 mod scripts;
-mod tickets;
+mod without_memory;
 
 use std::alloc::Global;
 use std::marker::Sync;
@@ -21,7 +18,7 @@ use std::thread::Threads;
 /// Tries all calls.
 fn try_all<R: Print + Eprint + Threads + Wait + Sync>(rt: &R, alloc: Global) {
     launch_calls::try_all(rt, alloc);
-    queue_calls::try_all(rt, alloc);
+    without_memory::try_all(rt, alloc);
 }
 
 fn main(rt: HostRuntime) {

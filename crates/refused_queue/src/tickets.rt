@@ -54,7 +54,7 @@ fn driven<D: Machine<C, R>, C: Drop, R: Drop>(
     ensures one { (client.new.seat.table_id ≡ client.old.seat.table_id) × (driver.new.seat.table_id ≡ driver.old.seat.table_id) }
     ensures name { client.new.seat.me.0.name ≡ client.old.seat.me.0.name }
 {
-    let _ = driver.drive_one(queue);
+    drop(driver.drive_one(queue));
     match client.poll(queue, ticket) {
         Ok(request) => Some(request),
         Err(_) => None,
@@ -132,7 +132,11 @@ fn driven_known<D: Machine<C, R>, C: Drop, R: Drop>(
     ensures name { client.new.seat.me.0.name ≡ client.old.seat.me.0.name }
 {
     match driver.drive_one(queue) {
-        Some(mut answered) => collected(queue, client, ticket, &mut answered),
+        Some(mut answered) => {
+            let reply = collected(queue, client, ticket, &mut answered);
+            drop(answered);
+            reply
+        }
         None => None,
     }
 }

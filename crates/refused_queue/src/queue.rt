@@ -51,13 +51,13 @@ fn asked_known<D: Machine<C, R>, C: Drop, R: Drop + Tells>(
 /// What the replies to two clients say, all in one box.
 #[derive(Clone, Copy)]
 struct Told {
-    write: Came,
-    fill: Came,
-    make: Came,
-    release: Came,
+    polled: Came,
+    known: Came,
+    kept: Came,
+    agreed: Came,
 }
 
-/// The requests of two clients: a write, a fill, a buffer and a release.
+/// The requests of two clients: the third one may take memory.
 fn told_of<D: Machine<C, R>, C: Drop, R: Drop + Tells>(
     queue: &Queue<D, C, R>,
     first: &mut Client<D, C, R>,
@@ -69,53 +69,45 @@ fn told_of<D: Machine<C, R>, C: Drop, R: Drop + Tells>(
     requires two { first.old.seat.me.0.name ≢ second.old.seat.me.0.name }
     ensures one { (second.new.seat.table_id ≡ second.old.seat.table_id) × (driver.new.seat.table_id ≡ driver.old.seat.table_id) }
 {
-    let write = asked(queue, first, driver, requests);
-    let fill = asked_known(queue, second, driver, requests);
+    let polled = asked(queue, first, driver, requests);
+    let known = asked_known(queue, second, driver, requests);
     first.agree(queue, second);
-    let make = asked(queue, second, driver, requests);
-    let release = asked_known(queue, first, driver, requests);
+    let kept = asked(queue, second, driver, requests);
+    let agreed = asked_known(queue, first, driver, requests);
     Told {
-        write,
-        fill,
-        make,
-        release,
+        polled,
+        known,
+        kept,
+        agreed,
     }
 }
 
-/// Writes the lines of the replies. Only the buffer takes memory.
+/// Writes the lines of the replies.
 fn tell_all<T: Print>(rt: &T, told: Told) {
     is_done(
         rt,
-        "queue submit, poll and drive_one of a write without memory",
-        told.write,
+        "queue submit, poll and drive_one without memory",
+        told.polled,
     );
-    is_done(rt, "queue poll_known of a fill without memory", told.fill);
-    is_done(
-        rt,
-        "queue drive_one of a buffer where memory may be refused",
-        told.make,
-    );
-    is_done(
-        rt,
-        "queue agree, and a release without memory",
-        told.release,
-    );
+    is_done(rt, "queue poll_known without memory", told.known);
+    is_done(rt, "queue drive_one where memory may be refused", told.kept);
+    is_done(rt, "queue agree without memory", told.agreed);
 }
 
-/// What comes of the buffer, which is asked for again where memory was refused.
-fn made_again<D: Machine<C, R>, C: Drop, R: Drop + Tells>(
+/// What comes of the third request, which is given again where memory was refused.
+fn kept_again<D: Machine<C, R>, C: Drop, R: Drop + Tells>(
     queue: &Queue<D, C, R>,
     client: &mut Client<D, C, R>,
     driver: &mut Driver<D, C, R>,
     requests: &mut Requests<C, R>,
-    made: Came,
+    kept: Came,
 ) -> Came
     requires one { (client.old.seat.table_id ≡ queue.now.table.shared.table_id) × (driver.old.seat.table_id ≡ queue.now.table.shared.table_id) }
     ensures one { (client.new.seat.table_id ≡ client.old.seat.table_id) × (driver.new.seat.table_id ≡ driver.old.seat.table_id) }
 {
-    match made {
+    match kept {
         Came::OutOfMemory => asked(queue, client, driver, requests),
-        _ => made,
+        _ => kept,
     }
 }
 
@@ -126,13 +118,13 @@ fn try_again<T: Print, D: Machine<C, R>, C: Drop, R: Drop + Tells>(
     client: &mut Client<D, C, R>,
     driver: &mut Driver<D, C, R>,
     requests: &mut Requests<C, R>,
-    made: Came,
+    kept: Came,
 ) -> bool
     requires one { (client.old.seat.table_id ≡ queue.now.table.shared.table_id) × (driver.old.seat.table_id ≡ queue.now.table.shared.table_id) }
     ensures one { (client.new.seat.table_id ≡ client.old.seat.table_id) × (driver.new.seat.table_id ≡ driver.old.seat.table_id) }
 {
-    let came = made_again(queue, client, driver, requests, made);
-    is_done(rt, "queue drive_one of that buffer with memory", came)
+    let came = kept_again(queue, client, driver, requests, kept);
+    is_done(rt, "queue drive_one with memory", came)
 }
 
 /// Tries the calls of two clients with every request for memory refused, and then the one that takes memory.
@@ -151,8 +143,8 @@ fn try_told<T: Print + Eprint, D: Machine<C, R>, C: Drop, R: Drop + Tells>(
     let told = told_of(queue, first, second, driver, requests);
     refuse_none(rt);
     tell_all(rt, told);
-    let _ = try_again(rt, queue, second, driver, requests, told.make)
-        || try_again(rt, queue, second, driver, requests, told.make);
+    let _ = try_again(rt, queue, second, driver, requests, told.kept)
+        || try_again(rt, queue, second, driver, requests, told.kept);
 }
 
 /// Opens a queue over a machine, and tries the calls of two clients. False where the queue is refused.
@@ -193,7 +185,7 @@ fn is_answered<D: Machine<C, R>, C: Drop, R: Drop + Tells>(
     }
 }
 
-/// Whether three requests of an only client are done at once: a write, a fill and a release.
+/// Whether three requests of an only client are done at once.
 fn are_answered<D: Machine<C, R>, C: Drop, R: Drop + Tells>(
     queue: &Queue<D, C, R>,
     client: &mut Client<D, C, R>,
@@ -203,10 +195,10 @@ fn are_answered<D: Machine<C, R>, C: Drop, R: Drop + Tells>(
     requires one { (client.old.seat.table_id ≡ queue.now.table.shared.table_id) × (driver.old.seat.table_id ≡ queue.now.table.shared.table_id) }
     requires only { IsOnly driver.old.seat.me.0 client.old.seat.me.0 }
 {
-    let write = is_answered(queue, client, driver, requests);
-    let fill = is_answered(queue, client, driver, requests);
-    let release = is_answered(queue, client, driver, requests);
-    write && fill && release
+    let first = is_answered(queue, client, driver, requests);
+    let second = is_answered(queue, client, driver, requests);
+    let third = is_answered(queue, client, driver, requests);
+    first && second && third
 }
 
 /// Tries the call of an only client with every request for memory refused.
@@ -223,11 +215,7 @@ fn try_answers<T: Print + Eprint, D: Machine<C, R>, C: Drop, R: Drop + Tells>(
     refuse_all(rt);
     let are_done = are_answered(queue, client, driver, requests);
     refuse_none(rt);
-    is_done(
-        rt,
-        "answer answer of a write, a fill and a release without memory",
-        done_if(are_done),
-    );
+    is_done(rt, "answer answer without memory", done_if(are_done));
 }
 
 /// Opens a queue over a machine, and tries the call of its only client. False where the queue is refused.
