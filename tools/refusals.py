@@ -41,9 +41,10 @@ GROWING = {b"buffer", b"copy", b"program", b"kernel", b"arg", b"launch", b"read"
 # the programs of direct calls: the crates of their names, and their calls that take memory
 CALLS = {
     "refused_calls": [b"passes lex", b"passes parse", b"passes check", b"passes lower", b"store", b"update", b"fetch", b"list note", b"log note"],
+    "refused_queue": [b"queue open", b"queue drive_one with memory", b"answer open"],
 }
 # the call that takes memory while every request is refused
-REFUSABLE = b"queue drive_one of a buffer where memory may be refused"
+REFUSABLE = b"queue drive_one where memory may be refused"
 
 HEAD = re.compile(rb"run (\d+) status (-?\d+) asked (\d+) refused (\d+) live (-?\d+) output (\d+) error (\d+)\n")
 

@@ -1,0 +1,236 @@
+//! The calls of a queue over any machine: it is made whole or not at all, and they take no memory.
+ghost use Rattle.std.specs.Prelude.{◌≡◌, ◌≢◌};
+ghost use Rattle.host_queue.specs.Clients.{IsOnly};
+
+use crate::came::{Came, done_if, is_done, refuse_all, refuse_none};
+use crate::requests::{Requests, Tells};
+use crate::tickets::{known, open_one, open_two, polled};
+use host_queue::{Client, Driver, Machine, Queue};
+use std::alloc::Global;
+
+/// What comes of a client's next request, which is polled.
+fn asked<D: Machine<C, R>, C: Drop, R: Drop + Tells>(
+    queue: &Queue<D, C, R>,
+    client: &mut Client<D, C, R>,
+    driver: &mut Driver<D, C, R>,
+    requests: &mut Requests<C, R>,
+) -> Came
+    requires one { (client.old.seat.table_id ≡ queue.now.table.shared.table_id) × (driver.old.seat.table_id ≡ queue.now.table.shared.table_id) }
+    ensures one { (client.new.seat.table_id ≡ client.old.seat.table_id) × (driver.new.seat.table_id ≡ driver.old.seat.table_id) }
+    ensures name { client.new.seat.me.0.name ≡ client.old.seat.me.0.name }
+{
+    let Some(request) = requests.next() else {
+        return Came::Wrong;
+    };
+    match polled(queue, client, driver, request) {
+        Some(request) => requests.keep(request),
+        None => Came::Wrong,
+    }
+}
+
+/// The same, by the call that knows that the reply is there.
+fn asked_known<D: Machine<C, R>, C: Drop, R: Drop + Tells>(
+    queue: &Queue<D, C, R>,
+    client: &mut Client<D, C, R>,
+    driver: &mut Driver<D, C, R>,
+    requests: &mut Requests<C, R>,
+) -> Came
+    requires one { (client.old.seat.table_id ≡ queue.now.table.shared.table_id) × (driver.old.seat.table_id ≡ queue.now.table.shared.table_id) }
+    ensures one { (client.new.seat.table_id ≡ client.old.seat.table_id) × (driver.new.seat.table_id ≡ driver.old.seat.table_id) }
+    ensures name { client.new.seat.me.0.name ≡ client.old.seat.me.0.name }
+{
+    let Some(request) = requests.next() else {
+        return Came::Wrong;
+    };
+    match known(queue, client, driver, request) {
+        Some(request) => requests.keep(request),
+        None => Came::Wrong,
+    }
+}
+
+/// What the replies to two clients say, all in one box.
+#[derive(Clone, Copy)]
+struct Told {
+    polled: Came,
+    known: Came,
+    kept: Came,
+    agreed: Came,
+}
+
+/// The requests of two clients: the third one may take memory.
+fn told_of<D: Machine<C, R>, C: Drop, R: Drop + Tells>(
+    queue: &Queue<D, C, R>,
+    first: &mut Client<D, C, R>,
+    second: &mut Client<D, C, R>,
+    driver: &mut Driver<D, C, R>,
+    requests: &mut Requests<C, R>,
+) -> Told
+    requires one { (first.old.seat.table_id ≡ queue.now.table.shared.table_id) × (second.old.seat.table_id ≡ queue.now.table.shared.table_id) × (driver.old.seat.table_id ≡ queue.now.table.shared.table_id) }
+    requires two { first.old.seat.me.0.name ≢ second.old.seat.me.0.name }
+    ensures one { (second.new.seat.table_id ≡ second.old.seat.table_id) × (driver.new.seat.table_id ≡ driver.old.seat.table_id) }
+{
+    let polled = asked(queue, first, driver, requests);
+    let known = asked_known(queue, second, driver, requests);
+    first.agree(queue, second);
+    let kept = asked(queue, second, driver, requests);
+    let agreed = asked_known(queue, first, driver, requests);
+    Told {
+        polled,
+        known,
+        kept,
+        agreed,
+    }
+}
+
+/// Writes the lines of the replies.
+fn tell_all<T: Print>(rt: &T, told: Told) {
+    is_done(
+        rt,
+        "queue submit, poll and drive_one without memory",
+        told.polled,
+    );
+    is_done(rt, "queue poll_known without memory", told.known);
+    is_done(rt, "queue drive_one where memory may be refused", told.kept);
+    is_done(rt, "queue agree without memory", told.agreed);
+}
+
+/// What comes of the third request, which is given again where memory was refused.
+fn kept_again<D: Machine<C, R>, C: Drop, R: Drop + Tells>(
+    queue: &Queue<D, C, R>,
+    client: &mut Client<D, C, R>,
+    driver: &mut Driver<D, C, R>,
+    requests: &mut Requests<C, R>,
+    kept: Came,
+) -> Came
+    requires one { (client.old.seat.table_id ≡ queue.now.table.shared.table_id) × (driver.old.seat.table_id ≡ queue.now.table.shared.table_id) }
+    ensures one { (client.new.seat.table_id ≡ client.old.seat.table_id) × (driver.new.seat.table_id ≡ driver.old.seat.table_id) }
+{
+    match kept {
+        Came::OutOfMemory => asked(queue, client, driver, requests),
+        _ => kept,
+    }
+}
+
+/// Tries that. False where memory is refused again.
+fn try_again<T: Print, D: Machine<C, R>, C: Drop, R: Drop + Tells>(
+    rt: &T,
+    queue: &Queue<D, C, R>,
+    client: &mut Client<D, C, R>,
+    driver: &mut Driver<D, C, R>,
+    requests: &mut Requests<C, R>,
+    kept: Came,
+) -> bool
+    requires one { (client.old.seat.table_id ≡ queue.now.table.shared.table_id) × (driver.old.seat.table_id ≡ queue.now.table.shared.table_id) }
+    ensures one { (client.new.seat.table_id ≡ client.old.seat.table_id) × (driver.new.seat.table_id ≡ driver.old.seat.table_id) }
+{
+    let came = kept_again(queue, client, driver, requests, kept);
+    is_done(rt, "queue drive_one with memory", came)
+}
+
+/// Tries the calls of two clients with every request for memory refused, and then the one that takes memory.
+fn try_told<T: Print + Eprint, D: Machine<C, R>, C: Drop, R: Drop + Tells>(
+    rt: &T,
+    queue: &Queue<D, C, R>,
+    first: &mut Client<D, C, R>,
+    second: &mut Client<D, C, R>,
+    driver: &mut Driver<D, C, R>,
+    requests: &mut Requests<C, R>,
+)
+    requires one { (first.old.seat.table_id ≡ queue.now.table.shared.table_id) × (second.old.seat.table_id ≡ queue.now.table.shared.table_id) × (driver.old.seat.table_id ≡ queue.now.table.shared.table_id) }
+    requires two { first.old.seat.me.0.name ≢ second.old.seat.me.0.name }
+{
+    refuse_all(rt);
+    let told = told_of(queue, first, second, driver, requests);
+    refuse_none(rt);
+    tell_all(rt, told);
+    let _ = try_again(rt, queue, second, driver, requests, told.kept)
+        || try_again(rt, queue, second, driver, requests, told.kept);
+}
+
+/// Opens a queue over a machine, and tries the calls of two clients. False where the queue is refused.
+pub fn try_two<T: Print + Eprint, D: Machine<C, R>, C: Drop, R: Drop + Tells>(
+    rt: &T,
+    alloc: Global,
+    machine: D,
+    requests: &mut Requests<C, R>,
+) -> bool {
+    match open_two(alloc, machine) {
+        Ok((queue, mut first, mut second, mut driver)) => {
+            is_done(rt, "queue open", Came::Done);
+            try_told(rt, &queue, &mut first, &mut second, &mut driver, requests);
+            true
+        }
+        Err(_) => is_done(rt, "queue open", Came::OutOfMemory),
+    }
+}
+
+/// Whether the next request of an only client is done at once.
+fn is_answered<D: Machine<C, R>, C: Drop, R: Drop + Tells>(
+    queue: &Queue<D, C, R>,
+    client: &mut Client<D, C, R>,
+    driver: &mut Driver<D, C, R>,
+    requests: &mut Requests<C, R>,
+) -> bool
+    requires one { (client.old.seat.table_id ≡ queue.now.table.shared.table_id) × (driver.old.seat.table_id ≡ queue.now.table.shared.table_id) }
+    requires only { IsOnly driver.old.seat.me.0 client.old.seat.me.0 }
+    ensures one { (client.new.seat.table_id ≡ client.old.seat.table_id) × (driver.new.seat.table_id ≡ driver.old.seat.table_id) }
+    ensures only { IsOnly driver.new.seat.me.0 client.new.seat.me.0 }
+{
+    let Some(request) = requests.next() else {
+        return false;
+    };
+    match driver.answer(queue, client, request) {
+        Ok(request) => matches!(requests.keep(request), Came::Done),
+        Err(_) => false,
+    }
+}
+
+/// Whether three requests of an only client are done at once.
+fn are_answered<D: Machine<C, R>, C: Drop, R: Drop + Tells>(
+    queue: &Queue<D, C, R>,
+    client: &mut Client<D, C, R>,
+    driver: &mut Driver<D, C, R>,
+    requests: &mut Requests<C, R>,
+) -> bool
+    requires one { (client.old.seat.table_id ≡ queue.now.table.shared.table_id) × (driver.old.seat.table_id ≡ queue.now.table.shared.table_id) }
+    requires only { IsOnly driver.old.seat.me.0 client.old.seat.me.0 }
+{
+    let first = is_answered(queue, client, driver, requests);
+    let second = is_answered(queue, client, driver, requests);
+    let third = is_answered(queue, client, driver, requests);
+    first && second && third
+}
+
+/// Tries the call of an only client with every request for memory refused.
+fn try_answers<T: Print + Eprint, D: Machine<C, R>, C: Drop, R: Drop + Tells>(
+    rt: &T,
+    queue: &Queue<D, C, R>,
+    client: &mut Client<D, C, R>,
+    driver: &mut Driver<D, C, R>,
+    requests: &mut Requests<C, R>,
+)
+    requires one { (client.old.seat.table_id ≡ queue.now.table.shared.table_id) × (driver.old.seat.table_id ≡ queue.now.table.shared.table_id) }
+    requires only { IsOnly driver.old.seat.me.0 client.old.seat.me.0 }
+{
+    refuse_all(rt);
+    let are_done = are_answered(queue, client, driver, requests);
+    refuse_none(rt);
+    is_done(rt, "answer answer without memory", done_if(are_done));
+}
+
+/// Opens a queue over a machine, and tries the call of its only client. False where the queue is refused.
+pub fn try_one<T: Print + Eprint, D: Machine<C, R>, C: Drop, R: Drop + Tells>(
+    rt: &T,
+    alloc: Global,
+    machine: D,
+    requests: &mut Requests<C, R>,
+) -> bool {
+    match open_one(alloc, machine) {
+        Ok((queue, mut client, mut driver)) => {
+            is_done(rt, "answer open", Came::Done);
+            try_answers(rt, &queue, &mut client, &mut driver, requests);
+            true
+        }
+        Err(_) => is_done(rt, "answer open", Came::OutOfMemory),
+    }
+}
