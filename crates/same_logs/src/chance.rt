@@ -48,6 +48,9 @@ const PLACES: [&str; 8] = [
 /// The sizes of a launch: all items, and those of a group.
 const SIZES: [&str; 6] = ["1|1", "2|2", "4|4", "4|2", "6|2", "3|1"];
 
+/// What stands between the sizes of a launch and its source: its offset, whether it is uniform, and its budget.
+const MODES: [&str; 4] = ["|0|uniform|1000|", "|0||1000|", "|0||1000|", "|0||1000|"];
+
 /// Numbers by chance, which follow from a seed.
 #[derive(Clone, Copy)]
 pub struct Chance {
@@ -84,8 +87,7 @@ impl Chance {
     fn row(&mut self, alloc: Global) -> Result<String, AllocError> {
         let mut row = String::from_str(alloc, "by chance|aabt|128||")?;
         row.push_str(SIZES[self.below(6)])?;
-        row.push_str(["|0|uniform", "|0|", "|0|", "|0|"][self.below(4)])?;
-        row.push_str("|1000|")?;
+        row.push_str(MODES[self.below(4)])?;
         row.push_str(HEAD)?;
         for _ in 0..1 + self.below(4) {
             self.push_statement(&mut row)?;

@@ -1,6 +1,6 @@
-//! Launches that are run with each of the three access logs, which have to come to the same: those of standard input, and a
-//! thousand small ones that are made by chance. Of each launch the results of its groups are compared, the accesses in
-//! the two logs that are lists, and what it comes to when the groups are joined.
+//! Launches that are run with each of the three access logs, which have to come to the same: those of standard input,
+//! and a thousand small ones that are made by chance. Of each launch the results of its groups are compared, the
+//! accesses in the two logs that are lists, and what it comes to when the groups are joined.
 #![tactic(auto)]
 
 mod chance;

@@ -5,7 +5,8 @@
 #[derive(Clone, Copy)]
 pub struct Row<'a> {
     pub title: &'a [u8],
-    /// An argument for each letter: `a`, `b` and `c` are buffers, `t` is local memory of 16 bytes, a digit its number, `-` is -1
+    /// An argument for each letter: `a`, `b` and `c` are buffers, `t` is local memory of 16 bytes, a digit is its
+    /// number, and `-` is -1
     pub arguments: &'a [u8],
     /// How many bytes each buffer has, in decimal
     pub size: &'a [u8],
