@@ -200,11 +200,13 @@ fn perform<R: Files + io::Input + Print + Eprint + AllocGlobal + Threads + Wait 
         Ok(Invocation::Serve { options }) => {
             end_run(rt, serve_input(rt, options), "standard input")
         }
-        Ok(Invocation::Explain {
-            script,
-            schedule,
-            wish,
-        }) => {
+        Ok(
+            Invocation::Explain {
+                script,
+                schedule,
+                wish,
+            },
+        ) => {
             let outcome = explain_fault(rt, script, schedule, wish);
             end_replay(rt, outcome, script, schedule.unwrap_or(script))
         }
