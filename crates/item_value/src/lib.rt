@@ -11,6 +11,7 @@ pub mod accesses;
 pub mod elements;
 pub mod giving;
 pub mod item_context;
+pub mod kept_values;
 pub mod operators;
 mod parameters;
 pub mod pointers;

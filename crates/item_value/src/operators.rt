@@ -1,8 +1,7 @@
 //! Operators and built-in functions on values (OpenCL 1.2, sections 6.3 and 6.12.3).
 #![tactic(auto)]
 
-ghost use Rattle.std.specs.Prelude.{◌≡◌, Bool, [], ◌∷◌, not, pos, length};
-ghost use Rattle.std.specs.Ordering.{int_eq};
+ghost use Rattle.std.specs.Prelude.{◌≡◌, [], ◌∷◌, pos, length};
 ghost use Rattle.clnum.specs.Operations as operations;
 ghost use Rattle.clnum.specs.declared.int_type.IntType.TheVariants as int_type;
 ghost use Rattle.clmodel.specs.Next as next;
@@ -10,7 +9,6 @@ ghost use Rattle.clmodel.specs.Next.{Continuation};
 ghost use Rattle.clmodel.specs.Setup.{work_item_value};
 ghost use Rattle.clmodel.specs.declared.operand.Operand.{Operand};
 ghost use Rattle.clmodel.specs.declared.operand.Operand.TheVariants as operand;
-ghost use Rattle.clmodel.specs.declared.tree.VariableType.TheVariants as variable_type;
 ghost use Rattle.item_value.specs.Leading.{Leads};
 
 use crate::pointers::{moved, moved_back, number};
@@ -19,7 +17,7 @@ use crate::termination::Termination;
 use clmodel::action::Cause;
 use clmodel::operand::Operand;
 use clmodel::setup::WorkItemFunction;
-use clnum::{ArithFault, BinaryOperator, Builtin, IntType, Value, binary, builtin, convert};
+use clnum::{ArithFault, BinaryOperator, Builtin, IntType, Value, binary, builtin};
 
 /// What an operator on integers gave.
 fn arithmetic(outcome: Result<Value, ArithFault>) -> Result<Operand, Termination>
@@ -71,32 +69,6 @@ pub(crate) fn combined(
             _ => Err(Termination::Finish),
         },
     }
-}
-
-/// Whether a number isn't zero.
-fn is_set(value: Value) -> bool
-    ensures { result ≡ not (int_eq value.number (pos 0)) }
-{
-    value.number() != 0
-}
-
-/// Whether a value is a number other than zero.
-pub fn test(value: Operand) -> Result<bool, Termination>
-    ensures { (after : Bool → Continuation) → Leads result (next.test value after) after }
-{
-    match value {
-        Operand::Integral(value) => Ok(is_set(value)),
-        Operand::Pointed(_) => Err(Termination::Finish),
-    }
-}
-
-/// A number in the common type of its own and another type (C99 6.3.1.8).
-pub(crate) fn chosen_value(value: Operand, other: IntType) -> Result<Operand, Termination>
-    ensures { (after : Operand → Continuation) → Leads result (next.chosen_value value (variable_type.Integer other) after) after }
-{
-    let value = number(value)?;
-    let kind = value.kind().common(other);
-    Ok(Operand::Integral(convert(value, kind)))
 }
 
 /// The value of a function of integers.

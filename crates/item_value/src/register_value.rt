@@ -1,7 +1,8 @@
 //! What a register has, in few bytes.
 #![tactic(auto)]
 
-ghost use Rattle.std.specs.Prelude.{◌≡◌, None, Some};
+ghost use Rattle.std.specs.Prelude.{◌≡◌, ◌↔◌, IsTrue, IfSome, IsSome, None, Some};
+ghost use Rattle.clnum.specs.Integer.{IsIn};
 ghost use Rattle.clmodel.specs.declared.operand.Operand.TheVariants as operand;
 ghost use Rattle.item_value.specs.RegisterValues as kept;
 
@@ -11,24 +12,28 @@ use clnum::{IntType, Value};
 use std::marker::Model;
 use std::mem::size_of;
 
-/// What a register has: a value, or nothing. It takes 16 bytes, where an `Option<Operand>` takes 64: all items of a group have all their
-/// registers at once.
+/// What a register has: a value, or nothing. It takes 16 bytes, where an `Option<Operand>` takes 64: all items of a group
+/// have all their registers at once. Its parts are always there, so that it is copied without a look at what it is.
 #[derive(Clone, Copy)]
 pub struct RegisterValue {
     /// The low 64 bits of the number, or the offset of the pointer
-    bits: u64,
-    form: Form,
+    pub(crate) bits: u64,
+    pub(crate) form: Form,
+    /// The type of the number, or of the elements that the pointer points to
+    pub(crate) kind: IntType,
+    /// The number of the pointer's object
+    pub(crate) number: u32,
 }
 
 /// What the bits of a register are.
 #[derive(Clone, Copy)]
-enum Form {
+pub(crate) enum Form {
     Unset,
-    Integral(IntType),
-    /// A pointer into the buffer of a number
-    Buffer { element: IntType, number: u32 },
-    /// A pointer into the local object of a number
-    Local { element: IntType, number: u32 },
+    Integral,
+    /// A pointer into a buffer
+    Buffer,
+    /// A pointer into a local object
+    Local,
 }
 
 const _: () = prove!(size_of::<RegisterValue>() == 16);
@@ -36,18 +41,18 @@ const _: () = prove!(size_of::<RegisterValue>() == 16);
 impl Model for RegisterValue {
     ghost use Rattle.std.specs.Prelude.{Option};
     ghost use Rattle.clmodel.specs.declared.operand.Operand.{Operand};
-    ghost use Rattle.item_value.specs.RegisterValues.{content, IsKept, bits_of, form_of};
-    ghost use Rattle.item_value.specs.Kept.{bits_back, form_back};
+    ghost use Rattle.item_value.specs.RegisterValues.{content, IsKept, bits_of, form_of, kind_of, object_of};
+    ghost use Rattle.item_value.specs.Kept.{bits_back, form_back, kind_back, object_back};
 
     ghost Value = { Option Operand };
 
-    ghost view = { λ a. content a.bits a.form };
+    ghost view = { λ a. content a.bits a.form a.kind a.number };
 
-    ghost invariant = { λ a. IsKept a.bits a.form };
+    ghost invariant = { λ a. IsKept a.bits a.form a.kind a.number };
 
-    ghost inverse = { λ v. record { bits = bits_of v; form = form_of v } };
+    ghost inverse = { λ v. record { bits = bits_of v; form = form_of v; kind = kind_of v; number = object_of v } };
 
-    ghost inverse_ok = { λ a h i. record { bits = bits_back a.bits a.form h i; form = form_back a.bits a.form i } };
+    ghost inverse_ok = { λ a h i. record { bits = bits_back a.bits a.form a.kind a.number h i; form = form_back a.bits a.form a.kind a.number i; kind = kind_back a.bits a.form a.kind a.number h i; number = object_back a.bits a.form a.kind a.number h i } };
 }
 
 /// The number of a type that 64 bits stand for.
@@ -68,7 +73,9 @@ fn integral(value: Value) -> RegisterValue
     let _number = value.number();
     RegisterValue {
         bits: value.bits_in(IntType::Ulong),
-        form: Form::Integral(value.kind()),
+        form: Form::Integral,
+        kind: value.kind(),
+        number: 0,
     }
 }
 
@@ -76,12 +83,20 @@ fn integral(value: Value) -> RegisterValue
 fn pointed(pointer: Pointer) -> RegisterValue
     ensures { result ≡ Some (operand.Pointed pointer) }
 {
-    let element = pointer.element;
-    RegisterValue {
-        bits: pointer.offset.cast_unsigned(),
-        form: match pointer.object {
-            Object::Buffer(number) => Form::Buffer { element, number },
-            Object::Local(number) => Form::Local { element, number },
+    let bits = pointer.offset.cast_unsigned();
+    let kind = pointer.element;
+    match pointer.object {
+        Object::Buffer(number) => RegisterValue {
+            bits,
+            form: Form::Buffer,
+            kind,
+            number,
+        },
+        Object::Local(number) => RegisterValue {
+            bits,
+            form: Form::Local,
+            kind,
+            number,
         },
     }
 }
@@ -104,6 +119,8 @@ impl RegisterValue {
         RegisterValue {
             bits: 0,
             form: Form::Unset,
+            kind: IntType::Char,
+            number: 0,
         }
     }
 
@@ -117,24 +134,66 @@ impl RegisterValue {
         }
     }
 
+    /// A number of a type, from its low 64 bits.
+    #[inline(always)]
+    pub(crate) fn of_bits(kind: IntType, bits: u64) -> Self
+        requires { IsIn kind (kept.number_of kind bits) }
+        ensures { result ≡ Some (operand.Integral (kept.integer kind bits)) }
+    {
+        RegisterValue {
+            bits,
+            form: Form::Integral,
+            kind,
+            number: 0,
+        }
+    }
+
+    /// The low 64 bits of the number of a type that a register has, if it has one.
+    #[inline(always)]
+    pub(crate) fn bits_as(self, kind: IntType) -> Option<u64>
+        ensures { IfSome result (λ bits. (self ≡ Some (operand.Integral (kept.integer kind bits))) × IsIn kind (kept.number_of kind bits)) }
+    {
+        match self.form {
+            Form::Integral => {
+                if self.kind == kind {
+                    Some(self.bits)
+                } else {
+                    None
+                }
+            }
+            _ => None,
+        }
+    }
+
+    /// Whether a register has a value.
+    #[inline(always)]
+    pub(crate) fn is_set(self) -> bool
+        ensures { IsTrue result ↔ IsSome self }
+    {
+        match self.form {
+            Form::Unset => false,
+            _ => true,
+        }
+    }
+
     /// The value that a register has, if it has one.
     pub fn value(self) -> Option<Operand>
         ensures { result ≡ self }
     {
         match self.form {
             Form::Unset => None,
-            Form::Integral(kind) => Some(Operand::Integral(Value::new(
-                kind,
-                number_of(kind, self.bits),
+            Form::Integral => Some(Operand::Integral(Value::new(
+                self.kind,
+                number_of(self.kind, self.bits),
             ))),
-            Form::Buffer { element, number } => Some(Operand::Pointed(Pointer {
-                object: Object::Buffer(number),
-                element,
+            Form::Buffer => Some(Operand::Pointed(Pointer {
+                object: Object::Buffer(self.number),
+                element: self.kind,
                 offset: self.bits.cast_signed(),
             })),
-            Form::Local { element, number } => Some(Operand::Pointed(Pointer {
-                object: Object::Local(number),
-                element,
+            Form::Local => Some(Operand::Pointed(Pointer {
+                object: Object::Local(self.number),
+                element: self.kind,
                 offset: self.bits.cast_signed(),
             })),
         }
