@@ -10,7 +10,7 @@ ghost use Rattle.regcode.specs.Machine.{State, act, read};
 ghost use Rattle.regcode.specs.declared.instruction.FetchOperands.TheVariants as operands;
 ghost use Rattle.regcode.specs.declared.instruction.Instruction.TheVariants as instruction;
 ghost use Rattle.item_step.specs.Asking.{asks};
-ghost use Rattle.item_value.specs.Leading.{Leads};
+ghost use Rattle.register_values.specs.Leading.{Leads};
 ghost use Rattle.item_step.specs.Running.{is_asking};
 
 use crate::machine::Machine;
@@ -19,8 +19,8 @@ use clmodel::operand::Pointer;
 use clmodel::setup::AtomicFunction;
 use clnum::{Value, convert};
 use item_value::accesses::{fetch_of, load_of, store_of, update_of};
-use item_value::pointers::{number, pointing};
-use item_value::termination::Termination;
+use register_values::pointers::{number, pointing};
+use register_values::termination::Termination;
 use regcode::{FetchOperands, Instruction};
 
 /// The registers of a compare-exchange: of a pointer, of the number to compare with, and of the one to put.

@@ -5,7 +5,7 @@ use clmodel::access::Operation;
 use clmodel::action::{Action, Fences};
 use clmodel::operand::Pointer;
 use clnum::IntType;
-use item_value::termination::Termination;
+use register_values::termination::Termination;
 use regcode::Instruction;
 
 /// Why an item rests: it doesn't go on, or it stands at an instruction that asks.

@@ -1,7 +1,3 @@
 pub mod Arguments
 pub mod Counts
 pub mod ArrayLaws
-pub mod LeadingLaws
-pub mod RegisterValues
-pub mod Outcomes
-pub mod KeptValues

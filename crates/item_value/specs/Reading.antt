@@ -1,8 +1,8 @@
 -- How an operand is read.
 use Rattle.std.specs.Prelude.{◌≡◌, ℕ, Option, None, Some, Result, Ok, Err, slice_get}
 use Rattle.clmodel.specs.Next.{Continuation, finish, known}
-use Rattle.item_value.specs.Leading.{Leads}
-use Rattle.item_value.specs.declared.termination.Termination.{Termination}
+use Rattle.register_values.specs.Leading.{Leads}
+use Rattle.register_values.specs.declared.termination.Termination.{Termination}
 use Rattle.clmodel.specs.declared.operand.Operand.{Operand}
 use Rattle.regcode.specs.Machine.{entry_at, name_of}
 use Rattle.item_value.specs.declared.registers.RegisterFile.{RegisterFile}

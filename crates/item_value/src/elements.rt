@@ -9,12 +9,12 @@ ghost use Rattle.clmodel.specs.Next.{Continuation};
 ghost use Rattle.clmodel.specs.declared.operand.Operand.{Operand};
 ghost use Rattle.regcode.specs.Machine.{entry_at};
 ghost use Rattle.item_value.specs.Arrays.{all_present};
-ghost use Rattle.item_value.specs.Leading.{Leads};
+ghost use Rattle.register_values.specs.Leading.{Leads};
 
-use crate::kept_values::read_bits;
+use register_values::kept_values::read_bits;
 use crate::private_array::PrivateArray;
-use crate::register_value::RegisterValue;
-use crate::termination::Termination;
+use register_values::register_value::RegisterValue;
+use register_values::termination::Termination;
 use clmodel::action::Cause;
 use clnum::IntType;
 

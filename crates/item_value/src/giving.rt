@@ -6,18 +6,18 @@ ghost use Rattle.clmodel.specs.Next.{Continuation};
 ghost use Rattle.regcode.specs.Machine.{State, act, with_put};
 ghost use Rattle.item_value.specs.Arrays.{registers_with};
 ghost use Rattle.item_value.specs.ItemContext.{item_context};
-ghost use Rattle.item_value.specs.Leading.{Leads};
+ghost use Rattle.register_values.specs.Leading.{Leads};
 ghost use Rattle.item_value.specs.Giving.{gives, target};
 
 use crate::elements::PrivateElement;
 use crate::item_context::ItemContext;
-use crate::operators::work_dim;
+use crate::queries::work_dim;
 use crate::parameters::parameter;
-use crate::pointers::local_pointer;
+use register_values::pointers::local_pointer;
 use crate::private_array::PrivateArray;
-use crate::register_value::RegisterValue;
+use register_values::register_value::RegisterValue;
 use crate::registers::RegisterFile;
-use crate::termination::Termination;
+use register_values::termination::Termination;
 use crate::values::{
     Variable, apply_binary, apply_unary, assign, call_builtin, call_builtin_of_two, cast,
     load_private, load_variable, move_pointer, pointer_operand, query_work_item, to_common_type,

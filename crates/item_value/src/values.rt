@@ -13,21 +13,22 @@ ghost use Rattle.clmodel.specs.declared.setup.BuiltIn.TheVariants as built_in;
 ghost use Rattle.clmodel.specs.declared.tree.VariableType.TheVariants as variable_type;
 ghost use Rattle.regcode.specs.Machine.{entry_at};
 ghost use Rattle.item_value.specs.Arrays.{all_present};
-ghost use Rattle.item_value.specs.Leading.{Leads};
+ghost use Rattle.register_values.specs.Leading.{Leads};
 ghost use Rattle.item_value.specs.Reading.{reads};
 
 use crate::elements::{PrivateElement, element_value, elements_of};
-use crate::kept_values::{
+use register_values::kept_values::{
     combined_bits, combined_values, common_value, converted_value, held, moved_value, pointer_of,
     tested_value, unary_of,
 };
-use crate::operators::{of_one, of_two, work_item};
-use crate::pointers::{index_of, number};
+use crate::queries::work_item;
+use register_values::operators::{of_one, of_two};
+use register_values::pointers::{index_of, number};
 use crate::position::ItemPosition;
 use crate::private_array::PrivateArray;
-use crate::register_value::RegisterValue;
+use register_values::register_value::RegisterValue;
 use crate::registers::{RegisterFile, kept, kept_operand, operand};
-use crate::termination::Termination;
+use register_values::termination::Termination;
 use clmodel::action::Cause;
 use clmodel::setup::WorkItemFunction;
 use clmodel::tree::VariableType;

@@ -1,6 +1,6 @@
 use Rattle.std.proofs.Common.{sym, ap, ◌∙◌}
 use Rattle.std.proofs.lemmas.Bool.{false≢true}
-use Rattle.item_value.proofs.Outcomes.{read_some, read_none}
+use Rattle.register_values.proofs.Outcomes.{read_some, read_none}
 use Rattle.item_value.proofs.registers.kept_operand.Goals as goal
 
 pub returns-then-is_set : goal.returns-then-is_set

@@ -5,8 +5,8 @@ use Rattle.clnum.specs.Integer.{Integer}
 use Rattle.clmodel.specs.Next.{Continuation, element_at, element_value, index_of, number}
 use Rattle.regcode.specs.Machine.{entry_at}
 use Rattle.item_value.specs.Arrays.{all_present}
-use Rattle.item_value.specs.Leading.{Leads}
-use Rattle.item_value.proofs.LeadingLaws.{leads_ok}
+use Rattle.register_values.specs.Leading.{Leads}
+use Rattle.register_values.proofs.LeadingLaws.{leads_ok}
 use Rattle.item_value.proofs.values.load_private.Goals as goal
 
 pub returns : goal.returns

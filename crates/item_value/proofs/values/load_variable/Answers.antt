@@ -1,6 +1,6 @@
 use Rattle.std.proofs.Common.{Some, refl, sym, ◌∙◌}
 use Rattle.std.proofs.lemmas.Bool.{false≢true}
-use Rattle.item_value.proofs.Outcomes.{known_some, read_none}
+use Rattle.register_values.proofs.Outcomes.{known_some, read_none}
 use Rattle.item_value.proofs.values.load_variable.Goals as goal
 
 pub returns-then-is_set-value : goal.returns-then-is_set-value

@@ -1,5 +1,5 @@
 use Rattle.std.proofs.Common.{◌<◌, sym, subst, arith}
-use Rattle.item_value.proofs.LeadingLaws.{leads_ok}
+use Rattle.register_values.proofs.LeadingLaws.{leads_ok}
 use Rattle.item_step.specs.Waiting.{Waits}
 use Rattle.item_step.proofs.StateLaws.{asks_waits}
 use Rattle.item_step.proofs.machine.Machine.asked.Goals as goal

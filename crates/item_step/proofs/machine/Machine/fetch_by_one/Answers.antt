@@ -4,7 +4,7 @@ use Rattle.clmodel.specs.Next as next
 use Rattle.clmodel.specs.declared.operand.Operand.{Operand}
 use Rattle.regcode.specs.Machine.{with_put}
 use Rattle.regcode.specs.declared.instruction.FetchOperands.TheVariants as operands
-use Rattle.item_value.proofs.LeadingLaws.{leads_ok, leads_passed}
+use Rattle.register_values.proofs.LeadingLaws.{leads_ok, leads_passed}
 use Rattle.item_step.proofs.AskingLaws.{fetch_asks}
 use Rattle.item_step.proofs.machine.Machine.fetch_by_one.Goals as goal
 

@@ -1,5 +1,5 @@
 use Rattle.std.proofs.Common.{◌∙◌}
-use Rattle.item_value.proofs.LeadingLaws.{leads_ok, leads_passed}
+use Rattle.register_values.proofs.LeadingLaws.{leads_ok, leads_passed}
 use Rattle.item_step.proofs.AskingLaws.{load_asks}
 use Rattle.item_step.proofs.machine.Machine.load.Goals as goal
 

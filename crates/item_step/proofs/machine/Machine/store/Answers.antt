@@ -2,7 +2,7 @@ use Rattle.std.proofs.Common.{◌∙◌}
 use Rattle.clmodel.specs.Next as next
 use Rattle.clmodel.specs.declared.operand.Operand.TheVariants.{Integral}
 use Rattle.regcode.specs.Machine.{passed}
-use Rattle.item_value.proofs.LeadingLaws.{leads_ok, leads_passed}
+use Rattle.register_values.proofs.LeadingLaws.{leads_ok, leads_passed}
 use Rattle.item_step.proofs.AskingLaws.{stores_number, store_asks}
 use Rattle.item_step.proofs.machine.Machine.store.Goals as goal
 

@@ -2,7 +2,7 @@ use Rattle.std.proofs.Common.{None, ◌∙◌, pos}
 use Rattle.clnum.specs.Operations.{wrapped}
 use Rattle.clmodel.specs.Next as next
 use Rattle.regcode.specs.Machine.{passed}
-use Rattle.item_value.proofs.LeadingLaws.{leads_ok, leads_passed}
+use Rattle.register_values.proofs.LeadingLaws.{leads_ok, leads_passed}
 use Rattle.item_step.proofs.AskingLaws.{update_asks}
 use Rattle.item_step.proofs.machine.Machine.update_by_one.Goals as goal
 
