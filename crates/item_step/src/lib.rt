@@ -13,6 +13,7 @@ mod item;
 mod launch;
 mod local_objects;
 mod machine;
+mod prepared_steps;
 mod rest;
 mod run;
 mod setup;

@@ -6,13 +6,12 @@ use clmodel::action::{Action, Fences};
 use clmodel::operand::Pointer;
 use clnum::IntType;
 use register_values::termination::Termination;
-use regcode::Instruction;
 
-/// Why an item rests: it doesn't go on, or it stands at an instruction that asks.
+/// Why an item rests: it doesn't go on, or it stands at an instruction that asks, or at the end.
 #[derive(Clone, Copy)]
 pub(crate) enum Rest {
     Terminated(Termination),
-    Asks(Instruction),
+    Asks,
 }
 
 /// What an instruction asks.
