@@ -9,10 +9,10 @@ ghost use Rattle.clmodel.specs.Setup.{names_among, same_text, group_items};
 ghost use Rattle.clmodel.specs.declared.action.Answer.{Answer};
 ghost use Rattle.item_step.specs.Setups.{plain, ActsAsNext};
 ghost use Rattle.item_step.specs.Objects.{Lists, are_too_large};
-ghost use Rattle.item_step.specs.Running.{action_of};
+ghost use Rattle.item_machine.specs.Running.{action_of};
 ghost use Rattle.steps.specs.Steps.{Prepared};
 
-use crate::item::Item;
+use item_machine::Item;
 use crate::local_objects::{LocalObjects, local_objects};
 use crate::setup::Setup;
 use clmodel::setup::{Argument, Range};
@@ -99,24 +99,6 @@ impl<'a> Launch<'a> {
             buffers,
             group_counts,
             local_objects,
-        })
-    }
-
-    /// The launch with other code that acts as its program. Err if out of memory.
-    pub fn with_code(self, alloc: Global, other: &'a Code) -> Result<Launch<'a>, AllocError>
-        requires { ActsAsNext other.now (setup_of self) }
-        ensures setup { IfOk result (λ launch. setup_of launch ≡ setup_of self.entry) }
-        ensures code { IfOk result (λ launch. launch.code.now ≡ other.now) }
-    {
-        let steps = prepare(alloc, other)?;
-        Ok(Launch {
-            setup: self.setup,
-            code: other,
-            steps,
-            group_size: self.group_size,
-            buffers: self.buffers,
-            group_counts: self.group_counts,
-            local_objects: self.local_objects,
         })
     }
 
