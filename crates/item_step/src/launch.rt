@@ -10,7 +10,7 @@ ghost use Rattle.clmodel.specs.declared.action.Answer.{Answer};
 ghost use Rattle.item_step.specs.Setups.{plain, ActsAsNext};
 ghost use Rattle.item_step.specs.Objects.{Lists, are_too_large};
 ghost use Rattle.item_machine.specs.Running.{action_of};
-ghost use Rattle.steps.specs.Steps.{Prepared};
+ghost use Rattle.steps.specs.Steps.{Prepared, Prepared-prop};
 
 use item_machine::Item;
 use crate::local_objects::{LocalObjects, local_objects};
@@ -34,7 +34,7 @@ pub struct Launch<'a> {
     buffers: Vec<Name>,
     group_counts: Vec<u64>,
     local_objects: LocalObjects,
-    ghost prepared: { Prepared code.now.instructions steps.items },
+    ghost prepared: { Prepared code.now.instructions steps.items } by { Prepared-prop code.now.instructions steps.items },
     ghost faithful: { ActsAsNext code.now (plain setup) },
     ghost named: { buffers.items ≡ names_among [] setup.arguments.now },
     ghost few: { length buffers.items < 2 ^ 32 },

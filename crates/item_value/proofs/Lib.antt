@@ -1,3 +1,4 @@
 pub mod Arguments
 pub mod Counts
 pub mod ArrayLaws
+mod Assigned

@@ -10,12 +10,12 @@ ghost use Rattle.clmodel.specs.Next.{element_width, answered};
 ghost use Rattle.clmodel.specs.declared.access.Operation.TheVariants as operation;
 ghost use Rattle.clmodel.specs.declared.operand.Operand.TheVariants as operand;
 
-use register_values::kept_values::read_bits;
-use register_values::register_value::RegisterValue;
 use clmodel::access::{Class, FetchOp, Operation, Width};
 use clmodel::action::Answer;
 use clmodel::setup::AtomicFunction;
 use clnum::{IntType, UnaryOperator, Value, unary};
+use register_values::kept_values::read_bits;
+use register_values::register_value::RegisterValue;
 
 /// The width of an integer type.
 fn width(kind: IntType) -> Width

@@ -11,12 +11,12 @@ ghost use Rattle.regcode.specs.Machine.{entry_at};
 ghost use Rattle.item_value.specs.Arrays.{all_present};
 ghost use Rattle.register_values.specs.Leading.{Leads};
 
-use register_values::kept_values::read_bits;
 use crate::private_array::PrivateArray;
-use register_values::register_value::RegisterValue;
-use register_values::termination::Termination;
 use clmodel::action::Cause;
 use clnum::IntType;
+use register_values::kept_values::read_bits;
+use register_values::register_value::RegisterValue;
+use register_values::termination::Termination;
 
 /// An element of a private array as an instruction names it.
 #[derive(Clone, Copy)]

@@ -11,19 +11,19 @@ ghost use Rattle.item_value.specs.Giving.{gives, target};
 
 use crate::elements::PrivateElement;
 use crate::item_context::ItemContext;
-use crate::queries::work_dim;
 use crate::parameters::parameter;
-use register_values::pointers::local_pointer;
 use crate::private_array::PrivateArray;
-use register_values::register_value::RegisterValue;
+use crate::queries::work_dim;
 use crate::registers::RegisterFile;
-use register_values::termination::Termination;
 use crate::values::{
     Variable, apply_binary, apply_unary, assign, call_builtin, call_builtin_of_two, cast,
     load_private, load_variable, move_pointer, pointer_operand, query_work_item, to_common_type,
 };
 use clmodel::operand::Operand;
 use regcode::Instruction;
+use register_values::pointers::local_pointer;
+use register_values::register_value::RegisterValue;
+use register_values::termination::Termination;
 
 /// The value that an instruction with a target gives it without an answer.
 pub fn value_of(

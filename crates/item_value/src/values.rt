@@ -17,22 +17,22 @@ ghost use Rattle.register_values.specs.Leading.{Leads};
 ghost use Rattle.item_value.specs.Reading.{reads};
 
 use crate::elements::{PrivateElement, element_value, elements_of};
-use register_values::kept_values::{
-    combined_bits, combined_values, common_value, converted_value, held, moved_value, pointer_of,
-    tested_value, unary_of,
-};
-use crate::queries::work_item;
-use register_values::operators::{of_one, of_two};
-use register_values::pointers::{index_of, number};
 use crate::position::ItemPosition;
 use crate::private_array::PrivateArray;
-use register_values::register_value::RegisterValue;
+use crate::queries::work_item;
 use crate::registers::{RegisterFile, kept, kept_operand, operand};
-use register_values::termination::Termination;
 use clmodel::action::Cause;
 use clmodel::setup::WorkItemFunction;
 use clmodel::tree::VariableType;
 use clnum::{BinaryOperator, Builtin, IntType, UnaryOperator};
+use register_values::kept_values::{
+    combined_bits, combined_values, common_value, converted_value, held, moved_value, pointer_of,
+    tested_value, unary_of,
+};
+use register_values::operators::{of_one, of_two};
+use register_values::pointers::{index_of, number};
+use register_values::register_value::RegisterValue;
+use register_values::termination::Termination;
 
 /// A variable: the number of its register, and the place of its name in the table of names.
 #[derive(Clone, Copy)]

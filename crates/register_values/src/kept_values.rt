@@ -51,10 +51,7 @@ pub fn held(kind: VariableType, value: RegisterValue) -> RegisterValue
 }
 
 /// What a register has, which must be a number, in another type.
-pub fn converted_value(
-    value: RegisterValue,
-    kind: IntType,
-) -> Result<RegisterValue, Termination>
+pub fn converted_value(value: RegisterValue, kind: IntType) -> Result<RegisterValue, Termination>
     ensures { (v : Operand) (after : Option Operand → Continuation) → value ≡ Some v → Leads result (next.number v (λ n. after (Some (operand.Integral (converted n kind))))) after }
 {
     match value.form {
@@ -64,10 +61,7 @@ pub fn converted_value(
 }
 
 /// What a register has, which must be a number, in the common type of its own and another type (C99 6.3.1.8).
-pub fn common_value(
-    value: RegisterValue,
-    other: IntType,
-) -> Result<RegisterValue, Termination>
+pub fn common_value(value: RegisterValue, other: IntType) -> Result<RegisterValue, Termination>
     ensures { (v : Operand) (after : Option Operand → Continuation) → value ≡ Some v → Leads result (next.chosen_value v (variable_type.Integer other) (λ w. after (Some w))) after }
 {
     match value.form {
@@ -89,10 +83,7 @@ fn unary_bits(operator: UnaryOperator, kind: IntType, bits: u64) -> RegisterValu
 }
 
 /// An operator on what a register has, which must be a number.
-pub fn unary_of(
-    operator: UnaryOperator,
-    value: RegisterValue,
-) -> Result<RegisterValue, Termination>
+pub fn unary_of(operator: UnaryOperator, value: RegisterValue) -> Result<RegisterValue, Termination>
     ensures { (v : Operand) (after : Option Operand → Continuation) → value ≡ Some v → Leads result (next.number v (λ n. after (Some (operand.Integral (unary_value operator n))))) after }
 {
     match value.form {
