@@ -1,6 +1,6 @@
 -- A number of a type is held as it is by a variable of that type.
 use Rattle.std.proofs.Common.{◌≡◌, ℕ, Option, Some, ap, sym, ◌∙◌}
-use Rattle.clnum.specs.Integer.{Integer, IsIn, converted}
+use Rattle.clnum.specs.Integer.{IsIn, converted}
 use Rattle.clnum.proofs.Ranges.{wrap-in}
 use Rattle.clnum.specs.declared.int_type.IntType.{IntType}
 use Rattle.clmodel.specs.Next.{Continuation, held, known}

@@ -1,4 +1,4 @@
-use Rattle.std.proofs.Common.{sym, ap, ◌∙◌}
+use Rattle.std.proofs.Common.{sym, ◌∙◌}
 use Rattle.std.proofs.lemmas.Bool.{false≢true}
 use Rattle.register_values.proofs.Outcomes.{read_some, read_none}
 use Rattle.item_value.proofs.registers.kept_operand.Goals as goal
