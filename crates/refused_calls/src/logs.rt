@@ -17,10 +17,14 @@ fn noted<L: AccessLog>(log: &mut L, item: u32, is_first: bool) -> Came {
     }
 }
 
-/// Notes stores of two items, each again where it is refused.
+/// Notes stores of two items, each again where it is refused. Where the first is, the items change places: the other
+/// one's store meets nothing, since the log is as it was.
 fn try_notes<R: Print, L: AccessLog>(rt: &R, first: &str, second: &str, log: &mut L) {
-    let _ = is_done(rt, first, noted(log, 0, true)) || is_done(rt, first, noted(log, 0, true));
-    let _ = is_done(rt, second, noted(log, 1, false)) || is_done(rt, second, noted(log, 1, false));
+    let is_kept = is_done(rt, first, noted(log, 0, true));
+    let (earlier, later) = if is_kept { (0, 1) } else { (1, 0) };
+    let _ = is_kept || is_done(rt, first, noted(log, earlier, true));
+    let _ = is_done(rt, second, noted(log, later, false))
+        || is_done(rt, second, noted(log, later, false));
 }
 
 /// Tries the notes of both logs. That of a list is asked at the end how many accesses it keeps.

@@ -1,0 +1,9 @@
+use Rattle.clmodel.specs.Next.{launch_of}
+use Rattle.item_step.specs.Launches.{setup_of}
+use Rattle.snapshot_run.specs.Launches.{list_log}
+use Rattle.spaces_base.specs.Buffers.{bytes_in}
+use Rattle.refused_launches.proofs.Leading.{Lead}
+use Rattle.refused_launches.proofs.one_thread.results_of.Given as goal
+
+abbrev pub invariant-loop-group : goal.invariant-loop-group
+invariant-loop-group l = Lead (λ overlay. overlay.bytes) list_log (launch_of (setup_of l.launch) (bytes_in l.buffers)) l.group l.results.items

@@ -1,0 +1,26 @@
+//! Calls on a launch and a device, with a line for what came of each. `tools/rows` runs it with each request
+//! for memory refused in turn. A call that is refused then answers so. What it was lent is as before, and the same
+//! call is made again and does its work. The calls that take no memory are made between two lines on standard error,
+//! `refuse: all` and `refuse: none`, between which every request is refused.
+#![tactic(auto)]
+
+mod came;
+mod launch_calls;
+mod one_thread;
+mod scripts;
+mod without_memory;
+
+use std::alloc::Global;
+use std::marker::Sync;
+use std::sync::Wait;
+use std::thread::Threads;
+
+/// Tries all calls.
+fn try_all<R: Print + Eprint + Threads + Wait + Sync>(rt: &R, alloc: Global) {
+    launch_calls::try_all(rt, alloc);
+    without_memory::try_all(rt, alloc);
+}
+
+fn main(rt: HostRuntime) {
+    try_all(&rt, rt.alloc());
+}

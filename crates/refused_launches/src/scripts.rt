@@ -1,0 +1,58 @@
+//! Devices that have done the commands of a script, and commands that are yet to be done.
+
+use device::{Command, Device, Reply};
+use simfile::script::read_script;
+use std::alloc::Global;
+
+/// The budget of all devices.
+const BUDGET: u32 = 1000;
+
+/// The commands of a script. None where memory is refused.
+pub fn commands_of(alloc: Global, script: &str) -> Option<Vec<Command>> {
+    match read_script(alloc, script.as_bytes()) {
+        Ok(commands) => Some(commands),
+        Err(_) => None,
+    }
+}
+
+/// The last command of a script. None where memory is refused.
+pub fn command_of(alloc: Global, script: &str) -> Option<Command> {
+    match commands_of(alloc, script) {
+        Some(commands) => last_of(commands),
+        None => None,
+    }
+}
+
+/// The last of some commands.
+fn last_of(commands: Vec<Command>) -> Option<Command> {
+    let mut commands = commands;
+    commands.pop()
+}
+
+/// Whether a device does all of these commands.
+fn does_all(device: &mut Device, commands: Vec<Command>) -> bool {
+    let mut is_done = true;
+    for command in commands {
+        let reply = device.apply(command);
+        is_done = is_done && matches!(reply, Reply::Done);
+    }
+    is_done
+}
+
+/// A device that has done these commands. None where memory is refused.
+fn device_after(alloc: Global, commands: Vec<Command>) -> Option<Device> {
+    let mut device = Device::new(alloc, BUDGET);
+    if does_all(&mut device, commands) {
+        Some(device)
+    } else {
+        None
+    }
+}
+
+/// A device that has done all commands of a script. None where memory is refused.
+pub fn device_of(alloc: Global, script: &str) -> Option<Device> {
+    match commands_of(alloc, script) {
+        Some(commands) => device_after(alloc, commands),
+        None => None,
+    }
+}
