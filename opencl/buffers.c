@@ -1,3 +1,4 @@
+#include "digits.h"
 #include "objects.h"
 #include <stdio.h>
 #include <stdlib.h>
@@ -6,29 +7,22 @@
 // ---- bytes ----
 
 const char *ask_write(cl_context c, unsigned buffer, size_t offset, const void *from, size_t n) {
-    static const char digits[] = "0123456789abcdef";
-    const unsigned char *bytes = from;
     char *command = malloc(2 * n + 64);
     if (!command) return "refused 16 OutOfMemory";
     size_t at = (size_t)snprintf(command, 64, "write b%u %zu ", buffer, offset);
-    for (size_t i = 0; i < n; i++) {
-        command[at++] = digits[bytes[i] >> 4];
-        command[at++] = digits[bytes[i] & 15];
-    }
+    put_digits(command + at, from, n);
+    at += 2 * n;
     command[at++] = '\n';
     const char *reply = session_ask(c->session, command, at);
     free(command);
     return reply;
 }
 
-static unsigned nibble(char c) { return c <= '9' ? (unsigned)(c - '0') : (unsigned)(c - 'a') + 10; }
-
 cl_int ask_read(cl_context c, unsigned buffer, size_t offset, void *to, size_t n) {
     const char *reply = session_askf(c->session, "read b%u %zu %zu\n", buffer, offset, n);
-    unsigned char *bytes = to;
     if (!reply || strncmp(reply, "data ", 5) || strlen(reply) != 5 + 2 * n)
         return error_of(reply) == CL_SUCCESS ? CL_OUT_OF_RESOURCES : error_of(reply);
-    for (size_t i = 0; i < n; i++) bytes[i] = (unsigned char)(nibble(reply[5 + 2 * i]) << 4 | nibble(reply[6 + 2 * i]));
+    take_digits(to, reply + 5, n);
     return CL_SUCCESS;
 }
 
@@ -173,8 +167,8 @@ CL_API_ENTRY cl_int CL_API_CALL clEnqueueFillBuffer(cl_command_queue q, cl_mem m
     if (!pattern || !length || length > 128 || (length & (length - 1)) || offset % length || n % length || !n ||
         is_outside(m, offset, n))
         return CL_INVALID_VALUE;
-    char hex[2 * 128 + 1];
-    for (size_t i = 0; i < length; i++) snprintf(hex + 2 * i, 3, "%02x", ((const unsigned char *)pattern)[i]);
+    char hex[2 * 128 + 1] = "";
+    put_digits(hex, pattern, length);
     const char *reply = session_askf(q->context->session, "fill b%u %zu %zu %s\n", m->number, offset, n, hex);
     return finish(q, CL_COMMAND_FILL_BUFFER, error_of(reply), start, event);
 }

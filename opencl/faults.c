@@ -1,5 +1,6 @@
 // Faults in the client's terms.
 #define _GNU_SOURCE
+#include "digits.h"
 #include "objects.h"
 #include <stdio.h>
 #include <stdlib.h>
@@ -163,11 +164,7 @@ static bool add_buffer(text *t, cl_context c, unsigned number, size_t size) {
     char *bytes = take(t->arena, size);
     if (t->length > MAX_EXPLAINED_BYTES || ask_read(c, number, 0, bytes, size)) return false;
     char *hex = take(t->arena, 2 * size + 1);
-    static const char digits[] = "0123456789abcdef";
-    for (size_t i = 0; i < size; i++) {
-        hex[2 * i] = digits[(unsigned char)bytes[i] >> 4];
-        hex[2 * i + 1] = digits[bytes[i] & 15];
-    }
+    put_digits(hex, (const unsigned char *)bytes, size);
     addf(t, "buffer b%u %zu\nwrite b%u 0 ", number, size, number);
     add_bytes(t, hex, 2 * size);
     add(t, "\n");

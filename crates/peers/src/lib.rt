@@ -11,6 +11,7 @@
 
 ghost use Rattle.peers.specs.Talk.{Conversation, Hears, Tells};
 
+mod lines;
 pub mod stream;
 pub mod transcript;
 

@@ -4,6 +4,7 @@
 ghost use Rattle.std.specs.Prelude.{◌≡◌, []};
 
 use crate::Peer;
+use crate::lines::read_line;
 use crate::transcript::Transcript;
 use counted_io::{ReadFault, Write, WriteFailed};
 use std::io;
@@ -40,7 +41,7 @@ impl<R: io::BufRead + Drop, W: Write + Drop> Peer for StreamPeer<R, W> {
 
     fn hear(&mut self, line: &mut Vec<u8>) -> Result<usize, ReadFault> {
         let start = line.len();
-        let outcome = self.reader.read_until(b'\n', line);
+        let outcome = read_line(&mut self.reader, line);
         self.talk.heard(&line[start..]);
         match outcome {
             Ok(count) => Ok(count),
