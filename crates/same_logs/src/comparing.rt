@@ -1,0 +1,207 @@
+//! One launch, run with each of the three logs.
+#![tactic(auto)]
+
+ghost use Rattle.std.specs.Prelude.{◌≡◌};
+ghost use Rattle.item_step.specs.Launches.{setup_of};
+ghost use Rattle.launches.specs.Groups.{HasGroups};
+
+use crate::counting::counts_pages;
+use crate::failing::NotRun;
+use crate::logs::NewLog;
+use crate::results::{Results, run_groups};
+use crate::telling::{tell_outcome, tell_results};
+use fault_facts::Gathered;
+use group_log::GroupLog;
+use group_run::GroupResult;
+use item_step::Launch;
+use page_log::PageLog;
+use shadow_list::{Accesses, Entry, ListLog};
+use snapshot_merge::{merge, run_launch};
+use spaces::Overlay;
+use spaces_base::Buffers;
+use std::alloc::{AllocError, Global};
+
+/// What a launch comes to with one log.
+#[derive(Drop)]
+struct Told {
+    /// The results of its groups, run apart, as text
+    groups: Gathered,
+    /// The accesses of the groups' logs, where these are lists
+    accesses: Vec<Entry>,
+    /// Whether the log with pages counts its comparisons right, where it is given these accesses
+    is_counted: bool,
+    /// What it comes to, as text
+    outcome: Gathered,
+}
+
+impl Told {
+    /// Nothing yet.
+    fn new(alloc: Global) -> Self {
+        Told {
+            groups: Gathered::new(alloc),
+            accesses: Vec::new(alloc),
+            is_counted: true,
+            outcome: Gathered::new(alloc),
+        }
+    }
+
+    /// The text of what it comes to.
+    fn into_outcome(self) -> Vec<u8> {
+        self.outcome.bytes
+    }
+
+    /// Whether results and outcome are the same.
+    fn comes_to(&self, other: &Told) -> bool {
+        self.groups.bytes.as_slice() == other.groups.bytes.as_slice()
+            && self.outcome.bytes.as_slice() == other.outcome.bytes.as_slice()
+    }
+
+    /// Whether the accesses are the same, with the same events.
+    fn lists(&self, other: &Told) -> bool {
+        self.accesses.len() == other.accesses.len()
+            && self
+                .accesses
+                .iter()
+                .zip(&other.accesses)
+                .all(|(x, y)| x.access == y.access && x.event == y.event)
+    }
+}
+
+/// Appends the accesses of a log.
+fn list_accesses<L: Accesses>(log: &L, accesses: &mut Vec<Entry>) -> Result<(), AllocError> {
+    for i in 0..log.len() {
+        accesses.push(log.get(i))?;
+    }
+    Ok(())
+}
+
+/// Tells the accesses of a group's log.
+fn tell_log<L: Accesses>(alloc: Global, log: &L, told: &mut Told) -> Result<(), AllocError> {
+    list_accesses(log, &mut told.accesses)?;
+    told.is_counted = told.is_counted && counts_pages(alloc, log)?;
+    Ok(())
+}
+
+/// Tells the accesses of the logs of results.
+fn tell_logs<L: Accesses>(
+    alloc: Global,
+    results: &[GroupResult<Overlay<'_>, L>],
+    told: &mut Told,
+) -> Result<(), AllocError> {
+    for came in results {
+        match came {
+            GroupResult::Done { log, .. } | GroupResult::Stopped { log, .. } => {
+                tell_log(alloc, log, told)?;
+            }
+        }
+    }
+    Ok(())
+}
+
+/// Tells the results of groups that ran apart with logs that are lists.
+fn tell_groups<L: Accesses>(
+    alloc: Global,
+    results: &[GroupResult<Overlay<'_>, L>],
+    told: &mut Told,
+) -> Result<(), NotRun> {
+    tell_results(results, &mut told.groups)?;
+    tell_logs(alloc, results, told)?;
+    Ok(())
+}
+
+/// Runs a launch with a log that is a list: its groups apart, and these joined.
+fn run_with_lists<L: NewLog + Accesses>(
+    alloc: Global,
+    launch: &Launch<'_>,
+    buffers: &Buffers,
+    told: &mut Told,
+) -> Result<(), NotRun>
+    requires { HasGroups (setup_of launch.now) }
+{
+    let results: Results<'_, L> = run_groups(alloc, launch, buffers)?;
+    let are_told = tell_groups(alloc, results.as_slice(), told);
+    let is_written = {
+        let outcome = merge(alloc, launch, buffers, results)?;
+        tell_outcome(&outcome, &mut told.outcome)
+    };
+    is_written?;
+    are_told
+}
+
+/// Runs a launch with the log of launches that run: its groups apart, and the whole launch.
+fn run_with_group_logs(
+    alloc: Global,
+    launch: &Launch<'_>,
+    buffers: &Buffers,
+    told: &mut Told,
+) -> Result<(), NotRun>
+    requires { HasGroups (setup_of launch.now) }
+{
+    let are_told = {
+        let results: Results<'_, GroupLog> = run_groups(alloc, launch, buffers)?;
+        tell_results(results.as_slice(), &mut told.groups)
+    };
+    are_told?;
+    let is_written = {
+        let outcome = run_launch(alloc, launch, buffers)?;
+        tell_outcome(&outcome, &mut told.outcome)
+    };
+    is_written?;
+    Ok(())
+}
+
+/// Whether a launch comes to the same with the log with pages, which counts its comparisons right.
+fn is_same_with_pages(
+    alloc: Global,
+    launch: &Launch<'_>,
+    buffers: &Buffers,
+    lists: &Told,
+) -> Result<bool, NotRun>
+    requires { HasGroups (setup_of launch.now) }
+{
+    let mut pages = Told::new(alloc);
+    run_with_lists::<PageLog>(alloc, launch, buffers, &mut pages)?;
+    Ok(lists.comes_to(&pages) && lists.lists(&pages) && lists.is_counted && pages.is_counted)
+}
+
+/// Whether a launch comes to the same with the log of launches that run.
+fn is_same_with_group_logs(
+    alloc: Global,
+    launch: &Launch<'_>,
+    buffers: &Buffers,
+    lists: &Told,
+) -> Result<bool, NotRun>
+    requires { HasGroups (setup_of launch.now) }
+{
+    let mut groups = Told::new(alloc);
+    run_with_group_logs(alloc, launch, buffers, &mut groups)?;
+    Ok(lists.comes_to(&groups))
+}
+
+/// What a launch comes to by the list of all accesses, and whether it is the same with each log.
+#[derive(Drop)]
+pub struct Compared {
+    pub outcome: Vec<u8>,
+    pub is_same: bool,
+}
+
+impl Compared {
+    /// Whether the launch is clean.
+    pub fn is_clean(&self) -> bool {
+        self.outcome.as_slice().starts_with(b"clean")
+    }
+}
+
+/// Runs a launch with each log.
+pub fn compare(alloc: Global, launch: &Launch<'_>, buffers: &Buffers) -> Result<Compared, NotRun>
+    requires { HasGroups (setup_of launch.now) }
+{
+    let mut lists = Told::new(alloc);
+    run_with_lists::<ListLog>(alloc, launch, buffers, &mut lists)?;
+    let with_pages = is_same_with_pages(alloc, launch, buffers, &lists)?;
+    let with_group_logs = is_same_with_group_logs(alloc, launch, buffers, &lists)?;
+    Ok(Compared {
+        outcome: lists.into_outcome(),
+        is_same: with_pages && with_group_logs,
+    })
+}

@@ -1,0 +1,55 @@
+//! The results of a launch's work-groups, run apart with one log.
+#![tactic(auto)]
+
+ghost use Rattle.std.specs.Prelude.{◌≡◌, IfOk};
+ghost use Rattle.clmodel.specs.Next.{launch_of};
+ghost use Rattle.item_step.specs.Launches.{setup_of};
+ghost use Rattle.launches.specs.Groups.{HasGroups};
+ghost use Rattle.snapshot_merge.specs.Launches.{AreResults};
+ghost use Rattle.spaces_base.specs.Buffers.{bytes_in};
+ghost use Rattle.same_logs.specs.Stopping.{is_stopped};
+
+use crate::logs::NewLog;
+use group_run::GroupResult;
+use item_step::Launch;
+use snapshot_merge::group_count;
+use snapshot_run::one_group;
+use spaces::Overlay;
+use spaces_base::Buffers;
+use std::alloc::{AllocError, Global};
+
+/// The results of a launch's work-groups.
+pub type Results<'a, L> = Vec<GroupResult<Overlay<'a>, L>>;
+
+/// Whether a group has stopped.
+fn has_stopped<G, L>(came: &GroupResult<G, L>) -> bool
+    ensures { result ≡ is_stopped came.now }
+{
+    match came {
+        GroupResult::Done { .. } => false,
+        GroupResult::Stopped { .. } => true,
+    }
+}
+
+/// The groups of a launch run apart, up to and with the first that stops.
+pub fn run_groups<'a, L: NewLog>(
+    alloc: Global,
+    launch: &Launch<'_>,
+    buffers: &'a Buffers,
+) -> Result<Results<'a, L>, AllocError>
+    requires { HasGroups (setup_of launch.now) }
+    ensures { IfOk result (λ results. AreResults (λ overlay. overlay.bytes) L.Logged.log (launch_of (setup_of launch.now) (bytes_in buffers.now)) 0 results.items) }
+{
+    let groups = group_count(launch);
+    let uniform = launch.range().uniform;
+    let mut results = Vec::new(alloc);
+    for group in 0..groups {
+        let came = one_group(alloc, launch, buffers, group, L::new_log(alloc, uniform))?;
+        let stopped = has_stopped(&came);
+        results.push(came)?;
+        if stopped {
+            return Ok(results);
+        }
+    }
+    Ok(results)
+}

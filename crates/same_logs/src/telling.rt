@@ -1,0 +1,127 @@
+//! Results of work-groups and launches as text, by which they are compared.
+#![tactic(auto)]
+
+use clmodel::access::Width;
+use clmodel::outcome::Outcome;
+use clmodel::schedule::{EventRun, Schedule};
+use clmodel::text::Bytes;
+use counted_io::pieces::{Piece, write_pieces};
+use counted_io::{Write, WriteFailed};
+use fault_facts::Gathered;
+use group_run::GroupResult;
+use spaces::{Overlay, Space};
+
+const DIGITS: [u8; 16] = *b"0123456789abcdef";
+
+/// Writes what a group's buffer holds: its bytes as they are.
+fn tell_space(space: &Overlay<'_>, text: &mut Gathered) -> Result<(), WriteFailed> {
+    for at in 0..space.size() {
+        if let Ok(byte) = space.load(at, Width::One) {
+            text.write(&[(byte % 256) as u8])?;
+        }
+    }
+    text.write(b"\n")
+}
+
+/// Writes events.
+fn tell_run(run: EventRun, text: &mut Gathered) -> Result<(), WriteFailed> {
+    match run {
+        EventRun::Item { item, count } => write_pieces(
+            &[
+                Piece::Number32(item),
+                Piece::Text("*"),
+                Piece::Number(count),
+                Piece::Text(" "),
+            ],
+            text,
+        ),
+        EventRun::Release { group } => write_pieces(
+            &[Piece::Text("r"), Piece::Number32(group), Piece::Text(" ")],
+            text,
+        ),
+    }
+}
+
+/// Writes the events of a group that has ended.
+fn tell_runs(runs: &Schedule, text: &mut Gathered) -> Result<(), WriteFailed> {
+    for run in runs.as_slice() {
+        tell_run(*run, text)?;
+    }
+    text.write(b"\n")
+}
+
+/// Writes what a group's buffers hold.
+fn tell_spaces(spaces: &[Overlay<'_>], text: &mut Gathered) -> Result<(), WriteFailed> {
+    for space in spaces {
+        tell_space(space, text)?;
+    }
+    Ok(())
+}
+
+/// Writes the result of a group without its log.
+fn tell_result<L>(
+    came: &GroupResult<Overlay<'_>, L>,
+    text: &mut Gathered,
+) -> Result<(), WriteFailed> {
+    match came {
+        GroupResult::Done {
+            group,
+            spaces,
+            runs,
+            ..
+        } => {
+            write_pieces(&[Piece::Number32(*group), Piece::Text(" done\n")], text)?;
+            tell_spaces(spaces.as_slice(), text)?;
+            tell_runs(runs, text)
+        }
+        GroupResult::Stopped {
+            group,
+            fault,
+            runs,
+            ..
+        } => {
+            write_pieces(&[Piece::Number32(*group), Piece::Text(" ")], text)?;
+            replay_text::write(fault, runs, text)
+        }
+    }
+}
+
+/// Writes the results of groups without their logs.
+pub fn tell_results<L>(
+    results: &[GroupResult<Overlay<'_>, L>],
+    text: &mut Gathered,
+) -> Result<(), WriteFailed> {
+    for came in results {
+        tell_result(came, text)?;
+    }
+    Ok(())
+}
+
+/// Writes bytes, two hexadecimal digits each.
+fn tell_bytes(bytes: &[u8], text: &mut Gathered) -> Result<(), WriteFailed> {
+    text.write(b" ")?;
+    for byte in bytes {
+        text.write(&[
+            DIGITS[usize::from(*byte / 16)],
+            DIGITS[usize::from(*byte % 16)],
+        ])?;
+    }
+    Ok(())
+}
+
+/// Writes what the buffers hold after a launch that is clean.
+fn tell_contents(contents: &[Bytes], text: &mut Gathered) -> Result<(), WriteFailed> {
+    text.write(b"clean")?;
+    for bytes in contents {
+        tell_bytes(bytes.as_slice(), text)?;
+    }
+    text.write(b"\n")
+}
+
+/// Writes what a launch comes to.
+pub fn tell_outcome(outcome: &Outcome, text: &mut Gathered) -> Result<(), WriteFailed> {
+    match outcome {
+        Outcome::Clean(contents) => tell_contents(contents.as_slice(), text),
+        Outcome::Faulted(fault, schedule) => replay_text::write(fault, schedule, text),
+    }
+}
