@@ -10,6 +10,7 @@ use crate::failing::NotRun;
 use crate::logs::NewLog;
 use crate::results::{Results, run_groups};
 use crate::telling::{tell_outcome, tell_results};
+use clmodel::outcome::Outcome;
 use fault_facts::Gathered;
 use group_log::GroupLog;
 use group_run::GroupResult;
@@ -109,6 +110,12 @@ fn tell_groups<L: Accesses>(
     Ok(())
 }
 
+/// Tells what a launch comes to.
+fn tell_end(outcome: Outcome, told: &mut Told) -> Result<(), NotRun> {
+    tell_outcome(&outcome, &mut told.outcome)?;
+    Ok(())
+}
+
 /// Runs a launch with a log that is a list: its groups apart, and these joined.
 fn run_with_lists<L: NewLog + Accesses>(
     alloc: Global,
@@ -120,12 +127,22 @@ fn run_with_lists<L: NewLog + Accesses>(
 {
     let results: Results<'_, L> = run_groups(alloc, launch, buffers)?;
     let are_told = tell_groups(alloc, results.as_slice(), told);
-    let is_written = {
-        let outcome = merge(alloc, launch, buffers, results)?;
-        tell_outcome(&outcome, &mut told.outcome)
-    };
-    is_written?;
+    tell_end(merge(alloc, launch, buffers, results)?, told)?;
     are_told
+}
+
+/// Runs the groups of a launch apart.
+fn run_apart<L: NewLog>(
+    alloc: Global,
+    launch: &Launch<'_>,
+    buffers: &Buffers,
+    told: &mut Told,
+) -> Result<(), NotRun>
+    requires { HasGroups (setup_of launch.now) }
+{
+    let results: Results<'_, L> = run_groups(alloc, launch, buffers)?;
+    tell_results(results.as_slice(), &mut told.groups)?;
+    Ok(())
 }
 
 /// Runs a launch with the log of launches that run: its groups apart, and the whole launch.
@@ -137,17 +154,8 @@ fn run_with_group_logs(
 ) -> Result<(), NotRun>
     requires { HasGroups (setup_of launch.now) }
 {
-    let are_told = {
-        let results: Results<'_, GroupLog> = run_groups(alloc, launch, buffers)?;
-        tell_results(results.as_slice(), &mut told.groups)
-    };
-    are_told?;
-    let is_written = {
-        let outcome = run_launch(alloc, launch, buffers)?;
-        tell_outcome(&outcome, &mut told.outcome)
-    };
-    is_written?;
-    Ok(())
+    run_apart::<GroupLog>(alloc, launch, buffers, told)?;
+    tell_end(run_launch(alloc, launch, buffers)?, told)
 }
 
 /// Whether a launch comes to the same with the log with pages, which counts its comparisons right.
