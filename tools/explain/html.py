@@ -88,7 +88,9 @@ def event_dot(x, y, step, bad):
     place = step["place"]
     where = f"{place['script_line']}:{place['column']}" if place else ""
     words = f"{step['does']} {step['memory']} byte {step['byte']}"
-    if step["value"] is not None:
+    if step["left"] is not None:
+        words += f": was {step['value']}, now {step['left']}"
+    elif step["value"] is not None:
         words += f": {step['value']}"
     tip = quoted(f"{place['text']} ({words})" if place else words)
     kind = "bad" if bad else "event"

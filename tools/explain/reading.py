@@ -80,6 +80,14 @@ def place_of(item):
     return item["spot"] or item["last_access"]
 
 
+def text_of(line):
+    """The bytes of a line as an explanation tells them: of a line that is no UTF-8 with `?` for each byte beyond ASCII."""
+    try:
+        return line.decode()
+    except UnicodeDecodeError:
+        return "".join(chr(byte) if byte < 128 else "?" for byte in line)
+
+
 def lines_of(whole):
     """The lines of an explanation's script as bytes, by their numbers: all where the file of its name is there and has the lines that the
     explanation tells, else these alone."""
@@ -90,6 +98,6 @@ def lines_of(whole):
             lines = dict(enumerate(file.read().split(b"\n"), 1))
     except OSError:
         lines = {}
-    if all(lines.get(number, b"").decode(errors="replace") == text for number, text in told.items()):
+    if all(text in (text_of(lines.get(number, b"")), lines.get(number, b"").decode(errors="replace")) for number, text in told.items()):
         return lines
     return {number: text.encode() for number, text in told.items()}

@@ -157,10 +157,10 @@ value_data value = string (decimal value)
 abbrev pub step_data : Step → Data
 step_data (step.Release group code) =
     object (member (codes "place") (or_null code_data code) (member (codes "release") (number_data group) no_members))
-step_data (step.Item item does memory byte bytes value code) =
+step_data (step.Item item does memory byte bytes value left code) =
     object (member (codes "byte") (number_data byte) (member (codes "bytes") (number_data bytes) (member (codes "does") (string (kind_word does))
-    (member (codes "item") (number_data item) (member (codes "memory") (text_data memory) (member (codes "place") (or_null code_data code)
-    (member (codes "value") (or_null value_data value) no_members)))))))
+    (member (codes "item") (number_data item) (member (codes "left") (or_null value_data left) (member (codes "memory") (text_data memory)
+    (member (codes "place") (or_null code_data code) (member (codes "value") (or_null value_data value) no_members))))))))
 
 -- The whole.
 

@@ -39,14 +39,15 @@ fn step_value(alloc: Global, step: &Step) -> Result<Value, AllocError>
             byte,
             bytes,
             value,
+            left,
             code,
         } => {
             let (item, does, memory) = (*item, kind_word(*does), memory.as_str());
             let (byte, bytes, value) = (*byte, *bytes, text_or_null(alloc, *value)?);
-            let place = code_or_null(alloc, code)?;
+            let (left, place) = (text_or_null(alloc, *left)?, code_or_null(alloc, code)?);
             json!(in alloc; {
-                "value": value, "place": place, "memory": memory, "item": item, "does": does, "bytes": bytes,
-                "byte": byte
+                "value": value, "place": place, "memory": memory, "left": left, "item": item, "does": does,
+                "bytes": bytes, "byte": byte
             })
         }
     }

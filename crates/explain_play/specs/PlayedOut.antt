@@ -1,5 +1,5 @@
 -- What a schedule came to that was played (own).
-use Rattle.std.specs.Prelude.{◌≡◌, ◌==◌, ◌&&◌, ℕ, Bool, true, false, None, Some, List, count_by, map, reverse, slice_get, take}
+use Rattle.std.specs.Prelude.{◌≡◌, ◌==◌, ◌&&◌, ℕ, Bool, true, false, Some, List, count_by, map, reverse, slice_get, take}
 use Rattle.std.specs.Option.{IfSome}
 use Rattle.clmodel.specs.Cells.{byte_count}
 use Rattle.clmodel.specs.Launch.{Launch, both_store, group_of, location_of}
@@ -25,7 +25,7 @@ pub record Tells (launch : Launch) (f : Fault) (told : Told) : Type 0 where
   pub grouped : told.one_group ≡ (group_of launch told.first.item == group_of launch told.second.item)
   pub stores : told.by_byte ≡ (both_store told.first.kind told.second.kind && launch.uniform)
 
--- an access as it is told, without a value (own)
+-- an access as it is told (own)
 abbrev pub touch_of : Launch → Access → Touch
 touch_of launch access =
     record {
@@ -34,11 +34,7 @@ touch_of launch access =
       location = location_of launch access.region;
       byte = access.first;
       bytes = byte_count access.width;
-      value = None;
     }
-
-abbrev pub without_value : Touch → Touch
-without_value touch = record touch { value = None }
 
 -- an event makes an access: that of an item (own)
 abbrev pub is_access : Event → Bool
@@ -58,14 +54,15 @@ pub record IsEventOf (marks : List Mark) (item number : ℕ) : Type 0 where
   pub at : slice_get marks number ≡ Some mark
   pub is : mark.event ≡ event.Item item
 
--- The events were played from the start to a state, each with the place from which its item acts. The first accesses of the log there are told.
+-- The events were played from the start to a state, each with the place from which its item acts, and with the numbers that its access finds and
+-- leaves. The first accesses of the log there are told.
 -- If two accesses are found, they are in the log, and are those of the fault; and each of the two named items acts from the place that is told
 -- of it (own).
 pub record IsPlayedOut (launch : Launch) (size : ℕ) (events : Events) (f : Fault) (first second most : ℕ) (played : Played) : Type 0 where
   pub end : State
   pub marked : events_in played.marks.items ≡ events
   pub led : Lead launch size (start launch) played.marks.items end
-  pub touched : map without_value played.touches.items ≡ map (touch_of launch) (take most (reverse end.log))
+  pub touched : played.touches.items ≡ map (touch_of launch) (take most (reverse end.log))
   pub paired : IfSome played.pair (λ pair. (told : Told) × Tells launch f told × IsFoundPair launch told (reverse end.log) pair)
   pub first_named : played.first.item ≡ first
   pub second_named : played.second.item ≡ second

@@ -6,7 +6,6 @@
 mod judging;
 mod played;
 mod short_way;
-mod values;
 
 pub use played::{Played, Standing, Touch, event_of, last_of, play};
 pub use short_way::shorter;

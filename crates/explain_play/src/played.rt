@@ -6,19 +6,19 @@ ghost use Rattle.clmodel.specs.Launch.{Launch as TheLaunch};
 ghost use Rattle.clmodel.specs.Law.{Reaches};
 ghost use Rattle.clmodel.specs.Next.{launch_of};
 ghost use Rattle.clmodel.specs.Outcome.{events_of};
-ghost use Rattle.clmodel.specs.Run.{State};
+ghost use Rattle.clmodel.specs.Run.{State, initial};
 ghost use Rattle.clmodel.specs.Setup.{group_items};
 ghost use Rattle.clmodel.specs.declared.fault.Fault.{Fault};
 ghost use Rattle.item_step.specs.Launches.{setup_of};
 ghost use Rattle.launches.specs.Groups.{HasGroups};
 ghost use Rattle.marked_play.specs.Marks.{ActsFrom};
 ghost use Rattle.marked_play.specs.Pairs.{IsFoundPair};
+ghost use Rattle.marked_play.specs.Replicas.{Mirrors};
 ghost use Rattle.marked_play.specs.declared.pairs.Told.{Told};
 ghost use Rattle.replay_play.specs.States.{IsAt};
 ghost use Rattle.spaces_base.specs.Buffers.{bytes_in};
-ghost use Rattle.explain_play.specs.PlayedOut.{IsEventOf, IsPlayedOut, MadeAccess, Tells, is_access, touch_of, without_value};
+ghost use Rattle.explain_play.specs.PlayedOut.{IsEventOf, IsPlayedOut, MadeAccess, Tells, is_access, touch_of};
 
-use crate::values::Values;
 use clmodel::access::{Access, AccessKind};
 use clmodel::action::Action;
 use clmodel::fault::{Fault, Location};
@@ -27,7 +27,7 @@ use clmodel::text::Name;
 use item_step::Launch;
 use launches::laws::setups_are_runnable;
 use launches::{Described, LoadedLaunch, Runnable, group_count};
-use marked_play::{Mark, Pair, Partner, Told, find_pair, mark_schedule, place_of};
+use marked_play::{Mark, Pair, Partner, Replica, Told, find_pair, mark_schedule, place_of};
 use replay_play::Player;
 use shadow_list::both_store;
 use spaces_base::{Buffers, Plain};
@@ -41,8 +41,6 @@ pub struct Touch {
     pub location: Location,
     pub byte: u64,
     pub bytes: u64,
-    /// What a store leaves or a load gives, where it is known
-    pub value: Option<u64>,
 }
 
 /// Where a named item stands behind a schedule: its place, if it hasn't ended, and the element size of its next access,
@@ -132,27 +130,23 @@ fn first_of(log: &[Access], most: usize) -> &[Access]
     if most < log.len() { &log[..most] } else { log }
 }
 
-/// The accesses of a log with their locations and values.
+/// The accesses of a log with their locations.
 fn touches_of<D: Described>(
     alloc: Global,
     launch: &D,
-    buffers: &Buffers,
     log: &[Access],
 ) -> Result<Vec<Touch>, AllocError>
-    ensures { IfOk result (λ touches. map without_value touches.items ≡ map (touch_of (D.launch launch.now)) log.now) }
+    ensures { IfOk result (λ touches. touches.items ≡ map (touch_of (D.launch launch.now)) log.now) }
 {
-    let mut values = Values::new(alloc, buffers);
     let mut touches = Vec::new(alloc);
     for access in log {
         let location = launches::location_of(launch, access.region)?;
-        let value = values.take(&location, access)?;
         touches.push(Touch {
             item: access.item,
             kind: access.kind,
             location,
             byte: access.first,
             bytes: access.width.bytes(),
-            value,
         })?;
     }
     Ok(touches)
@@ -170,6 +164,20 @@ fn standing_of<D: Runnable>(player: &mut Player<'_, D>, item: u32) -> Result<Sta
         _ => None,
     };
     Ok(Standing { item, place, width })
+}
+
+/// A replica of the memory of a launch of so many groups, before its first event. An error is out of memory.
+fn replica_of(
+    alloc: Global,
+    launch: &Launch<'_>,
+    groups: u32,
+    buffers: &Buffers,
+) -> Result<Replica, AllocError>
+    ensures { IfOk result (λ replica. let told = launch_of (setup_of launch.now) (bytes_in buffers.now) in Mirrors told replica (initial told)) }
+{
+    let memory = copies(alloc, launch.buffer_names(), buffers)?;
+    let (size, sizes) = (launch.group_size(), launch.local_sizes());
+    Replica::new(alloc, size, groups, sizes, memory)
 }
 
 /// Plays a schedule on copies of the buffers. None where an event isn't possible, so that it leads to no fault. Of the
@@ -193,13 +201,15 @@ pub fn play(
     let groups = group_count(launch);
     let memory = copies(alloc, launch.buffer_names(), buffers)?;
     let mut player = Player::new(alloc, &loaded, groups, memory)?;
+    let mut replica = replica_of(alloc, launch, groups, buffers)?;
     let mut marks = Vec::new(alloc);
     let size = launch.group_size();
-    if !mark_schedule(&mut player, size, schedule.as_slice(), &mut marks)? {
+    let runs = schedule.as_slice();
+    if !mark_schedule(&mut player, &mut replica, size, runs, &mut marks)? {
         return Ok(None);
     }
     let pair = pair_of(alloc, &loaded, fault, player.log())?;
-    let touches = touches_of(alloc, &loaded, buffers, first_of(player.log(), most))?;
+    let touches = touches_of(alloc, &loaded, first_of(player.log(), most))?;
     let first = standing_of(&mut player, items.0)?;
     let second = standing_of(&mut player, items.1)?;
     Ok(Some(Played {

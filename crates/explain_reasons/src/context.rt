@@ -9,11 +9,12 @@ ghost use Rattle.explain_reasons.specs.Spotted.{BeginsAt, HasSpot, IsSpotted};
 
 use clmodel::text::Name;
 use clmodel::tree::{Expression, Statement, Target};
-use explanation::{Code, NodeKind, Spot};
+use explanation::{Code, NodeKind, Spot, line_as_text};
 use host_commands::command::Command;
 use item_step::Launch;
 use launch_facts::ProgramSource;
 use origins::{Node, Origin, origin_of};
+use source_lines::{line_text, position_of};
 use source_spots::{Source, code_of, spot_of};
 use std::alloc::{AllocError, Global};
 
@@ -71,18 +72,22 @@ fn kind_of(node: Node<'_>) -> NodeKind {
     }
 }
 
+/// The text of the line in which a byte stands, or the end, with as many bytes as the line has. An error is out of
+/// memory.
+fn line_at(alloc: Global, source: &[u8], at: usize) -> Result<String, AllocError> {
+    let begin = position_of(source, at.min(source.len())).begin;
+    line_as_text(alloc, line_text(source, begin))
+}
+
 /// The place of an origin in a source. An error is out of memory.
 fn spot_in(alloc: Global, source: &Source<'_>, origin: &Origin<'_>) -> Result<Spot, AllocError>
     ensures { IfOk result (BeginsAt source.now.text.now source.now.first_line origin.now) }
 {
     let node = origin.node;
-    spot_of(
-        alloc,
-        source,
-        kind_of(node),
-        node.at(),
-        origin.through.as_slice(),
-    )
+    let through = origin.through.as_slice();
+    let mut spot = spot_of(alloc, source, kind_of(node), node.at(), through)?;
+    spot.text = line_at(alloc, source.text, spot.offset)?;
+    Ok(spot)
 }
 
 impl<'a> Context<'a> {
@@ -104,7 +109,7 @@ impl<'a> Context<'a> {
     }
 
     /// The origin of the instruction at a place of the code. An error is out of memory.
-    fn origin(&self, place: usize) -> Result<Option<Origin<'a>>, AllocError>
+    pub(crate) fn origin(&self, place: usize) -> Result<Option<Origin<'a>>, AllocError>
         ensures origin { IfOk result (IsOriginIn (setup_of self.now.launch.now).program.functions (setup_of self.now.launch.now).kernel place) }
         ensures none { IfOk result (λ found. kernel_in (setup_of self.now.launch.now).program.functions (setup_of self.now.launch.now).kernel ≡ None → found ≡ None) }
     {

@@ -4,12 +4,14 @@
 //! launch with its source, and performs no command.
 #![tactic(auto)]
 
+mod arrays;
 mod context;
 mod events;
 mod named;
 mod reasons;
 mod steps;
 
+pub use arrays::{PrivateArray, array_of};
 pub use context::Context;
 pub use named::named_items;
 pub use reasons::reasons_of;

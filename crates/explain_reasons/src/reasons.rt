@@ -1,10 +1,12 @@
 //! Why a fault comes about, in sentences.
 #![tactic(auto)]
 
+use crate::arrays::array_of;
 use crate::context::Context;
 use crate::events::{is_access, is_release, place_at};
 use clmodel::access::{AccessKind, Clash, Class};
 use clmodel::fault::{Fault, Location};
+use clmodel::text::Name;
 use explain_play::{Played, Touch, event_of};
 use explanation::Memory;
 use marked_play::Mark;
@@ -118,15 +120,25 @@ fn classes_reason(alloc: Global, one: Class, other: Class) -> Result<String, All
     )
 }
 
+/// The number that an access of a log leaves, where it is known.
+fn left_by(marks: &[Mark], access: usize) -> Option<u64> {
+    match marks.get(event_of(marks, access)?) {
+        Some(mark) => mark.left,
+        None => None,
+    }
+}
+
 /// Whether the two accesses of a conflict, which are stores, are known to leave the same.
 fn store_the_same(played: &Played) -> bool {
     let Some(pair) = played.pair else {
         return false;
     };
-    let touches = played.touches.as_slice();
+    let (marks, touches) = (played.marks.as_slice(), played.touches.as_slice());
     match (touches.get(pair.first), touches.get(pair.second)) {
         (Some(one), Some(other)) => {
-            one.byte == other.byte && one.bytes == other.bytes && one.value == other.value
+            let left = left_by(marks, pair.first);
+            let same = left.is_some() && left == left_by(marks, pair.second);
+            same && one.byte == other.byte && one.bytes == other.bytes
         }
         _ => false,
     }
@@ -164,12 +176,21 @@ fn clash_reason(
     String::from_str(alloc, words)
 }
 
+/// A number with a word behind it, whose plural has an ending.
+fn counted(alloc: Global, count: u64, word: &str, ending: &str) -> Result<String, AllocError> {
+    let ending = if count == 1 { "" } else { ending };
+    format!(in alloc; "{count} {word}{ending}")
+}
+
 /// How many elements an object has, where it has this many bytes.
 fn count_reason(alloc: Global, name: &str, size: u64, width: u64) -> Result<String, AllocError> {
     let count = if width == 0 { 0 } else { size / width };
-    format!(in alloc;
-        "{name} has {size} bytes, which are {count} elements of {width} bytes, numbered from 0"
-    )
+    let bytes = counted(alloc, size, "byte", "s")?;
+    let elements = counted(alloc, count, "element", "s")?;
+    let each = counted(alloc, width, "byte", "s")?;
+    let (bytes, elements, each) = (bytes.as_str(), elements.as_str(), each.as_str());
+    let are = if count == 1 { "is" } else { "are" };
+    format!(in alloc; "{name} has {bytes}, which {are} {elements} of {each}, numbered from 0")
 }
 
 /// Why an element is out of bounds, where the size of the object and of the element are known.
@@ -245,6 +266,11 @@ fn store_reason(
     let last = first.saturating_add(touch.bytes.saturating_sub(1));
     let at = text_at(context, place)?;
     let at = at.as_str();
+    if last == first {
+        return format!(in alloc;
+            "the nearest byte that was set is {first}, by work-item {item}{at}; if another work-item sets this byte later, a barrier between the two is missing"
+        );
+    }
     format!(in alloc;
         "the nearest bytes that were set are {first} to {last}, by work-item {item}{at}; if another work-item sets this byte later, a barrier between the two is missing"
     )
@@ -304,8 +330,14 @@ fn budget_reason(
     let accesses = accesses_of(marks, item);
     let barriers = barriers_of(marks, item / context.launch.group_size());
     let turns = u64::from(budget).saturating_sub(accesses.saturating_add(barriers));
+    let ticks = counted(alloc, u64::from(budget), "tick", "s")?;
+    let accesses = counted(alloc, accesses, "access", "es")?;
+    let barriers = counted(alloc, barriers, "barrier", "s")?;
+    let turns = counted(alloc, turns, "turn", "s")?;
+    let (ticks, accesses) = (ticks.as_str(), accesses.as_str());
+    let (barriers, turns) = (barriers.as_str(), turns.as_str());
     format!(in alloc;
-        "the budget of {budget} ticks went to {accesses} accesses, {barriers} barriers and {turns} turns of loops; a loop without end uses up any budget"
+        "the budget of {ticks} went to {accesses}, {barriers} and {turns} of loops; a loop without end uses up any budget"
     )
 }
 
@@ -314,7 +346,6 @@ fn plain_reason(fault: &Fault) -> &'static str {
     match fault {
         Fault::Divergence { .. } =>
             "all work-items of a group have to come to the same barrier, in the same turns of the loops round it, before one passes it; these two never will",
-        Fault::PrivateBounds { .. } => "the array is shorter",
         Fault::UnsetVariable { .. } =>
             "the variable was declared without a value, and no assignment came before this read",
         Fault::UnsetElement { .. } =>
@@ -324,6 +355,7 @@ fn plain_reason(fault: &Fault) -> &'static str {
             "the left operand is the least number of its type and the right one is -1: their quotient is one above the greatest",
         Fault::Conflict { .. }
         | Fault::Bounds { .. }
+        | Fault::PrivateBounds { .. }
         | Fault::Unset { .. }
         | Fault::Budget { .. } => "",
     }
@@ -357,6 +389,22 @@ fn conflict_reasons(
     both(context.alloc, order, clash)
 }
 
+/// Why an element is outside of a private array.
+fn private_reason(
+    context: &Context<'_>,
+    played: &Played,
+    name: &Name,
+) -> Result<String, AllocError> {
+    let alloc = context.alloc;
+    match array_of(context, played.first.place, name)? {
+        Some(array) => {
+            let name = String::from_utf8_lossy(alloc, name.as_slice())?;
+            count_reason(alloc, name.as_str(), array.bytes(), array.width)
+        }
+        None => String::from_str(alloc, "the array is shorter"),
+    }
+}
+
 /// Why an element is out of bounds, if more is known than that it is.
 fn bounds_reasons(
     alloc: Global,
@@ -387,6 +435,7 @@ pub fn reasons_of(
             ..
         } => conflict_reasons(context, played, *clash, (*kind, *other_kind), location),
         Fault::Bounds { .. } => bounds_reasons(alloc, played, memory),
+        Fault::PrivateBounds { array, .. } => one(alloc, private_reason(context, played, array)?),
         Fault::Unset { location, byte, .. } => {
             one(alloc, unset_reason(context, played, location, *byte)?)
         }

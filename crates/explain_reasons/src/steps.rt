@@ -2,6 +2,7 @@
 #![tactic(auto)]
 
 use crate::context::Context;
+use clmodel::access::AccessKind;
 use clmodel::fault::Location;
 use clmodel::schedule::Event;
 use explain_play::{Played, Touch};
@@ -28,16 +29,27 @@ fn location_text(alloc: Global, location: &Location) -> Result<String, AllocErro
     }
 }
 
+/// The numbers of an access: what a load gives, what a store leaves, and what an atomic function finds and leaves.
+fn values_of(kind: AccessKind, mark: &Mark) -> (Option<u64>, Option<u64>) {
+    match kind {
+        AccessKind::Load => (mark.found, None),
+        AccessKind::Store => (mark.left, None),
+        AccessKind::Update(_) | AccessKind::Fetch => (mark.found, mark.left),
+    }
+}
+
 /// The step of an access.
 fn access_step(context: &Context<'_>, touch: &Touch, mark: &Mark) -> Result<Step, AllocError> {
     let code = context.code(mark.place)?;
+    let (value, left) = values_of(touch.kind, mark);
     Ok(Step::Item {
         item: touch.item,
         does: touch.kind,
         memory: location_text(context.alloc, &touch.location)?,
         byte: touch.byte,
         bytes: touch.bytes,
-        value: touch.value,
+        value,
+        left,
         code,
     })
 }

@@ -1,10 +1,13 @@
 //! The items that a fault names.
 #![tactic(auto)]
 
-use crate::lines::ids_text;
-use crate::quotes::push_spot;
+ghost use Rattle.std.specs.Prelude.{◌≡◌, ◌++◌, List, ℕ, codes, string_bytes, IfOk, OnOk};
+ghost use Rattle.explain_text.specs.Texts.{AreItems, IsItemText, IsLastPlace, IsLastText, IsSpotText};
+
+use crate::lines::{ids_text, push_both};
+use crate::quotes::place_and_quote;
 use clmodel::access::{AccessKind, Class};
-use explanation::{Does, Explanation, MemoryKind, NamedItem};
+use explanation::{Does, Explanation, MemoryKind, NamedItem, Spot};
 use std::alloc::{AllocError, Global};
 use std::fmt::Write;
 
@@ -69,7 +72,11 @@ fn push_turns(turns: &[u32], out: &mut String) -> Result<(), AllocError> {
     for turn in others {
         write!(out, " and {turn}")?;
     }
-    out.push_str(" of the loops round it")
+    out.push_str(if others.is_empty() {
+        " of the loop round it"
+    } else {
+        " of the loops round it"
+    })
 }
 
 /// Adds what an item does.
@@ -92,6 +99,53 @@ fn push_deed(whole: &Explanation, item: &NamedItem, out: &mut String) -> Result<
     }
 }
 
+/// What an item does, with the number of the event where it is one.
+fn deed_text(alloc: Global, whole: &Explanation, item: &NamedItem) -> Result<String, AllocError> {
+    let mut out = String::new(alloc);
+    push_deed(whole, item, &mut out)?;
+    if let Some(event) = item.event {
+        write!(out, ", event {event}")?;
+    }
+    Ok(out)
+}
+
+/// The place of an item; nothing, where none is known.
+fn spot_text(alloc: Global, script: &str, spot: &Option<Spot>) -> Result<String, AllocError>
+    ensures { IfOk result (λ text. IsSpotText script.now spot.now (string_bytes text)) }
+{
+    match spot {
+        Some(spot) => place_and_quote(alloc, script, spot),
+        None => Ok(String::new(alloc)),
+    }
+}
+
+/// The place of a last access, behind words that say so.
+fn last_place(alloc: Global, script: &str, spot: &Spot) -> Result<String, AllocError>
+    ensures { IfOk result (λ text. IsLastPlace script.now spot.now (string_bytes text)) }
+{
+    let place = place_and_quote(alloc, script, spot)?;
+    let mut out = String::new(alloc);
+    push_both("    its last access:\n", place.as_str(), &mut out)?;
+    Ok(out)
+}
+
+/// The last access of an item that has ended; nothing, where none is known.
+fn last_text(alloc: Global, script: &str, spot: &Option<Spot>) -> Result<String, AllocError>
+    ensures { IfOk result (λ text. IsLastText script.now spot.now (string_bytes text)) }
+{
+    match spot {
+        Some(spot) => last_place(alloc, script, spot),
+        None => Ok(String::new(alloc)),
+    }
+}
+
+/// Adds the first line of an item: a word that says which of two it is, its ids, and what it does.
+fn push_first_line(word: &str, ids: &str, deed: &str, out: &mut String) -> Result<(), AllocError>
+    ensures { OnOk result (string_bytes out.new ≡ string_bytes out.old ++ (codes "  " ++ word.now ++ ids.now ++ codes " " ++ deed.now ++ codes "\n")) }
+{
+    write!(out, "  {word}{ids} {deed}\n")
+}
+
 /// Adds an item behind a word that says which of two it is.
 fn push_item(
     alloc: Global,
@@ -99,21 +153,16 @@ fn push_item(
     word: &str,
     item: &NamedItem,
     out: &mut String,
-) -> Result<(), AllocError> {
+) -> Result<(), AllocError>
+    ensures { OnOk result ((text : List ℕ) × IsItemText (string_bytes whole.now.script) item.now text × (string_bytes out.new ≡ string_bytes out.old ++ text)) }
+{
+    let script = whole.script.as_str();
     let ids = ids_text(alloc, item.item, &item.ids)?;
-    write!(out, "  {word}{ids} ")?;
-    push_deed(whole, item, out)?;
-    if let Some(event) = item.event {
-        write!(out, ", event {event}")?;
-    }
-    out.push('\n')?;
-    if let Some(spot) = &item.spot {
-        push_spot(alloc, whole.script.as_str(), spot, out)?;
-    }
-    if let Some(spot) = &item.last {
-        out.push_str("    its last access:\n")?;
-        push_spot(alloc, whole.script.as_str(), spot, out)?;
-    }
+    let deed = deed_text(alloc, whole, item)?;
+    let spot = spot_text(alloc, script, &item.spot)?;
+    let last = last_text(alloc, script, &item.last)?;
+    push_first_line(word, ids.as_str(), deed.as_str(), out)?;
+    push_both(spot.as_str(), last.as_str(), out)?;
     Ok(())
 }
 
@@ -126,10 +175,19 @@ fn word_of(number: u32, place: usize) -> &'static str {
     }
 }
 
-/// Adds the items.
-pub fn push_items(alloc: Global, whole: &Explanation, out: &mut String) -> Result<(), AllocError> {
+/// The items.
+pub(crate) fn items_text(alloc: Global, whole: &Explanation) -> Result<String, AllocError>
+    ensures { IfOk result (λ text. AreItems (string_bytes whole.now.script) whole.now.items.items (string_bytes text)) }
+{
+    let mut out = String::new(alloc);
     for (place, item) in whole.items.as_slice().iter().enumerate() {
-        push_item(alloc, whole, word_of(whole.fault.number, place), item, out)?;
+        push_item(
+            alloc,
+            whole,
+            word_of(whole.fault.number, place),
+            item,
+            &mut out,
+        )?;
     }
-    Ok(())
+    Ok(out)
 }

@@ -1,6 +1,7 @@
 //! An explanation as text for a terminal: the fault, its items with the lines of source under carets, the reason, the
-//! steps, and the schedule. It knows an explanation as data alone, and neither a launch nor a source. Of a work-item's
-//! ids and of places it promises the text; wording and carets are only tested.
+//! steps, and the schedule. It knows an explanation as data alone, and neither a launch nor a source. It promises the
+//! number of the fault, each item with its ids and places, the sentences and the schedule, in their order; the wording
+//! of the rest, carets and steps are only tested.
 #![tactic(auto)]
 
 mod items;

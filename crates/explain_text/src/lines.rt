@@ -42,7 +42,7 @@ pub fn numbers_text(alloc: Global, numbers: &[u64]) -> Result<String, AllocError
 }
 
 /// Adds a word and a text behind it.
-fn push_both(word: &str, text: &str, out: &mut String) -> Result<(), AllocError>
+pub(crate) fn push_both(word: &str, text: &str, out: &mut String) -> Result<(), AllocError>
     ensures { OnOk result (string_bytes out.new ≡ string_bytes out.old ++ (word.now ++ text.now)) }
 {
     out.push_str(word)?;
@@ -90,5 +90,21 @@ pub fn place_text(
     let mut out = String::from_str(alloc, script)?;
     push_number(line, &mut out)?;
     push_number(column, &mut out)?;
+    Ok(out)
+}
+
+/// Adds a place in a line of its own, with a text below.
+fn push_place(place: &str, below: &str, out: &mut String) -> Result<(), AllocError>
+    ensures { OnOk result (string_bytes out.new ≡ string_bytes out.old ++ (codes "      " ++ place.now ++ codes "\n" ++ below.now)) }
+{
+    write!(out, "      {place}\n{below}")
+}
+
+/// A place in a line of its own, with a text below.
+pub(crate) fn place_line(alloc: Global, place: &str, below: &str) -> Result<String, AllocError>
+    ensures { IfOk result (λ text. string_bytes text ≡ codes "      " ++ place.now ++ codes "\n" ++ below.now) }
+{
+    let mut out = String::new(alloc);
+    push_place(place, below, &mut out)?;
     Ok(out)
 }

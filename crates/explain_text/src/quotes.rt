@@ -1,29 +1,41 @@
 //! A line of source with carets under a place in it.
 #![tactic(auto)]
 
-use crate::lines::place_text;
+ghost use Rattle.std.specs.Prelude.{◌≡◌, IfOk, string_bytes};
+ghost use Rattle.explain_text.specs.Texts.{IsPlaceText};
+
+use crate::lines::{place_line, place_text};
 use explanation::{CallSite, LoopSite, Spot};
 use std::alloc::{AllocError, Global};
 use std::fmt::Write;
+use unicode_width::UnicodeWidthChar;
 
-/// How wide a line of source is at most, in characters. A line that is longer is cut, so that the place is seen.
+/// How wide a line of source is at most, in columns of a terminal. A line that is longer is cut, so that the place is
+/// seen.
 const WIDTH: usize = 100;
 
-/// How many characters stand in front of a place at most.
+/// How many columns stand in front of a place at most.
 const LEAD: usize = 60;
 
-/// How many characters a tab stands for.
+/// How many columns a tab takes.
 const TAB: usize = 4;
 
-/// Where carets stand under a line, in characters: how many are in front of them, and how many there are.
+/// Where carets stand under a line, in columns: how many are in front of them, and how many there are.
 #[derive(Clone, Copy)]
 struct Carets {
     before: usize,
     count: usize,
 }
 
+/// How many columns a character takes, as it is told: a tab and each other control character as blanks.
 fn width_of(letter: char) -> usize {
-    if letter == '\t' { TAB } else { 1 }
+    if letter == '\t' {
+        return TAB;
+    }
+    match letter.width() {
+        Some(width) => width,
+        None => 1,
+    }
 }
 
 /// Where the carets stand for the bytes of a line from one number up to another.
@@ -53,17 +65,36 @@ fn push_many(letter: char, count: usize, out: &mut String) -> Result<(), AllocEr
     Ok(())
 }
 
-/// Adds a line's characters from one number up to another, tabs as blanks.
-fn push_window(text: &str, from: usize, to: usize, out: &mut String) -> Result<(), AllocError> {
-    let mut place = 0usize;
+/// Columns of a line, from one number up to another.
+#[derive(Clone, Copy)]
+struct Columns {
+    from: usize,
+    to: usize,
+}
+
+/// Adds a character of a line that takes these columns, as far as they are in a window: blanks for a control character,
+/// and for one that is cut.
+fn push_letter(
+    letter: char,
+    columns: Columns,
+    window: Columns,
+    out: &mut String,
+) -> Result<(), AllocError> {
+    if letter.is_control() || columns.from < window.from || window.to < columns.to {
+        let end = columns.to.min(window.to);
+        let seen = end.saturating_sub(columns.from.max(window.from));
+        return push_many(' ', seen, out);
+    }
+    out.push(letter)
+}
+
+/// Adds a line as far as its columns are in a window.
+fn push_window(text: &str, window: Columns, out: &mut String) -> Result<(), AllocError> {
+    let mut from = 0usize;
     for letter in text.chars() {
-        let shown = if letter.is_control() { ' ' } else { letter };
-        for _ in 0..width_of(letter) {
-            if place >= from && place < to {
-                out.push(shown)?;
-            }
-            place = place.saturating_add(1);
-        }
+        let to = from.saturating_add(width_of(letter));
+        push_letter(letter, Columns { from, to }, window, out)?;
+        from = to;
     }
     Ok(())
 }
@@ -83,7 +114,11 @@ pub fn write_quote(
     if cut > 0 {
         out.push_str("..")?;
     }
-    push_window(text, cut, cut.saturating_add(WIDTH), out)?;
+    let window = Columns {
+        from: cut,
+        to: cut.saturating_add(WIDTH),
+    };
+    push_window(text, window, out)?;
     out.push_str("\n         | ")?;
     if cut > 0 {
         out.push_str("  ")?;
@@ -123,18 +158,26 @@ fn push_loops(loops: &[LoopSite], out: &mut String) -> Result<(), AllocError> {
     Ok(())
 }
 
-/// Adds a place in a script with its line, the calls of helpers and the loops round it.
-pub fn push_spot(
+/// The line of a place, with the calls of helpers and the loops round it.
+fn quote_of(alloc: Global, spot: &Spot) -> Result<String, AllocError> {
+    let mut out = String::new(alloc);
+    let from = spot.column.saturating_sub(1);
+    let to = from.saturating_add(spot.length);
+    write_quote(spot.script_line, spot.text.as_str(), from, to, &mut out)?;
+    push_calls(spot.calls.as_slice(), &mut out)?;
+    push_loops(spot.loops.as_slice(), &mut out)?;
+    Ok(out)
+}
+
+/// A place in a script with its line, the calls of helpers and the loops round it.
+pub(crate) fn place_and_quote(
     alloc: Global,
     script: &str,
     spot: &Spot,
-    out: &mut String,
-) -> Result<(), AllocError> {
+) -> Result<String, AllocError>
+    ensures { IfOk result (λ text. IsPlaceText script.now spot.now (string_bytes text)) }
+{
     let place = place_text(alloc, script, spot.script_line, spot.column)?;
-    writeln!(out, "      {place}")?;
-    let from = spot.column.saturating_sub(1);
-    let to = from.saturating_add(spot.length);
-    write_quote(spot.script_line, spot.text.as_str(), from, to, out)?;
-    push_calls(spot.calls.as_slice(), out)?;
-    push_loops(spot.loops.as_slice(), out)
+    let quote = quote_of(alloc, spot)?;
+    place_line(alloc, place.as_str(), quote.as_str())
 }

@@ -5,7 +5,7 @@ ghost use Rattle.std.specs.Prelude.{◌<◌};
 
 use clmodel::access::AccessKind;
 use explanation::{Code, Explanation, ScheduleFacts, Step};
-use std::alloc::AllocError;
+use std::alloc::{AllocError, Global};
 use std::fmt::Write;
 
 /// The word of what an item does to memory.
@@ -25,6 +25,15 @@ fn push_code(code: &Code, out: &mut String) -> Result<(), AllocError> {
     write!(out, "  {line}:{column} {text}")
 }
 
+/// Adds the numbers of an access: the one that is loaded or stored, or those before and behind an atomic function.
+fn push_values(value: Option<u64>, left: Option<u64>, out: &mut String) -> Result<(), AllocError> {
+    match (value, left) {
+        (Some(value), Some(left)) => write!(out, ": was {value}, now {left}"),
+        (Some(value), None) => write!(out, ": {value}"),
+        (None, _) => Ok(()),
+    }
+}
+
 /// Adds a step behind its number.
 fn push_step(number: usize, step: &Step, out: &mut String) -> Result<(), AllocError> {
     let place = match step {
@@ -42,6 +51,7 @@ fn push_step(number: usize, step: &Step, out: &mut String) -> Result<(), AllocEr
             byte,
             bytes: _,
             value,
+            left,
             code,
         } => {
             let (deed, memory) = (deed_word(*does), memory.as_str());
@@ -49,9 +59,7 @@ fn push_step(number: usize, step: &Step, out: &mut String) -> Result<(), AllocEr
                 out,
                 "  {number:>6}  item {item} {deed} {memory} byte {byte}"
             )?;
-            if let Some(value) = value {
-                write!(out, ": {value}")?;
-            }
+            push_values(*value, *left, out)?;
             code
         }
     };
@@ -122,7 +130,7 @@ fn push_runs(steps: &[Step], out: &mut String) -> Result<(), AllocError> {
 }
 
 /// The letter of a plural.
-fn plural(count: u64) -> &'static str {
+pub(crate) fn plural(count: u64) -> &'static str {
     if count == 1 { "" } else { "s" }
 }
 
@@ -140,19 +148,19 @@ fn push_head(schedule: &ScheduleFacts, out: &mut String) -> Result<(), AllocErro
     )
 }
 
-/// Adds the steps and the schedule.
-pub fn push_steps(whole: &Explanation, out: &mut String) -> Result<(), AllocError> {
+/// The steps.
+pub(crate) fn steps_text(alloc: Global, whole: &Explanation) -> Result<String, AllocError> {
+    let mut out = String::new(alloc);
     let schedule = &whole.schedule;
     if schedule.events == 0 {
         out.push_str("  It comes about before any access of the launch.\n")?;
     } else {
-        push_head(schedule, out)?;
-        push_runs(whole.steps.as_slice(), out)?;
+        push_head(schedule, &mut out)?;
+        push_runs(whole.steps.as_slice(), &mut out)?;
     }
     if whole.steps_left > 0 {
         let left = whole.steps_left;
         writeln!(out, "      ..  {left} more")?;
     }
-    let short = schedule.short.as_str();
-    writeln!(out, "  schedule {short} (replayed: yes)")
+    Ok(out)
 }

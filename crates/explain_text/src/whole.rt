@@ -1,17 +1,40 @@
 //! An explanation as a whole.
 #![tactic(auto)]
 
-use crate::items::push_items;
-use crate::steps::push_steps;
-use explanation::{Explanation, Memory, MemoryKind};
+ghost use Rattle.std.specs.Prelude.{◌≡◌, ◌++◌, codes, decimal, string_bytes, IfOk, OnOk};
+ghost use Rattle.explain_text.specs.Texts.{IsText, why_text};
+
+use crate::items::items_text;
+use crate::lines::push_both;
+use crate::steps::{plural, steps_text};
+use clmodel::access::AccessKind;
+use explanation::{Does, Explanation, Memory, MemoryKind, NamedItem};
 use std::alloc::{AllocError, Global};
 use std::fmt::Write;
 
-/// What a fault is called, by its name in a reply.
-fn title_of(number: u32) -> &'static str {
+/// Whether an item fetches: the value that it gets, or what its exchange leaves, shows which access comes first.
+fn fetches(item: &NamedItem) -> bool {
+    match &item.does {
+        Does::Access(kind) => *kind == AccessKind::Fetch,
+        _ => false,
+    }
+}
+
+/// What the order of two atomic operations is called.
+fn order_title(items: &[NamedItem]) -> &'static str {
+    for item in items {
+        if fetches(item) {
+            return "order: an atomic operation that shows the order";
+        }
+    }
+    "order: two atomic operations of different kinds"
+}
+
+/// What a fault is called, by its number in a reply.
+fn title_of(number: u32, items: &[NamedItem]) -> &'static str {
     match number {
         1 => "race",
-        2 => "order: two atomic operations of different kinds",
+        2 => order_title(items),
         3 => "divergence at a barrier",
         4 => "out of bounds",
         5 => "unset",
@@ -43,7 +66,8 @@ fn push_memory(memory: &Memory, out: &mut String) -> Result<(), AllocError> {
     }
     push_memory_name(memory, out)?;
     if let Some(size) = memory.size {
-        write!(out, " ({size} bytes)")?;
+        let s = plural(size);
+        write!(out, " ({size} byte{s})")?;
     }
     Ok(())
 }
@@ -58,13 +82,12 @@ fn push_parameters(memory: &Memory, out: &mut String) -> Result<(), AllocError> 
     Ok(())
 }
 
-/// Adds the fault and its launch.
-fn push_title(whole: &Explanation, out: &mut String) -> Result<(), AllocError> {
-    let number = whole.fault.number;
-    let title = title_of(number);
-    write!(out, "fault {number} {title}")?;
+/// What a fault is called, its memory and its launch.
+fn title_text(alloc: Global, whole: &Explanation) -> Result<String, AllocError> {
+    let mut out = String::new(alloc);
+    out.push_str(title_of(whole.fault.number, whole.items.as_slice()))?;
     if let Some(memory) = &whole.memory {
-        push_memory(memory, out)?;
+        push_memory(memory, &mut out)?;
     }
     let launch = &whole.launch;
     let (function, kernel) = (launch.function.as_str(), launch.kernel.as_str());
@@ -74,27 +97,55 @@ fn push_title(whole: &Explanation, out: &mut String) -> Result<(), AllocError> {
         "\n  in kernel {function} ({kernel}), line {line} of the script: {text}"
     )?;
     if let Some(memory) = &whole.memory {
-        push_parameters(memory, out)?;
+        push_parameters(memory, &mut out)?;
     }
-    out.push('\n')
+    Ok(out)
 }
 
-/// Adds why it comes about.
-fn push_why(why: &[String], out: &mut String) -> Result<(), AllocError> {
+/// Adds a sentence that says why.
+fn push_sentence(sentence: &str, out: &mut String) -> Result<(), AllocError>
+    ensures { OnOk result (string_bytes out.new ≡ string_bytes out.old ++ (codes "  why: " ++ sentence.now ++ codes "\n")) }
+{
+    write!(out, "  why: {sentence}\n")
+}
+
+/// Why it comes about.
+fn reasons_text(alloc: Global, why: &[String]) -> Result<String, AllocError>
+    ensures { IfOk result (λ text. string_bytes text ≡ why_text why.now) }
+{
+    let mut out = String::new(alloc);
     for sentence in why {
-        let sentence = sentence.as_str();
-        writeln!(out, "  why: {sentence}")?;
+        push_sentence(sentence.as_str(), &mut out)?;
     }
-    Ok(())
+    Ok(out)
+}
+
+/// Adds what a fault is called behind its number.
+fn push_heading(number: u32, title: &str, out: &mut String) -> Result<(), AllocError>
+    ensures { OnOk result (string_bytes out.new ≡ string_bytes out.old ++ (codes "fault " ++ decimal number ++ codes " " ++ title.now ++ codes "\n")) }
+{
+    write!(out, "fault {number} {title}\n")
+}
+
+/// Adds the schedule.
+fn push_schedule(schedule: &str, out: &mut String) -> Result<(), AllocError>
+    ensures { OnOk result (string_bytes out.new ≡ string_bytes out.old ++ (codes "  schedule " ++ schedule.now ++ codes " (replayed: yes)\n")) }
+{
+    write!(out, "  schedule {schedule} (replayed: yes)\n")
 }
 
 /// An explanation as text.
-pub fn text_of(alloc: Global, whole: &Explanation) -> Result<String, AllocError> {
+pub fn text_of(alloc: Global, whole: &Explanation) -> Result<String, AllocError>
+    ensures { IfOk result (λ text. IsText whole.now (string_bytes text)) }
+{
+    let title = title_text(alloc, whole)?;
+    let items = items_text(alloc, whole)?;
+    let why = reasons_text(alloc, whole.why.as_slice())?;
+    let steps = steps_text(alloc, whole)?;
     let mut out = String::new(alloc);
-    push_title(whole, &mut out)?;
-    push_items(alloc, whole, &mut out)?;
-    out.push('\n')?;
-    push_why(whole.why.as_slice(), &mut out)?;
-    push_steps(whole, &mut out)?;
+    push_heading(whole.fault.number, title.as_str(), &mut out)?;
+    push_both(items.as_str(), "\n", &mut out)?;
+    push_both(why.as_str(), steps.as_str(), &mut out)?;
+    push_schedule(whole.schedule.short.as_str(), &mut out)?;
     Ok(out)
 }

@@ -59,7 +59,7 @@ pub struct Spot {
     pub script_line: usize,
     pub column: usize,
     pub node: NodeKind,
-    /// The text of its line
+    /// The text of its line, in which its column is the same
     pub text: String,
     /// The calls of helpers round it, the outermost first
     pub calls: Vec<CallSite>,

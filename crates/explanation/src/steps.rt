@@ -36,8 +36,10 @@ pub enum Step {
         /// Its first byte, and how many it touches
         byte: u64,
         bytes: u64,
-        /// What is stored, or what a load gives, where it is known
+        /// What is stored, or what a load or an atomic function finds there, where it is known
         value: Option<u64>,
+        /// What an atomic function leaves there, where it is known
+        left: Option<u64>,
         code: Option<Code>,
     },
     Release {

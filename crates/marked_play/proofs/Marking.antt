@@ -1,5 +1,5 @@
 -- Events played with their marks.
-use Rattle.std.proofs.Common.{◌≡◌, ℕ, ◌+◌, ◌<◌, ◌≤◌, Bool, true, false, Option, None, Some, List, [], ◌∷◌, ◌++◌, length, take, drop, get_or, map, replicate, refl, sym, ap, ◌∙◌, subst, append_assoc, arith}
+use Rattle.std.proofs.Common.{◌≡◌, ℕ, ◌+◌, ◌<◌, ◌≤◌, Bool, true, false, Option, None, Some, List, [], ◌∷◌, ◌++◌, length, take, drop, get_or, replicate, refl, sym, ap, ◌∙◌, subst, append_assoc}
 use Rattle.std.specs.Option.{IfSome, option_and_then}
 use Rattle.std.specs.List.{slice_get}
 use Rattle.std.proofs.lemmas.Bool.{false≢true}
@@ -17,7 +17,7 @@ use Rattle.replay_play.specs.States.{ActsNext, IsAt, IsPlayed}
 use Rattle.replay_play.specs.declared.player.Player.{Player}
 use Rattle.replay_play.specs.declared.slot.Slot.{Slot}
 use Rattle.replay_play.specs.declared.slot.Slot.TheVariants as slot
-use Rattle.marked_play.specs.Marks.{ActsFrom, AreMarked, Lead, events_in, item_of}
+use Rattle.marked_play.specs.Marks.{ActsFrom, AreMarked, IsCounted, Lead, events_in, item_of}
 use Rattle.marked_play.specs.declared.marks.Mark.{Mark}
 
 -- ---- the place of an item
@@ -46,12 +46,12 @@ events_append (x ∷ xs) ys = ap (λ es. x.event ∷ es) (events_append xs ys)
 
 lead_append : (l : Launch) (z : ℕ) (s t u : State) (xs ys : List Mark) → Lead l z s xs t → Lead l z t ys u → Lead l z s (xs ++ ys) u
 lead_append l z s t u [] ys e h = subst (λ x. Lead l z x ys u) (sym e) h
-lead_append l z s t u (x ∷ xs) ys (acts, next, goes, rest) h = (acts, next, goes, lead_append l z next t u xs ys rest h)
+lead_append l z s t u (x ∷ xs) ys (acts, next, goes, counted, rest) h = (acts, next, goes, counted, lead_append l z next t u xs ys rest h)
 
 -- marks lead where their events do
 pub lead_after : (l : Launch) (z : ℕ) (s t : State) (xs : List Mark) → Lead l z s xs t → after l s (events_in xs) ≡ Some t
 lead_after l z s t [] e = ap Some e
-lead_after l z s t (x ∷ xs) (acts, next, goes, rest) = ap (option_and_then (λ n. after l n (events_in xs))) goes ∙ lead_after l z next t xs rest
+lead_after l z s t (x ∷ xs) (acts, next, goes, counted, rest) = ap (option_and_then (λ n. after l n (events_in xs))) goes ∙ lead_after l z next t xs rest
 
 pub none_marked : (l : Launch) (z : ℕ) (s : State) (old : List Mark) (at : State → Type 0) → at s → AreMarked l z s [] old old at true
 none_marked l z s old at h = ([], s, sym (nil old), refl, refl, h)
@@ -61,10 +61,11 @@ none_marked l z s old at h = ([], s, sym (nil old), refl, refl, h)
     nil (x ∷ xs) = ap (λ ys. x ∷ ys) (nil xs)
 
 pub one_marked :
-    (l : Launch) (z : ℕ) (s : State) (mark : Mark) (old new : List Mark) (at : State → Type 0) (answer : Bool) → answer ≡ true → ActsFrom l s (item_of z mark.event) mark.place
-    → IsPlayed l s mark.event at answer → new ≡ old ++ mark ∷ [] → AreMarked l z s (mark.event ∷ []) old new at true
-one_marked l z s mark old new at true all acts (t, goes, h) e = (mark ∷ [], t, e, refl, (acts, t, goes, refl), h)
-one_marked l z s mark old new at false all acts played e = absurd (false≢true all)
+    (l : Launch) (z : ℕ) (s : State) (mark : Mark) (old new : List Mark) (at at' : State → Type 0) (answer : Bool) → answer ≡ true → ActsFrom l s (item_of z mark.event) mark.place
+    → IsPlayed l s mark.event at answer → ((t : State) → step l s mark.event ≡ Some t → at t → IsCounted s t mark × at' t) → new ≡ old ++ mark ∷ []
+    → AreMarked l z s (mark.event ∷ []) old new at' true
+one_marked l z s mark old new at at' true all acts (t, goes, h) then e = let done = then t goes h in (mark ∷ [], t, e, refl, (acts, t, goes, done.0, refl), done.1)
+one_marked l z s mark old new at at' false all acts played then e = absurd (false≢true all)
 
 pub one_never :
     (l : Launch) (z : ℕ) (s : State) (e : Event) (old new : List Mark) (at at' : State → Type 0) (answer : Bool) → answer ≡ false → IsPlayed l s e at answer

@@ -1,11 +1,23 @@
--- Events played with the places of their items (own; the events are those of OpenCL 1.2, sections 3.2 and 6.12.8).
+-- Events played with the places of their items, and with the numbers that their accesses find and leave (own; the events are those of OpenCL 1.2,
+-- sections 3.2 and 6.12.8).
 use Rattle.std.specs.Prelude.{◌≡◌, ℕ, ◌*◌, ⊤, Bool, true, false, Option, None, Some, List, [], ◌∷◌, ◌++◌, map}
+use Rattle.std.specs.Option.{IfSome}
+use Rattle.clmodel.specs.Cells.{byte_count, number}
 use Rattle.clmodel.specs.Launch.{Launch}
-use Rattle.clmodel.specs.Run.{State, Events, after, next_action, step}
+use Rattle.clmodel.specs.Run.{State, Events, Memory, after, next_action, step}
+use Rattle.clmodel.specs.declared.access.Access.{Access}
 use Rattle.clmodel.specs.declared.schedule.Event.{Event}
 use Rattle.clmodel.specs.declared.schedule.Event.TheVariants as event
 use Rattle.item_step.specs.Running.{Running, Makes}
+use Rattle.replay_play.specs.States.{IsAt}
+use Rattle.replay_play.specs.declared.player.Player.{Player}
+use Rattle.marked_play.specs.Replicas.{Mirrors}
 use Rattle.marked_play.specs.declared.marks.Mark.{Mark}
+use Rattle.marked_play.specs.declared.replica.Replica.{Replica}
+
+-- a player and a replica of the memory are at a state
+abbrev pub Follows : {D : Type 0} → (D → Launch) → Launch → Player D → Replica → State → Type 0
+Follows launch_of launch player replica state = IsAt launch_of launch player state × Mirrors launch replica state.memory
 
 -- the item at whose place an event is told: of a release, the first of the group (own)
 abbrev pub item_of : ℕ → Event → ℕ
@@ -22,11 +34,23 @@ ActsFrom launch state item (Some place) = (running : Running) × (running.state.
 abbrev pub events_in : List Mark → List Event
 events_in marks = map (λ mark. mark.event) marks
 
--- marks lead from a state to another: each event is possible in its turn, and its item acts from its place (own)
+-- the number that a memory has at the bytes of the access by which an event led from a state to another (C99 6.2.6.1)
+abbrev pub HasThere : State → State → Memory → ℕ → Type 0
+HasThere state next memory x = (access : Access) × (next.log ≡ access ∷ state.log) × (number (memory access.region) access.first (byte_count access.width) ≡ Some x)
+
+-- The numbers of a mark, where they are known: what the bytes of its access held before the event, which a load and an atomic function give
+-- (6.12.11: "returns old"), and what they hold behind it.
+pub record IsCounted (state next : State) (mark : Mark) : Type 0 where
+  pub found : IfSome mark.found (HasThere state next state.memory)
+  pub left : IfSome mark.left (HasThere state next next.memory)
+
+-- marks lead from a state to another: each event is possible in its turn, its item acts from its place, and its numbers are those of its access
+-- (own)
 abbrev pub Lead : Launch → ℕ → State → List Mark → State → Type 0
 Lead launch size state [] end = state ≡ end
 Lead launch size state (mark ∷ marks) end =
-    ActsFrom launch state (item_of size mark.event) mark.place × (next : State) × (step launch state mark.event ≡ Some next) × Lead launch size next marks end
+    ActsFrom launch state (item_of size mark.event) mark.place × (next : State) × (step launch state mark.event ≡ Some next) × IsCounted state next mark
+    × Lead launch size next marks end
 
 -- events were played one after another, their marks were added, and what is kept tells of the state that they lead to;
 -- or one of them isn't possible in its turn (own)

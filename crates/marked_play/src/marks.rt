@@ -1,14 +1,17 @@
 //! The events of a schedule, each with the place of its item.
 #![tactic(auto)]
 
-ghost use Rattle.std.specs.Prelude.{◌≡◌, true, [], ◌∷◌, replicate, IfOk};
+ghost use Rattle.std.specs.Prelude.{◌≡◌, true, [], ◌∷◌, replicate, IfOk, IfSome};
 ghost use Rattle.clmodel.specs.Launch.{Launch};
 ghost use Rattle.clmodel.specs.Outcome.{events_of};
 ghost use Rattle.clmodel.specs.Run.{State};
 ghost use Rattle.clmodel.specs.declared.schedule.Event.TheVariants as event;
 ghost use Rattle.replay_play.specs.States.{IsAt};
-ghost use Rattle.marked_play.specs.Marks.{ActsFrom, AreMarked, item_of};
+ghost use Rattle.marked_play.specs.Marks.{ActsFrom, AreMarked, Follows, item_of};
+ghost use Rattle.marked_play.specs.Replicas.{IsAbout, IsNext};
 
+use crate::replica::{Deed, Replica};
+use clmodel::action::Action;
 use clmodel::schedule::{Event, EventRun};
 use launches::Runnable;
 use replay_play::Player;
@@ -20,6 +23,10 @@ use std::alloc::AllocError;
 pub struct Mark {
     pub event: Event,
     pub place: Option<usize>,
+    /// The number that the bytes of its access held before it, where it is known: what a load and an atomic function give
+    pub found: Option<u64>,
+    /// The number that they hold behind it, where it is known
+    pub left: Option<u64>,
 }
 
 /// The place from which an item acts next, if it is under way. An error is out of memory.
@@ -52,22 +59,72 @@ fn place_before<D: Runnable>(
     }
 }
 
+/// What an item is about to do, if it is an access of bytes that are there. An error is out of memory.
+fn deed_of<D: Runnable>(player: &mut Player<'_, D>, item: u32) -> Result<Option<Deed>, AllocError>
+    ensures same { (launch : Launch) (state : State) → IsAt D.launch launch player.old state → IsAt D.launch launch player.new state }
+    ensures next { IfOk result (λ deed. (launch : Launch) (state : State) → IsAt D.launch launch player.old state → IfSome deed (IsNext launch state item)) }
+{
+    let Some(
+        Action::Access {
+            object,
+            element,
+            operation,
+        },
+    ) = player.action(item)?
+    else {
+        return Ok(None);
+    };
+    let Some(first) = player.first_byte(object, element, operation) else {
+        return Ok(None);
+    };
+    Ok(Some(Deed {
+        item,
+        object,
+        first,
+        operation,
+    }))
+}
+
+/// What the item of an event is about to do, before it is played. An error is out of memory.
+fn deed_before<D: Runnable>(
+    player: &mut Player<'_, D>,
+    event: Event,
+) -> Result<Option<Deed>, AllocError>
+    ensures same { (launch : Launch) (state : State) → IsAt D.launch launch player.old state → IsAt D.launch launch player.new state }
+    ensures about { IfOk result (λ deed. (launch : Launch) (state : State) → IsAt D.launch launch player.old state → IsAbout launch state event deed) }
+{
+    match event {
+        Event::Item(item) => deed_of(player, item),
+        Event::Release(_) => Ok(None),
+    }
+}
+
 /// Plays an event, where it is possible, and adds its mark. Answers whether it is possible. An error is out of memory.
 fn mark_event<D: Runnable>(
     player: &mut Player<'_, D>,
+    replica: &mut Replica,
     group_size: u32,
     event: Event,
     marks: &mut Vec<Mark>,
 ) -> Result<bool, AllocError>
-    requires { (launch : Launch) × (state : State) × IsAt D.launch launch player.old state }
-    ensures { IfOk result (λ yes. (launch : Launch) (state : State) → IsAt D.launch launch player.old state
-        → AreMarked launch group_size state (event ∷ []) marks.old.items marks.new.items (IsAt D.launch launch player.new) yes) }
+    requires { (launch : Launch) × (state : State) × Follows D.launch launch player.old replica.old state }
+    ensures { IfOk result (λ yes. (launch : Launch) (state : State) → Follows D.launch launch player.old replica.old state
+        → AreMarked launch group_size state (event ∷ []) marks.old.items marks.new.items (Follows D.launch launch player.new replica.new) yes) }
 {
     let place = place_before(player, group_size, event)?;
+    let deed = deed_before(player, event)?;
+    let found = replica.number_at(deed);
     if !player.play(event)? {
         return Ok(false);
     }
-    marks.push(Mark { event, place })?;
+    replica.follow(event, deed)?;
+    let left = replica.number_at(deed);
+    marks.push(Mark {
+        event,
+        place,
+        found,
+        left,
+    })?;
     Ok(true)
 }
 
@@ -75,17 +132,18 @@ fn mark_event<D: Runnable>(
 /// out of memory.
 fn mark_items<D: Runnable>(
     player: &mut Player<'_, D>,
+    replica: &mut Replica,
     group_size: u32,
     item: u32,
     count: u64,
     marks: &mut Vec<Mark>,
 ) -> Result<bool, AllocError>
-    requires { (launch : Launch) × (state : State) × IsAt D.launch launch player.old state }
-    ensures { IfOk result (λ yes. (launch : Launch) (state : State) → IsAt D.launch launch player.old state
-        → AreMarked launch group_size state (replicate count (event.Item item)) marks.old.items marks.new.items (IsAt D.launch launch player.new) yes) }
+    requires { (launch : Launch) × (state : State) × Follows D.launch launch player.old replica.old state }
+    ensures { IfOk result (λ yes. (launch : Launch) (state : State) → Follows D.launch launch player.old replica.old state
+        → AreMarked launch group_size state (replicate count (event.Item item)) marks.old.items marks.new.items (Follows D.launch launch player.new replica.new) yes) }
 {
     for _ in 0..count {
-        if !mark_event(player, group_size, Event::Item(item), marks)? {
+        if !mark_event(player, replica, group_size, Event::Item(item), marks)? {
             return Ok(false);
         }
     }
@@ -96,36 +154,40 @@ fn mark_items<D: Runnable>(
 /// out of memory.
 fn mark_run<D: Runnable>(
     player: &mut Player<'_, D>,
+    replica: &mut Replica,
     group_size: u32,
     run: EventRun,
     marks: &mut Vec<Mark>,
 ) -> Result<bool, AllocError>
-    requires { (launch : Launch) × (state : State) × IsAt D.launch launch player.old state }
-    ensures { IfOk result (λ yes. (launch : Launch) (state : State) → IsAt D.launch launch player.old state
-        → AreMarked launch group_size state (events_of (run ∷ [])) marks.old.items marks.new.items (IsAt D.launch launch player.new) yes) }
+    requires { (launch : Launch) × (state : State) × Follows D.launch launch player.old replica.old state }
+    ensures { IfOk result (λ yes. (launch : Launch) (state : State) → Follows D.launch launch player.old replica.old state
+        → AreMarked launch group_size state (events_of (run ∷ [])) marks.old.items marks.new.items (Follows D.launch launch player.new replica.new) yes) }
 {
     match run {
-        EventRun::Item { item, count } => mark_items(player, group_size, item, count, marks),
+        EventRun::Item { item, count } => mark_items(
+            player, replica, group_size, item, count, marks,
+        ),
         EventRun::Release { group } => {
-            mark_event(player, group_size, Event::Release(group), marks)
+            mark_event(player, replica, group_size, Event::Release(group), marks)
         }
     }
 }
 
 /// Plays the events of a schedule (OpenCL 1.2, section 3.2), up to one that isn't possible, and adds each with its
-/// place. Answers whether all are. An error is out of memory.
+/// place and its numbers. Answers whether all are. An error is out of memory.
 pub fn mark_schedule<D: Runnable>(
     player: &mut Player<'_, D>,
+    replica: &mut Replica,
     group_size: u32,
     runs: &[EventRun],
     marks: &mut Vec<Mark>,
 ) -> Result<bool, AllocError>
-    requires { (launch : Launch) × (state : State) × IsAt D.launch launch player.old state }
-    ensures { IfOk result (λ yes. (launch : Launch) (state : State) → IsAt D.launch launch player.old state
-        → AreMarked launch group_size state (events_of runs.now) marks.old.items marks.new.items (IsAt D.launch launch player.new) yes) }
+    requires { (launch : Launch) × (state : State) × Follows D.launch launch player.old replica.old state }
+    ensures { IfOk result (λ yes. (launch : Launch) (state : State) → Follows D.launch launch player.old replica.old state
+        → AreMarked launch group_size state (events_of runs.now) marks.old.items marks.new.items (Follows D.launch launch player.new replica.new) yes) }
 {
     for run in runs {
-        if !mark_run(player, group_size, *run, marks)? {
+        if !mark_run(player, replica, group_size, *run, marks)? {
             return Ok(false);
         }
     }

@@ -4,22 +4,36 @@ use Rattle.clmodel.specs.Launch.{Launch}
 use Rattle.clmodel.specs.Law.{Reaches}
 use Rattle.clmodel.specs.Next.{launch_of}
 use Rattle.clmodel.specs.Outcome.{events_of}
-use Rattle.clmodel.specs.Run.{Events, after, start}
+use Rattle.clmodel.specs.Run.{Events, after, initial, start}
 use Rattle.clmodel.specs.Setup.{buffer_names}
 use Rattle.clmodel.specs.declared.fault.Fault.{Fault}
 use Rattle.item_step.specs.Launches.{setup_of}
 use Rattle.launches.specs.Groups.{IsRunnable, filled}
 use Rattle.launches.specs.declared.loaded.LoadedLaunch.{LoadedLaunch}
 use Rattle.replay.proofs.Reaching.{map_map, never_reaches}
-use Rattle.replay_play.specs.States.{IsAt}
 use Rattle.spaces_base.specs.Buffers.{bytes_in}
-use Rattle.marked_play.specs.Marks.{Lead, events_in}
+use Rattle.marked_play.specs.Marks.{Follows, Lead, events_in}
 use Rattle.marked_play.specs.Pairs.{IsFoundPair}
+use Rattle.marked_play.specs.Replicas.{Mirrors}
 use Rattle.marked_play.specs.declared.pairs.Told.{Told}
+use Rattle.marked_play.specs.declared.replica.Replica.{Replica}
 use Rattle.marked_play.proofs.Marking.{marked, unmarked}
 use Rattle.explain_play.specs.PlayedOut.{IsPlayedOut, Tells, touch_of}
 use Rattle.explain_play.specs.declared.played.Played.{Played}
 use Rattle.explain_play.proofs.played.play.Goals as goal
+
+-- the launch of a loaded one
+abbrev of_loaded : LoadedLaunch → Launch
+of_loaded loaded = launch_of (setup_of loaded.launch.now) (bytes_in loaded.buffers.now)
+
+mirrored : (k l : Launch) (replica : Replica) → k ≡ l → Mirrors k replica (initial k) → Mirrors l replica (initial l)
+mirrored k l replica same h = subst (λ (z : Launch). Mirrors z replica (initial z)) same h
+
+pub mark_schedule-requires : goal.mark_schedule-requires
+mark_schedule-requires c =
+    let same = ap₂ (λ x b. launch_of (setup_of x) (bytes_in b)) c.new-loaded.ensures.launch c.new-loaded.ensures.buffers in
+    let l = of_loaded c.new-loaded.result in
+    (l, start l, (c.in_ok-player.ensures, mirrored _ l c.in_ok-replica.replica (sym same) c.in_ok-replica.ensures))
 
 pub new-requires-clause-runnable : goal.new-requires-clause-runnable
 new-requires-clause-runnable c =
@@ -32,19 +46,15 @@ new-requires-clause-filled c =
     let bytes = bytes_in c.args.buffers.now in
     c.in_ok-memory.ensures ∙ ap (map (λ name. map Some (bytes name))) c.buffer_names.ensures ∙ map_map (map Some) bytes (buffer_names (setup_of c.args.launch.now)) ∙ ap filled (sym same)
 
--- the launch of a loaded one
-abbrev of_loaded : LoadedLaunch → Launch
-of_loaded loaded = launch_of (setup_of loaded.launch.now) (bytes_in loaded.buffers.now)
-
 pub returns-then-not-branch-clause-none : goal.returns-then-not-branch-clause-none
 returns-then-not-branch-clause-none c = λ other.
     let same = ap₂ (λ x b. launch_of (setup_of x) (bytes_in b)) c.new-loaded.ensures.launch c.new-loaded.ensures.buffers in
     let l = of_loaded c.new-loaded.result in
     subst (λ z. Reaches z (events_of c.args.schedule.now) other → ⊥) same
     (never_reaches l (events_of c.args.schedule.now) other
-    (subst (λ runs. after l (start l) (events_of runs) ≡ None) c.as_slice.ensures
-    (unmarked l c.group_size-size.result (start l) _ _ _ (IsAt {D = LoadedLaunch} of_loaded l c.mark_schedule.new.player) c.in_ok-mark_schedule.field-0 c.if-not-branch.true
-    (c.in_ok-mark_schedule.ensures l (start l) c.in_ok-player.ensures))))
+    (subst (λ runs. after l (start l) (events_of runs) ≡ None) c.as_slice-runs.ensures
+    (unmarked l c.group_size-size.result (start l) _ _ _ (Follows {D = LoadedLaunch} of_loaded l c.mark_schedule.new.player c.mark_schedule.new.replica) c.in_ok-mark_schedule.field-0
+    c.if-not-branch.true (c.in_ok-mark_schedule.ensures l (start l) (c.in_ok-player.ensures, mirrored _ l c.in_ok-replica.replica (sym same) c.in_ok-replica.ensures)))))
 
 -- the same of a launch and a size that are the same
 moved :
@@ -57,16 +67,16 @@ pub returns-clause-played : goal.returns-clause-played
 returns-clause-played c =
     let same = ap₂ (λ x b. launch_of (setup_of x) (bytes_in b)) c.new-loaded.ensures.launch c.new-loaded.ensures.buffers in
     let l = of_loaded c.new-loaded.result in
-    let at = IsAt {D = LoadedLaunch} of_loaded l c.mark_schedule.new.player in
+    let at = Follows {D = LoadedLaunch} of_loaded l c.mark_schedule.new.player c.mark_schedule.new.replica in
     let m =
-    marked l c.group_size-size.result (start l) (events_of c.as_slice.result.now) c.new-marks.result.items c.mark_schedule.new.marks.items at c.in_ok-mark_schedule.field-0 c.if-not-branch.false
-    (c.in_ok-mark_schedule.ensures l (start l) c.in_ok-player.ensures) in
-    let here = m.5 in
+    marked l c.group_size-size.result (start l) (events_of c.as_slice-runs.result.now) c.new-marks.result.items c.mark_schedule.new.marks.items at c.in_ok-mark_schedule.field-0 c.if-not-branch.false
+    (c.in_ok-mark_schedule.ensures l (start l) (c.in_ok-player.ensures, mirrored _ l c.in_ok-replica.replica (sym same) c.in_ok-replica.ensures)) in
+    let here = m.5.0 in
     let made : c.mark_schedule.new.marks.items ≡ m.0 = m.2 ∙ ap (λ marks. marks ++ m.0) c.new-marks.ensures.items in
     moved l _ c.group_size-size.result _ (events_of c.args.schedule.now) c.args.fault.now c.args.items.0 c.args.items.1 c.args.most _ same c.group_size-size.ensures.value
     (record {
       end = m.1;
-      marked = ap events_in made ∙ m.3 ∙ ap events_of c.as_slice.ensures;
+      marked = ap events_in made ∙ m.3 ∙ ap events_of c.as_slice-runs.ensures;
       led = subst (λ ms. Lead l c.group_size-size.result (start l) ms m.1) (sym made) m.4;
       touched = c.in_ok-touches.ensures ∙ ap (map (touch_of l)) (c.first_of.ensures ∙ ap (take c.args.most) (c.log-2.ensures l m.1 here));
       paired = subst (λ log. IfSome c.in_ok-pair.pair (λ pair. (told : Told) × Tells l c.args.fault.now told × IsFoundPair l told log pair)) (c.log.ensures l m.1 here) c.in_ok-pair.ensures;

@@ -1,6 +1,6 @@
 use Rattle.std.proofs.Common.{◌≡◌, ◌++◌, [], ◌∷◌, List, ℕ, codes, decimal, string_bytes, append_assoc, refl, sym, ap, ◌∙◌}
 use Rattle.std.specs.List.{flat_map}
-use Rattle.explain_text.specs.Texts.{numbers_text, ids_text}
+use Rattle.explain_text.specs.Texts.{numbers_text}
 use Rattle.explain_text.proofs.lines.ids_text.Goals as goal
 
 append_nil : (xs : List ℕ) → xs ++ [] ≡ xs

@@ -3,7 +3,7 @@ use Rattle.std.proofs.lemmas.Result.{IfOk-weaker}
 use Rattle.clmodel.specs.Outcome.{events_of}
 use Rattle.clmodel.specs.declared.schedule.Event.TheVariants as event
 use Rattle.replay.proofs.Played.{item_events}
-use Rattle.replay_play.specs.States.{IsAt}
+use Rattle.marked_play.specs.Marks.{Follows}
 use Rattle.marked_play.proofs.Marking.{marked_as}
 use Rattle.marked_play.proofs.marks.mark_run.Goals as goal
 
@@ -12,7 +12,7 @@ returns-in-Item g c =
     IfOk-weaker c.mark_items.result _ _
     (λ answer h. λ l s at.
     marked_as l c.args.group_size s (replicate c.in-Item.count (event.Item c.in-Item.item)) (events_of (c.args.run ∷ [])) c.args.marks.now.items c.mark_items.new.marks.items
-    (IsAt {D = g.row.D.Denot} g.D.Described.launch l c.mark_items.new.player) answer (item_events c.in-Item.item c.in-Item.count ∙ ap (λ r. events_of (r ∷ [])) (sym c.in-Item.is)) (h l s at))
+    (Follows {D = g.row.D.Denot} g.D.Described.launch l c.mark_items.new.player c.mark_items.new.replica) answer (item_events c.in-Item.item c.in-Item.count ∙ ap (λ r. events_of (r ∷ [])) (sym c.in-Item.is)) (h l s at))
     c.mark_items.ensures
 
 pub returns-in-Release : goal.returns-in-Release
@@ -20,5 +20,5 @@ returns-in-Release g c =
     IfOk-weaker c.mark_event.result _ _
     (λ answer h. λ l s at.
     marked_as l c.args.group_size s (event.Release c.in-Release.group ∷ []) (events_of (c.args.run ∷ [])) c.args.marks.now.items c.mark_event.new.marks.items
-    (IsAt {D = g.row.D.Denot} g.D.Described.launch l c.mark_event.new.player) answer (ap (λ r. events_of (r ∷ [])) (sym c.in-Release.is)) (h l s at))
+    (Follows {D = g.row.D.Denot} g.D.Described.launch l c.mark_event.new.player c.mark_event.new.replica) answer (ap (λ r. events_of (r ∷ [])) (sym c.in-Release.is)) (h l s at))
     c.mark_event.ensures
