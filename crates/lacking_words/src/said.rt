@@ -19,10 +19,7 @@ pub(crate) fn said_of(table: &[(&[u8], &'static str)], text: &[u8]) -> Option<&'
 }
 
 /// What the first row says with whose text these bytes begin.
-pub(crate) fn said_in_front(
-    table: &[(&[u8], &'static str)],
-    bytes: &[u8],
-) -> Option<&'static str>
+pub(crate) fn said_in_front(table: &[(&[u8], &'static str)], bytes: &[u8]) -> Option<&'static str>
     ensures { option_copied result ≡ row_in_front (rows table.now) bytes.now }
 {
     for row in table {
@@ -51,10 +48,7 @@ pub fn said_or(said: Option<&'static str>, other: &'static str) -> &'static str
 }
 
 /// The first of two that says something.
-pub fn first_said(
-    said: Option<&'static str>,
-    other: Option<&'static str>,
-) -> Option<&'static str>
+pub fn first_said(said: Option<&'static str>, other: Option<&'static str>) -> Option<&'static str>
     ensures { option_copied result ≡ option_or (option_copied said.entry) (option_copied other.entry) }
 {
     match said {

@@ -45,7 +45,7 @@ pub(crate) fn byte_at(bytes: &[u8], at: usize) -> u8
 }
 
 /// What kind of word goes on behind some bytes.
-#[derive(Clone, Copy, PartialEq, Eq)]
+#[derive(Clone, Copy)]
 pub(crate) enum Word {
     Nothing,
     Number,
