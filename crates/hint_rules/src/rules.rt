@@ -8,12 +8,12 @@ ghost use Rattle.hint_rules.specs.Rules as rules;
 use crate::marks::{Mark, is_nothing};
 use crate::near::{Place, Setting, setting_of};
 use crate::seen::Seen;
-use lacking_words::{NO_STRUCTS, said_or};
 use Is::{Any, Assigns, One, Operator, Space, Type};
 use Mark::{
     Assign, CloseBrace, CloseRound, CloseSquare, Colon, Comma, Const, Do, Else, For, If, Kernel,
     Name, Nothing, OpenBrace, OpenRound, OpenSquare, Semicolon, SizeT, Star, Step, Void, While,
 };
+use lacking_words::{NO_STRUCTS, said_or};
 
 /// What a token is looked for as.
 #[derive(Clone, Copy)]
@@ -99,10 +99,7 @@ pub(crate) static RULES: [(Looked, &str); 83] = [
         (Part::Outside, Any, Any, Space),
         "outside of functions stand no variables, and no function gives a pointer: pass a pointer to __constant memory",
     ),
-    (
-        (Part::Outside, Any, Any, One(Const)),
-        NO_VARIABLES,
-    ),
+    ((Part::Outside, Any, Any, One(Const)), NO_VARIABLES),
     (
         (Part::Outside, Any, One(Void), One(Kernel)),
         "__kernel stands in front of void",
@@ -111,18 +108,12 @@ pub(crate) static RULES: [(Looked, &str); 83] = [
         (Part::Outside, Any, One(Kernel), Any),
         "a kernel gives no value: __kernel void f(..) { .. }",
     ),
-    (
-        (Part::Outside, Any, Type, Type),
-        ONE_WORD,
-    ),
+    ((Part::Outside, Any, Type, Type), ONE_WORD),
     (
         (Part::Outside, Any, Type, One(Star)),
         "a function gives an integer or nothing, and no pointer",
     ),
-    (
-        (Part::Outside, Type, One(Name), Any),
-        NO_VARIABLES,
-    ),
+    ((Part::Outside, Type, One(Name), Any), NO_VARIABLES),
     (
         (Part::Outside, Any, One(CloseRound), One(Semicolon)),
         "there are no prototypes: write the whole function in front of its calls",
@@ -139,14 +130,8 @@ pub(crate) static RULES: [(Looked, &str); 83] = [
         (Part::Outside, Any, One(CloseBrace), One(CloseBrace)),
         "one } too many, here or before",
     ),
-    (
-        (Part::Outside, Any, One(Nothing), One(Name)),
-        TYPES,
-    ),
-    (
-        (Part::Outside, Any, One(CloseBrace), One(Name)),
-        TYPES,
-    ),
+    ((Part::Outside, Any, One(Nothing), One(Name)), TYPES),
+    ((Part::Outside, Any, One(CloseBrace), One(Name)), TYPES),
     (
         (Part::Outside, Any, Any, Any),
         "a function is wanted: __kernel void f(..) { .. }, or a helper as int g(int x) { .. }",
@@ -171,14 +156,8 @@ pub(crate) static RULES: [(Looked, &str); 83] = [
         (Part::Head, Any, Any, One(SizeT)),
         "a kernel has no parameter of type size_t, nor a pointer to it: write ulong",
     ),
-    (
-        (Part::Head, Any, Any, One(Const)),
-        NO_CONST,
-    ),
-    (
-        (Part::Head, Any, Type, Type),
-        ONE_WORD,
-    ),
+    ((Part::Head, Any, Any, One(Const)), NO_CONST),
+    ((Part::Head, Any, Type, Type), ONE_WORD),
     (
         (Part::Head, Any, Type, One(Name)),
         "a parameter with an address space is a pointer: __global int *a",
@@ -195,10 +174,7 @@ pub(crate) static RULES: [(Looked, &str); 83] = [
         (Part::Head, Any, One(Name), Any),
         "a , or a ) is wanted behind a parameter",
     ),
-    (
-        (Part::Head, Any, Any, One(Name)),
-        TYPES,
-    ),
+    ((Part::Head, Any, Any, One(Name)), TYPES),
     (
         (Part::Head, Any, Any, Any),
         "a parameter is wanted: int n, or __global int *a",
@@ -207,10 +183,7 @@ pub(crate) static RULES: [(Looked, &str); 83] = [
         (Part::Body, Any, Any, One(Nothing)),
         "the source ends inside of a function: a } is missing",
     ),
-    (
-        (Part::Body, Any, Any, One(Kernel)),
-        NOT_NESTED,
-    ),
+    ((Part::Body, Any, Any, One(Kernel)), NOT_NESTED),
     (
         (Part::Declared, Type, One(Name), One(OpenRound)),
         NOT_NESTED,
@@ -219,10 +192,7 @@ pub(crate) static RULES: [(Looked, &str); 83] = [
         (Part::Body, Any, One(OpenRound), One(Void)),
         "there is no cast to void: leave it out",
     ),
-    (
-        (Part::Body, Any, Any, One(Void)),
-        NOT_NESTED,
-    ),
+    ((Part::Body, Any, Any, One(Void)), NOT_NESTED),
     (
         (Part::Declared, Any, Type, One(OpenRound)),
         "there are no pointers to functions: choose among calls by if and else",
@@ -247,14 +217,8 @@ pub(crate) static RULES: [(Looked, &str); 83] = [
         (Part::Address, Any, Any, Any),
         "there are no addresses of variables: & stands in front of an element, as &a[i]; a helper gives its value back by return",
     ),
-    (
-        (Part::Body, Any, One(OpenRound), Space),
-        NO_CASTS,
-    ),
-    (
-        (Part::Body, One(OpenRound), Type, One(Star)),
-        NO_CASTS,
-    ),
+    ((Part::Body, Any, One(OpenRound), Space), NO_CASTS),
+    ((Part::Body, One(OpenRound), Type, One(Star)), NO_CASTS),
     (
         (Part::Body, Any, Type, One(Star)),
         "there are no pointers to private memory: a pointer begins with __global, __local or __constant",
@@ -263,10 +227,7 @@ pub(crate) static RULES: [(Looked, &str); 83] = [
         (Part::Declared, Any, One(Star), One(Star)),
         "there are no pointers to pointers: keep where a part of a buffer begins, as a number",
     ),
-    (
-        (Part::Body, Any, Type, Type),
-        ONE_WORD,
-    ),
+    ((Part::Body, Any, Type, Type), ONE_WORD),
     (
         (Part::Body, One(If), One(OpenRound), Type),
         "a declaration stands in front of an if",
@@ -279,38 +240,14 @@ pub(crate) static RULES: [(Looked, &str); 83] = [
         (Part::Body, Any, Type, One(Name)),
         "behind an address space stands a pointer: leave the space out of a variable",
     ),
-    (
-        (Part::Body, Any, Space, One(Name)),
-        TYPES,
-    ),
-    (
-        (Part::Body, Any, Any, One(Const)),
-        NO_CONST,
-    ),
-    (
-        (Part::Body, Any, One(CloseRound), Type),
-        IN_A_BLOCK,
-    ),
-    (
-        (Part::Body, Any, One(CloseRound), Space),
-        IN_A_BLOCK,
-    ),
-    (
-        (Part::Body, Any, One(Else), Type),
-        IN_A_BLOCK,
-    ),
-    (
-        (Part::Body, Any, One(Else), Space),
-        IN_A_BLOCK,
-    ),
-    (
-        (Part::Body, Any, One(Do), Type),
-        IN_A_BLOCK,
-    ),
-    (
-        (Part::Body, Any, One(Do), Space),
-        IN_A_BLOCK,
-    ),
+    ((Part::Body, Any, Space, One(Name)), TYPES),
+    ((Part::Body, Any, Any, One(Const)), NO_CONST),
+    ((Part::Body, Any, One(CloseRound), Type), IN_A_BLOCK),
+    ((Part::Body, Any, One(CloseRound), Space), IN_A_BLOCK),
+    ((Part::Body, Any, One(Else), Type), IN_A_BLOCK),
+    ((Part::Body, Any, One(Else), Space), IN_A_BLOCK),
+    ((Part::Body, Any, One(Do), Type), IN_A_BLOCK),
+    ((Part::Body, Any, One(Do), Space), IN_A_BLOCK),
     (
         (Part::Round, Any, One(OpenRound), One(Comma)),
         "an expression is wanted, or the closing bracket",
@@ -331,14 +268,8 @@ pub(crate) static RULES: [(Looked, &str); 83] = [
         (Part::Body, Any, Any, One(Comma)),
         "there is no comma operator: write two statements; what a for does twice in each turn stands at the end of its body",
     ),
-    (
-        (Part::Body, Any, Any, One(Step)),
-        NO_STEP,
-    ),
-    (
-        (Part::Body, Any, One(Step), Any),
-        NO_STEP,
-    ),
+    ((Part::Body, Any, Any, One(Step)), NO_STEP),
+    ((Part::Body, Any, One(Step), Any), NO_STEP),
     (
         (Part::Loop, Type, One(Name), One(Semicolon)),
         "the variable of a for has a value: for (int i = 0; ..; ..)",
@@ -363,14 +294,8 @@ pub(crate) static RULES: [(Looked, &str); 83] = [
         (Part::Body, Any, Any, Assigns),
         "an assignment is a statement and has no value: write b = c; a = b; for a = b = c, and == to compare",
     ),
-    (
-        (Part::Second, Any, One(Name), One(Name)),
-        TYPES,
-    ),
-    (
-        (Part::Second, Any, One(Name), One(Star)),
-        TYPES,
-    ),
+    ((Part::Second, Any, One(Name), One(Name)), TYPES),
+    ((Part::Second, Any, One(Name), One(Star)), TYPES),
     (
         (Part::Second, Any, One(Name), One(Colon)),
         "there are no labels and no goto: write a loop with break and continue",
@@ -383,18 +308,9 @@ pub(crate) static RULES: [(Looked, &str); 83] = [
         (Part::Body, Any, Any, One(Else)),
         "an else stands behind the one statement of its if: put several into { }",
     ),
-    (
-        (Part::Body, Any, One(If), Any),
-        BRACKETS,
-    ),
-    (
-        (Part::Body, Any, One(While), Any),
-        BRACKETS,
-    ),
-    (
-        (Part::Body, Any, One(For), Any),
-        BRACKETS,
-    ),
+    ((Part::Body, Any, One(If), Any), BRACKETS),
+    ((Part::Body, Any, One(While), Any), BRACKETS),
+    ((Part::Body, Any, One(For), Any), BRACKETS),
     (
         (Part::First, Any, Any, One(OpenRound)),
         "a statement begins with no bracket: write *p += 1; for (*p)++; and leave (void)x; out",
