@@ -1,6 +1,6 @@
 #!/bin/sh
 # Runs each script that is named with $CLSIM, and shows the faults and refusals, each with its explanation. Where $SARIF names a file, the
-# explanations of faults are written there as SARIF 2.1.0, which takes Python 3. Status 0 if there are none, else 1, and 2 where there is no
+# explanations are written there as SARIF 2.1.0, which takes Python 3. Status 0 if there are none, else 1, and 2 where there is no
 # such program or the file can't be written.
 if ! command -v "${CLSIM:-}" >/dev/null; then
     echo "ci.sh: no program: CLSIM=${CLSIM:-}" >&2
@@ -15,7 +15,7 @@ for script in "$@"; do
     echo "$script: $(echo "$replies" | grep -E '^(fault|refused|clsim:)' | head -n 1)"
     told=$("$CLSIM" explain "$script" 2>/dev/null) && printf '%s\n' "$told"
     told=$("$CLSIM" explain "$script" --format json 2>/dev/null)
-    # (what is told of a source that doesn't build is no JSON)
+    # (of a script with neither a fault nor a source that doesn't build it is the word clean)
     case $told in '{'*) printf '%s\n' "$told" >>"$explained" ;; esac
 done
 if [ -n "${SARIF:-}" ]; then

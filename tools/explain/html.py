@@ -8,7 +8,7 @@ and a picture of the schedule, a lane a work-item. The status is 0, or 2 where t
 import re
 from xml.sax.saxutils import escape
 
-from reading import explanations, item_text, lines_of, place_of, run
+from reading import explanations, is_refusal, item_text, lines_of, place_of, run, title_of
 
 # the picture: how far lanes and events stand from one another, and where the first ones stand, in pixels
 LANE = 132
@@ -165,7 +165,10 @@ def marked_text(raw, place):
 
 
 def places_of(whole):
-    """The places of the named items and of the calls of helpers round them, each with what is said of it."""
+    """The places of the named items and of the calls of helpers round them, or that of a refusal, each with what is said of it."""
+    if is_refusal(whole):
+        yield whole["spot"], whole["fault"]["name"]
+        return
     for item in whole["items"]:
         place = place_of(item)
         if place:
@@ -205,8 +208,18 @@ def source_table(whole):
     return "<table>" + "".join(cells) + "</table>"
 
 
+def refusal_section(whole):
+    """A source that doesn't build."""
+    parts = [f"<h1>{quoted(whole['title'])}</h1>", f'<p class="dim">{quoted(whole["script"])}:{whole["spot"]["script_line"]}</p>']
+    parts += [f"<p><b>Hint:</b> {quoted(hint)}</p>" for hint in whole["hints"]]
+    parts += ["<h2>Source</h2>", f'<div class="wide">{source_table(whole)}</div>']
+    return "".join(parts)
+
+
 def section(whole):
     """One explanation."""
+    if is_refusal(whole):
+        return refusal_section(whole)
     launch, schedule = whole["launch"], whole["schedule"]
     parts = [
         f"<h1>{quoted(whole['fault']['line'])}</h1>",
@@ -228,7 +241,7 @@ def section(whole):
 def main(paths):
     """The text of a page."""
     found = explanations(paths)
-    title = "clsim: " + (found[0]["fault"]["line"] if len(found) == 1 else f"{len(found)} explanations")
+    title = "clsim: " + (title_of(found[0]) if len(found) == 1 else f"{len(found)} explanations")
     body = "".join(section(whole) for whole in found) or "<p>no explanations</p>"
     return ('<!doctype html><html lang="en"><head><meta charset="utf-8">'
             '<meta name="viewport" content="width=device-width, initial-scale=1">'

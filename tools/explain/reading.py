@@ -64,6 +64,16 @@ def fail(words):
     return 2
 
 
+def is_refusal(whole):
+    """Whether an explanation is that of a source that doesn't build."""
+    return whole.get("kind") == "refusal"
+
+
+def title_of(whole):
+    """What an explanation is of, in a line."""
+    return whole["title"] if is_refusal(whole) else whole["fault"]["line"]
+
+
 def ids(values):
     """A list of ids as text: one as it is, several in brackets."""
     return str(values[0]) if len(values) == 1 else "(" + ", ".join(map(str, values)) + ")"
@@ -88,11 +98,18 @@ def text_of(line):
         return "".join(chr(byte) if byte < 128 else "?" for byte in line)
 
 
+def told_places(whole):
+    """The places of the named items and of the calls of helpers round them, or that of a refusal."""
+    if is_refusal(whole):
+        return [whole["spot"]]
+    spots = [place for item in whole["items"] for place in (item["spot"], item["last_access"]) if place]
+    return [place for spot in spots for place in [spot, *spot["calls"]]]
+
+
 def lines_of(whole):
     """The lines of an explanation's script as bytes, by their numbers: all where the file of its name is there and has the lines that the
     explanation tells, else these alone."""
-    places = [place for item in whole["items"] for place in (item["spot"], item["last_access"]) if place]
-    told = {place["script_line"]: place["text"] for spot in places for place in [spot, *spot["calls"]]}
+    told = {place["script_line"]: place["text"] for place in told_places(whole)}
     try:
         with open(whole["script"], "rb") as file:
             lines = dict(enumerate(file.read().split(b"\n"), 1))

@@ -7,7 +7,7 @@ The status is 0, or 2 where the input is bad."""
 import json
 from urllib.parse import quote
 
-from reading import explanations, item_text, lines_of, place_of, run
+from reading import explanations, is_refusal, item_text, lines_of, place_of, run
 
 SCHEMA = "https://json.schemastore.org/sarif-2.1.0.json"
 
@@ -20,6 +20,26 @@ RULES = {
     "divide_by_zero": "A division by zero",
     "divide_overflow": "A division whose quotient does not fit its type",
     "budget": "A work-item that uses up its budget of accesses, barriers and turns of loops",
+}
+
+# of a source that doesn't build: the faults that `clsim check` names
+REFUSALS = {
+    "BadByte": "A byte that begins no token, or that can't follow a number",
+    "NumberTooLarge": "A number that no integer type holds",
+    "Unexpected": "A token with which no program goes on",
+    "TooDeep": "A token that is nested too deep",
+    "TooLong": "A source that is too long",
+    "UnknownName": "A name that isn't in scope",
+    "Redeclared": "A name that is taken",
+    "TypeMismatch": "An operand, condition, argument or value of another kind than wanted",
+    "NotAssignable": "A store to what is constant, or a const that is dropped",
+    "Recursion": "A call of a function in its own body",
+    "WrongArgumentCount": "A call with too few or too many arguments",
+    "WrongSpace": "A pointer to another address space than wanted",
+    "BadBarrierFlags": "A barrier that names no fences",
+    "TooManyLoops": "Loops that are nested too deep",
+    "TooLarge": "An array or a kernel that is too large",
+    "MissingReturn": "A function with a value that doesn't always return",
 }
 
 
@@ -66,8 +86,22 @@ def fingerprint(whole, places):
     return f"{whole['fault']['name']} {whole['launch']['function']} {where}"
 
 
+def refusal_result(whole):
+    """A result of a source that doesn't build."""
+    spot = whole["spot"]
+    return {
+        "ruleId": "clsim/" + whole["fault"]["name"],
+        "level": "error",
+        "message": {"text": "; ".join([whole["title"], *whole["hints"]])},
+        "locations": [location(whole, lines_of(whole), spot)],
+        "partialFingerprints": {"clsim/v1": f"{whole['fault']['name']} {spot['line']}:{spot['column']}"},
+    }
+
+
 def result(whole):
     """A result of an explanation."""
+    if is_refusal(whole):
+        return refusal_result(whole)
     lines = lines_of(whole)
     spots = [(item, place_of(item)) for item in whole["items"]]
     spots = [(item, spot) for item, spot in spots if spot]
@@ -95,7 +129,7 @@ def main(paths):
     found = explanations(paths)
     rules = [
         {"id": "clsim/" + name, "name": name, "shortDescription": {"text": words}}
-        for name, words in RULES.items()
+        for name, words in {**RULES, **REFUSALS}.items()
     ]
     log = {
         "$schema": SCHEMA,

@@ -1,1 +1,4 @@
+pub mod Hints
 pub mod Places
+pub mod Refusals
+pub mod Titles

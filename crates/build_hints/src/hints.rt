@@ -1,24 +1,57 @@
 //! Hints at faults of a source.
 #![tactic(auto)]
 
-ghost use Rattle.std.specs.Prelude.{◌≤◌, length};
+ghost use Rattle.std.specs.Prelude.{◌≡◌, ◌≤◌, ◌≢◌, length, IfOk, option_copied};
+ghost use Rattle.build_hints.specs.Hints as hints;
+ghost use Rattle.hint_rules.specs.Near.{near_of};
 
-use crate::bytes::byte_hint;
-use crate::rules::token_hint;
-use crate::tokens::{Place, callee, kind_of, nth, nth_last, place_in, word_of};
-use crate::words::{UNDECLARED, argument_hint, function_hint, is_built_in, value_hint, word_hint};
-use clmodel::tree::AddressSpace;
+use crate::faults::Refused;
 use clmodel::type_fault::TypeFault;
 use clsyntax_lex::lex;
-use clsyntax_lex::token::{SyntaxFault, TokenKind};
+use clsyntax_lex::token::SyntaxFault;
+use hint_rules::{Mark, Place, callee, mark_at, nth, nth_last, place_in, token_hint, word_of};
+use lacking_words::{
+    UNDECLARED, argument_hint, byte_hint, first_said, function_hint, is_built_in, is_one_of,
+    said_or, value_hint, word_hint,
+};
 use std::alloc::{AllocError, Global};
 
 /// The functions whose two arguments have one type.
-static OF_ONE_TYPE: [&[u8]; 3] = [b"min", b"max", b"rotate"];
+pub(crate) static OF_ONE_TYPE: [&[u8]; 3] = [b"min", b"max", b"rotate"];
+
+pub(crate) const FENCES: &str = "a fence stands in the brackets of barrier alone";
+
+pub(crate) const NO_VALUE: &str = "a call of barrier is a statement of its own, and has no value";
+
+pub(crate) const HELPER_CALL: &str =
+    "a helper's call is a statement, or the whole right side of =: write int t = f(x); before, and t in the expression; no kernel is called";
+
+pub(crate) const CALLED: &str = "a built-in function is called, with its arguments in brackets";
+
+pub(crate) const ONE_TYPE: &str =
+    "min, max and rotate take two of one type: write a cast, as in min((int)x, y)";
+
+pub(crate) const STARS: &str = "* joins two integers, or stands in front of a pointer";
+
+pub(crate) const LOOPS: &str = "break and continue stand in a loop of the same function";
+
+pub(crate) const RETURNS: &str =
+    "a kernel and a helper with void have return; alone, any other helper return with a value";
+
+pub(crate) const LOCAL_ARRAY: &str =
+    "an array in local memory is declared in the outermost block of a kernel: hand a helper a __local pointer to it";
+
+pub(crate) const SPACES: &str =
+    "a pointer stays in its address space: write a helper for each; nothing points to private memory, so a helper takes elements of a private array";
+
+pub(crate) const ARRAY_TARGET: &str = "an array is assigned one element after another";
+
+pub(crate) const RECURSION: &str =
+    "no function calls itself: write a loop, with an array for what it has to keep";
 
 /// What is hinted at by tokens.
 #[derive(Clone, Copy)]
-enum Hinted {
+pub(crate) enum Hinted {
     /// A token that no program has there
     Unexpected,
     /// A name that isn't known
@@ -35,46 +68,92 @@ enum Hinted {
     Recursion,
 }
 
+/// What the token at a place is, and the one behind it.
+fn here_mark(place: Place<'_>) -> Mark
+    ensures { result ≡ hints.here_mark (near_of place.entry) }
+{
+    mark_at(nth(place.rest, 0))
+}
+
+fn next_mark(place: Place<'_>) -> Mark
+    ensures { result ≡ hints.next_mark (near_of place.entry) }
+{
+    mark_at(nth(place.rest, 1))
+}
+
+/// The word at a place.
+fn here_word(place: Place<'_>) -> &[u8]
+    ensures { result.now ≡ hints.here_word (near_of place.entry) }
+{
+    word_of(place.source, nth(place.rest, 0))
+}
+
+/// The word that ends in front of a place with so many tokens behind it.
+fn last_word(place: Place<'_>, number: usize) -> &[u8]
+    ensures { result.now ≡ hints.last_word (near_of place.entry) number }
+{
+    word_of(place.source, nth_last(place.front, number))
+}
+
+/// The function whose arguments go on in front of a place.
+fn outer_word(place: Place<'_>) -> &[u8]
+    ensures { result.now ≡ hints.outer_word (near_of place.entry) }
+{
+    word_of(place.source, callee(place.front))
+}
+
 /// Whether the token at a place is followed by its arguments.
-fn is_called(place: Place<'_>) -> bool {
-    matches!(kind_of(nth(place.rest, 1)), Some(TokenKind::OpenRound))
+fn is_called(place: Place<'_>) -> bool
+    ensures { result ≡ hints.is_called (near_of place.entry) }
+{
+    matches!(next_mark(place), Mark::OpenRound)
 }
 
 /// Whether the token at a place is followed by an index.
-fn is_indexed(place: Place<'_>) -> bool {
-    matches!(kind_of(nth(place.rest, 1)), Some(TokenKind::OpenSquare))
+fn is_indexed(place: Place<'_>) -> bool
+    ensures { result ≡ hints.is_indexed (near_of place.entry) }
+{
+    matches!(next_mark(place), Mark::OpenSquare)
 }
 
 /// A hint at the first token that no program has: by its own word and by those of the two in front of it, which may have
 /// been read as names, or by what stands round it.
-fn unexpected_hint(place: Place<'_>) -> &'static str {
-    if let Some(hint) = word_hint(word_of(place.source, nth(place.rest, 0))) {
-        return hint;
-    }
-    if let Some(hint) = word_hint(word_of(place.source, nth_last(place.front, 0))) {
-        return hint;
-    }
-    if let Some(hint) = word_hint(word_of(place.source, nth_last(place.front, 1))) {
-        return hint;
-    }
-    token_hint(place)
+fn unexpected_hint(place: Place<'_>) -> &'static str
+    ensures { result.now ≡ hints.unexpected_said (near_of place.entry) }
+{
+    let round = said_or(word_hint(last_word(place, 1)), token_hint(place));
+    let last = said_or(word_hint(last_word(place, 0)), round);
+    said_or(word_hint(here_word(place)), last)
 }
 
-/// A hint at a fence outside of the brackets of a barrier: they may be those of a function that is lacking.
-fn fence_hint(place: Place<'_>) -> &'static str {
-    let outer = word_of(place.source, callee(place.front));
-    if outer.is_empty() || is_built_in(outer) {
-        return "a fence stands in the brackets of barrier alone";
+/// Whether no function stands there, or one of the language.
+fn is_none_or_built_in(word: &[u8]) -> bool
+    ensures { result ≡ hints.is_none_or_built_in word.now }
+{
+    word.is_empty() || is_built_in(word)
+}
+
+/// A hint at a fence in the brackets of a function.
+fn fenced_hint(outer: &[u8]) -> &'static str
+    ensures { result.now ≡ hints.fenced_said outer.now }
+{
+    if is_none_or_built_in(outer) {
+        return FENCES;
     }
     function_hint(outer)
 }
 
-/// A hint at a name that isn't known.
-fn name_hint(place: Place<'_>) -> &'static str {
-    let word = word_of(place.source, nth(place.rest, 0));
-    if let Some(hint) = word_hint(word) {
-        return hint;
-    }
+/// A hint at a fence outside of the brackets of a barrier: they may be those of a function that is lacking.
+fn fence_hint(place: Place<'_>) -> &'static str
+    ensures { result.now ≡ hints.fence_said (near_of place.entry) }
+{
+    fenced_hint(outer_word(place))
+}
+
+/// A hint at a name that no table has.
+fn unknown_hint(place: Place<'_>, word: &[u8]) -> &'static str
+    ensures { result.now ≡ hints.unknown_said (near_of place.entry) word.now }
+{
     if is_called(place) {
         return function_hint(word);
     }
@@ -87,100 +166,118 @@ fn name_hint(place: Place<'_>) -> &'static str {
     value_hint(word)
 }
 
-fn is_of_one_type(word: &[u8]) -> bool {
-    for name in &OF_ONE_TYPE {
-        if *name == word {
-            return true;
-        }
-    }
-    false
+fn named_hint(place: Place<'_>, word: &[u8]) -> &'static str
+    ensures { result.now ≡ hints.named_said (near_of place.entry) word.now }
+{
+    said_or(word_hint(word), unknown_hint(place, word))
+}
+
+/// A hint at a name that isn't known.
+fn name_hint(place: Place<'_>) -> &'static str
+    ensures { result.now ≡ hints.name_said (near_of place.entry) }
+{
+    named_hint(place, here_word(place))
 }
 
 /// A hint at the call of a name where its value can't be used.
-fn call_hint(word: &[u8]) -> Option<&'static str> {
-    if matches!(word, b"barrier") {
-        return Some("a call of barrier is a statement of its own, and has no value");
+fn call_hint(word: &[u8]) -> Option<&'static str>
+    ensures { option_copied result ≡ hints.call_said word.now }
+{
+    if word == b"barrier".as_slice() {
+        return Some(NO_VALUE);
     }
     if is_built_in(word) {
         return None;
     }
-    Some(
-        "a helper's call is a statement, or the whole right side of =: write int t = f(x); before, and t in the expression; no kernel is called",
-    )
+    Some(HELPER_CALL)
 }
 
-/// A hint at an operand or an argument of a wrong kind.
-fn operand_hint(place: Place<'_>) -> Option<&'static str> {
-    let word = word_of(place.source, nth(place.rest, 0));
-    if is_called(place) {
-        if let Some(hint) = call_hint(word) {
-            return Some(hint);
-        }
+/// A hint at an operand by what stands in front of it.
+fn joined_hint(place: Place<'_>) -> Option<&'static str>
+    ensures { option_copied result ≡ hints.joined_said (near_of place.entry) }
+{
+    if is_one_of(&OF_ONE_TYPE, outer_word(place)) {
+        return Some(ONE_TYPE);
     }
-    if is_built_in(word) && !is_called(place) {
-        return Some("a built-in function is called, with its arguments in brackets");
-    }
-    if is_of_one_type(word_of(place.source, callee(place.front))) {
-        return Some("min, max and rotate take two of one type: write a cast, as in min((int)x, y)");
-    }
-    if matches!(kind_of(nth_last(place.front, 0)), Some(TokenKind::Star)) {
-        return Some("* joins two integers, or stands in front of a pointer");
-    }
-    None
-}
-
-/// A hint at an operand, an argument or a statement of a wrong kind.
-fn mismatch_hint(place: Place<'_>) -> Option<&'static str> {
-    match kind_of(nth(place.rest, 0)) {
-        Some(TokenKind::Break | TokenKind::Continue) => {
-            Some("break and continue stand in a loop of the same function")
-        }
-        Some(TokenKind::Return) => Some(
-            "a kernel and a helper with void have return; alone, any other helper return with a value",
-        ),
-        _ => operand_hint(place),
-    }
-}
-
-/// Whether the name at a place is declared as an array in local memory.
-fn is_local_array(place: Place<'_>) -> bool {
-    let before = kind_of(nth_last(place.front, 1));
-    matches!(before, Some(TokenKind::Space(AddressSpace::Local)))
-}
-
-/// A hint at a pointer of another address space.
-fn space_hint(place: Place<'_>) -> &'static str {
-    if is_local_array(place) {
-        return "an array in local memory is declared in the outermost block of a kernel: hand a helper a __local pointer to it";
-    }
-    "a pointer stays in its address space: write a helper for each; nothing points to private memory, so a helper takes elements of a private array"
-}
-
-/// A hint at what can't be stored to: only an array's name is followed by an assignment.
-fn target_hint(place: Place<'_>) -> Option<&'static str> {
-    match kind_of(nth(place.rest, 1)) {
-        Some(TokenKind::Assign) => Some("an array is assigned one element after another"),
+    match mark_at(nth_last(place.front, 0)) {
+        Mark::Star => Some(STARS),
         _ => None,
     }
 }
 
-/// A hint at a call with too few or too many arguments.
-fn count_hint(place: Place<'_>) -> Option<&'static str> {
-    argument_hint(word_of(place.source, nth(place.rest, 0)))
+/// A hint at a word as an operand or an argument of a wrong kind.
+fn word_operand_hint(place: Place<'_>, word: &[u8]) -> Option<&'static str>
+    ensures { option_copied result ≡ hints.operand_in (near_of place.entry) word.now }
+{
+    if is_called(place) {
+        return first_said(call_hint(word), joined_hint(place));
+    }
+    if is_built_in(word) {
+        return Some(CALLED);
+    }
+    joined_hint(place)
+}
+
+/// A hint at an operand or an argument of a wrong kind.
+fn operand_hint(place: Place<'_>) -> Option<&'static str>
+    ensures { option_copied result ≡ hints.operand_said (near_of place.entry) }
+{
+    word_operand_hint(place, here_word(place))
+}
+
+/// A hint at an operand, an argument or a statement of a wrong kind.
+fn mismatch_hint(place: Place<'_>) -> Option<&'static str>
+    ensures { option_copied result ≡ hints.mismatch_said (near_of place.entry) }
+{
+    match here_mark(place) {
+        Mark::Leave => Some(LOOPS),
+        Mark::Return => Some(RETURNS),
+        _ => operand_hint(place),
+    }
+}
+
+/// A hint at a pointer of another address space, or at the name of an array that is declared in local memory.
+fn space_hint(place: Place<'_>) -> &'static str
+    ensures { result.now ≡ hints.space_said (near_of place.entry) }
+{
+    match mark_at(nth_last(place.front, 1)) {
+        Mark::Local => LOCAL_ARRAY,
+        _ => SPACES,
+    }
+}
+
+/// A hint at what can't be stored to: only an array's name is followed by an assignment.
+fn target_hint(place: Place<'_>) -> Option<&'static str>
+    ensures { option_copied result ≡ hints.target_said (near_of place.entry) }
+{
+    match next_mark(place) {
+        Mark::Assign => Some(ARRAY_TARGET),
+        _ => None,
+    }
 }
 
 /// A hint at a place.
-fn hint_at(hinted: Hinted, place: Place<'_>) -> Option<&'static str> {
+fn hint_at(hinted: Hinted, place: Place<'_>) -> Option<&'static str>
+    ensures { option_copied result ≡ hints.said_at hinted (near_of place.entry) }
+{
     match hinted {
         Hinted::Unexpected => Some(unexpected_hint(place)),
         Hinted::Name => Some(name_hint(place)),
         Hinted::Mismatch => mismatch_hint(place),
         Hinted::Space => Some(space_hint(place)),
         Hinted::Target => target_hint(place),
-        Hinted::Count => count_hint(place),
-        Hinted::Recursion => Some(
-            "no function calls itself: write a loop, with an array for what it has to keep",
-        ),
+        Hinted::Count => argument_hint(here_word(place)),
+        Hinted::Recursion => Some(RECURSION),
+    }
+}
+
+/// Want of memory as an error.
+fn unless_memory(fault: SyntaxFault) -> Result<(), AllocError>
+    ensures { IfOk result (λ _. fault ≢ SyntaxFault.OutOfMemory) }
+{
+    match fault {
+        SyntaxFault::OutOfMemory => Err(AllocError),
+        _ => Ok(()),
     }
 }
 
@@ -190,17 +287,23 @@ fn hint_by_tokens(
     source: &[u8],
     hinted: Hinted,
     at: usize,
-) -> Result<Option<&'static str>, AllocError> {
+) -> Result<Option<&'static str>, AllocError>
+    ensures { IfOk result (λ hint. option_copied hint ≡ hints.said_by_tokens source.now hinted at) }
+{
     let tokens = match lex(alloc, source) {
         Ok(tokens) => tokens,
-        Err(SyntaxFault::OutOfMemory) => return Err(AllocError),
-        Err(_) => return Ok(None),
+        Err(fault) => {
+            unless_memory(fault)?;
+            return Ok(None);
+        }
     };
     Ok(hint_at(hinted, place_in(source, tokens.as_slice(), at)))
 }
 
 /// What a hint at a fault goes by, if there may be one.
-fn hinted_of_type(fault: TypeFault) -> Option<Hinted> {
+fn hinted_of(fault: TypeFault) -> Option<Hinted>
+    ensures { result ≡ hints.hinted_of fault }
+{
     match fault {
         TypeFault::UnknownName { .. } => Some(Hinted::Name),
         TypeFault::TypeMismatch { .. } => Some(Hinted::Mismatch),
@@ -213,30 +316,50 @@ fn hinted_of_type(fault: TypeFault) -> Option<Hinted> {
 }
 
 /// A hint at a fault of types at a byte. An error is out of memory.
-pub(crate) fn type_hint(
+fn type_hint(
     alloc: Global,
     source: &[u8],
     fault: TypeFault,
     at: usize,
-) -> Result<Option<&'static str>, AllocError> {
-    match hinted_of_type(fault) {
+) -> Result<Option<&'static str>, AllocError>
+    ensures { IfOk result (λ hint. option_copied hint ≡ hints.type_said source.now fault at) }
+{
+    match hinted_of(fault) {
         Some(hinted) => hint_by_tokens(alloc, source, hinted, at),
         None => Ok(None),
     }
 }
 
 /// A hint at a fault of syntax at a byte. An error is out of memory.
-pub(crate) fn syntax_hint(
+fn syntax_hint(
     alloc: Global,
     source: &[u8],
     fault: SyntaxFault,
     at: usize,
 ) -> Result<Option<&'static str>, AllocError>
     requires { at ≤ length source.now }
+    ensures { IfOk result (λ hint. option_copied hint ≡ hints.syntax_said source.now fault at) }
 {
     match fault {
         SyntaxFault::BadByte { .. } => Ok(Some(byte_hint(source, at))),
         SyntaxFault::Unexpected { .. } => hint_by_tokens(alloc, source, Hinted::Unexpected, at),
         _ => Ok(None),
+    }
+}
+
+/// What to do about a fault of a source at a byte: what is wanted there, or how to write what the language lacks. An
+/// error is out of memory. It takes the time of the source.
+pub(crate) fn hint_of(
+    alloc: Global,
+    source: &[u8],
+    fault: Refused,
+    at: usize,
+) -> Result<Option<&'static str>, AllocError>
+    requires { at ≤ length source.now }
+    ensures { IfOk result (λ hint. option_copied hint ≡ hints.fault_said source.now fault at) }
+{
+    match fault {
+        Refused::Syntax(fault) => syntax_hint(alloc, source, fault, at),
+        Refused::Type(fault) => type_hint(alloc, source, fault, at),
     }
 }

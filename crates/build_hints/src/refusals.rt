@@ -1,83 +1,87 @@
-//! A refusal as text.
+//! A fault of a source, told as data and as text.
 #![tactic(auto)]
 
-ghost use Rattle.std.specs.Prelude.{◌≡◌, ◌≤◌, ◌++◌, length, min, codes, string_bytes, OnOk, IfOk};
-ghost use Rattle.build_hints.specs.Places.{fault_place, BeginsWithPlace};
+ghost use Rattle.std.specs.Prelude.{◌≡◌, ◌++◌, codes, string_bytes, option_copied, OnOk, IfOk};
+ghost use Rattle.build_hints.specs.Refusals.{IsRefusal, TellsRefusal, hint_line, hint_lines};
 
-use crate::hints::{syntax_hint, type_hint};
-use crate::titles::{syntax_title, type_title};
-use crate::tokens::word_at;
-use clmodel::type_fault::TypeFault;
-use clsyntax_lex::token::SyntaxFault;
+use crate::faults::{Refused, kind_of, name_of, number_of, place_of};
+use crate::hints::hint_of;
+use crate::titles::title_of;
 use explain_text::{place_text, write_quote};
+use lacking_words::word_at;
 use source_lines::{line_text, position_of};
 use std::alloc::{AllocError, Global};
 use std::fmt::Write;
 
-/// Why a source doesn't build.
-#[derive(Clone, Copy, Debug, PartialEq, Eq)]
-pub enum Refused {
-    Syntax(SyntaxFault),
-    Type(TypeFault),
+/// A fault of a source, with where it lies. Lines and columns count from 1, columns and lengths in bytes.
+#[derive(Drop)]
+pub struct Refusal {
+    /// `syntax` or `type`
+    pub kind: &'static str,
+    /// The number and the name that `clsim check` writes
+    pub number: u8,
+    pub name: &'static str,
+    /// The byte of the source at which it lies, from 0; past the end it is the end
+    pub offset: usize,
+    /// How many bytes the word there has; 1 where none stands there
+    pub length: usize,
+    /// The line of the source, and that of the file
+    pub line: usize,
+    pub script_line: usize,
+    pub column: usize,
+    /// The text of its line
+    pub text: String,
+    /// What the fault says
+    pub title: &'static str,
+    /// What is wanted there, or how to write what the language lacks
+    pub hint: Option<&'static str>,
 }
 
-/// The byte of a source at which a fault lies.
-fn place_of(fault: Refused) -> u32
-    ensures { result ≡ fault_place fault }
-{
-    match fault {
-        Refused::Type(fault) => fault.offset(),
-        Refused::Syntax(
-            SyntaxFault::BadByte { at }
-            | SyntaxFault::NumberTooLarge { at }
-            | SyntaxFault::Unexpected { at }
-            | SyntaxFault::TooDeep { at }
-            | SyntaxFault::TooLong { at },
-        ) => at,
-        Refused::Syntax(SyntaxFault::OutOfMemory) => 0,
-    }
-}
-
-fn title_of(fault: Refused) -> &'static str {
-    match fault {
-        Refused::Syntax(fault) => syntax_title(fault),
-        Refused::Type(fault) => type_title(fault),
-    }
-}
-
-/// What to do about a fault of a source: what is wanted there, or how to write what the language lacks. A place past
-/// the end stands for the end. An error is out of memory. It takes the time of the source.
-pub(crate) fn hint_of(
+/// A fault of a source as data. The source begins at this line of its file. A place past the end stands for the end. An
+/// error is out of memory. It takes the time of the source.
+pub fn refusal_of(
     alloc: Global,
     source: &[u8],
+    first_line: usize,
     fault: Refused,
-) -> Result<Option<&'static str>, AllocError> {
-    let at = (place_of(fault) as usize).min(source.len());
-    match fault {
-        Refused::Syntax(fault) => syntax_hint(alloc, source, fault, at),
-        Refused::Type(fault) => type_hint(alloc, source, fault, at),
-    }
+) -> Result<Refusal, AllocError>
+    ensures { IfOk result (IsRefusal source.now first_line fault) }
+{
+    let offset = (place_of(fault) as usize).min(source.len());
+    let place = position_of(source, offset);
+    let text = String::from_utf8_lossy(alloc, line_text(source, place.begin))?;
+    let hint = hint_of(alloc, source, fault, offset)?;
+    let (kind, number, name) = (kind_of(fault), number_of(fault), name_of(fault));
+    let length = word_at(source, offset).len().max(1);
+    let script_line = first_line.saturating_add(place.line - 1);
+    let title = title_of(fault);
+    Ok(Refusal {
+        kind,
+        number,
+        name,
+        offset,
+        length,
+        line: place.line,
+        script_line,
+        column: place.column,
+        text,
+        title,
+        hint,
+    })
 }
 
-/// The line of a source with a caret under a word at a place, and a hint.
-fn quote_text(
-    alloc: Global,
-    source: &[u8],
-    at: usize,
-    line: usize,
-    hint: Option<&str>,
-) -> Result<String, AllocError>
-    requires { at ≤ length source.now }
-{
-    let place = position_of(source, at);
-    let text = String::from_utf8_lossy(alloc, line_text(source, place.begin))?;
-    let from = place.column - 1;
-    let to = from.saturating_add(word_at(source, at).len().max(1));
+/// The line of a refusal with carets under its word.
+fn quote_text(alloc: Global, refusal: &Refusal) -> Result<String, AllocError> {
+    let from = refusal.column.saturating_sub(1);
+    let to = from.saturating_add(refusal.length);
     let mut out = String::new(alloc);
-    write_quote(line, text.as_str(), from, to, &mut out)?;
-    if let Some(hint) = hint {
-        writeln!(out, "  hint: {hint}")?;
-    }
+    write_quote(
+        refusal.script_line,
+        refusal.text.as_str(),
+        from,
+        to,
+        &mut out,
+    )?;
     Ok(out)
 }
 
@@ -86,6 +90,23 @@ fn push_title(title: &str, quote: &str, out: &mut String) -> Result<(), AllocErr
     ensures { OnOk result (string_bytes out.new ≡ string_bytes out.old ++ (codes ": " ++ title.now ++ codes "\n" ++ quote.now)) }
 {
     write!(out, ": {title}\n{quote}")
+}
+
+/// Adds the line of a hint.
+fn push_hint(hint: &str, out: &mut String) -> Result<(), AllocError>
+    ensures { OnOk result (string_bytes out.new ≡ string_bytes out.old ++ hint_line hint.now) }
+{
+    writeln!(out, "  hint: {hint}")
+}
+
+/// Adds the line of a hint, if there is one.
+fn push_maybe_hint(hint: Option<&'static str>, out: &mut String) -> Result<(), AllocError>
+    ensures { OnOk result (string_bytes out.new ≡ string_bytes out.old ++ hint_lines (option_copied hint.entry)) }
+{
+    match hint {
+        Some(hint) => push_hint(hint, out),
+        None => Ok(()),
+    }
 }
 
 /// A fault of a source as text: where it lies and what it is, the line with a caret, and a hint. The source begins at
@@ -98,14 +119,12 @@ pub fn refusal_text(
     first_line: usize,
     fault: Refused,
 ) -> Result<String, AllocError>
-    ensures { IfOk result (λ text. BeginsWithPlace name.now source.now first_line (min (fault_place fault) (length source.now)) (string_bytes text)) }
+    ensures { IfOk result (λ text. TellsRefusal name.now source.now first_line fault (string_bytes text)) }
 {
-    let at = (place_of(fault) as usize).min(source.len());
-    let place = position_of(source, at);
-    let line = first_line.saturating_add(place.line - 1);
-    let hint = hint_of(alloc, source, fault)?;
-    let quote = quote_text(alloc, source, at, line, hint)?;
-    let mut out = place_text(alloc, name, line, place.column)?;
-    push_title(title_of(fault), quote.as_str(), &mut out)?;
+    let refusal = refusal_of(alloc, source, first_line, fault)?;
+    let quote = quote_text(alloc, &refusal)?;
+    let mut out = place_text(alloc, name, refusal.script_line, refusal.column)?;
+    push_title(refusal.title, quote.as_str(), &mut out)?;
+    push_maybe_hint(refusal.hint, &mut out)?;
     Ok(out)
 }

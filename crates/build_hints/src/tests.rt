@@ -1,6 +1,7 @@
 //! Hints at what natural kernels write and the language lacks.
 
-use crate::refusals::{Refused, hint_of, refusal_text};
+use crate::faults::Refused;
+use crate::refusals::{refusal_of, refusal_text};
 use clmodel::type_fault::TypeFault;
 use clsyntax_lex::token::SyntaxFault;
 use std::test::Fail;
@@ -214,7 +215,8 @@ fn hints(rt: HostRuntime) -> Result<(), Fail> {
         let (front, back) = text.split_once('@').unwrap_or((text, ""));
         let source = format!(in alloc; "{front}{back}")?;
         let fault = fault_at(kind, front.len() as u32);
-        let hint = hint_of(alloc, source.as_bytes(), fault)?.unwrap_or("-");
+        let refusal = refusal_of(alloc, source.as_bytes(), 1, fault)?;
+        let hint = refusal.hint.unwrap_or("-");
         assert!(rt; hint.starts_with(wanted), "{row}: {hint}");
     }
     Ok(())

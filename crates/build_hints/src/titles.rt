@@ -1,11 +1,17 @@
 //! What a fault of a source says.
 #![tactic(auto)]
 
+ghost use Rattle.std.specs.Prelude.{◌≡◌};
+ghost use Rattle.build_hints.specs.Titles as titles;
+
+use crate::faults::Refused;
 use clmodel::type_fault::TypeFault;
 use clsyntax_lex::token::SyntaxFault;
 
 /// What a fault of syntax says.
-pub(crate) fn syntax_title(fault: SyntaxFault) -> &'static str {
+fn syntax_title(fault: SyntaxFault) -> &'static str
+    ensures { result.now ≡ titles.syntax_title fault }
+{
     match fault {
         SyntaxFault::BadByte { .. } =>
             "syntax 1 BadByte: no token begins with this byte, or it can't follow a number",
@@ -20,7 +26,9 @@ pub(crate) fn syntax_title(fault: SyntaxFault) -> &'static str {
 }
 
 /// What a fault of types says.
-pub(crate) fn type_title(fault: TypeFault) -> &'static str {
+fn type_title(fault: TypeFault) -> &'static str
+    ensures { result.now ≡ titles.type_title fault }
+{
     match fault {
         TypeFault::UnknownName { .. } => "type 1 UnknownName: nothing of this name is in scope",
         TypeFault::Redeclared { .. } =>
@@ -43,5 +51,15 @@ pub(crate) fn type_title(fault: TypeFault) -> &'static str {
         TypeFault::MissingReturn { .. } =>
             "type 12 MissingReturn: a function with a value has to end in a return on each way",
         TypeFault::OutOfMemory => "out of memory",
+    }
+}
+
+/// What a fault says: its kind, its number, its name, and what it means.
+pub(crate) fn title_of(fault: Refused) -> &'static str
+    ensures { result.now ≡ titles.title_of fault }
+{
+    match fault {
+        Refused::Syntax(fault) => syntax_title(fault),
+        Refused::Type(fault) => type_title(fault),
     }
 }

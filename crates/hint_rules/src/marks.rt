@@ -1,12 +1,15 @@
 //! What tokens are, as far as hints tell them apart.
 #![tactic(auto)]
 
+ghost use Rattle.std.specs.Prelude.{◌≡◌};
+ghost use Rattle.hint_rules.specs.Marks as marks;
+
 use clmodel::tree::AddressSpace;
-use clsyntax_lex::token::TokenKind;
+use clsyntax_lex::token::{Token, TokenKind};
 
 /// What stands at a place.
 #[derive(Clone, Copy, Debug, PartialEq, Eq)]
-pub(crate) enum Mark {
+pub enum Mark {
     /// No token: in front of the first, or behind the last
     Nothing,
     Name,
@@ -25,7 +28,10 @@ pub(crate) enum Mark {
     While,
     Do,
     For,
-    /// Any other word of the language
+    /// `break` or `continue`
+    Leave,
+    Return,
+    /// A reserved word that stands nowhere in the grammar
     Word,
     /// `=`
     Assign,
@@ -35,6 +41,7 @@ pub(crate) enum Mark {
     Step,
     Star,
     Minus,
+    And,
     Greater,
     Colon,
     /// Any other operator
@@ -50,7 +57,9 @@ pub(crate) enum Mark {
 }
 
 /// What a word or a number is.
-fn word_mark(kind: TokenKind) -> Mark {
+fn word_mark(kind: TokenKind) -> Mark
+    ensures { result ≡ marks.word_mark kind }
+{
     match kind {
         TokenKind::Name(_) => Mark::Name,
         TokenKind::Number(_) => Mark::Number,
@@ -66,15 +75,17 @@ fn word_mark(kind: TokenKind) -> Mark {
         TokenKind::While => Mark::While,
         TokenKind::Do => Mark::Do,
         TokenKind::For => Mark::For,
-        TokenKind::Break | TokenKind::Continue | TokenKind::Return | TokenKind::Reserved => {
-            Mark::Word
-        }
+        TokenKind::Break | TokenKind::Continue => Mark::Leave,
+        TokenKind::Return => Mark::Return,
+        TokenKind::Reserved => Mark::Word,
         _ => Mark::Operator,
     }
 }
 
 /// What a token is.
-fn mark_of(kind: TokenKind) -> Mark {
+pub(crate) fn mark_of(kind: TokenKind) -> Mark
+    ensures { result ≡ marks.mark_of kind }
+{
     match kind {
         TokenKind::Assign => Mark::Assign,
         TokenKind::ShiftLeftAssign
@@ -90,6 +101,7 @@ fn mark_of(kind: TokenKind) -> Mark {
         TokenKind::PlusPlus | TokenKind::MinusMinus => Mark::Step,
         TokenKind::Star => Mark::Star,
         TokenKind::Minus => Mark::Minus,
+        TokenKind::And => Mark::And,
         TokenKind::Greater => Mark::Greater,
         TokenKind::Colon => Mark::Colon,
         TokenKind::Comma => Mark::Comma,
@@ -105,9 +117,17 @@ fn mark_of(kind: TokenKind) -> Mark {
 }
 
 /// What a token is, if there is one.
-pub(crate) fn mark_at(kind: Option<TokenKind>) -> Mark {
-    match kind {
-        Some(kind) => mark_of(kind),
+pub fn mark_at(token: Option<Token>) -> Mark
+    ensures { result ≡ marks.mark_at token }
+{
+    match token {
+        Some(token) => mark_of(token.kind),
         None => Mark::Nothing,
     }
+}
+
+pub(crate) fn is_nothing(mark: Mark) -> bool
+    ensures { result ≡ marks.is_nothing mark }
+{
+    matches!(mark, Mark::Nothing)
 }

@@ -1,22 +1,43 @@
 //! Words of OpenCL C that the language lacks, with what to write.
 #![tactic(auto)]
 
-use clmodel::setup::PREDEFINED;
+ghost use Rattle.std.specs.Prelude.{◌≡◌, bytes_eq, option_copied};
+ghost use Rattle.std.specs.Char.{is_ascii_lowercase};
+ghost use Rattle.std.specs.List.{list_any};
+ghost use Rattle.lacking_words.specs.Words.{is_vector_of, is_vector, is_built_in, word_said, function_said, argument_said, undeclared_said, value_said, is_capital};
+
+use crate::said::{is_one_of, said_in_front, said_of, said_or};
+use clmodel::setup::{PREDEFINED, Predefined};
 
 /// What to write for floating-point numbers.
-pub(crate) const NO_FLOATS: &str =
+pub const NO_FLOATS: &str =
     "there are no floating-point numbers: count in fixed point, as int or long of a small unit";
 
 /// What to write for structs and vectors.
-pub(crate) const NO_STRUCTS: &str =
+pub const NO_STRUCTS: &str =
     "there are no structs and no vectors: pass the fields as parameters, or an array for each field";
 
+/// What to write for vectors.
+pub(crate) const NO_VECTORS: &str =
+    "there are no vectors: write a variable, or an element of an array, for each component";
+
+/// What to write for a function that no table has.
+pub(crate) const HELPERS: &str =
+    "a helper stands in front of its calls; built in are get_global_id and its like, min max abs clz popcount rotate, barrier, and atomic functions";
+
+/// What the atomic functions take that no table has.
+pub(crate) const POINTER_AND_VALUE: &str = "it takes a pointer and a value";
+
+/// What to write for a macro.
+pub(crate) const NO_MACROS: &str =
+    "there is no preprocessor, and no option -D: write the value of a macro in its place";
+
 /// What to write for a name that isn't declared.
-pub(crate) const UNDECLARED: &str =
+pub const UNDECLARED: &str =
     "a name is declared in front of its use, in the same block or in one round it; that of a for is known in it alone";
 
 /// Words that stand nowhere in the language.
-static LACKING: [(&[u8], &str); 55] = [
+pub(crate) static LACKING: [(&[u8], &str); 55] = [
     (
         b"atomic_int",
         "write int: atomic functions take a pointer to any int or uint",
@@ -168,7 +189,7 @@ static LACKING: [(&[u8], &str); 55] = [
 ];
 
 /// Functions that are lacking.
-static FUNCTIONS: [(&[u8], &str); 69] = [
+pub(crate) static FUNCTIONS: [(&[u8], &str); 69] = [
     (
         b"printf",
         "there is no printf: store what you want to see into a buffer, and read it",
@@ -292,7 +313,7 @@ static FUNCTIONS: [(&[u8], &str); 69] = [
 ];
 
 /// How names of functions begin that are lacking.
-static PREFIXES: [(&[u8], &str); 17] = [
+pub(crate) static PREFIXES: [(&[u8], &str); 17] = [
     (b"as_float", NO_FLOATS),
     (b"as_double", NO_FLOATS),
     (b"convert_float", NO_FLOATS),
@@ -343,7 +364,7 @@ static PREFIXES: [(&[u8], &str); 17] = [
 ];
 
 /// Numbers whose names are lacking.
-static CONSTANTS: [(&[u8], &str); 22] = [
+pub(crate) static CONSTANTS: [(&[u8], &str); 22] = [
     (b"INT_MAX", "write 2147483647"),
     (b"INT_MIN", "write -2147483647 - 1"),
     (b"UINT_MAX", "write 4294967295u"),
@@ -369,7 +390,7 @@ static CONSTANTS: [(&[u8], &str); 22] = [
 ];
 
 /// What built-in functions take, by how their names begin.
-static ARGUMENTS: [(&[u8], &str); 12] = [
+pub(crate) static ARGUMENTS: [(&[u8], &str); 12] = [
     (b"get_work_dim", "it takes no argument: get_work_dim()"),
     (b"get_", "it takes a dimension: get_global_id(0)"),
     (b"barrier", "it takes fences: barrier(CLK_LOCAL_MEM_FENCE)"),
@@ -388,113 +409,103 @@ static ARGUMENTS: [(&[u8], &str); 12] = [
 ];
 
 /// Types that have vectors.
-static ELEMENTS: [&[u8]; 11] = [
+pub(crate) static ELEMENTS: [&[u8]; 11] = [
     b"char", b"uchar", b"short", b"ushort", b"int", b"uint", b"long", b"ulong", b"float",
     b"double", b"half",
 ];
 
 /// How many components a vector has.
-static WIDTHS: [&[u8]; 5] = [b"2", b"3", b"4", b"8", b"16"];
+pub(crate) static WIDTHS: [&[u8]; 5] = [b"2", b"3", b"4", b"8", b"16"];
 
-/// What a table has for a text.
-pub(crate) fn hint_in(table: &[(&[u8], &'static str)], text: &[u8]) -> Option<&'static str> {
-    for entry in table {
-        if entry.0 == text {
-            return Some(entry.1);
-        }
-    }
-    None
+/// Whether a word is this type's name with the number of components behind it.
+fn is_vector_of(word: &[u8], element: &[u8]) -> bool
+    ensures { result ≡ is_vector_of word.now element.now }
+{
+    word.starts_with(element) && is_one_of(&WIDTHS, &word[element.len()..])
 }
 
-/// What a table has for the first of its texts with which a text begins.
-fn prefix_hint_in(table: &[(&[u8], &'static str)], text: &[u8]) -> Option<&'static str> {
-    for entry in table {
-        if text.starts_with(entry.0) {
-            return Some(entry.1);
-        }
-    }
-    None
+fn is_vector_in(elements: &[&[u8]], word: &[u8]) -> bool
+    ensures { result ≡ list_any (λ element. is_vector_of word.now element.now) elements.now }
+{
+    elements.iter().any(|element| is_vector_of(word, *element))
 }
 
-fn is_one_of(table: &[&[u8]], text: &[u8]) -> bool {
-    for entry in table {
-        if *entry == text {
-            return true;
-        }
-    }
-    false
+/// Whether a word is a type's name with the number of components behind it (OpenCL 1.2, section 6.1.2).
+fn is_vector(word: &[u8]) -> bool
+    ensures { result ≡ is_vector word.now }
+{
+    is_vector_in(&ELEMENTS, word)
 }
 
-/// Whether a word is a type's name with the number of components behind it.
-fn is_vector(word: &[u8]) -> bool {
-    for element in &ELEMENTS {
-        if let Some(width) = word.strip_prefix(*element) {
-            if is_one_of(&WIDTHS, width) {
-                return true;
-            }
-        }
-    }
-    false
+fn is_named(table: &[(&[u8], Predefined)], word: &[u8]) -> bool
+    ensures { result ≡ list_any (λ entry. bytes_eq entry.0.now word.now) table.now }
+{
+    table.iter().any(|entry| entry.0 == word)
 }
 
 /// Whether a word names a built-in function of the language, or a fence.
-pub(crate) fn is_built_in(word: &[u8]) -> bool {
-    for entry in &PREDEFINED {
-        if entry.0 == word {
-            return true;
-        }
-    }
-    false
+pub fn is_built_in(word: &[u8]) -> bool
+    ensures { result ≡ is_built_in word.now }
+{
+    is_named(&PREDEFINED, word)
 }
 
 /// What to write for a word that stands nowhere in the language.
-pub(crate) fn word_hint(word: &[u8]) -> Option<&'static str> {
+pub fn word_hint(word: &[u8]) -> Option<&'static str>
+    ensures { option_copied result ≡ word_said word.now }
+{
     if is_vector(word) {
-        return Some(
-            "there are no vectors: write a variable, or an element of an array, for each component",
-        );
+        return Some(NO_VECTORS);
     }
-    hint_in(&LACKING, word)
+    said_of(&LACKING, word)
 }
 
 /// What to write for a function that the language lacks.
-pub(crate) fn function_hint(word: &[u8]) -> &'static str {
-    if let Some(hint) = hint_in(&FUNCTIONS, word) {
-        return hint;
-    }
-    prefix_hint_in(&PREFIXES, word).unwrap_or(
-        "a helper stands in front of its calls; built in are get_global_id and its like, min max abs clz popcount rotate, barrier, and atomic functions",
-    )
+pub fn function_hint(word: &[u8]) -> &'static str
+    ensures { result.now ≡ function_said word.now }
+{
+    let begun = said_or(said_in_front(&PREFIXES, word), HELPERS);
+    said_or(said_of(&FUNCTIONS, word), begun)
 }
 
 /// What a built-in function takes; none for any other function.
-pub(crate) fn argument_hint(word: &[u8]) -> Option<&'static str> {
+pub fn argument_hint(word: &[u8]) -> Option<&'static str>
+    ensures { option_copied result ≡ argument_said word.now }
+{
     if !is_built_in(word) {
         return None;
     }
-    match prefix_hint_in(&ARGUMENTS, word) {
-        Some(hint) => Some(hint),
-        None => Some("it takes a pointer and a value"),
-    }
+    let taken = said_or(said_in_front(&ARGUMENTS, word), POINTER_AND_VALUE);
+    Some(taken)
 }
 
-/// Whether a word is as macros are written.
-fn is_capital(word: &[u8]) -> bool {
-    for byte in word {
-        if byte.is_ascii_lowercase() {
-            return false;
-        }
+fn has_small_letter(word: &[u8]) -> bool
+    ensures { result ≡ list_any is_ascii_lowercase word.now }
+{
+    word.iter().any(|byte| byte.is_ascii_lowercase())
+}
+
+/// Whether a word is as macros are written: without a small letter.
+fn is_capital(word: &[u8]) -> bool
+    ensures { result ≡ is_capital word.now }
+{
+    !has_small_letter(word)
+}
+
+/// What to write for a name that isn't declared.
+fn undeclared_hint(word: &[u8]) -> &'static str
+    ensures { result.now ≡ undeclared_said word.now }
+{
+    if is_capital(word) {
+        NO_MACROS
+    } else {
+        UNDECLARED
     }
-    true
 }
 
 /// What to write for the name of a number that the language lacks, or for one that isn't declared.
-pub(crate) fn value_hint(word: &[u8]) -> &'static str {
-    if let Some(hint) = hint_in(&CONSTANTS, word) {
-        return hint;
-    }
-    if is_capital(word) {
-        return "there is no preprocessor, and no option -D: write the value of a macro in its place";
-    }
-    UNDECLARED
+pub fn value_hint(word: &[u8]) -> &'static str
+    ensures { result.now ≡ value_said word.now }
+{
+    said_or(said_of(&CONSTANTS, word), undeclared_hint(word))
 }

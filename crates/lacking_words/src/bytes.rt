@@ -1,13 +1,23 @@
 //! Hints at bytes that begin no token.
 #![tactic(auto)]
 
-ghost use Rattle.std.specs.Prelude.{◌≤◌, length};
+ghost use Rattle.std.specs.Prelude.{◌≡◌, ◌≤◌, length, option_copied};
+ghost use Rattle.lacking_words.specs.Bytes.{tail_said, begins_fraction, directive_said, front_said, byte_said};
 
-use crate::tokens::{is_word, word_at};
-use crate::words::{NO_FLOATS, NO_STRUCTS, hint_in};
+use crate::said::{said_in_front, said_of, said_or};
+use crate::spelling::{byte_at, ends_in_number, word_at};
+use crate::words::{NO_FLOATS, NO_STRUCTS};
+
+/// What to write for a byte that no table has.
+pub(crate) const NO_TOKEN: &str =
+    "leave it out: outside of comments a source has letters, digits, blanks and the symbols of C";
+
+/// What to write for a letter behind a number that no table has.
+pub(crate) const SUFFIXES: &str =
+    "behind a number stands one of u U l L ul UL, or no letter: 1l for 1ll, 1ul for 1ull";
 
 /// What to write for a line of the preprocessor, by the word behind its `#`.
-static DIRECTIVES: [(&[u8], &str); 6] = [
+pub(crate) static DIRECTIVES: [(&[u8], &str); 6] = [
     (
         b"define",
         "there is no preprocessor: write the value of a macro in its place, and a helper for a macro with parameters",
@@ -35,7 +45,7 @@ static DIRECTIVES: [(&[u8], &str); 6] = [
 ];
 
 /// What to write for a byte, as text.
-static BYTES: [(&[u8], &str); 6] = [
+pub(crate) static BYTES: [(&[u8], &str); 6] = [
     (
         b"#",
         "there is no preprocessor: write the value of a macro in its place, and leave out each line with #",
@@ -60,7 +70,7 @@ static BYTES: [(&[u8], &str); 6] = [
 ];
 
 /// What to write for a byte that can't follow a number, as text.
-static TAILS: [(&[u8], &str); 11] = [
+pub(crate) static TAILS: [(&[u8], &str); 11] = [
     (b".", NO_FLOATS),
     (b"f", NO_FLOATS),
     (b"F", NO_FLOATS),
@@ -86,67 +96,49 @@ static TAILS: [(&[u8], &str); 11] = [
     (b"X", "hexadecimal digits are wanted behind 0x"),
 ];
 
-/// Where the word begins that ends at a byte.
-fn word_begin(source: &[u8], end: usize) -> usize
-    requires { end ≤ length source.now }
-    ensures { result ≤ end }
+/// What to write for the bytes behind a number, of which the first can't follow it.
+fn tail_hint(bytes: &[u8]) -> &'static str
+    ensures { result.now ≡ tail_said bytes.now }
 {
-    for back in 0..end {
-        let begin = end - back;
-        if !is_word(source[begin - 1]) {
-            return begin;
-        }
-    }
-    0
-}
-
-/// Whether the word is a number that ends at a byte.
-fn ends_number(source: &[u8], end: usize) -> bool
-    requires { end ≤ length source.now }
-{
-    match source[word_begin(source, end)..end].first() {
-        Some(byte) => byte.is_ascii_digit(),
-        None => false,
-    }
-}
-
-/// A hint at the first byte of these, which can't follow a number.
-fn tail_hint(bytes: &[u8]) -> &'static str {
-    hint_in(&TAILS, first_of(bytes)).unwrap_or(
-        "behind a number stands one of u U l L ul UL, or no letter: 1l for 1ll, 1ul for 1ull",
-    )
-}
-
-/// The first byte, if there is one.
-fn first_of(bytes: &[u8]) -> &[u8] {
-    &bytes[..bytes.len().min(1)]
+    said_or(said_in_front(&TAILS, bytes), SUFFIXES)
 }
 
 /// Whether a number without digits before its point begins with these bytes.
-fn begins_fraction(bytes: &[u8]) -> bool {
-    match bytes.get(1) {
-        Some(byte) => byte.is_ascii_digit() && bytes.starts_with(b"."),
-        None => false,
-    }
+fn begins_fraction(bytes: &[u8]) -> bool
+    ensures { result ≡ begins_fraction bytes.now }
+{
+    bytes.starts_with(b".") && byte_at(bytes, 1).is_ascii_digit()
 }
 
-/// A hint at a byte of a source that begins no token, or that can't follow a number.
-pub(crate) fn byte_hint(source: &[u8], at: usize) -> &'static str
-    requires { at ≤ length source.now }
+/// What to write for a line of the preprocessor, by the word behind its `#`.
+fn directive_hint(bytes: &[u8]) -> Option<&'static str>
+    ensures { option_copied result ≡ directive_said bytes.now }
 {
-    let rest = &source[at..];
-    if ends_number(source, at) {
-        return tail_hint(rest);
+    if !bytes.starts_with(b"#") {
+        return None;
     }
-    if begins_fraction(rest) {
+    said_of(&DIRECTIVES, word_at(bytes, 1))
+}
+
+/// What to write for bytes that begin no token.
+fn front_hint(bytes: &[u8]) -> &'static str
+    ensures { result.now ≡ front_said bytes.now }
+{
+    if begins_fraction(bytes) {
         return NO_FLOATS;
     }
-    if rest.starts_with(b"#") {
-        if let Some(hint) = hint_in(&DIRECTIVES, word_at(rest, 1)) {
-            return hint;
-        }
+    let other = said_or(said_in_front(&BYTES, bytes), NO_TOKEN);
+    said_or(directive_hint(bytes), other)
+}
+
+/// A hint at a byte of a source that begins no token, or that can't follow a number. It takes the time of the source.
+pub fn byte_hint(source: &[u8], at: usize) -> &'static str
+    requires { at ≤ length source.now }
+    ensures { result.now ≡ byte_said source.now at }
+{
+    let (front, rest) = source.split_at(at);
+    if ends_in_number(front) {
+        return tail_hint(rest);
     }
-    hint_in(&BYTES, first_of(rest)).unwrap_or(
-        "leave it out: outside of comments a source has letters, digits, blanks and the symbols of C",
-    )
+    front_hint(rest)
 }

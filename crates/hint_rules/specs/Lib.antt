@@ -1,0 +1,5 @@
+pub mod Callee
+pub mod Marks
+pub mod Near
+pub mod Rules
+pub mod Seen

@@ -1,0 +1,4 @@
+pub mod Bytes
+pub mod Spelling
+pub mod Tables
+pub mod Words

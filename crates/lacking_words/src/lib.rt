@@ -1,0 +1,17 @@
+//! Words and bytes of OpenCL C that the language lacks, each with what to write in its place. It knows bytes alone, and
+//! neither tokens nor faults. Its tables are the definition: a word is lacking where a row has it, and what is said of it
+//! is that row's text; what comes where no row fits, the contracts say exactly.
+#![tactic(auto)]
+
+mod bytes;
+mod said;
+mod spelling;
+mod words;
+
+pub use bytes::byte_hint;
+pub use said::{first_said, is_one_of, said_or};
+pub use spelling::word_at;
+pub use words::{
+    NO_FLOATS, NO_STRUCTS, UNDECLARED, argument_hint, function_hint, is_built_in, value_hint,
+    word_hint,
+};
