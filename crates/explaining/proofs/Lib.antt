@@ -4,3 +4,4 @@ pub mod Performing
 pub mod Schedules
 pub mod Telling
 pub mod Walking
+pub mod Writing

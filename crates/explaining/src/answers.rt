@@ -1,14 +1,16 @@
 //! What is told, as a text.
 #![tactic(auto)]
 
-ghost use Rattle.std.specs.Prelude.{◌≡◌, [], false, IfOk, OnOk, is_some};
+ghost use Rattle.std.specs.Prelude.{◌≡◌, [], false, IfOk, OnOk, is_some, string_bytes};
 ghost use Rattle.counted_io.specs.Sink.{Puts};
+ghost use Rattle.explaining.specs.Whole.{AnswersTo, IsTextOf};
 
 use crate::facts::Format;
 use crate::told::Told;
 use counted_io::{Write, WriteFailed};
 use explain_json::json_of;
 use explain_text::text_of;
+use explanation::Explanation;
 use std::alloc::{AllocError, Global};
 
 /// A text, and whether it explains something.
@@ -20,10 +22,21 @@ pub(crate) struct Answer {
 
 /// A word that says that there is nothing.
 pub(crate) fn word_answer(alloc: Global, word: &str) -> Result<Answer, AllocError>
-    ensures { IfOk result (λ answer. answer.yes ≡ false) }
+    ensures yes { IfOk result (λ answer. answer.yes ≡ false) }
+    ensures text { IfOk result (λ answer. string_bytes answer.text ≡ word.now) }
 {
     let text = String::from_str(alloc, word)?;
     Ok(Answer { text, yes: false })
+}
+
+/// The text of an explanation in a format.
+fn written(alloc: Global, whole: &Explanation, format: Format) -> Result<String, AllocError>
+    ensures { IfOk result (λ text. IsTextOf format whole.now (string_bytes text)) }
+{
+    match format {
+        Format::Text => text_of(alloc, whole),
+        Format::Json => json_of(alloc, whole),
+    }
 }
 
 /// The text of what is told, or the word that there is nothing.
@@ -33,15 +46,13 @@ pub(crate) fn answer_of(
     format: Format,
     word: &str,
 ) -> Result<Answer, AllocError>
-    ensures { IfOk result (λ answer. answer.yes ≡ is_some told) }
+    ensures yes { IfOk result (λ answer. answer.yes ≡ is_some told) }
+    ensures text { IfOk result (AnswersTo format word.now told) }
 {
     let Some(told) = told else {
         return word_answer(alloc, word);
     };
-    let text = match format {
-        Format::Text => text_of(alloc, &told.whole)?,
-        Format::Json => json_of(alloc, &told.whole)?,
-    };
+    let text = written(alloc, &told.whole, format)?;
     Ok(Answer { text, yes: true })
 }
 

@@ -1,8 +1,9 @@
 //! Builds that are refused.
 #![tactic(auto)]
 
-ghost use Rattle.std.specs.Prelude.{◌≡◌, IfOk, IfErr};
+ghost use Rattle.std.specs.Prelude.{◌≡◌, IfOk, IfErr, string_bytes};
 ghost use Rattle.explaining.specs.Explaining.{IsRefused};
+ghost use Rattle.explaining.specs.Whole.{SaysSource};
 
 use crate::answers::{Answer, word_answer};
 use crate::faults::ExplainFault;
@@ -49,6 +50,7 @@ pub(crate) fn explain_source(
     source: &[u8],
 ) -> Result<Answer, ExplainFault>
     ensures refused { IfOk result (λ answer. IsRefused source.now answer.yes) }
+    ensures says { IfOk result (λ answer. SaysSource answer.yes (string_bytes answer.text)) }
     ensures failed { IfErr result (λ why. why ≡ ExplainFault.OutOfMemory) }
 {
     let fault = match build(alloc, source) {

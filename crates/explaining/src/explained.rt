@@ -1,13 +1,14 @@
 //! A script, or a script with a schedule, explained.
 #![tactic(auto)]
 
-ghost use Rattle.std.specs.Prelude.{◌≡◌, [], IfOk, IfErr, OnOk, List, ℕ, true, take, is_some};
+ghost use Rattle.std.specs.Prelude.{◌≡◌, [], IfOk, IfErr, IfSome, OnOk, List, ℕ, true, take, is_some, string_bytes};
 ghost use Rattle.counted_io.specs.Sink.{Wrote};
 ghost use Rattle.device.specs.Machine.{machine_of, opening};
 ghost use Rattle.host_commands.specs.declared.command.Command.{Command};
 ghost use Rattle.simfile.specs.Script.{IsScript};
 ghost use Rattle.explaining.specs.Explaining.{Explained, Explains, Found, IsTold, Unanswered, Unexplained, Unled, Unread, Unwritten};
 ghost use Rattle.explaining.specs.Leading.{WalkedTo};
+ghost use Rattle.explaining.specs.Whole.{IsToldOf, IsToldThere, Says, SaysOf, SaysScript};
 
 use crate::answers::{Answer, answer_of, tell, word_answer};
 use crate::building::{explain_source, explain_unbuilt};
@@ -46,6 +47,7 @@ fn told_at(
 ) -> Result<Option<Told>, ExplainFault>
     requires { IsScript given.script.now commands.now }
     ensures told { IfOk result (λ found. IsTold options.budget commands.now ticket fault.now schedule (is_some found)) }
+    ensures whole { IfOk result (λ found. IfSome found (IsToldThere options.budget commands.now ticket fault.now schedule)) }
     ensures failed { IfErr result (Unled options.budget given.entry.script.now commands.now ticket) }
 {
     let before = read_first(alloc, given.script, ticket)?;
@@ -70,6 +72,7 @@ fn told_in(
 ) -> Result<Option<Told>, ExplainFault>
     requires { IsScript given.script.now commands.now }
     ensures explained { IfOk result (λ found. Explained options.budget given.entry.script.now schedule.now (is_some found)) }
+    ensures whole { IfOk result (λ found. IfSome found (IsToldOf options.budget given.entry.script.now schedule.now)) }
     ensures failed { IfErr result (Unexplained options.budget given.entry.script.now schedule.now) }
 {
     let (number, fault, runs) = read(alloc, schedule)?;
@@ -95,6 +98,7 @@ fn explain_schedule(
     options: ExplainOptions,
 ) -> Result<Answer, ExplainFault>
     ensures explained { IfOk result (λ answer. Explained options.budget given.entry.script.now schedule.now answer.yes) }
+    ensures says { IfOk result (λ answer. SaysOf options.budget options.format given.entry.script.now schedule.now answer.yes (string_bytes answer.text)) }
     ensures failed { IfErr result (Unexplained options.budget given.entry.script.now schedule.now) }
 {
     let commands = read_script(alloc, given.script)?;
@@ -126,6 +130,7 @@ fn answer_at(
     requires script { IsScript asked.now.given.script.now asked.now.commands.now }
     requires walked { WalkedTo (opening asked.now.options.budget) asked.now.commands.now (machine_of device.now) end }
     ensures found { IfOk result (λ answer. Found asked.now.options.budget asked.now.given.script.now answer.yes) }
+    ensures says { IfOk result (λ answer. SaysScript asked.now.options.budget asked.now.options.format asked.now.given.script.now answer.yes (string_bytes answer.text)) }
     ensures failed { IfErr result (Unread asked.now.given.script.now) }
 {
     match end {
@@ -150,6 +155,7 @@ fn explain_commands(
 ) -> Result<Answer, ExplainFault>
     requires { IsScript given.script.now commands.now }
     ensures found { IfOk result (λ answer. Found options.budget given.entry.script.now answer.yes) }
+    ensures says { IfOk result (λ answer. SaysScript options.budget options.format given.entry.script.now answer.yes (string_bytes answer.text)) }
     ensures failed { IfErr result (Unread given.entry.script.now) }
 {
     let same = read_script(alloc, given.script)?;
@@ -170,6 +176,7 @@ fn explain_script(
     options: ExplainOptions,
 ) -> Result<Answer, ExplainFault>
     ensures found { IfOk result (λ answer. Found options.budget given.entry.script.now answer.yes) }
+    ensures says { IfOk result (λ answer. SaysScript options.budget options.format given.entry.script.now answer.yes (string_bytes answer.text)) }
     ensures failed { IfErr result (Unread given.entry.script.now) }
 {
     let commands = read_script(alloc, given.script)?;
@@ -183,6 +190,7 @@ fn answer_to(
     options: ExplainOptions,
 ) -> Result<Answer, ExplainFault>
     ensures explains { IfOk result (λ answer. Explains options.budget given.entry answer.yes) }
+    ensures says { IfOk result (λ answer. Says options.budget options.format given.entry answer.yes (string_bytes answer.text)) }
     ensures failed { IfErr result (Unanswered options.budget given.entry) }
 {
     if given.name.ends_with(b".cl") {
@@ -209,6 +217,7 @@ pub fn explain<W: Write>(
 ) -> Result<bool, ExplainFault>
     ensures explains { IfOk result (Explains options.budget given.entry) }
     ensures wrote { OnOk result ((text : List ℕ) × Wrote (W.sink writer.old) (W.sink writer.new) text) }
+    ensures says { IfOk result (λ answer. (text : List ℕ) × Wrote (W.sink writer.old) (W.sink writer.new) text × Says options.budget options.format given.entry answer text) }
     ensures released { OnOk result ((W.sink writer.new).held ≡ []) }
     ensures failed { IfErr result (Unwritten options.budget given.entry (W.sink writer.old) (W.sink writer.new)) }
 {

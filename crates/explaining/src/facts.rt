@@ -1,14 +1,16 @@
 //! What an explanation tells of its launch, its fault, its memory and its schedule.
 #![tactic(auto)]
 
-ghost use Rattle.std.specs.Prelude.{◌≤◌};
+ghost use Rattle.std.specs.Prelude.{◌≡◌, ◌≤◌, IfOk, string_bytes};
+ghost use Rattle.explain_reasons.specs.Named.{AreTold, told_items};
+ghost use Rattle.explaining.specs.Whole.{AreNamed, TellsFault, TellsLaunch, schedule_words};
 
 use clmodel::fault::{Fault, Location};
 use clmodel::schedule::Schedule;
 use clmodel::setup::Range;
 use clmodel::text::Name;
 use explain_play::{Played, event_of};
-use explain_reasons::{Context, items_in, named_items, reasons_of, steps_of};
+use explain_reasons::{Context, array_of, items_in, named_items, reasons_of, steps_of};
 use explanation::{
     Explanation, FaultFacts, LaunchFacts, Memory, NamedItem, ParameterFacts, ScheduleFacts,
 };
@@ -73,9 +75,13 @@ fn text_at(alloc: Global, script: &[u8], number: usize) -> Result<String, AllocE
 }
 
 /// The two items that a fault names; where it names one, that one twice.
-pub(crate) fn items_of(fault: &Fault) -> (u32, u32) {
-    let (item, other) = fault_facts::named_items(fault);
-    (item, other.unwrap_or(item))
+pub(crate) fn items_of(fault: &Fault) -> (u32, u32)
+    ensures { AreNamed fault.now result.0 result.1 }
+{
+    match fault_facts::named_items(fault) {
+        (item, Some(other)) => (item, other),
+        (item, None) => (item, item),
+    }
 }
 
 /// The items that a fault names, with the events that are their accesses, for a shorter schedule: the earlier access
@@ -163,11 +169,32 @@ fn location_of(fault: &Fault) -> Option<&Location> {
     }
 }
 
+/// The private array that a fault is about, if it is about one.
+fn private_of(fault: &Fault) -> Option<&Name> {
+    match fault {
+        Fault::PrivateBounds { array, .. } | Fault::UnsetElement { array, .. } => Some(array),
+        _ => None,
+    }
+}
+
+/// The size of a private array that is used at a place of the code, where it is known.
+fn private_size(
+    context: &Context<'_>,
+    place: Option<usize>,
+    name: &Name,
+) -> Result<Option<u64>, AllocError> {
+    match array_of(context, place, name)? {
+        Some(array) => Ok(Some(array.bytes())),
+        None => Ok(None),
+    }
+}
+
 /// The memory that a fault is about.
 fn whole_memory(
     context: &Context<'_>,
     buffers: &Buffers,
     fault: &Fault,
+    played: &Played,
 ) -> Result<Option<Memory>, AllocError> {
     let Some(mut memory) = memory_of(context.alloc, fault)? else {
         return Ok(None);
@@ -176,6 +203,9 @@ fn whole_memory(
         let (size, parameters) = size_and_parameters(context, buffers, location)?;
         memory.size = size;
         memory.parameters = parameters;
+    }
+    if let Some(name) = private_of(fault) {
+        memory.size = private_size(context, played.first.place, name)?;
     }
     Ok(Some(memory))
 }
@@ -218,7 +248,11 @@ struct Sizes {
     offset: Vec<u64>,
 }
 
-fn sizes_of(alloc: Global, range: &Range) -> Result<Sizes, AllocError> {
+fn sizes_of(alloc: Global, range: &Range) -> Result<Sizes, AllocError>
+    ensures global { IfOk result (λ sizes. sizes.global.items ≡ range.now.global) }
+    ensures local { IfOk result (λ sizes. sizes.local.items ≡ range.now.local) }
+    ensures offset { IfOk result (λ sizes. sizes.offset.items ≡ range.now.offset) }
+{
     Ok(Sizes {
         global: range.global.as_slice().to_vec(alloc)?,
         local: range.local.as_slice().to_vec(alloc)?,
@@ -226,7 +260,9 @@ fn sizes_of(alloc: Global, range: &Range) -> Result<Sizes, AllocError> {
     })
 }
 
-fn launch_facts(context: &Context<'_>, place: &Place<'_>) -> Result<LaunchFacts, AllocError> {
+fn launch_facts(context: &Context<'_>, place: &Place<'_>) -> Result<LaunchFacts, AllocError>
+    ensures { IfOk result (TellsLaunch place.now.ticket place.now.range.now) }
+{
     let alloc = context.alloc;
     let script = place.given.script;
     let script_line = line_of(context.commands, place.ticket, lines_before(script));
@@ -248,7 +284,9 @@ fn launch_facts(context: &Context<'_>, place: &Place<'_>) -> Result<LaunchFacts,
     })
 }
 
-fn fault_facts_of(alloc: Global, fault: &Fault) -> Result<FaultFacts, AllocError> {
+fn fault_facts_of(alloc: Global, fault: &Fault) -> Result<FaultFacts, AllocError>
+    ensures { IfOk result (TellsFault fault.now) }
+{
     let number = fault_number(fault);
     let name = String::from_str(alloc, fault_name(number))?;
     let line = fault_line(alloc, fault, &Schedule::new(Vec::new(alloc)))?;
@@ -266,7 +304,10 @@ pub(crate) fn schedule_facts(
     given_events: u64,
     short: &Shortened,
     marks: &[Mark],
-) -> Result<ScheduleFacts, AllocError> {
+) -> Result<ScheduleFacts, AllocError>
+    ensures given { IfOk result (λ facts. facts.given ≡ given) }
+    ensures short { IfOk result (λ facts. string_bytes facts.short ≡ schedule_words short.now.schedule) }
+{
     let line = fault_line(alloc, fault, &short.schedule)?;
     Ok(ScheduleFacts {
         given,
@@ -286,7 +327,10 @@ struct Head {
     fault: FaultFacts,
 }
 
-fn head_of(context: &Context<'_>, place: &Place<'_>, fault: &Fault) -> Result<Head, AllocError> {
+fn head_of(context: &Context<'_>, place: &Place<'_>, fault: &Fault) -> Result<Head, AllocError>
+    ensures launch { IfOk result (λ head. TellsLaunch place.now.ticket place.now.range.now head.launch) }
+    ensures fault { IfOk result (λ head. TellsFault fault.now head.fault) }
+{
     Ok(Head {
         script: text(context.alloc, place.given.name)?,
         launch: launch_facts(context, place)?,
@@ -308,8 +352,10 @@ fn body_of(
     budget: u32,
     fault: &Fault,
     played: &Played,
-) -> Result<Body, AllocError> {
-    let memory = whole_memory(context, buffers, fault)?;
+) -> Result<Body, AllocError>
+    ensures { IfOk result (λ body. AreTold context.now played.now.marks.items (told_items fault.now played.now) body.items.items) }
+{
+    let memory = whole_memory(context, buffers, fault, played)?;
     let why = reasons_of(context, played, fault, &memory, budget)?;
     let items = named_items(context, played, fault)?;
     Ok(Body { memory, items, why })
@@ -323,7 +369,12 @@ pub(crate) fn explanation_of(
     fault: &Fault,
     played: &Played,
     schedule: ScheduleFacts,
-) -> Result<Explanation, AllocError> {
+) -> Result<Explanation, AllocError>
+    ensures launch { IfOk result (λ whole. TellsLaunch place.now.ticket place.now.range.now whole.launch) }
+    ensures fault { IfOk result (λ whole. TellsFault fault.now whole.fault) }
+    ensures schedule { IfOk result (λ whole. whole.schedule ≡ schedule) }
+    ensures items { IfOk result (λ whole. AreTold context.now played.now.marks.items (told_items fault.now played.now) whole.items.items) }
+{
     let head = head_of(context, place, fault)?;
     let body = body_of(context, buffers, place.budget, fault, played)?;
     let steps = steps_of(context, played)?;

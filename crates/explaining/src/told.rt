@@ -1,7 +1,7 @@
 //! A fault of a launch explained, where a schedule leads to it.
 #![tactic(auto)]
 
-ghost use Rattle.std.specs.Prelude.{◌≡◌, Some, IfOk, IfErr, IfSome, IfNone, is_some, slice_get};
+ghost use Rattle.std.specs.Prelude.{◌≡◌, Some, IfOk, IfErr, IfSome, IfNone, is_some, slice_get, string_bytes};
 ghost use Rattle.clmodel.specs.Law.{Reaches};
 ghost use Rattle.clmodel.specs.Next.{launch_of};
 ghost use Rattle.clmodel.specs.Outcome.{events_of};
@@ -10,6 +10,7 @@ ghost use Rattle.item_step.specs.Launches.{setup_of};
 ghost use Rattle.launches.specs.Groups.{HasGroups};
 ghost use Rattle.spaces_base.specs.Buffers.{bytes_in};
 ghost use Rattle.explaining.specs.Explaining.{HasShort, IsShort, NoLaunch, Tells, Untold};
+ghost use Rattle.explaining.specs.Whole.{HasWhole, IsExplained, IsSourceOf, schedule_words};
 
 use crate::facts::{
     ExplainOptions, Given, Place, explanation_of, items_of, lines_before, named_of, schedule_facts,
@@ -87,7 +88,9 @@ fn given_schedule(
     alloc: Global,
     fault: &Fault,
     schedule: &Schedule,
-) -> Result<GivenSchedule, AllocError> {
+) -> Result<GivenSchedule, AllocError>
+    ensures { IfOk result (λ given. string_bytes given.text ≡ schedule_words schedule.now) }
+{
     let line = fault_line(alloc, fault, schedule)?;
     Ok(GivenSchedule {
         text: line.schedule,
@@ -106,6 +109,9 @@ fn whole_of(
 ) -> Result<Explanation, AllocError>
     requires groups { HasGroups (setup_of context.now.launch.now) }
     requires leads { Reaches (launch_of (setup_of context.now.launch.now) (bytes_in buffers.now)) (events_of short.now.schedule) fault.now }
+    ensures given { IfOk result (λ whole. whole.schedule.given ≡ given.text) }
+    ensures whole { IfOk result (IsExplained (launch_of (setup_of context.now.launch.now) (bytes_in buffers.now)) context.now
+        place.now.ticket place.now.range.now fault.now short.now.schedule) }
 {
     let (alloc, launch) = (context.alloc, context.launch);
     let (items, schedule) = (items_of(fault), &short.schedule);
@@ -128,7 +134,10 @@ fn told_of(
 ) -> Result<Told, AllocError>
     requires groups { HasGroups (setup_of context.now.launch.now) }
     requires leads { Reaches (launch_of (setup_of context.now.launch.now) (bytes_in buffers.now)) (events_of schedule) fault.now }
-    ensures { IfOk result (λ told. IsShort (launch_of (setup_of context.now.launch.now) (bytes_in buffers.now)) fault.now schedule told.schedule) }
+    ensures short { IfOk result (λ told. IsShort (launch_of (setup_of context.now.launch.now) (bytes_in buffers.now)) fault.now schedule told.schedule) }
+    ensures given { IfOk result (λ told. string_bytes told.whole.schedule.given ≡ schedule_words schedule) }
+    ensures whole { IfOk result (λ told. IsExplained (launch_of (setup_of context.now.launch.now) (bytes_in buffers.now)) context.now
+        place.now.ticket place.now.range.now fault.now told.schedule told.whole) }
 {
     let given = given_schedule(context.alloc, fault, &schedule)?;
     let short = chosen(context, buffers, fault, schedule, as_given)?;
@@ -152,6 +161,9 @@ fn explain_launch(
     ensures none { IfOk result (λ found. IfNone found (Reaches (launch_of (setup_of context.now.launch.now) (bytes_in buffers.now)) (events_of schedule) fault.now → ⊥)) }
     ensures leads { IfOk result (λ found. IfSome found (λ _. Reaches (launch_of (setup_of context.now.launch.now) (bytes_in buffers.now)) (events_of schedule) fault.now)) }
     ensures told { IfOk result (λ found. IfSome found (λ told. IsShort (launch_of (setup_of context.now.launch.now) (bytes_in buffers.now)) fault.now schedule told.schedule)) }
+    ensures given { IfOk result (λ found. IfSome found (λ told. string_bytes told.whole.schedule.given ≡ schedule_words schedule)) }
+    ensures whole { IfOk result (λ found. IfSome found (λ told. IsExplained (launch_of (setup_of context.now.launch.now) (bytes_in buffers.now)) context.now
+        place.now.ticket place.now.range.now fault.now told.schedule told.whole)) }
 {
     let (alloc, launch) = (context.alloc, context.launch);
     if !replay(alloc, launch, buffers, &schedule, fault)? {
@@ -167,7 +179,9 @@ fn program_of<'a>(
     done: &[bool],
     kernel: &'a Name,
     before: usize,
-) -> ProgramSource<'a> {
+) -> ProgramSource<'a>
+    ensures { IsSourceOf commands.now kernel.entry.now result }
+{
     match source_of(commands, done, kernel, before) {
         Some(program) => program,
         None => ProgramSource {
@@ -211,6 +225,7 @@ pub(crate) fn explain_case(
 ) -> Result<Option<Told>, ExplainFault>
     ensures told { IfOk result (λ found. Tells (machine_of device.now) asked.now.commands.now ticket fault.now schedule (is_some found)) }
     ensures short { IfOk result (λ found. IfSome found (λ told. HasShort (machine_of device.now) asked.now.commands.now ticket fault.now schedule told.schedule)) }
+    ensures whole { IfOk result (λ found. IfSome found (λ told. HasWhole (machine_of device.now) asked.now.commands.now ticket fault.now schedule told.schedule told.whole)) }
     ensures failed { IfErr result (Untold (machine_of device.now) asked.now.commands.now ticket) }
 {
     let Some((kernel, range)) = launch_in(asked.commands, ticket) else {

@@ -10,6 +10,7 @@ use clmodel::fault::Fault;
 use clmodel::schedule::Schedule;
 use device::{BuildFault, Command, Device, Refusal, Reply};
 use std::alloc::{AllocError, Global};
+use std::mem::drop;
 
 /// A fault with a schedule, and the number of the launch's command.
 #[derive(Drop)]
@@ -83,7 +84,7 @@ pub(crate) fn lead(
 {
     let mut done = Vec::new(alloc);
     for command in commands {
-        perform(device, command, &mut done)?;
+        drop(perform(device, command, &mut done)?);
     }
     Ok(done)
 }

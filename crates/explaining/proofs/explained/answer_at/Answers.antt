@@ -1,6 +1,7 @@
 use Rattle.std.specs.Option.{is_some}
 use Rattle.device.specs.Machine.{machine_of}
 use Rattle.explaining.proofs.Walking.{faulted_case, unbuilt}
+use Rattle.explaining.proofs.Writing.{says_faulted, says_unbuilt}
 use Rattle.explaining.proofs.explained.answer_at.Goals as goal
 
 pub returns-in_ok-unbuilt_answer-in-Unbuilt-clause-found : goal.returns-in_ok-unbuilt_answer-in-Unbuilt-clause-found
@@ -12,4 +13,15 @@ pub returns-in_ok-answer_of-in-Faulted-clause-found : goal.returns-in_ok-answer_
 returns-in_ok-answer_of-in-Faulted-clause-found c =
     faulted_case c.args.asked.now.options.budget c.args.asked.now.given.script.now c.args.asked.now.commands.now (machine_of c.args.device.now) c.args.end c.in-Faulted.case
     (is_some c.in_ok-told-in-Faulted.told) c.in_ok-answer_of-in-Faulted.field-0.yes c.requires.script c.requires.walked c.in-Faulted.is c.in_ok-told-in-Faulted.ensures.told
-    c.in_ok-answer_of-in-Faulted.ensures
+    c.in_ok-answer_of-in-Faulted.ensures.yes
+
+pub returns-in_ok-unbuilt_answer-in-Unbuilt-clause-says : goal.returns-in_ok-unbuilt_answer-in-Unbuilt-clause-says
+returns-in_ok-unbuilt_answer-in-Unbuilt-clause-says c =
+    says_unbuilt c.args.asked.now.options.budget c.args.asked.now.options.format c.args.asked.now.given.script.now c.args.asked.now.commands.now (machine_of c.args.device.now) c.args.end
+    c.in-Unbuilt.unbuilt c.in_ok-unbuilt_answer-in-Unbuilt.field-0 c.requires.script c.requires.walked c.in-Unbuilt.is c.in_ok-unbuilt_answer-in-Unbuilt.ensures
+
+pub returns-in_ok-answer_of-in-Faulted-clause-says : goal.returns-in_ok-answer_of-in-Faulted-clause-says
+returns-in_ok-answer_of-in-Faulted-clause-says c =
+    says_faulted c.args.asked.now.options.budget c.args.asked.now.options.format c.args.asked.now.given.script.now c.args.asked.now.commands.now (machine_of c.args.device.now) c.args.end
+    c.in-Faulted.case c.in_ok-told-in-Faulted.told c.in_ok-answer_of-in-Faulted.field-0 c.requires.script c.requires.walked c.in-Faulted.is c.in_ok-told-in-Faulted.ensures.told
+    c.in_ok-told-in-Faulted.ensures.whole c.in_ok-answer_of-in-Faulted.ensures.yes c.in_ok-answer_of-in-Faulted.ensures.text

@@ -1,4 +1,5 @@
 use Rattle.explaining.proofs.Schedules.{explained, unexplained}
+use Rattle.explaining.proofs.Writing.{whole_of}
 use Rattle.explaining.proofs.explained.told_in.Goals as goal
 
 pub returns-clause-explained : goal.returns-clause-explained
@@ -10,3 +11,8 @@ pub returns-clause-failed : goal.returns-clause-failed
 returns-clause-failed c =
     unexplained c.args.options.budget c.args.given.script.now c.args.schedule.now c.args.commands.now c.in_ok-number.number c.in_ok-number.fault c.in_ok-number.runs c.told_at.result
     c.requires c.in_ok-number.ensures.found c.told_at.ensures.failed
+
+pub returns-clause-whole : goal.returns-clause-whole
+returns-clause-whole c =
+    whole_of c.args.options.budget c.args.given.script.now c.args.schedule.now c.args.commands.now c.in_ok-number.number c.in_ok-number.fault c.in_ok-number.runs c.told_at.result
+    c.requires c.in_ok-number.ensures.found c.told_at.ensures.whole

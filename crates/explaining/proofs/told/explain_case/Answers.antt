@@ -1,6 +1,7 @@
 use Rattle.std.proofs.lemmas.Option.{IfSome_then}
 use Rattle.device.specs.Machine.{machine_of}
 use Rattle.explaining.proofs.Telling.{short, tells}
+use Rattle.explaining.proofs.Writing.{some_both, whole}
 use Rattle.explaining.proofs.told.explain_case.Goals as goal
 
 pub returns-clause-told : goal.returns-clause-told
@@ -14,3 +15,10 @@ returns-clause-short c =
     (λ told h.
     short (machine_of c.args.device.now) c.args.asked.now.commands.now c.args.ticket c.in-Some.kernel.now c.in-Some.range.now c.in-Ok.launch c.buffers.result.now c.args.fault.now
     c.args.schedule told.schedule c.in-Some.ensures.launch c.in-Ok.ensures.prepared c.buffers.ensures h)
+
+pub returns-clause-whole : goal.returns-clause-whole
+returns-clause-whole c =
+    some_both c.in_ok-explain_launch.field-0 _ _ _ _ c.in_ok-explain_launch.ensures.told c.in_ok-explain_launch.ensures.given c.in_ok-explain_launch.ensures.whole
+    (λ told short given explained.
+    whole (machine_of c.args.device.now) c.args.asked.now.commands.now c.args.ticket c.in-Some.kernel.now c.in-Some.range.now _ c.buffers.result.now c.args.fault.now
+    c.args.schedule told.schedule told.whole c.in-Some.ensures.launch c.in-Ok.ensures.prepared c.buffers.ensures c.program_of.ensures short given explained)

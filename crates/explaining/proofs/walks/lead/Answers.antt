@@ -16,18 +16,6 @@ loop-command-preserved c = record {
   led = leads_more _ _ _ c.loop-command.yielded c.in-Some.command _ c.loop-command.invariant.led c.in_ok-perform.ensures.step c.in_ok-perform.ensures.memory;
 }
 
-pub loop-command-preserved-in_ok-perform : goal.loop-command-preserved-in_ok-perform
-loop-command-preserved-in_ok-perform c = record {
-  split = c.loop-command.invariant.split ∙ (ap (λ l. c.loop-command.yielded ++ l) c.in-Some.ensures.steps.0 ∙ sym (append_assoc c.loop-command.yielded (c.in-Some.command ∷ []) (into_iter_items c.next.new.self)));
-  led = leads_more _ _ _ c.loop-command.yielded c.in-Some.command _ c.loop-command.invariant.led c.in_ok-perform.ensures.step c.in_ok-perform.ensures.memory;
-}
-
-pub loop-command-preserved-in_ok-perform-2 : goal.loop-command-preserved-in_ok-perform-2
-loop-command-preserved-in_ok-perform-2 c = record {
-  split = c.loop-command.invariant.split ∙ (ap (λ l. c.loop-command.yielded ++ l) c.in-Some.ensures.steps.0 ∙ sym (append_assoc c.loop-command.yielded (c.in-Some.command ∷ []) (into_iter_items c.next.new.self)));
-  led = leads_more _ _ _ c.loop-command.yielded c.in-Some.command _ c.loop-command.invariant.led c.in_ok-perform.ensures.step c.in_ok-perform.ensures.memory;
-}
-
 pub returns : goal.returns
 returns c =
     let empty = nil_from_length (into_iter_items c.loop-command.command-iterator) (omega (arith, c.in-None.ensures.steps.0, c.loop-command.command-iterator.rest.ok)) in

@@ -1,0 +1,143 @@
+-- What is told of launches, and the texts of it.
+use Rattle.std.proofs.Common.{◌≡◌, ℕ, Bool, true, false, Option, None, Some, Result, Ok, Err, List, [], codes, string_bytes, take, refl, inl, inr, sym, ap, ◌∙◌, subst}
+use Rattle.std.specs.Prelude.{slice_get}
+use Rattle.std.specs.Option.{IfSome, is_some}
+use Rattle.std.specs.Result.{IfOk}
+use Rattle.std.proofs.lemmas.Bool.{false≢true}
+use Rattle.clmodel.specs.Launch.{Launch}
+use Rattle.clmodel.specs.Next.{launch_of}
+use Rattle.clmodel.specs.Outcome.{events_of}
+use Rattle.clmodel.specs.Setup.{Setup, group_items}
+use Rattle.clmodel.specs.declared.fault.Fault.{Fault}
+use Rattle.clmodel.specs.declared.schedule.EventRun.{EventRun}
+use Rattle.clmodel.specs.declared.setup.Range.{Range}
+use Rattle.device.specs.Machine.{Machine, opening, kernel_of, setup_of}
+use Rattle.device.specs.Prepared.{IsPrepared}
+use Rattle.explain_play.specs.PlayedOut.{IsPlayedOut}
+use Rattle.explain_play.specs.declared.played.Played.{Played}
+use Rattle.explain_reasons.specs.Named.{AreTold, told_items}
+use Rattle.explain_reasons.specs.declared.context.Context.{Context}
+use Rattle.explanation.specs.declared.steps.ScheduleFacts.{ScheduleFacts}
+use Rattle.explanation.specs.declared.told.Explanation.{Explanation}
+use Rattle.host_commands.specs.declared.command.Command.{Command}
+use Rattle.host_commands.specs.declared.command.Command.TheVariants as command
+use Rattle.host_commands.specs.declared.command.Refusal.TheVariants as refusal
+use Rattle.host_commands.specs.declared.command.Reply.TheVariants as reply
+use Rattle.item_step.specs.Launches as launches
+use Rattle.replay_text.specs.ScheduleFile.{IsScheduleFile}
+use Rattle.simfile.specs.Script.{IsScript}
+use Rattle.spaces_base.specs.Buffers.{bytes_in}
+use Rattle.spaces_base.specs.Tables.{Table}
+use Rattle.explaining.proofs.Faulting.{faults, told_yes}
+use Rattle.explaining.specs.Explaining.{IsShort, Tells}
+use Rattle.explaining.specs.Leading.{IsFirst, Leads, WalkedTo}
+use Rattle.explaining.specs.Whole.{AnswersTo, AreNamed, HasWhole, IsExplained, IsSourceOf, IsTextOf, IsToldOf, IsToldThere, SaysOf, SaysScript, TellsFault, TellsFirst, TellsLaunch, schedule_words}
+use Rattle.explaining.specs.declared.answers.Answer.{Answer}
+use Rattle.explaining.specs.declared.facts.Format.{Format}
+use Rattle.explaining.specs.declared.faults.ExplainFault.{ExplainFault}
+use Rattle.explaining.specs.declared.told.Told.{Told}
+use Rattle.explaining.specs.declared.walks.Case.{Case}
+use Rattle.explaining.specs.declared.walks.Unbuilt.{Unbuilt}
+use Rattle.explaining.specs.declared.walks.Walked.{Walked}
+use Rattle.explaining.specs.declared.walks.Walked.TheVariants as walked
+
+-- an explanation of what was played
+pub explained :
+    {E : Type 0} (r : Result Explanation E) (launch : Launch) (context : Context) (ticket : ℕ) (range : Range) (f : Fault) (runs : List EventRun) (facts : ScheduleFacts) (first second most : ℕ)
+    (played : Played) → IfOk r (λ e. TellsLaunch ticket range e.launch) → IfOk r (λ e. TellsFault f e.fault) → IfOk r (λ e. e.schedule ≡ facts)
+    → IfOk r (λ e. AreTold context played.marks.items (told_items f played) e.items.items) → string_bytes facts.short ≡ schedule_words runs → AreNamed f first second
+    → IsPlayedOut launch (group_items (launches.setup_of context.launch.now).range) (events_of runs) f first second most played → IfOk r (IsExplained launch context ticket range f runs)
+explained (Ok e) launch context ticket range f runs facts first second most played l g s i words named plays = record {
+  launched = l;
+  faulted = g;
+  schedule = ap (λ z. string_bytes z.short) s ∙ words;
+  items = record { first = first; second = second; named = named; most = most; played = played; plays = plays; told = i };
+}
+explained (Err why) launch context ticket range f runs facts first second most played l g s i words named plays = tt
+
+-- what is told of a prepared launch
+pub whole :
+    (m : Machine) (commands : List Command) (ticket : ℕ) (kernel : List ℕ) (range : Range) (context : Context) (buffers : Table (List ℕ)) (f : Fault) (given runs : List EventRun) (e : Explanation)
+    → slice_get commands ticket ≡ Some (command.Launch kernel range) → IsPrepared m kernel range context.launch.now → buffers ≡ m.buffers → IsSourceOf commands kernel context.program
+    → IsShort (launch_of (launches.setup_of context.launch.now) (bytes_in buffers)) f given runs → string_bytes e.schedule.given ≡ schedule_words given
+    → IsExplained (launch_of (launches.setup_of context.launch.now) (bytes_in buffers)) context ticket range f runs e → HasWhole m commands ticket f given runs e
+whole m commands ticket kernel range context buffers f given runs e at p same source short words explained = record {
+  kernel = kernel;
+  range = range;
+  at = at;
+  is_short =
+      subst (λ (b : Table (List ℕ)). IsShort (launch_of (setup_of m (kernel_of m kernel) range) (bytes_in b)) f given runs) same
+      (subst (λ (s : Setup). IsShort (launch_of s (bytes_in buffers)) f given runs) p.setup short);
+  context = context;
+  same = p.setup;
+  source = source;
+  explained =
+      subst (λ (b : Table (List ℕ)). IsExplained (launch_of (setup_of m (kernel_of m kernel) range) (bytes_in b)) context ticket range f runs e) same
+      (subst (λ (s : Setup). IsExplained (launch_of s (bytes_in buffers)) context ticket range f runs e) p.setup explained);
+  schedule = words;
+}
+
+-- what is known of what was found
+pub if_some : {A : Type 0} (P : A → Type 0) (o : Option A) (x : A) → o ≡ Some x → IfSome o P → P x
+if_some P o x e h = subst (λ p. IfSome p P) e h
+
+-- three facts of what was found
+pub some_both :
+    {A : Type 0} (o : Option A) (P Q R S : A → Type 0) → IfSome o P → IfSome o Q → IfSome o R → ((x : A) → P x → Q x → R x → S x) → IfSome o S
+some_both (Some x) P Q R S p q r h = h x p q r
+some_both None P Q R S p q r h = tt
+
+pub whole_there :
+    (budget : ℕ) (commands : List Command) (ticket : ℕ) (f : Fault) (runs : List EventRun) (m : Machine) (r : Result (Option Told) ExplainFault) → Leads (opening budget) (take ticket commands) m
+    → IfOk r (λ found. IfSome found (λ told. HasWhole m commands ticket f runs told.schedule told.whole)) → IfOk r (λ found. IfSome found (IsToldThere budget commands ticket f runs))
+whole_there budget commands ticket f runs m (Ok (Some told)) led h = record { machine = m; led = led; whole = h }
+whole_there budget commands ticket f runs m (Ok None) led h = tt
+whole_there budget commands ticket f runs m (Err why) led h = tt
+
+pub whole_of :
+    (budget : ℕ) (script schedule : List ℕ) (commands : List Command) (ticket : ℕ) (f : Fault) (runs : List EventRun) (r : Result (Option Told) ExplainFault) → IsScript script commands
+    → IsScheduleFile schedule ticket f runs → IfOk r (λ found. IfSome found (IsToldThere budget commands ticket f runs)) → IfOk r (λ found. IfSome found (IsToldOf budget script schedule))
+whole_of budget script schedule commands ticket f runs (Ok (Some told)) is file h =
+    record { commands = commands; ticket = ticket; f = f; runs = runs; is = is; file = file; there = h }
+whole_of budget script schedule commands ticket f runs (Ok None) is file h = tt
+whole_of budget script schedule commands ticket f runs (Err why) is file h = tt
+
+pub says_of :
+    (budget : ℕ) (f : Format) (script schedule : List ℕ) (o : Option Told) (answer : Answer) → IfSome o (IsToldOf budget script schedule) → answer.yes ≡ is_some o
+    → AnswersTo f (codes "no\n") o answer → SaysOf budget f script schedule answer.yes (string_bytes answer.text)
+says_of budget f script schedule (Some told) answer is agrees h = subst (λ y. SaysOf budget f script schedule y (string_bytes answer.text)) (sym agrees) (told, is, h)
+says_of budget f script schedule None answer is agrees h = subst (λ y. SaysOf budget f script schedule y (string_bytes answer.text)) (sym agrees) h
+
+pub says_unbuilt :
+    (budget : ℕ) (f : Format) (script : List ℕ) (commands : List Command) (m : Machine) (w : Walked) (u : Unbuilt) (answer : Answer) → IsScript script commands
+    → WalkedTo (opening budget) commands m w → w ≡ walked.Unbuilt u → answer.yes ≡ true → SaysScript budget f script answer.yes (string_bytes answer.text)
+says_unbuilt budget f script commands m w u answer is h e agrees =
+    let first : IsFirst (opening budget) commands m u.ticket (reply.Refused (refusal.BuildFailed u.fault)) = subst (λ (v : Walked). WalkedTo (opening budget) commands m v) e h in
+    subst (λ y. SaysScript budget f script y (string_bytes answer.text)) (sym agrees)
+    (record { commands = commands; ticket = u.ticket; machine = m; is = is; found = inr (u.fault, first) })
+
+told_first :
+    (budget : ℕ) (f : Format) (script : List ℕ) (commands : List Command) (m : Machine) (ticket : ℕ) (fault : Fault) (runs : List EventRun) (o : Option Told) (answer : Answer)
+    → IsScript script commands → IsFirst (opening budget) commands m ticket (reply.Fault fault runs) → is_some o ≡ true
+    → IfSome o (λ told. HasWhole m commands ticket fault runs told.schedule told.whole) → answer.yes ≡ is_some o → AnswersTo f (codes "no\n") o answer
+    → SaysScript budget f script answer.yes (string_bytes answer.text)
+told_first budget f script commands m ticket fault runs None answer is first agrees has same text = absurd (false≢true agrees)
+told_first budget f script commands m ticket fault runs (Some told) answer is first agrees has same text =
+    subst (λ y. SaysScript budget f script y (string_bytes answer.text)) (sym same)
+    (record {
+      commands = commands;
+      ticket = ticket;
+      machine = m;
+      is = is;
+      found = inl (record { fault = fault; runs = runs; first = first; told = told; whole = has; written = text });
+    })
+
+pub says_faulted :
+    (budget : ℕ) (f : Format) (script : List ℕ) (commands : List Command) (m : Machine) (w : Walked) (case : Case) (o : Option Told) (answer : Answer) → IsScript script commands
+    → WalkedTo (opening budget) commands m w → w ≡ walked.Faulted case → Tells m commands case.ticket case.fault case.schedule (is_some o)
+    → IfSome o (λ told. HasWhole m commands case.ticket case.fault case.schedule told.schedule told.whole) → answer.yes ≡ is_some o → AnswersTo f (codes "no\n") o answer
+    → SaysScript budget f script answer.yes (string_bytes answer.text)
+says_faulted budget f script commands m w case o answer is h e tells has same text =
+    let first : IsFirst (opening budget) commands m case.ticket (reply.Fault case.fault case.schedule) = subst (λ (v : Walked). WalkedTo (opening budget) commands m v) e h in
+    let agrees = told_yes m commands case.ticket first.command case.fault case.schedule (is_some o) first.at (faults first.before m first.command case.fault case.schedule first.replied) tells in
+    told_first budget f script commands m case.ticket case.fault case.schedule o answer is first agrees has same text

@@ -1,0 +1,160 @@
+-- What an explanation tells of a launch and its fault, and the text that is written of it (own).
+use Rattle.std.specs.Prelude.{◌≡◌, ◌⊎◌, ℕ, Bool, true, false, ⊤, Option, None, Some, List, [], ◌∷◌, ◌++◌, codes, drop, string_bytes, take, slice_get, MatchBool, MatchOption}
+use Rattle.std.specs.Str.Lossy.{utf8_lossy}
+use Rattle.serde_json.specs.Read.{read}
+use Rattle.clmodel.specs.Launch.{Launch}
+use Rattle.clmodel.specs.Next.{launch_of}
+use Rattle.clmodel.specs.Outcome.{events_of}
+use Rattle.clmodel.specs.Setup.{group_items}
+use Rattle.clmodel.specs.declared.fault.Fault.{Fault}
+use Rattle.clmodel.specs.declared.schedule.EventRun.{EventRun}
+use Rattle.clmodel.specs.declared.setup.Range.{Range}
+use Rattle.device.specs.Machine.{Machine, opening, kernel_of, setup_of, bytes_of}
+use Rattle.explain_json.specs.Members.{explanation_data}
+use Rattle.explain_play.specs.PlayedOut.{IsPlayedOut}
+use Rattle.explain_play.specs.declared.played.Played.{Played}
+use Rattle.explain_reasons.specs.Named.{AreTold, told_items}
+use Rattle.explain_reasons.specs.declared.context.Context.{Context}
+use Rattle.explain_text.specs.Texts.{IsText}
+use Rattle.explanation.specs.declared.told.Explanation.{Explanation}
+use Rattle.explanation.specs.declared.told.FaultFacts.{FaultFacts}
+use Rattle.explanation.specs.declared.told.LaunchFacts.{LaunchFacts}
+use Rattle.fault_facts.specs.Facts.{fault_number, named_items}
+use Rattle.host_commands.specs.declared.command.BuildFault.{BuildFault}
+use Rattle.host_commands.specs.declared.command.Command.{Command}
+use Rattle.host_commands.specs.declared.command.Command.TheVariants as command
+use Rattle.host_commands.specs.declared.command.Refusal.TheVariants as refusal
+use Rattle.host_commands.specs.declared.command.Reply.TheVariants as reply
+use Rattle.item_step.specs.Launches as launches
+use Rattle.launch_facts.specs.Commands.{IsSource}
+use Rattle.launch_facts.specs.declared.commands.ProgramSource.{ProgramSource}
+use Rattle.replay_text.specs.ScheduleFile.{IsScheduleFile}
+use Rattle.replay_text.specs.Text.{fault_text, schedule_text}
+use Rattle.simfile.specs.Script.{IsScript}
+use Rattle.explaining.specs.Explaining.{IsShort, is_source}
+use Rattle.explaining.specs.Leading.{IsFirst, Leads}
+use Rattle.explaining.specs.declared.answers.Answer.{Answer}
+use Rattle.explaining.specs.declared.facts.Format.{Format}
+use Rattle.explaining.specs.declared.facts.Format.TheVariants as format
+use Rattle.explaining.specs.declared.facts.Given.{Given}
+use Rattle.explaining.specs.declared.told.Told.{Told}
+
+-- a schedule as a schedule file has it
+abbrev pub schedule_words : List EventRun → List ℕ
+schedule_words runs = utf8_lossy (drop 1 (schedule_text runs))
+
+-- the launch of a ticket over this index space
+pub record TellsLaunch (ticket : ℕ) (range : Range) (facts : LaunchFacts) : Type 0 where
+  pub command : facts.command ≡ ticket
+  pub global_size : facts.global_size.items ≡ range.global
+  pub local_size : facts.local_size.items ≡ range.local
+  pub offset : facts.offset.items ≡ range.offset
+
+-- a fault by its number and its line
+pub record TellsFault (f : Fault) (facts : FaultFacts) : Type 0 where
+  pub number : facts.number ≡ fault_number f
+  pub line : string_bytes facts.line ≡ utf8_lossy (fault_text f)
+
+-- the two items that a fault names, or the one that it names twice
+abbrev pub AreNamed : Fault → ℕ → ℕ → Type 0
+AreNamed f first second = ((named_items f ≡ first ∷ []) × (second ≡ first)) ⊎ (named_items f ≡ first ∷ second ∷ [])
+
+-- The items of an explanation: those that the fault names, each where it stands behind the events of a schedule that were played.
+pub record TellsItems (launch : Launch) (context : Context) (f : Fault) (runs : List EventRun) (e : Explanation) : Type 0 where
+  pub first : ℕ
+  pub second : ℕ
+  pub named : AreNamed f first second
+  pub most : ℕ
+  pub played : Played
+  pub plays : IsPlayedOut launch (group_items (launches.setup_of context.launch.now).range) (events_of runs) f first second most played
+  pub told : AreTold context played.marks.items (told_items f played) e.items.items
+
+-- an explanation of a launch and its fault by a schedule
+pub record IsExplained (launch : Launch) (context : Context) (ticket : ℕ) (range : Range) (f : Fault) (runs : List EventRun) (e : Explanation) : Type 0 where
+  pub launched : TellsLaunch ticket range e.launch
+  pub faulted : TellsFault f e.fault
+  pub schedule : string_bytes e.schedule.short ≡ schedule_words runs
+  pub items : TellsItems launch context f runs e
+
+-- the source of a kernel's program: that of a command of a script; an empty one, where none of those that were done made it
+abbrev pub IsSourceOf : List Command → List ℕ → ProgramSource → Type 0
+IsSourceOf commands kernel source =
+    (source.text.now ≡ [])
+    ⊎ ((done : List Bool) × (at : ℕ) × IsSource commands done kernel source.kernel_command source.program.now source.function.now source.text.now at)
+
+-- An explanation of the launch of a ticket, whose schedule leads the launch to the fault and isn't longer than the given one; its places are those
+-- in the source of the kernel's program.
+pub record HasWhole (m : Machine) (commands : List Command) (ticket : ℕ) (f : Fault) (given runs : List EventRun) (e : Explanation) : Type 0 where
+  pub kernel : List ℕ
+  pub range : Range
+  pub at : slice_get commands ticket ≡ Some (command.Launch kernel range)
+  pub is_short : IsShort (launch_of (setup_of m (kernel_of m kernel) range) (bytes_of m)) f given runs
+  pub context : Context
+  pub same : launches.setup_of context.launch.now ≡ setup_of m (kernel_of m kernel) range
+  pub source : IsSourceOf commands kernel context.program
+  pub explained : IsExplained (launch_of (setup_of m (kernel_of m kernel) range) (bytes_of m)) context ticket range f runs e
+  pub schedule : string_bytes e.schedule.given ≡ schedule_words given
+
+-- the text of an explanation: one that is defined, or a line of JSON that reads back as the explanation's value
+abbrev pub IsTextOf : Format → Explanation → List ℕ → Type 0
+IsTextOf format.Text e text = IsText e text
+IsTextOf format.Json e text = (line : List ℕ) × (text ≡ line ++ 10 ∷ []) × (read line ≡ Some (explanation_data e))
+
+-- a text of what is told, or the word that there is nothing
+abbrev pub AnswersTo : Format → List ℕ → Option Told → Answer → Type 0
+AnswersTo f word None answer = string_bytes answer.text ≡ word
+AnswersTo f word (Some told) answer = IsTextOf f told.whole (string_bytes answer.text)
+
+-- what is told of a case on a new device, to which the commands before its ticket led
+pub record IsToldThere (budget : ℕ) (commands : List Command) (ticket : ℕ) (f : Fault) (given : List EventRun) (told : Told) : Type 0 where
+  pub machine : Machine
+  pub led : Leads (opening budget) (take ticket commands) machine
+  pub whole : HasWhole machine commands ticket f given told.schedule told.whole
+
+-- what is told of the case of a schedule file
+pub record IsToldOf (budget : ℕ) (script schedule : List ℕ) (told : Told) : Type 0 where
+  pub commands : List Command
+  pub ticket : ℕ
+  pub f : Fault
+  pub runs : List EventRun
+  pub is : IsScript script commands
+  pub file : IsScheduleFile schedule ticket f runs
+  pub there : IsToldThere budget commands ticket f runs told
+
+-- the text for a schedule file
+abbrev pub SaysOf : ℕ → Format → List ℕ → List ℕ → Bool → List ℕ → Type 0
+SaysOf budget f script schedule true text = (told : Told) × IsToldOf budget script schedule told × IsTextOf f told.whole text
+SaysOf budget f script schedule false text = text ≡ codes "no\n"
+
+-- what is told of the first fault of a script, and its text
+pub record TellsFirst (budget : ℕ) (f : Format) (commands : List Command) (machine : Machine) (ticket : ℕ) (text : List ℕ) : Type 0 where
+  pub fault : Fault
+  pub runs : List EventRun
+  pub first : IsFirst (opening budget) commands machine ticket (reply.Fault fault runs)
+  pub told : Told
+  pub whole : HasWhole machine commands ticket fault runs told.schedule told.whole
+  pub written : IsTextOf f told.whole text
+
+-- the text for a script: an explanation of its first fault, or any text where its first such reply is a refused build
+pub record SaysFirst (budget : ℕ) (f : Format) (script text : List ℕ) : Type 0 where
+  pub commands : List Command
+  pub ticket : ℕ
+  pub machine : Machine
+  pub is : IsScript script commands
+  pub found : TellsFirst budget f commands machine ticket text
+      ⊎ ((why : BuildFault) × IsFirst (opening budget) commands machine ticket (reply.Refused (refusal.BuildFailed why)))
+
+abbrev pub SaysScript : ℕ → Format → List ℕ → Bool → List ℕ → Type 0
+SaysScript budget f script true text = SaysFirst budget f script text
+SaysScript budget f script false text = text ≡ codes "clean\n"
+
+-- the text for a source: any text where it isn't built
+abbrev pub SaysSource : Bool → List ℕ → Type 0
+SaysSource true text = ⊤
+SaysSource false text = text ≡ codes "ok\n"
+
+-- the text for what is given, by the answer
+abbrev pub Says : ℕ → Format → Given → Bool → List ℕ → Type 0
+Says budget f given answer text =
+    MatchBool (is_source given.name.now) (SaysSource answer text)
+    (MatchOption given.schedule (SaysScript budget f given.script.now answer text) (λ schedule. SaysOf budget f given.script.now schedule.now answer text))
