@@ -6,11 +6,13 @@ ghost use Rattle.explaining.specs.Explaining.{IsRefused};
 ghost use Rattle.explaining.specs.Whole.{SaysSource};
 
 use crate::answers::{Answer, word_answer};
+use crate::facts::Format;
 use crate::faults::ExplainFault;
 use crate::walks::Unbuilt;
 use build_hints::{Refused, refusal_text};
 use device::{BuildFault, Command};
 use host_commands::build::{NotBuilt, build};
+use refusal_json::refused_json;
 use std::alloc::{AllocError, Global};
 
 fn refused_of(fault: BuildFault) -> Refused {
@@ -20,9 +22,25 @@ fn refused_of(fault: BuildFault) -> Refused {
     }
 }
 
-/// The text of a refused build of a script whose command stands in a line.
+/// The fault of a source in a format. The source begins at this line of the file that is named.
+fn refusal_in(
+    alloc: Global,
+    format: Format,
+    name: &str,
+    source: &[u8],
+    first_line: usize,
+    fault: Refused,
+) -> Result<String, AllocError> {
+    match format {
+        Format::Text => refusal_text(alloc, name, source, first_line, fault),
+        Format::Json => refused_json(alloc, name, source, first_line, fault),
+    }
+}
+
+/// The refused build of a script whose command stands in a line, in a format.
 pub(crate) fn explain_unbuilt(
     alloc: Global,
+    format: Format,
     name: &[u8],
     commands: &[Command],
     unbuilt: Unbuilt,
@@ -34,8 +52,9 @@ pub(crate) fn explain_unbuilt(
         _ => &[],
     };
     let first = line.saturating_add(1);
-    refusal_text(
+    refusal_in(
         alloc,
+        format,
         name.as_str(),
         source,
         first,
@@ -43,9 +62,10 @@ pub(crate) fn explain_unbuilt(
     )
 }
 
-/// The text of a source that isn't built; or `ok`.
+/// The fault of a source that isn't built, in a format; or `ok`.
 pub(crate) fn explain_source(
     alloc: Global,
+    format: Format,
     name: &[u8],
     source: &[u8],
 ) -> Result<Answer, ExplainFault>
@@ -59,6 +79,6 @@ pub(crate) fn explain_source(
         Err(NotBuilt::Fault(fault)) => fault,
     };
     let name = String::from_utf8_lossy(alloc, name)?;
-    let text = refusal_text(alloc, name.as_str(), source, 1, refused_of(fault))?;
+    let text = refusal_in(alloc, format, name.as_str(), source, 1, refused_of(fault))?;
     Ok(Answer { text, yes: true })
 }

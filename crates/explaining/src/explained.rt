@@ -12,7 +12,7 @@ ghost use Rattle.explaining.specs.Whole.{IsToldOf, IsToldThere, Says, SaysOf, Sa
 
 use crate::answers::{Answer, answer_of, tell, word_answer};
 use crate::building::{explain_source, explain_unbuilt};
-use crate::facts::{ExplainOptions, Given, lines_before};
+use crate::facts::{ExplainOptions, Format, Given, lines_before};
 use crate::faults::ExplainFault;
 use crate::told::{Asked, Told, explain_case};
 use crate::walks::{Performed, Unbuilt, Walked, lead, walk_anew};
@@ -106,9 +106,10 @@ fn explain_schedule(
     Ok(answer_of(alloc, told, options.format, "no\n")?)
 }
 
-/// The text of the first build of a script that is refused.
+/// The first build of a script that is refused, in a format.
 fn unbuilt_answer(
     alloc: Global,
+    format: Format,
     given: Given<'_>,
     commands: &[Command],
     unbuilt: Unbuilt,
@@ -116,7 +117,7 @@ fn unbuilt_answer(
     ensures { IfOk result (λ answer. answer.yes ≡ true) }
 {
     let line = line_of(commands, unbuilt.ticket, lines_before(given.script));
-    let text = explain_unbuilt(alloc, given.name, commands, unbuilt, line)?;
+    let text = explain_unbuilt(alloc, format, given.name, commands, unbuilt, line)?;
     Ok(Answer { text, yes: true })
 }
 
@@ -136,7 +137,13 @@ fn answer_at(
     match end {
         Walked::Clean => Ok(word_answer(alloc, "clean\n")?),
         Walked::Unbuilt(unbuilt) => {
-            Ok(unbuilt_answer(alloc, asked.given, asked.commands, unbuilt)?)
+            Ok(unbuilt_answer(
+                alloc,
+                asked.options.format,
+                asked.given,
+                asked.commands,
+                unbuilt,
+            )?)
         }
         Walked::Faulted(case) => {
             let (ticket, fault) = (case.ticket, case.fault);
@@ -194,7 +201,7 @@ fn answer_to(
     ensures failed { IfErr result (Unanswered options.budget given.entry) }
 {
     if given.name.ends_with(b".cl") {
-        return explain_source(alloc, given.name, given.script);
+        return explain_source(alloc, options.format, given.name, given.script);
     }
     match given.schedule {
         Some(schedule) => explain_schedule(alloc, given, schedule, options),
