@@ -2,3 +2,4 @@ pub mod Turns
 pub mod ArrayLaws
 pub mod StateLaws
 pub mod AskingLaws
+pub mod Three
