@@ -19,9 +19,9 @@ use clmodel::operand::Pointer;
 use clmodel::setup::AtomicFunction;
 use clnum::{Value, convert};
 use item_value::accesses::{fetch_of, load_of, store_of, update_of};
+use regcode::{FetchOperands, Instruction};
 use register_values::pointers::{number, pointing};
 use register_values::termination::Termination;
-use regcode::{FetchOperands, Instruction};
 
 /// The registers of a compare-exchange: of a pointer, of the number to compare with, and of the one to put.
 #[derive(Clone, Copy)]
