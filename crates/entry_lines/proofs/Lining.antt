@@ -248,7 +248,6 @@ cut_of heads l = take (l.head + l.period) heads
 
 module _ (heads : List Entry) (steps more : List Step) (closed : List Line) (last l : Line) (lined : IsLined heads steps closed last) (plain : last.count ≤ last.period)
     (kept : take (length steps) more ≡ steps) (t : IsTail heads more (length steps) last l) where
-
   ends : (last.count ≡ last.period) × (last.head + last.period ≡ length heads)
   ends = lined.plain plain
 

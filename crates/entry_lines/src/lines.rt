@@ -18,7 +18,7 @@ use std::marker::Model;
 /// search among the lines, in as many steps as their number has binary digits.
 #[derive(Drop)]
 pub struct EntryLines {
-    /// The entries of the first round of each line, line by line; the last line is the last
+    /// The entries of the first round of each line, line by line: those of the line that goes on are the last
     heads: Vec<Entry>,
     /// What the entries of a round gain to the next, of each line that has more than one round
     steps: Vec<Step>,
@@ -54,13 +54,8 @@ fn with_head(heads: &mut Vec<Entry>, line: Line, entry: Entry) -> Line
     }
 }
 
-/// The last line once its last entries are told by a line of their own, where they are three rounds of one.
-fn folded(
-    heads: &mut Vec<Entry>,
-    steps: &mut Vec<Step>,
-    closed: &mut Vec<Line>,
-    last: Line,
-) -> Line
+/// The line that goes on, once its newest entries are told by a line of their own, where they are three rounds of one.
+fn folded(heads: &mut Vec<Entry>, steps: &mut Vec<Step>, closed: &mut Vec<Line>, last: Line) -> Line
     requires lined { IsLined heads.old.items steps.old.items closed.old.items last }
     requires plain { last.count ≤ last.period }
     requires room { vec_len closed.old < vec_capacity closed.old }
@@ -82,7 +77,7 @@ fn folded(
     line
 }
 
-/// The last line once an entry is added.
+/// The line that goes on, once an entry is added.
 fn added(
     heads: &mut Vec<Entry>,
     steps: &mut Vec<Step>,
@@ -99,14 +94,21 @@ fn added(
         let last = with_head(heads, last, entry);
         return folded(heads, steps, closed, last);
     }
-    if is_same(&last.entry(heads.as_slice(), steps.as_slice(), last.count), &entry) {
+    if is_same(
+        &last.entry(heads.as_slice(), steps.as_slice(), last.count),
+        &entry,
+    ) {
         return Line {
             count: last.count + 1,
             ..last
         };
     }
     closed.push_reserved(last);
-    with_head(heads, Line::empty(last.start + last.count, heads.len()), entry)
+    with_head(
+        heads,
+        Line::empty(last.start + last.count, heads.len()),
+        entry,
+    )
 }
 
 /// Which of the lines has the entry at a place.

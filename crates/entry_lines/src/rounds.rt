@@ -87,7 +87,7 @@ fn is_told(heads: &[Entry], steps: &[Step], line: &Line) -> bool
     true
 }
 
-/// The line that the last entries of an last one are, where they are three rounds. Its steps are added.
+/// The line that the newest entries of a line with one round are, where they are three rounds. Its steps are added.
 pub(crate) fn tail_of(heads: &[Entry], steps: &mut Vec<Step>, last: &Line) -> Option<Line>
     requires heads { last.now.head + last.now.count ≤ length heads.now }
     requires short { last.now.start + last.now.count < 2 ^ 64 }
@@ -103,7 +103,9 @@ pub(crate) fn tail_of(heads: &[Entry], steps: &mut Vec<Step>, last: &Line) -> Op
         step: steps.len(),
         count: 3 * period,
     };
-    if add_steps(heads, steps, line.head, period).is_ok() && is_told(heads, steps.as_slice(), &line) {
+    if add_steps(heads, steps, line.head, period).is_ok()
+        && is_told(heads, steps.as_slice(), &line)
+    {
         return Some(line);
     }
     steps.truncate(line.step);

@@ -35,8 +35,14 @@ impl Step {
         Entry {
             access: Access {
                 item: entry.access.item.wrapping_add(self.item.wrapping_mul(few)),
-                first: entry.access.first.wrapping_add(self.first.wrapping_mul(rounds)),
-                value: entry.access.value.wrapping_add(self.value.wrapping_mul(rounds)),
+                first: entry
+                    .access
+                    .first
+                    .wrapping_add(self.first.wrapping_mul(rounds)),
+                value: entry
+                    .access
+                    .value
+                    .wrapping_add(self.value.wrapping_mul(rounds)),
                 ..entry.access
             },
             event: entry.event.wrapping_add(self.event.wrapping_mul(few)),

@@ -151,7 +151,7 @@ impl GroupAccesses for GroupLog {
     }
 
     fn get(&self, i: usize) -> Entry {
-        self.lasting.entries[i]
+        self.lasting.entries.get(i)
     }
 
     fn has_last(&self) -> bool {
