@@ -143,6 +143,7 @@ impl<'a, D: Runnable, G: Space, L: AccessLog> Machine for Group<'a, D, G, L> {
         self.items.len() as u32
     }
 
+    #[inline(always)]
     fn next(&mut self, k: u32) -> Result<Action, AllocError> {
         self.items[k as usize].next()
     }

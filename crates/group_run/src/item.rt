@@ -45,6 +45,8 @@ impl<'a, D: Runnable> Slot<'a, D> {
     }
 
     /// The action that the item makes next. An error is out of memory.
+    // A call would move an action, which has room for a barrier's turns, for each access.
+    #[inline(always)]
     pub fn next(&mut self) -> Result<Action, AllocError>
         ensures action { IfOk result (λ action. action ≡ acts_of D.Described.launch self.old []) }
         ensures same { (answers : List Answer) → acts_of D.Described.launch self.new answers ≡ acts_of D.Described.launch self.old answers }
@@ -61,6 +63,7 @@ impl<'a, D: Runnable> Slot<'a, D> {
     }
 
     /// The item's next action is answered. An error is out of memory.
+    #[inline(always)]
     pub fn answer(&mut self, answer: Answer) -> Result<(), AllocError>
         ensures { OnOk result ((answers : List Answer) → acts_of D.Described.launch self.new answers ≡ acts_of D.Described.launch self.old (answer ∷ answers)) }
     {

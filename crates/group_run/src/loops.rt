@@ -50,6 +50,9 @@ fn stop_at<M: Machine>(m: &mut M, k: u32, stop: Stop, runs: &Runs) -> Result<Ite
     ensures ticks_same { (j : ℕ) → M.ticks m.new j ≡ M.ticks m.old j }
     ensures halted { IfOk result (IsItemRun (M.plan m.old) (M.fits m.new) origin runs.now k) }
 {
+    if k == 0 {
+        return Ok(ItemRun::Stops);
+    }
     let item = m.first() + k;
     let leading = leader(m)?;
     if same_stop(&leading, &stop) {

@@ -1,8 +1,33 @@
-use Rattle.std.proofs.Common.{◌+◌, sym, ap, ap₂, ◌∙◌}
+use Rattle.std.proofs.Common.{◌≡◌, ℕ, ◌+◌, ◌==◌, ◌&&◌, true, Some, List, [], ◌∷◌, refl, sym, ap, ap₂, ◌∙◌, arith, eq-eqb}
 use Rattle.clmodel.specs.Law.{Reports}
+use Rattle.clmodel.specs.Run.{State, next_action, stop_of, both_stop, same_stop, same_numbers}
+use Rattle.clmodel.specs.declared.action.Stop.{Stop}
+use Rattle.clmodel.specs.declared.action.Stop.TheVariants.{At, Ended}
+use Rattle.joining.specs.Group.{Plan}
+use Rattle.group_run.specs.Loops.{AtOneStop}
 use Rattle.clmodel.specs.declared.fault.Fault.TheVariants as fault
-use Rattle.group_run.proofs.Turns.{leads, joins, differs}
+use Rattle.group_run.proofs.Turns.{first_stop, leads, joins, differs}
 use Rattle.group_run.proofs.loops.stop_at.Goals as goal
+
+same_numbers_itself : (xs : List ℕ) → same_numbers xs xs ≡ true
+same_numbers_itself [] = refl
+same_numbers_itself (x ∷ xs) = ap (λ b. b && same_numbers xs xs) (eq-eqb x x refl) ∙ same_numbers_itself xs
+
+same_stop_itself : (x : Stop) → same_stop x x ≡ true
+same_stop_itself (At a) = ap (λ b. b && same_numbers a.turns a.turns) (eq-eqb a.site a.site refl) ∙ same_numbers_itself a.turns
+same_stop_itself Ended = refl
+
+-- the first item is at one stop with itself
+joins_first : (p : Plan) (s : State) (k : ℕ) (y : Stop) → k ≡ 0 → stop_of (next_action p.launch s (p.first + k)) ≡ Some y → AtOneStop p s (k + 1)
+joins_first p s k y none e = λ j l.
+    let first_is : p.first + j ≡ p.first = omega (arith, l, none) in
+    let here_is : p.first + k ≡ p.first = omega (arith, none) in
+    let stop : first_stop p s ≡ Some y = ap (λ n. stop_of (next_action p.launch s n)) (sym here_is) ∙ e in
+    ap (λ n. both_stop (first_stop p s) (stop_of (next_action p.launch s n))) first_is ∙ ap₂ both_stop stop stop ∙ same_stop_itself y
+
+pub returns-then-k-eq0-clause-halted : goal.returns-then-k-eq0-clause-halted
+returns-then-k-eq0-clause-halted g c =
+    let r = c.requires.1.1.1 in (r.0.0, joins_first (g.M.Machine.plan c.args.m.now) r.0.0.state c.args.k c.args.stop c.if-k-eq0.true r.1)
 
 pub leader-requires-clause-stops : goal.leader-requires-clause-stops
 leader-requires-clause-stops g c =
