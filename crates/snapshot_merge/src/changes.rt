@@ -15,7 +15,7 @@ use clmodel::text::Bytes;
 use shadow::{Footprint, GroupAccesses};
 use spaces::{Overlay, Space};
 use spaces_base::cells::{is_inside, read};
-use std::alloc::{AllocError, Global};
+use std::alloc::AllocError;
 
 /// The bytes of a buffer that an access of a further group wrote, and what they become once the group is joined. They may be what they were.
 #[derive(Clone, Copy)]
@@ -237,16 +237,19 @@ impl Before<'_, '_, '_, '_> {
         Ok(())
     }
 
-    /// The changes that the accesses of the further group make, in their order. An error is out of memory.
+    /// The changes that the accesses of the further group make, in their order, in the memory of a list that
+    /// is done with. An error is out of memory.
     pub(crate) fn changes<L: GroupAccesses>(
         &self,
-        alloc: Global,
+        done: Vec<Change>,
         log: &L,
     ) -> Result<Vec<Change>, AllocError>
         ensures { IfOk result (λ changes. (kept : List TheAccess) → IsFootprint self.now.footprint.now kept → AllWroteBytes (map (λ space. space.bytes) self.now.own.now) (L.listed log.now) → all_bytes changes.items ≡ changes_of (value_of (map (λ row. row.now) self.now.first.now) self.now.lower.now (λ n b. joining.wrote kept (region.Buffer n) b) (map (λ space. space.bytes) self.now.own.now)) (L.listed log.now)) }
     {
         let count = log.len();
-        let mut changes = Vec::with_capacity(alloc, count)?;
+        let mut changes = done;
+        changes.clear();
+        changes.reserve(count)?;
         for i in 0..count {
             self.add_access(&mut changes, &log.get(i).access)?;
         }

@@ -23,7 +23,7 @@ ghost use Rattle.snapshot_merge.specs.Meetings.{AreOthers, IsFirstMet, report_at
 ghost use Rattle.snapshot_merge.specs.Runs.{Adds, MayFollow};
 ghost use Rattle.snapshot_merge.specs.JoinedGroups.{HoldsGroups, IsStopped, CameOfDone, CameOfNext, HandsBack, report_of};
 
-use crate::changes::{Before, make_changes};
+use crate::changes::{Before, Change, make_changes};
 use crate::cutting::{add_all, add_first};
 use crate::laws::laws;
 use crate::meetings::{Met, add_accesses, first_met, report_at};
@@ -37,6 +37,7 @@ use shadow::{Footprint, GroupAccesses};
 use spaces::Overlay;
 use spaces_base::Buffers;
 use std::alloc::{AllocError, Global};
+use std::mem;
 
 /// What the groups so far come to: what they leave in the launch's buffers, the bytes that they accessed, and their events.
 #[derive(Drop)]
@@ -46,6 +47,8 @@ pub struct JoinedGroups<'a> {
     pub(crate) contents: Vec<Bytes>,
     pub(crate) footprint: Footprint,
     pub(crate) runs: Vec<EventRun>,
+    /// The changes that the newest group made, whose memory serves for the next one's.
+    pub(crate) changes: Vec<Change>,
 }
 
 /// What comes of joining the result of one more group.
@@ -102,6 +105,7 @@ impl<'a> JoinedGroups<'a> {
             contents,
             footprint: Footprint::new(alloc),
             runs: Vec::new(alloc),
+            changes: Vec::new(alloc),
         })
     }
 
@@ -127,14 +131,16 @@ impl<'a> JoinedGroups<'a> {
         ensures footprint { self.new.footprint ≡ self.old.footprint }
         ensures runs { self.new.runs ≡ self.old.runs }
     {
+        let done = mem::replace(&mut self.changes, Vec::new(alloc));
         let before = Before {
             first: self.first.as_slice(),
             lower: self.contents.as_slice(),
             footprint: &self.footprint,
             own: spaces,
         };
-        let changes = before.changes(alloc, log)?;
+        let changes = before.changes(done, log)?;
         make_changes(self.contents.as_mut_slice(), changes.as_slice());
+        self.changes = changes;
         Ok(())
     }
 

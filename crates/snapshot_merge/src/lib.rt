@@ -7,6 +7,7 @@
 #![tactic(auto)]
 
 mod around;
+mod boxed_log;
 mod changes;
 mod cutting;
 mod joined_groups;
