@@ -1,5 +1,5 @@
 -- How deep an explanation nests in JSON.
-use Rattle.std.proofs.Common.{ℕ, ◌≤◌, ◌+◌, suc, List, [], ◌∷◌, Option, None, Some, map, arith}
+use Rattle.std.proofs.Common.{ℕ, ◌≤◌, List, [], ◌∷◌, Option, None, Some, map, arith}
 use Rattle.serde_json.specs.Data.{Data, depth, items_depth}
 use Rattle.serde_json.specs.View.{items_of}
 use Rattle.explanation.specs.declared.places.CallSite.{CallSite}
@@ -15,7 +15,7 @@ use Rattle.explanation.specs.declared.told.LaunchFacts.{LaunchFacts}
 use Rattle.explanation.specs.declared.told.Memory.{Memory}
 use Rattle.explanation.specs.declared.told.NamedItem.{NamedItem}
 use Rattle.explanation.specs.declared.told.ParameterFacts.{ParameterFacts}
-use Rattle.explain_json.specs.Members.{number_data, text_data, or_null, list_data, call_data, loop_data, spot_data, code_data, barrier_data, item_data, parameter_data, group_of, element_data, memory_data, value_data, step_data, launch_data, explanation_data}
+use Rattle.explain_json.specs.Members.{number_data, text_data, or_null, call_data, loop_data, spot_data, code_data, barrier_data, item_data, parameter_data, group_of, element_data, memory_data, value_data, step_data, launch_data, explanation_data}
 
 many : {A : Type 0} (f : A → Data) (n : ℕ) → ((x : A) → depth (f x) ≤ n) → (xs : List A) → items_depth (items_of (map f xs)) ≤ n
 many f n h [] = omega arith

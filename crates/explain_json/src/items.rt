@@ -3,12 +3,13 @@
 
 ghost use Rattle.std.specs.Prelude.{◌≡◌, IfOk};
 ghost use Rattle.serde_json.specs.View.{view};
-ghost use Rattle.explain_json.specs.Members.{number_data, list_data, or_null, class_word, kind_word, does_word, barrier_data, item_data};
+ghost use Rattle.explain_json.specs.Members.{number_data, list_data, class_word, kind_word, does_word, barrier_data, item_data};
 
+use crate::object::Object;
 use crate::places::spot_or_null;
 use clmodel::access::{AccessKind, Class};
 use explanation::{Does, NamedItem};
-use serde_json::{Value, json};
+use serde_json::Value;
 use std::alloc::{AllocError, Global};
 
 fn class_word(class: Class) -> &'static str
@@ -49,26 +50,6 @@ fn does_word(does: &Does) -> &'static str
     }
 }
 
-/// A number, or null.
-pub(crate) fn number_or_null(number: Option<u64>) -> Value
-    ensures { view result ≡ or_null number_data number }
-{
-    match number {
-        Some(number) => Value::from(number),
-        None => Value::Null,
-    }
-}
-
-/// The number of an event, or null.
-fn event_value(event: Option<usize>) -> Value
-    ensures { view result ≡ or_null number_data event }
-{
-    match event {
-        Some(number) => Value::from(number),
-        None => Value::Null,
-    }
-}
-
 /// A list of numbers.
 pub(crate) fn numbers_value(alloc: Global, numbers: &[u64]) -> Result<Value, AllocError>
     ensures { IfOk result (λ value. view value ≡ list_data number_data numbers.now) }
@@ -97,25 +78,29 @@ fn barrier_value(alloc: Global, does: &Does) -> Result<Value, AllocError>
     let Does::Waits { barrier, turns } = does else {
         return Ok(Value::Null);
     };
-    let (number, turns) = (*barrier, turns_value(alloc, turns.as_slice())?);
-    json!(in alloc; {"turns": turns, "number": number})
+    Object::new(alloc)
+        .try_with("turns", turns_value(alloc, turns.as_slice()))
+        .with("number", Value::from(*barrier))
+        .finish()
 }
 
 fn item_value(alloc: Global, item: &NamedItem) -> Result<Value, AllocError>
     ensures { IfOk result (λ value. view value ≡ item_data item.now) }
 {
-    let (number, does) = (item.item, does_word(&item.does));
-    let global = numbers_value(alloc, item.ids.global.as_slice())?;
-    let local = numbers_value(alloc, item.ids.local.as_slice())?;
-    let group = numbers_value(alloc, item.ids.group.as_slice())?;
-    let barrier = barrier_value(alloc, &item.does)?;
-    let event = event_value(item.event);
-    let spot = spot_or_null(alloc, &item.spot)?;
-    let last = spot_or_null(alloc, &item.last)?;
-    json!(in alloc; {
-        "spot": spot, "local_id": local, "last_access": last, "item": number, "group_id": group,
-        "global_id": global, "event": event, "does": does, "barrier": barrier
-    })
+    Object::new(alloc)
+        .try_with("spot", spot_or_null(alloc, &item.spot))
+        .try_with("local_id", numbers_value(alloc, item.ids.local.as_slice()))
+        .try_with("last_access", spot_or_null(alloc, &item.last))
+        .with("item", Value::from(item.item))
+        .try_with("group_id", numbers_value(alloc, item.ids.group.as_slice()))
+        .try_with(
+            "global_id",
+            numbers_value(alloc, item.ids.global.as_slice()),
+        )
+        .with("event", Value::from(item.event))
+        .with_text("does", does_word(&item.does))
+        .try_with("barrier", barrier_value(alloc, &item.does))
+        .finish()
 }
 
 /// The items that a fault names.

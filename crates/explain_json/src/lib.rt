@@ -4,6 +4,7 @@
 
 mod items;
 mod memory;
+mod object;
 mod places;
 mod steps;
 mod whole;

@@ -5,17 +5,19 @@ ghost use Rattle.std.specs.Prelude.{◌≡◌, IfOk};
 ghost use Rattle.serde_json.specs.View.{view};
 ghost use Rattle.explain_json.specs.Members.{list_data, or_null, memory_word, parameter_data, group_of, element_data, memory_data};
 
-use crate::items::number_or_null;
+use crate::object::Object;
 use explanation::{Memory, MemoryKind, ParameterFacts};
-use serde_json::{Value, json};
+use serde_json::Value;
 use std::alloc::{AllocError, Global};
 
 fn parameter_value(alloc: Global, parameter: &ParameterFacts) -> Result<Value, AllocError>
     ensures { IfOk result (λ value. view value ≡ parameter_data parameter.now) }
 {
-    let (index, name) = (parameter.index, parameter.name.as_str());
-    let type_name = parameter.type_name.as_str();
-    json!(in alloc; {"type": type_name, "name": name, "index": index})
+    Object::new(alloc)
+        .with_text("type", parameter.type_name.as_str())
+        .with_text("name", parameter.name.as_str())
+        .with("index", Value::from(parameter.index))
+        .finish()
 }
 
 fn parameters_value(alloc: Global, parameters: &[ParameterFacts]) -> Result<Value, AllocError>
@@ -65,13 +67,16 @@ pub(crate) fn memory_value(alloc: Global, memory: &Option<Memory>) -> Result<Val
     let Some(memory) = memory else {
         return Ok(Value::Null);
     };
-    let (kind, name) = (kind_word(memory.kind), memory.name.as_str());
-    let group = number_or_null(group_of(memory.kind));
-    let (byte, bytes) = (number_or_null(memory.byte), number_or_null(memory.size));
-    let element = element_value(alloc, memory.element)?;
-    let parameters = parameters_value(alloc, memory.parameters.as_slice())?;
-    json!(in alloc; {
-        "parameters": parameters, "name": name, "kind": kind, "group": group, "element": element, "bytes": bytes,
-        "byte": byte
-    })
+    Object::new(alloc)
+        .try_with(
+            "parameters",
+            parameters_value(alloc, memory.parameters.as_slice()),
+        )
+        .with_text("name", memory.name.as_str())
+        .with_text("kind", kind_word(memory.kind))
+        .with("group", Value::from(group_of(memory.kind)))
+        .try_with("element", element_value(alloc, memory.element))
+        .with("bytes", Value::from(memory.size))
+        .with("byte", Value::from(memory.byte))
+        .finish()
 }

@@ -5,8 +5,9 @@ ghost use Rattle.std.specs.Prelude.{◌≡◌, IfOk};
 ghost use Rattle.serde_json.specs.View.{view};
 ghost use Rattle.explain_json.specs.Members.{list_data, or_null, node_word, call_data, loop_data, spot_data, code_data};
 
+use crate::object::Object;
 use explanation::{CallSite, Code, LoopSite, NodeKind, Spot};
-use serde_json::{Value, json};
+use serde_json::Value;
 use std::alloc::{AllocError, Global};
 
 fn node_word(node: NodeKind) -> &'static str
@@ -29,9 +30,13 @@ fn node_word(node: NodeKind) -> &'static str
 fn call_value(alloc: Global, call: &CallSite) -> Result<Value, AllocError>
     ensures { IfOk result (λ value. view value ≡ call_data call.now) }
 {
-    let (offset, line, column) = (call.offset, call.line, call.column);
-    let (script_line, text) = (call.script_line, call.text.as_str());
-    json!(in alloc; {"text": text, "script_line": script_line, "offset": offset, "line": line, "column": column})
+    Object::new(alloc)
+        .with_text("text", call.text.as_str())
+        .with("script_line", Value::from(call.script_line))
+        .with("offset", Value::from(call.offset))
+        .with("line", Value::from(call.line))
+        .with("column", Value::from(call.column))
+        .finish()
 }
 
 fn calls_value(alloc: Global, calls: &[CallSite]) -> Result<Value, AllocError>
@@ -47,9 +52,13 @@ fn calls_value(alloc: Global, calls: &[CallSite]) -> Result<Value, AllocError>
 fn loop_value(alloc: Global, site: &LoopSite) -> Result<Value, AllocError>
     ensures { IfOk result (λ value. view value ≡ loop_data site.now) }
 {
-    let (offset, line, column) = (site.offset, site.line, site.column);
-    let (script_line, turn) = (site.script_line, Value::from(site.turn));
-    json!(in alloc; {"turn": turn, "script_line": script_line, "offset": offset, "line": line, "column": column})
+    Object::new(alloc)
+        .with("turn", Value::from(site.turn))
+        .with("script_line", Value::from(site.script_line))
+        .with("offset", Value::from(site.offset))
+        .with("line", Value::from(site.line))
+        .with("column", Value::from(site.column))
+        .finish()
 }
 
 fn loops_value(alloc: Global, loops: &[LoopSite]) -> Result<Value, AllocError>
@@ -66,15 +75,17 @@ fn loops_value(alloc: Global, loops: &[LoopSite]) -> Result<Value, AllocError>
 pub(crate) fn spot_value(alloc: Global, spot: &Spot) -> Result<Value, AllocError>
     ensures { IfOk result (λ value. view value ≡ spot_data spot.now) }
 {
-    let (offset, length, line) = (spot.offset, spot.length, spot.line);
-    let (column, script_line) = (spot.column, spot.script_line);
-    let (node, text) = (node_word(spot.node), spot.text.as_str());
-    let calls = calls_value(alloc, spot.calls.as_slice())?;
-    let loops = loops_value(alloc, spot.loops.as_slice())?;
-    json!(in alloc; {
-        "text": text, "script_line": script_line, "offset": offset, "node": node, "loops": loops, "line": line,
-        "length": length, "column": column, "calls": calls
-    })
+    Object::new(alloc)
+        .with_text("text", spot.text.as_str())
+        .with("script_line", Value::from(spot.script_line))
+        .with("offset", Value::from(spot.offset))
+        .with_text("node", node_word(spot.node))
+        .try_with("loops", loops_value(alloc, spot.loops.as_slice()))
+        .with("line", Value::from(spot.line))
+        .with("length", Value::from(spot.length))
+        .with("column", Value::from(spot.column))
+        .try_with("calls", calls_value(alloc, spot.calls.as_slice()))
+        .finish()
 }
 
 /// A place, or null.
@@ -94,6 +105,9 @@ pub(crate) fn code_or_null(alloc: Global, code: &Option<Code>) -> Result<Value, 
     let Some(code) = code else {
         return Ok(Value::Null);
     };
-    let (script_line, column, text) = (code.script_line, code.column, code.text.as_str());
-    json!(in alloc; {"text": text, "script_line": script_line, "column": column})
+    Object::new(alloc)
+        .with_text("text", code.text.as_str())
+        .with("script_line", Value::from(code.script_line))
+        .with("column", Value::from(code.column))
+        .finish()
 }

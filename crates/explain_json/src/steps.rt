@@ -6,22 +6,24 @@ ghost use Rattle.serde_json.specs.View.{view};
 ghost use Rattle.explain_json.specs.Members.{list_data, or_null, value_data, schedule_data, step_data};
 
 use crate::items::kind_word;
+use crate::object::Object;
 use crate::places::code_or_null;
 use explanation::{ScheduleFacts, Step};
-use serde_json::{Value, json};
+use serde_json::Value;
 use std::alloc::{AllocError, Global};
 
 /// A schedule.
 pub(crate) fn schedule_value(alloc: Global, schedule: &ScheduleFacts) -> Result<Value, AllocError>
     ensures { IfOk result (λ value. view value ≡ schedule_data schedule.now) }
 {
-    let (given, short) = (schedule.given.as_str(), schedule.short.as_str());
-    let (given_events, events) = (schedule.given_events, schedule.events);
-    let (items, replays) = (schedule.items, schedule.replays);
-    json!(in alloc; {
-        "short": short, "replays": replays, "items": items, "given_events": given_events, "given": given,
-        "events": events
-    })
+    Object::new(alloc)
+        .with_text("short", schedule.short.as_str())
+        .with("replays", Value::from(schedule.replays))
+        .with("items", Value::from(schedule.items))
+        .with("given_events", Value::from(schedule.given_events))
+        .with_text("given", schedule.given.as_str())
+        .with("events", Value::from(schedule.events))
+        .finish()
 }
 
 fn step_value(alloc: Global, step: &Step) -> Result<Value, AllocError>
@@ -29,8 +31,10 @@ fn step_value(alloc: Global, step: &Step) -> Result<Value, AllocError>
 {
     match step {
         Step::Release { group, code } => {
-            let (group, place) = (*group, code_or_null(alloc, code)?);
-            json!(in alloc; {"release": group, "place": place})
+            Object::new(alloc)
+                .with("release", Value::from(*group))
+                .try_with("place", code_or_null(alloc, code))
+                .finish()
         }
         Step::Item {
             item,
@@ -42,13 +46,16 @@ fn step_value(alloc: Global, step: &Step) -> Result<Value, AllocError>
             left,
             code,
         } => {
-            let (item, does, memory) = (*item, kind_word(*does), memory.as_str());
-            let (byte, bytes, value) = (*byte, *bytes, text_or_null(alloc, *value)?);
-            let (left, place) = (text_or_null(alloc, *left)?, code_or_null(alloc, code)?);
-            json!(in alloc; {
-                "value": value, "place": place, "memory": memory, "left": left, "item": item, "does": does,
-                "bytes": bytes, "byte": byte
-            })
+            Object::new(alloc)
+                .try_with("value", text_or_null(alloc, *value))
+                .try_with("place", code_or_null(alloc, code))
+                .with_text("memory", memory.as_str())
+                .try_with("left", text_or_null(alloc, *left))
+                .with("item", Value::from(*item))
+                .with_text("does", kind_word(*does))
+                .with("bytes", Value::from(*bytes))
+                .with("byte", Value::from(*byte))
+                .finish()
         }
     }
 }

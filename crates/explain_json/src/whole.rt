@@ -8,9 +8,10 @@ ghost use Rattle.explain_json.specs.Members.{list_data, text_data, launch_data, 
 
 use crate::items::{items_value, numbers_value};
 use crate::memory::memory_value;
+use crate::object::Object;
 use crate::steps::{schedule_value, steps_value};
 use explanation::{Explanation, FaultFacts, LaunchFacts};
-use serde_json::{Value, json};
+use serde_json::Value;
 use std::alloc::{AllocError, Global};
 
 /// The version of the members' names and meanings. A member more doesn't change it.
@@ -19,25 +20,35 @@ pub const VERSION: u32 = 1;
 fn launch_value(alloc: Global, launch: &LaunchFacts) -> Result<Value, AllocError>
     ensures { IfOk result (λ value. view value ≡ launch_data launch.now) }
 {
-    let (command, script_line, text) = (launch.command, launch.script_line, launch.text.as_str());
-    let (kernel, function) = (launch.kernel.as_str(), launch.function.as_str());
-    let program = launch.program.as_str();
-    let global = numbers_value(alloc, launch.global_size.as_slice())?;
-    let local = numbers_value(alloc, launch.local_size.as_slice())?;
-    let offset = numbers_value(alloc, launch.offset.as_slice())?;
-    let (uniform, budget) = (launch.uniform, launch.budget);
-    json!(in alloc; {
-        "uniform": uniform, "text": text, "script_line": script_line, "program": program, "offset": offset,
-        "local_size": local, "kernel": kernel, "global_size": global, "function": function, "command": command,
-        "budget": budget
-    })
+    Object::new(alloc)
+        .with("uniform", Value::from(launch.uniform))
+        .with_text("text", launch.text.as_str())
+        .with("script_line", Value::from(launch.script_line))
+        .with_text("program", launch.program.as_str())
+        .try_with("offset", numbers_value(alloc, launch.offset.as_slice()))
+        .try_with(
+            "local_size",
+            numbers_value(alloc, launch.local_size.as_slice()),
+        )
+        .with_text("kernel", launch.kernel.as_str())
+        .try_with(
+            "global_size",
+            numbers_value(alloc, launch.global_size.as_slice()),
+        )
+        .with_text("function", launch.function.as_str())
+        .with("command", Value::from(launch.command))
+        .with("budget", Value::from(launch.budget))
+        .finish()
 }
 
 fn fault_value(alloc: Global, fault: &FaultFacts) -> Result<Value, AllocError>
     ensures { IfOk result (λ value. view value ≡ fault_data fault.now) }
 {
-    let (number, name, line) = (fault.number, fault.name.as_str(), fault.line.as_str());
-    json!(in alloc; {"number": number, "name": name, "line": line})
+    Object::new(alloc)
+        .with("number", Value::from(fault.number))
+        .with_text("name", fault.name.as_str())
+        .with_text("line", fault.line.as_str())
+        .finish()
 }
 
 fn sentences_value(alloc: Global, sentences: &[String]) -> Result<Value, AllocError>
@@ -54,19 +65,18 @@ fn sentences_value(alloc: Global, sentences: &[String]) -> Result<Value, AllocEr
 pub fn value_of(alloc: Global, whole: &Explanation) -> Result<Value, AllocError>
     ensures { IfOk result (λ value. view value ≡ explanation_data whole.now) }
 {
-    let (version, script) = (VERSION, whole.script.as_str());
-    let launch = launch_value(alloc, &whole.launch)?;
-    let fault = fault_value(alloc, &whole.fault)?;
-    let memory = memory_value(alloc, &whole.memory)?;
-    let items = items_value(alloc, whole.items.as_slice())?;
-    let why = sentences_value(alloc, whole.why.as_slice())?;
-    let schedule = schedule_value(alloc, &whole.schedule)?;
-    let steps = steps_value(alloc, whole.steps.as_slice())?;
-    let steps_left = whole.steps_left;
-    json!(in alloc; {
-        "why": why, "version": version, "steps_left": steps_left, "steps": steps, "script": script,
-        "schedule": schedule, "memory": memory, "launch": launch, "items": items, "fault": fault
-    })
+    Object::new(alloc)
+        .try_with("why", sentences_value(alloc, whole.why.as_slice()))
+        .with("version", Value::from(VERSION))
+        .with("steps_left", Value::from(whole.steps_left))
+        .try_with("steps", steps_value(alloc, whole.steps.as_slice()))
+        .with_text("script", whole.script.as_str())
+        .try_with("schedule", schedule_value(alloc, &whole.schedule))
+        .try_with("memory", memory_value(alloc, &whole.memory))
+        .try_with("launch", launch_value(alloc, &whole.launch))
+        .try_with("items", items_value(alloc, whole.items.as_slice()))
+        .try_with("fault", fault_value(alloc, &whole.fault))
+        .finish()
 }
 
 fn push_line_feed(text: &mut String) -> Result<(), AllocError>
