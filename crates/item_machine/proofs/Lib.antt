@@ -1,0 +1,4 @@
+pub mod Turns
+pub mod ArrayLaws
+pub mod StateLaws
+pub mod AskingLaws
