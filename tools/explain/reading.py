@@ -87,9 +87,12 @@ def item_text(item):
 
 def turns_text(item):
     """The turns of the loops round a work-item's place, the innermost first, behind commas."""
-    loops = (place_of(item) or {"loops": []})["loops"]
-    return "".join(f", in turn {loop['turn']} of the loop at {loop['script_line']}:{loop['column']}"
-                   for loop in reversed(loops) if loop["turn"] is not None)
+    found = []
+    for loop in reversed((place_of(item) or {"loops": []})["loops"]):
+        turn = f"in turn {loop['turn']}" if loop["turn"] else "before the first turn"
+        if loop["turn"] is not None:
+            found.append(f", {turn} of the loop at {loop['script_line']}:{loop['column']}")
+    return "".join(found)
 
 
 def place_of(item):
