@@ -40,7 +40,7 @@ fn values_of(kind: AccessKind, mark: &Mark) -> (Option<u64>, Option<u64>) {
 
 /// The step of an access.
 fn access_step(context: &Context<'_>, touch: &Touch, mark: &Mark) -> Result<Step, AllocError> {
-    let code = context.code(mark.place)?;
+    let code = context.code(mark.stand.as_ref())?;
     let (value, left) = values_of(touch.kind, mark);
     Ok(Step::Item {
         item: touch.item,
@@ -62,7 +62,7 @@ fn step_of(
 ) -> Result<Option<Step>, AllocError> {
     match mark.event {
         Event::Release(group) => {
-            let code = context.code(mark.place)?;
+            let code = context.code(mark.stand.as_ref())?;
             Ok(Some(Step::Release { group, code }))
         }
         Event::Item(_) => match touch {
