@@ -3,10 +3,10 @@
 
 ghost use Rattle.std.specs.Prelude.{◌≡◌, IfOk};
 ghost use Rattle.serde_json.specs.View.{view};
-ghost use Rattle.explain_json.specs.Members.{number_data, list_data, class_word, kind_word, does_word, barrier_data, item_data};
+ghost use Rattle.explain_json.specs.Members.{class_word, kind_word, does_word, barrier_data, item_data};
 
 use crate::object::Object;
-use crate::places::spot_or_null;
+use crate::values::ToJson;
 use clmodel::access::{AccessKind, Class};
 use explanation::{Does, NamedItem};
 use serde_json::Value;
@@ -50,27 +50,6 @@ fn does_word(does: &Does) -> &'static str
     }
 }
 
-/// A list of numbers.
-pub(crate) fn numbers_value(alloc: Global, numbers: &[u64]) -> Result<Value, AllocError>
-    ensures { IfOk result (λ value. view value ≡ list_data number_data numbers.now) }
-{
-    let mut values = Vec::new(alloc);
-    for number in numbers {
-        values.push(Value::from(*number))?;
-    }
-    Ok(Value::Array(values))
-}
-
-fn turns_value(alloc: Global, turns: &[u32]) -> Result<Value, AllocError>
-    ensures { IfOk result (λ value. view value ≡ list_data number_data turns.now) }
-{
-    let mut values = Vec::new(alloc);
-    for turn in turns {
-        values.push(Value::from(*turn))?;
-    }
-    Ok(Value::Array(values))
-}
-
 /// The barrier at which an item waits, with the turns of the loops round it, or null.
 fn barrier_value(alloc: Global, does: &Does) -> Result<Value, AllocError>
     ensures { IfOk result (λ value. view value ≡ barrier_data does.now) }
@@ -79,37 +58,25 @@ fn barrier_value(alloc: Global, does: &Does) -> Result<Value, AllocError>
         return Ok(Value::Null);
     };
     Object::new(alloc)
-        .try_with("turns", turns_value(alloc, turns.as_slice()))
-        .with("number", Value::from(*barrier))
+        .with("turns", turns)
+        .with("number", barrier)
         .finish()
 }
 
-fn item_value(alloc: Global, item: &NamedItem) -> Result<Value, AllocError>
-    ensures { IfOk result (λ value. view value ≡ item_data item.now) }
-{
-    Object::new(alloc)
-        .try_with("spot", spot_or_null(alloc, &item.spot))
-        .try_with("local_id", numbers_value(alloc, item.ids.local.as_slice()))
-        .try_with("last_access", spot_or_null(alloc, &item.last))
-        .with("item", Value::from(item.item))
-        .try_with("group_id", numbers_value(alloc, item.ids.group.as_slice()))
-        .try_with(
-            "global_id",
-            numbers_value(alloc, item.ids.global.as_slice()),
-        )
-        .with("event", Value::from(item.event))
-        .with_text("does", does_word(&item.does))
-        .try_with("barrier", barrier_value(alloc, &item.does))
-        .finish()
-}
+impl ToJson for NamedItem {
+    ghost json = { item_data };
 
-/// The items that a fault names.
-pub(crate) fn items_value(alloc: Global, items: &[NamedItem]) -> Result<Value, AllocError>
-    ensures { IfOk result (λ value. view value ≡ list_data item_data items.now) }
-{
-    let mut values = Vec::new(alloc);
-    for item in items {
-        values.push(item_value(alloc, item)?)?;
+    fn to_json(&self, alloc: Global) -> Result<Value, AllocError> {
+        Object::new(alloc)
+            .with("spot", &self.spot)
+            .with("local_id", &self.ids.local)
+            .with("last_access", &self.last)
+            .with("item", &self.item)
+            .with("group_id", &self.ids.group)
+            .with("global_id", &self.ids.global)
+            .with("event", &self.event)
+            .with_text("does", does_word(&self.does))
+            .with_value("barrier", barrier_value(alloc, &self.does))
+            .finish()
     }
-    Ok(Value::Array(values))
 }

@@ -7,6 +7,7 @@ mod memory;
 mod object;
 mod places;
 mod steps;
+mod values;
 mod whole;
 
 pub use whole::{json_of, value_of};

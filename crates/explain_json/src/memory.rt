@@ -3,31 +3,24 @@
 
 ghost use Rattle.std.specs.Prelude.{◌≡◌, IfOk};
 ghost use Rattle.serde_json.specs.View.{view};
-ghost use Rattle.explain_json.specs.Members.{list_data, or_null, memory_word, parameter_data, group_of, element_data, memory_data};
+ghost use Rattle.explain_json.specs.Members.{or_null, memory_word, parameter_data, group_of, element_data, memory_data};
 
 use crate::object::Object;
+use crate::values::ToJson;
 use explanation::{Memory, MemoryKind, ParameterFacts};
 use serde_json::Value;
 use std::alloc::{AllocError, Global};
 
-fn parameter_value(alloc: Global, parameter: &ParameterFacts) -> Result<Value, AllocError>
-    ensures { IfOk result (λ value. view value ≡ parameter_data parameter.now) }
-{
-    Object::new(alloc)
-        .with_text("type", parameter.type_name.as_str())
-        .with_text("name", parameter.name.as_str())
-        .with("index", Value::from(parameter.index))
-        .finish()
-}
+impl ToJson for ParameterFacts {
+    ghost json = { parameter_data };
 
-fn parameters_value(alloc: Global, parameters: &[ParameterFacts]) -> Result<Value, AllocError>
-    ensures { IfOk result (λ value. view value ≡ list_data parameter_data parameters.now) }
-{
-    let mut values = Vec::new(alloc);
-    for parameter in parameters {
-        values.push(parameter_value(alloc, parameter)?)?;
+    fn to_json(&self, alloc: Global) -> Result<Value, AllocError> {
+        Object::new(alloc)
+            .with("type", &self.type_name)
+            .with("name", &self.name)
+            .with("index", &self.index)
+            .finish()
     }
-    Ok(Value::Array(values))
 }
 
 fn kind_word(kind: MemoryKind) -> &'static str
@@ -60,23 +53,18 @@ fn element_value(alloc: Global, element: Option<i64>) -> Result<Value, AllocErro
     }
 }
 
-/// Memory, or null.
-pub(crate) fn memory_value(alloc: Global, memory: &Option<Memory>) -> Result<Value, AllocError>
-    ensures { IfOk result (λ value. view value ≡ or_null memory_data memory.now) }
-{
-    let Some(memory) = memory else {
-        return Ok(Value::Null);
-    };
-    Object::new(alloc)
-        .try_with(
-            "parameters",
-            parameters_value(alloc, memory.parameters.as_slice()),
-        )
-        .with_text("name", memory.name.as_str())
-        .with_text("kind", kind_word(memory.kind))
-        .with("group", Value::from(group_of(memory.kind)))
-        .try_with("element", element_value(alloc, memory.element))
-        .with("bytes", Value::from(memory.size))
-        .with("byte", Value::from(memory.byte))
-        .finish()
+impl ToJson for Memory {
+    ghost json = { memory_data };
+
+    fn to_json(&self, alloc: Global) -> Result<Value, AllocError> {
+        Object::new(alloc)
+            .with("parameters", &self.parameters)
+            .with("name", &self.name)
+            .with_text("kind", kind_word(self.kind))
+            .with("group", &group_of(self.kind))
+            .with_value("element", element_value(alloc, self.element))
+            .with("bytes", &self.size)
+            .with("byte", &self.byte)
+            .finish()
+    }
 }

@@ -6,6 +6,7 @@ ghost use Rattle.serde_json.specs.Data.{Data, Members, no_members, object, put, 
 ghost use Rattle.serde_json.specs.View.{view, members_view};
 ghost use Rattle.explain_json.specs.Object.{Has, Adds};
 
+use crate::values::ToJson;
 use serde_json::{Map, Value};
 use std::alloc::{AllocError, Global};
 
@@ -21,12 +22,13 @@ fn longer(
     alloc: Global,
     members: Result<Map<String, Value>, AllocError>,
     name: &str,
-    value: Value,
+    value: Result<Value, AllocError>,
 ) -> Result<Map<String, Value>, AllocError>
-    ensures { (ms : Members) → IfOk members (λ map. members_view map.entries ≡ ms) → IfOk result (λ map. members_view map.entries ≡ put name.now (view value) ms) }
+    ensures { (ms : Members) (d : Data) → IfOk members (λ map. members_view map.entries ≡ ms) → IfOk value (λ v. view v ≡ d)
+        → IfOk result (λ map. members_view map.entries ≡ put name.now d ms) }
 {
     let mut map = members?;
-    serde_json::put(&mut map, alloc, name, value)?;
+    serde_json::put(&mut map, alloc, name, value?)?;
     Ok(map)
 }
 
@@ -42,8 +44,24 @@ impl Object {
     }
 
     /// The object with one member more.
-    pub(crate) fn with(self, name: &str, value: Value) -> Self
-        ensures { (d : Data) → view value ≡ d → Adds self name.now d result }
+    pub(crate) fn with<T: ToJson>(self, name: &str, member: &T) -> Self
+        ensures { Adds self name.now (T.json member.now) result }
+    {
+        let value = member.to_json(self.alloc);
+        self.with_value(name, value)
+    }
+
+    /// The same for a text.
+    pub(crate) fn with_text(self, name: &str, text: &str) -> Self
+        ensures { (t : List ℕ) → text.now ≡ t → Adds self name.now (string t) result }
+    {
+        let value = Value::try_from_str(self.alloc, text);
+        self.with_value(name, value)
+    }
+
+    /// The same for a value, if there was memory for it.
+    pub(crate) fn with_value(self, name: &str, value: Result<Value, AllocError>) -> Self
+        ensures { (d : Data) → IfOk value (λ v. view v ≡ d) → Adds self name.now d result }
     {
         let Object { alloc, members } = self;
         Object {
@@ -52,28 +70,7 @@ impl Object {
         }
     }
 
-    /// The same, where there was memory for the value.
-    pub(crate) fn try_with(self, name: &str, value: Result<Value, AllocError>) -> Self
-        ensures { (d : Data) → IfOk value (λ v. view v ≡ d) → Adds self name.now d result }
-    {
-        match value {
-            Ok(value) => self.with(name, value),
-            Err(refused) => Object {
-                alloc: self.alloc,
-                members: Err(refused),
-            },
-        }
-    }
-
-    /// The object with one member more, which is a text.
-    pub(crate) fn with_text(self, name: &str, text: &str) -> Self
-        ensures { (t : List ℕ) → text.now ≡ t → Adds self name.now (string t) result }
-    {
-        let value = Value::try_from_str(self.alloc, text);
-        self.try_with(name, value)
-    }
-
-    /// The object as a value, where there was memory for it.
+    /// The object as a value, if there was memory for it.
     pub(crate) fn finish(self) -> Result<Value, AllocError>
         ensures { (ms : Members) → Has self ms → IfOk result (λ value. view value ≡ object ms) }
     {

@@ -1,0 +1,12 @@
+use Rattle.std.proofs.Common.{refl}
+use Rattle.explain_json.proofs.memory.MemoryToJson.to_json.Goals as goal
+
+pub returns : goal.returns
+returns c = c.finish.ensures _ (
+    c.with-5.ensures _ refl (
+    c.with-4.ensures _ refl (
+    c.with_value.ensures _ c.element_value.ensures _ refl (
+    (rw c.group_of.ensures at c.with-3.ensures) _ refl (
+    c.with_text.ensures _ c.kind_word.ensures _ refl (
+    c.with-2.ensures _ refl (
+    c.with.ensures _ tt c.new.ensures)))))))

@@ -1,8 +1,0 @@
-use Rattle.std.proofs.Common.{refl}
-use Rattle.explain_json.proofs.places.code_or_null.Goals as goal
-
-pub returns : goal.returns
-returns c = rw c.in-Some.is (c.finish.ensures _ (
-    c.with-2.ensures _ c.from-2.ensures _ refl (
-    c.with.ensures _ c.from.ensures _ refl (
-    c.with_text.ensures _ c.as_str.ensures.value _ tt c.new.ensures))))
