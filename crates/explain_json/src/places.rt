@@ -55,7 +55,7 @@ impl ToJson for LoopSite {
     }
 }
 
-/// With the calls and loops round it
+/// A place, with the calls and loops round it.
 impl ToJson for Spot {
     ghost json = { spot_data };
 
@@ -74,7 +74,7 @@ impl ToJson for Spot {
     }
 }
 
-/// In short
+/// A place in short.
 impl ToJson for Code {
     ghost json = { code_data };
 

@@ -59,7 +59,7 @@ impl ToJson for String {
     }
 }
 
-/// Null where there is none.
+/// Null, where there is none.
 impl<T: ToJson> ToJson for Option<T> {
     ghost json = { or_null T.json };
 
