@@ -1,7 +1,7 @@
 //! The program `clsim`: a simulated OpenCL 1.2 device for scripts, schedules and host programs.
 //!
-//! It calls `cli` with the files and the output of the system. The status is the one that `cli` defines, whether
-//! standard error can be written or not; the process ends with 0, 1 or 2.
+//! It calls `cli` and `explaining` with the files and the output of the system. The status is the one that `cli`
+//! defines, whether standard error can be written or not; the process ends with 0, 1 or 2.
 #![tactic(auto)]
 
 ghost use Rattle.std.specs.Prelude.{◌≡◌, ◌≤◌, IfOk};
@@ -10,8 +10,10 @@ ghost use Rattle.cli.specs.Session.{status_of};
 ghost use Rattle.cli.specs.Checking.{source_status_of};
 ghost use Rattle.cli.specs.Replaying.{replay_status_of};
 
+mod explain_files;
 mod named_file;
 
+use crate::explain_files::{explain_schedule, explain_script};
 use crate::named_file::NamedFile;
 use cli::checking::{check_file, source_status};
 use cli::command_line::{Invocation, command};
@@ -20,7 +22,6 @@ use cli::dumping::dump_file;
 use cli::replaying::{replay_files, replay_status};
 use cli::session::{Options, Reader, RunEnd, RunFault, run, status};
 use cli::wish::ExplainWish;
-use explain_files::{explain_schedule, explain_script};
 use explaining::{ExplainOptions, Format};
 use peers::StreamPeer;
 use std::env::Env;

@@ -6,7 +6,7 @@ use Rattle.explaining.specs.Explaining.{Unwritten}
 use Rattle.explaining.specs.declared.facts.Given.{Given}
 use Rattle.explaining.specs.declared.faults.ExplainFault.{ExplainFault}
 use Rattle.explaining.specs.declared.faults.ExplainFault.TheVariants as explain
-use Rattle.explain_files.specs.Files.{explain_fault, Untold}
+use Rattle.clsim.specs.Files.{explain_fault, Untold}
 
 pub untold_as : (budget : ℕ) (given : Given) (old new : Sink) (why : ExplainFault) (named : RunFault) → named ≡ explain_fault why
     → Unwritten budget given old new why → Untold budget given old new named

@@ -1,5 +1,5 @@
-use Rattle.explain_files.proofs.FileLemmas.{untold_as}
-use Rattle.explain_files.proofs.explain_texts.Goals as goal
+use Rattle.clsim.proofs.FileLemmas.{untold_as}
+use Rattle.clsim.proofs.explain_files.explain_texts.Goals as goal
 
 pub returns-in-Ok : goal.returns-in-Ok
 returns-in-Ok g c = record {

@@ -6,7 +6,7 @@
 
 ghost use Rattle.std.specs.Prelude.{◌≡◌, IfOk, IfErr};
 ghost use Rattle.std.specs.Option.{option_map};
-ghost use Rattle.explain_files.specs.Files.{explain_fault, IsGiven, Answered, Unanswered, ScriptTold, ScriptUntold, FileTold, FileUntold};
+ghost use Rattle.clsim.specs.Files.{explain_fault, IsGiven, Answered, Unanswered, ScriptTold, ScriptUntold, FileTold, FileUntold};
 
 use cli::reading::bytes_of;
 use cli::session::{Reader, RunFault};
@@ -82,7 +82,7 @@ fn explain_texts<W: Write>(
 ///
 /// Faults are `Read(First)`, `BadLine`, `OutOfMemory`, and `Write`, after which a beginning of the text was written;
 /// after the others nothing was.
-pub fn explain_script<R: Read, W: Write>(
+pub(crate) fn explain_script<R: Read, W: Write>(
     alloc: Global,
     name: &str,
     reader: &mut R,
@@ -107,7 +107,7 @@ pub fn explain_script<R: Read, W: Write>(
 /// the word `no` and answers false where the schedule doesn't lead to the fault.
 ///
 /// No fault is a `NoSuchKernel`; after `Write` a beginning of the text was written, after the others nothing.
-pub fn explain_schedule<R: Read, S: Read, W: Write>(
+pub(crate) fn explain_schedule<R: Read, S: Read, W: Write>(
     alloc: Global,
     name: &str,
     reader: &mut R,

@@ -1,6 +1,6 @@
 use Rattle.std.proofs.Common.{refl, inl, inr}
 use Rattle.std.proofs.lemmas.Result.{err_from_is_err_and}
-use Rattle.explain_files.proofs.explain_script.Goals as goal
+use Rattle.clsim.proofs.explain_files.explain_script.Goals as goal
 
 pub returns-in_err-script-clause-untold : goal.returns-in_err-script-clause-untold
 returns-in_err-script-clause-untold g c =
