@@ -1,4 +1,5 @@
 pub mod Turns
 pub mod ArrayLaws
 pub mod StateLaws
+pub mod Sources
 pub mod AskingLaws

@@ -29,7 +29,8 @@ pub fn read_bits(kind: IntType, bits: u64) -> RegisterValue
 }
 
 /// A number of a type in another.
-fn converted_bits(from: IntType, bits: u64, kind: IntType) -> RegisterValue
+#[inline(always)]
+pub(crate) fn converted_bits(from: IntType, bits: u64, kind: IntType) -> RegisterValue
     requires { IsIn from (kept.number_of from bits) }
     ensures { result ≡ Some (operand.Integral (converted (kept.integer from bits) kind)) }
 {

@@ -5,6 +5,7 @@
 //! code and no item.
 #![tactic(auto)]
 
+pub mod expected;
 pub mod kept_values;
 pub mod operators;
 pub mod pointers;
