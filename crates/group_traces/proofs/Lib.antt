@@ -1,0 +1,3 @@
+mod Fours
+mod Placing
+mod Written

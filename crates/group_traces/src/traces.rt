@@ -1,0 +1,254 @@
+//! What is kept of the accesses of a group to the objects of an address space.
+
+ghost use Rattle.std.specs.Prelude.{◌≡◌, ◌<◌, ◌≤◌, ◌+◌, ◌*◌, ◌/◌, ◌%◌, ◌^◌, ℕ, true, nat_eq, OnOk, OnErr, IfOk, MatchOption, length};
+ghost use Rattle.clmodel.specs.Cells.{byte_count, covers};
+ghost use Rattle.shadow.specs.Seen.{byte_mark, mark_of};
+ghost use Rattle.group_traces.specs.Cells.{word_trace, word_at, cell_at, at_key, key_of, trace_of, IsOwn, IsNear, IsWritten, IsMarked, IsSame, IsFitting};
+ghost use Rattle.group_traces.specs.Traces.{untouched, passes, tells, takes, part_with};
+
+use crate::cell::{Apart, Cell, Word, bytes_with};
+use crate::trace::Sight;
+use crate::word::WordTrace;
+use clmodel::access::Access;
+use shadow::{WordMark, word_mark};
+use std::alloc::{AllocError, Global};
+use std::collections::HashMap;
+
+/// What is kept of each byte of numbered objects, in cells of eight words that were touched.
+#[derive(Drop)]
+pub struct Traces {
+    /// Where the cell of each key stands
+    pub(crate) places: HashMap<u64, usize>,
+    pub(crate) cells: Vec<Cell>,
+    /// The bytes of the words whose bytes are kept apart
+    pub(crate) apart: Vec<Apart>,
+}
+
+/// What is seen of an access, and where the cell of its bytes stands, if it is there.
+#[derive(Clone, Copy)]
+pub struct Look {
+    pub place: Option<usize>,
+    pub sight: Sight,
+}
+
+/// Whether the bytes of an access are in one word, or in the two of a pair, and their places are small. The bytes of a kernel's accesses are.
+pub fn is_near(x: &Access) -> bool
+    requires { x.now.first + byte_count x.now.width < 2 ^ 64 }
+    ensures { result ≡ true → IsNear x.now }
+{
+    let count = x.width.bytes();
+    x.first + count <= 0x20_0000_0000
+        && (x.first % 4 + count <= 4 || count == 8 && x.first % 8 == 0)
+}
+
+/// The key of the cell of a byte of an object.
+fn key_of(number: u32, byte: u64) -> u64
+    requires { byte < 2 ^ 37 }
+    ensures { result ≡ key_of number byte }
+{
+    byte / 32 * 0x1_0000_0000 + number as u64
+}
+
+/// The word of a byte in its cell.
+fn word_of(byte: u64) -> usize
+    ensures value { result ≡ byte % 32 / 4 }
+    ensures small { result < 8 }
+{
+    (byte % 32 / 4) as usize
+}
+
+impl Traces {
+    /// No accesses. It takes no memory.
+    pub fn new(alloc: Global) -> Self
+        ensures { (q b : ℕ) → at_key result q b ≡ untouched }
+    {
+        Traces {
+            places: HashMap::new(alloc),
+            cells: Vec::new(alloc),
+            apart: Vec::new(alloc),
+        }
+    }
+
+    /// Forgets all accesses, and keeps the memory.
+    pub fn clear(&mut self)
+        ensures { (q b : ℕ) → at_key self.new q b ≡ untouched }
+    {
+        self.places.clear();
+        self.cells.clear();
+        self.apart.clear();
+    }
+
+    /// Whether less than an eighth of the memory is in use.
+    pub fn is_roomy(&self) -> bool {
+        self.cells.len() < self.cells.capacity() / 8
+    }
+
+    /// Where the cell of a key stands, if it is there.
+    fn found(&self, key: u64) -> Option<usize>
+        ensures { MatchOption result ((b : ℕ) → at_key self.now key b ≡ untouched) (IsOwn self.now key) }
+    {
+        let i = self.places.get(&key).copied()?;
+        match self.cells.get(i) {
+            Some(cell) if cell.key == key => Some(i),
+            _ => None,
+        }
+    }
+
+    /// What is seen of an access at so many bytes of a word, from the first on, by its cell and by the mark of the access there.
+    fn part(
+        &self,
+        i: usize,
+        uniform: bool,
+        x: &Access,
+        first: u64,
+        count: u64,
+        mark: WordMark,
+    ) -> Sight
+        requires inside { i < length self.now.cells.items }
+        requires one_word { first % 4 + count ≤ 4 }
+        requires short { first + count < 2 ^ 64 }
+        requires mark { count ≡ 4 → (k : ℕ) → k < 4 → byte_mark mark k ≡ mark_of x.now (first + k) }
+        ensures clear { result.clear ≡ true → (byte : ℕ) → first ≤ byte → byte < first + count → passes uniform (word_trace self.now.apart.items (cell_at self.now.cells.items i).key (first % 32 / 4) (word_at (cell_at self.now.cells.items i) (first % 32 / 4)) (byte % 4)) x.now.interval (mark_of x.now byte) ≡ true }
+        ensures told { result.told ≡ true → (byte : ℕ) → first ≤ byte → byte < first + count → tells (word_trace self.now.apart.items (cell_at self.now.cells.items i).key (first % 32 / 4) (word_at (cell_at self.now.cells.items i) (first % 32 / 4)) (byte % 4)) x.now.interval (mark_of x.now byte) ≡ true }
+        ensures taken { result.taken ≡ true → (byte : ℕ) → first ≤ byte → byte < first + count → takes (word_trace self.now.apart.items (cell_at self.now.cells.items i).key (first % 32 / 4) (word_at (cell_at self.now.cells.items i) (first % 32 / 4)) (byte % 4)) (mark_of x.now byte) ≡ true }
+    {
+        let cell = &self.cells[i];
+        let n = word_of(first);
+        cell.words[n].sight(&self.apart, cell.key, n, uniform, x, first, count, mark)
+    }
+
+    /// What is seen of an access to an object of a number, in a launch that is uniform or not.
+    pub fn look(&self, uniform: bool, number: u32, x: &Access) -> Look
+        requires { IsNear x.now }
+        ensures place { MatchOption result.place ((b : ℕ) → at_key self.now (key_of number x.now.first) b ≡ untouched) (IsOwn self.now (key_of number x.now.first)) }
+        ensures clear { result.sight.clear ≡ true → (byte : ℕ) → covers x.now.first (byte_count x.now.width) byte ≡ true → passes uniform (trace_of self.now number byte) x.now.interval (mark_of x.now byte) ≡ true }
+        ensures told { result.sight.told ≡ true → (byte : ℕ) → covers x.now.first (byte_count x.now.width) byte ≡ true → tells (trace_of self.now number byte) x.now.interval (mark_of x.now byte) ≡ true }
+        ensures taken { result.sight.taken ≡ true → (byte : ℕ) → covers x.now.first (byte_count x.now.width) byte ≡ true → takes (trace_of self.now number byte) (mark_of x.now byte) ≡ true }
+    {
+        let place = self.found(key_of(number, x.first));
+        let Some(i) = place else {
+            return Look {
+                place,
+                sight: Sight {
+                    clear: true,
+                    told: false,
+                    taken: false,
+                },
+            };
+        };
+        let count = x.width.bytes();
+        let low = self.part(i, uniform, x, x.first, count.min(4), word_mark(x, false));
+        if count <= 4 {
+            return Look { place, sight: low };
+        }
+        let high = self.part(i, uniform, x, x.first + 4, 4, word_mark(x, true));
+        Look {
+            place,
+            sight: low.and(high),
+        }
+    }
+
+    /// The place of the cell of a key, which is made where it isn't there.
+    fn make(&mut self, place: Option<usize>, key: u64) -> Result<usize, AllocError>
+        requires { MatchOption place ((b : ℕ) → at_key self.old key b ≡ untouched) (IsOwn self.old key) }
+        ensures own { IfOk result (IsOwn self.new key) }
+        ensures same { IsSame self.old self.new }
+    {
+        if let Some(i) = place {
+            return Ok(i);
+        }
+        let i = self.cells.len();
+        self.cells.push(Cell {
+            key,
+            words: [Word::Untouched; 8],
+        })?;
+        self.places.insert(key, i)?;
+        Ok(i)
+    }
+
+    /// Keeps the bytes of a word of a cell apart, unless it stays whole where an access is added to so many bytes of it.
+    fn fit(&mut self, i: usize, n: usize, count: u64) -> Result<(), AllocError>
+        requires inside { i < length self.old.cells.items }
+        requires small { n < 8 }
+        ensures same { IsSame self.old self.new }
+        ensures own { (key j : ℕ) → IsOwn self.old key j → IsOwn self.new key j }
+        ensures fits { OnOk result (IsFitting self.new i n count) }
+        ensures others { (m : ℕ) → IsFitting self.old i m count → IsFitting self.new i m count }
+    {
+        let cell = &self.cells[i];
+        let key = cell.key;
+        let word = cell.words[n];
+        match word {
+            Word::Untouched | Word::Whole(_) if count == 4 => return Ok(()),
+            Word::Apart(at) => match self.apart.get(at) {
+                Some(own) if own.key == key && own.word == n => return Ok(()),
+                _ => {}
+            },
+            _ => {}
+        }
+        let at = self.apart.len();
+        let traces = [
+            word.byte(&self.apart, key, n, 0),
+            word.byte(&self.apart, key, n, 1),
+            word.byte(&self.apart, key, n, 2),
+            word.byte(&self.apart, key, n, 3),
+        ];
+        self.apart.push(Apart {
+            key,
+            word: n,
+            traces,
+        })?;
+        self.cells[i].words[n] = Word::Apart(at);
+        Ok(())
+    }
+
+    /// Adds an access to so many bytes of a word that fits, from the first on, by the mark of the access there.
+    fn write(&mut self, i: usize, x: &Access, first: u64, count: u64, mark: WordMark)
+        requires inside { i < length self.old.cells.items }
+        requires one_word { first % 4 + count ≤ 4 }
+        requires short { first + count < 2 ^ 64 }
+        requires mark { count ≡ 4 → (k : ℕ) → k < 4 → byte_mark mark k ≡ mark_of x.now (first + k) }
+        requires fits { IsFitting self.old i (first % 32 / 4) count }
+        ensures written { (key : ℕ) → IsOwn self.old key i → IsWritten (at_key self.old) (at_key self.new) key (first % 32 / 4) (part_with x.now first count) }
+        ensures own { (key j : ℕ) → IsOwn self.old key j → IsOwn self.new key j }
+        ensures others { (m c : ℕ) → IsFitting self.old i m c → IsFitting self.new i m c }
+    {
+        let n = word_of(first);
+        let word = match self.cells[i].words[n] {
+            Word::Untouched => Word::Whole(WordTrace::of(x.interval, mark)),
+            Word::Whole(whole) => Word::Whole(whole.with(x.interval, mark)),
+            Word::Apart(at) => {
+                let traces = bytes_with(self.apart[at].traces, x, first, count);
+                self.apart[at].traces = traces;
+                return;
+            }
+        };
+        self.cells[i].words[n] = word;
+    }
+
+    /// Adds an access to an object of a number, by where the cell of its bytes stands. Where memory is refused nothing is added.
+    pub fn mark(
+        &mut self,
+        place: Option<usize>,
+        number: u32,
+        x: &Access,
+    ) -> Result<(), AllocError>
+        requires near { IsNear x.now }
+        requires place { MatchOption place ((b : ℕ) → at_key self.old (key_of number x.now.first) b ≡ untouched) (IsOwn self.old (key_of number x.now.first)) }
+        ensures marked { OnOk result (IsMarked self.old self.new number x.now) }
+        ensures same { OnErr result (IsSame self.old self.new) }
+    {
+        let i = self.make(place, key_of(number, x.first))?;
+        let count = x.width.bytes();
+        let n = word_of(x.first);
+        self.fit(i, n, count.min(4))?;
+        if count <= 4 {
+            self.write(i, x, x.first, count, word_mark(x, false));
+            return Ok(());
+        }
+        self.fit(i, n + 1, 4)?;
+        self.write(i, x, x.first, 4, word_mark(x, false));
+        self.write(i, x, x.first + 4, 4, word_mark(x, true));
+        Ok(())
+    }
+}
