@@ -1,3 +1,6 @@
 mod Fours
+mod Keeping
+mod Looking
+mod Parts
 mod Placing
 mod Written

@@ -16,10 +16,10 @@ use Rattle.group_traces.specs.declared.trace.Trace.{Trace}
 abbrev pub at_of : {S : Type 0} → HashMap ℕ ℕ S → List Cell → List Apart → ℕ → ℕ → Trace
 at_of places cells apart q b = placed_trace cells apart q b (get nat_eq places q)
 
-abbrev no_cell : Cell
+abbrev pub no_cell : Cell
 no_cell = record { key = 0; words = [] }
 
-abbrev no_apart : Apart
+abbrev pub no_apart : Apart
 no_apart = record { key = 0; word = 0; traces = [] }
 
 -- ---- cells
@@ -87,7 +87,6 @@ elsewhere key n q b t u ne = go (cases_eq q key) (cases_eq (b / 4) n)
 -- what is kept where a word of a cell is put
 module _ {S : Type 0} (places : HashMap ℕ ℕ S) (cells : List Cell) (apart : List Apart) (key i n : ℕ) (there : get nat_eq places key ≡ Some i) (inside : i < length cells)
     (own : (cell_at cells i).key ≡ key) (room : n < length (cell_at cells i).words) where
-
   -- each byte is kept as before, in the cells with a word put and with the bytes kept apart as they then are
   pub put_word :
       (v : Word) (more : List Apart) (become : ℕ → Trace → Trace)

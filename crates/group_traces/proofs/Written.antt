@@ -37,7 +37,7 @@ covered_word first count byte b c = let r = covers_parts first count byte c in o
 
 -- ---- what a word's part says of a byte
 
-part_at : (byte : ℕ) → byte % 32 % 4 ≡ byte % 4
+pub part_at : (byte : ℕ) → byte % 32 % 4 ≡ byte % 4
 part_at byte = omega arith
 
 -- a byte of it that the part covers, and one that it doesn't

@@ -26,6 +26,12 @@ word_trace apart key n word.Untouched k = untouched
 word_trace apart key n (word.Whole w) k = word_byte w k
 word_trace apart key n (word.Apart at) k = own_trace key n (apart_at apart at) k
 
+-- the bytes of a word aren't kept apart (own)
+abbrev pub IsWhole : Word → Type 0
+IsWhole word.Untouched = Unit {0}
+IsWhole (word.Whole w) = Unit {0}
+IsWhole (word.Apart at) = ⊥
+
 -- the cell at a place, and a word of one (own)
 abbrev pub cell_at : List Cell → ℕ → Cell
 cell_at cells i = slice_index_or cells i (record { key = 0; words = [] })

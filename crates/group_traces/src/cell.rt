@@ -1,10 +1,10 @@
 //! Words of a cell.
 
-ghost use Rattle.std.specs.Prelude.{◌≡◌, ◌<◌, ◌≤◌, ◌+◌, ◌-◌, ◌/◌, ◌%◌, ◌^◌, ◌&&◌, ℕ, true, slice_index_or, if◌then◌else◌};
-ghost use Rattle.clmodel.specs.Cells.{byte_count, covers};
+ghost use Rattle.std.specs.Prelude.{◌≡◌, ◌<◌, ◌≤◌, ◌+◌, ◌%◌, ◌^◌, ℕ, List, true, slice_index_or};
 ghost use Rattle.shadow.specs.Seen.{byte_mark, mark_of};
 ghost use Rattle.group_traces.specs.Traces.{untouched, trace_with, passes, tells, takes, part_with};
-ghost use Rattle.group_traces.specs.Cells.{apart_at, own_trace, word_trace};
+ghost use Rattle.group_traces.specs.Cells.{apart_at, own_trace, word_trace, IsWhole, FitsWith};
+ghost use Rattle.group_traces.specs.declared.cell.Apart.{Apart as TheApart};
 
 use crate::trace::{Sight, Trace};
 use crate::word::WordTrace;
@@ -62,6 +62,43 @@ impl Word {
         }
     }
 
+    /// What is kept of each byte of the word.
+    pub(crate) fn bytes(&self, apart: &[Apart], key: u64, n: usize) -> [Trace; 4]
+        ensures { (k : ℕ) → k < 4 → slice_index_or result k untouched ≡ word_trace apart.now key n self.now k }
+    {
+        [
+            self.byte(apart, key, n, 0),
+            self.byte(apart, key, n, 1),
+            self.byte(apart, key, n, 2),
+            self.byte(apart, key, n, 3),
+        ]
+    }
+
+    /// Whether the word stays whole where an access is added to so many bytes of it, or its bytes are kept apart.
+    pub(crate) fn fits(&self, apart: &[Apart], key: u64, n: usize, count: u64) -> bool
+        ensures { result ≡ true → FitsWith apart.now key n count self.now }
+    {
+        match *self {
+            Word::Untouched | Word::Whole(_) => count == 4,
+            Word::Apart(at) => match apart.get(at) {
+                None => false,
+                Some(own) => own.key == key && own.word == n,
+            },
+        }
+    }
+
+    /// The word with one access more to all of it, unless its bytes are kept apart.
+    pub(crate) fn with(self, interval: u32, mark: WordMark) -> Self
+        ensures with { IsWhole self → (apart : List TheApart) (key n k : ℕ) → k < 4 → word_trace apart key n result k ≡ trace_with (word_trace apart key n self k) interval (byte_mark mark k) }
+        ensures whole { IsWhole self → IsWhole result }
+    {
+        match self {
+            Word::Untouched => Word::Whole(WordTrace::of(interval, mark)),
+            Word::Whole(whole) => Word::Whole(whole.with(interval, mark)),
+            Word::Apart(_) => self,
+        }
+    }
+
     /// What is seen of an access at so many bytes of the word, from the first on.
     fn bytes_sight(
         &self,
@@ -92,6 +129,7 @@ impl Word {
     }
 
     /// The same, by the mark of the access at the whole word, if it is at all of it.
+    #[tactic(none)]
     pub fn sight(
         &self,
         apart: &[Apart],

@@ -1,7 +1,7 @@
 //! What is kept of the accesses to a byte.
 
-ghost use Rattle.std.specs.Prelude.{◌≡◌, ◌&&◌};
-ghost use Rattle.group_traces.specs.Traces.{untouched, first_in, trace_with, passes, tells, takes};
+ghost use Rattle.std.specs.Prelude.{◌≡◌, ◌&&◌, ◌||◌};
+ghost use Rattle.group_traces.specs.Traces.{untouched, grows, trace_with, is_now, passes, tells, takes};
 
 use clmodel::access::AccessKind;
 use shadow::{Mark, mark_clash, one_sort};
@@ -34,15 +34,31 @@ pub struct Sight {
     pub taken: bool,
 }
 
+/// Whether one of two holds.
+pub(crate) fn or(a: bool, b: bool) -> bool
+    ensures { result ≡ (a || b) }
+{
+    a || b
+}
+
+/// Whether both hold.
+fn and(a: bool, b: bool) -> bool
+    ensures { result ≡ (a && b) }
+{
+    a && b
+}
+
 impl Sight {
     /// What holds of both.
     pub fn and(self, other: Sight) -> Self
-        ensures { result ≡ record { clear = self.clear && other.clear; told = self.told && other.told; taken = self.taken && other.taken } }
+        ensures clear { result.clear ≡ (self.clear && other.clear) }
+        ensures told { result.told ≡ (self.told && other.told) }
+        ensures taken { result.taken ≡ (self.taken && other.taken) }
     {
         Sight {
-            clear: self.clear && other.clear,
-            told: self.told && other.told,
-            taken: self.taken && other.taken,
+            clear: and(self.clear, other.clear),
+            told: and(self.told, other.told),
+            taken: and(self.taken, other.taken),
         }
     }
 }
@@ -66,27 +82,70 @@ impl Trace {
         }
     }
 
+    /// Whether accesses were of two sorts, with one more.
+    fn grows(self, mark: Mark) -> bool
+        ensures { result ≡ grows self mark }
+    {
+        self.touched && (self.several || !one_sort(self.mark, mark))
+    }
+
     /// With one access more, made in an interval.
     pub fn with(self, interval: u32, mark: Mark) -> Self
         ensures { result ≡ trace_with self interval mark }
     {
-        let several = self.touched && (self.several || !one_sort(self.mark, mark));
-        if self.touched && self.interval == interval {
+        let several = self.grows(mark);
+        if !self.is_now(interval) {
             return Trace {
-                many: self.many || self.mark.item != mark.item,
-                mixed: self.mixed || !one_sort(self.mark, mark),
+                interval,
+                mark,
+                touched: true,
+                many: false,
+                mixed: false,
                 several,
-                ..self
             };
         }
         Trace {
-            interval,
-            mark,
-            touched: true,
-            many: false,
-            mixed: false,
+            many: or(self.many, self.mark.item != mark.item),
+            mixed: or(self.mixed, !one_sort(self.mark, mark)),
             several,
+            ..self
         }
+    }
+
+    /// Whether it was accessed in an interval.
+    fn is_now(self, interval: u32) -> bool
+        ensures { result ≡ is_now self interval }
+    {
+        self.touched && self.interval == interval
+    }
+
+    /// Whether an access of an interval is seen to conflict with none of it.
+    fn passes(self, uniform: bool, interval: u32, mark: Mark) -> bool
+        ensures { result ≡ passes uniform self interval mark }
+    {
+        !self.is_now(interval)
+            || !self.many && self.mark.item == mark.item
+            || !self.mixed && mark_clash(uniform, self.mark, mark).is_none()
+    }
+
+    /// Whether whatever conflicts with an access of an interval is seen to conflict with one of it.
+    fn tells(self, interval: u32, mark: Mark) -> bool
+        ensures { result ≡ tells self interval mark }
+    {
+        if !self.is_now(interval) {
+            return false;
+        }
+        if self.many {
+            return !self.mixed && one_sort(self.mark, mark);
+        }
+        self.mark.item == mark.item && (self.mixed || one_sort(self.mark, mark))
+    }
+
+    /// Whether an access is seen to tell other groups nothing new.
+    fn takes(self, mark: Mark) -> bool
+        ensures { result ≡ takes self mark }
+    {
+        self.touched && (self.several || one_sort(self.mark, mark))
     }
 
     /// What is seen of an access of an interval.
@@ -95,15 +154,10 @@ impl Trace {
         ensures told { result.told ≡ tells self interval mark }
         ensures taken { result.taken ≡ takes self mark }
     {
-        let same = one_sort(self.mark, mark);
-        let own = self.mark.item == mark.item;
-        let now = self.touched && self.interval == interval;
         Sight {
-            clear: !now
-                || !self.many && own
-                || !self.mixed && mark_clash(uniform, self.mark, mark).is_none(),
-            told: now && (self.many && !self.mixed && same || !self.many && own && (self.mixed || same)),
-            taken: self.touched && (self.several || same),
+            clear: self.passes(uniform, interval, mark),
+            told: self.tells(interval, mark),
+            taken: self.takes(mark),
         }
     }
 }

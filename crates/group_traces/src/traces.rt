@@ -1,14 +1,13 @@
 //! What is kept of the accesses of a group to the objects of an address space.
 
-ghost use Rattle.std.specs.Prelude.{◌≡◌, ◌<◌, ◌≤◌, ◌+◌, ◌*◌, ◌/◌, ◌%◌, ◌^◌, ℕ, true, nat_eq, OnOk, OnErr, IfOk, MatchOption, length};
+ghost use Rattle.std.specs.Prelude.{◌≡◌, ◌<◌, ◌≤◌, ◌+◌, ◌*◌, ◌/◌, ◌%◌, ◌^◌, ℕ, true, false, nat_eq, OnOk, OnErr, IfOk, MatchOption, length};
 ghost use Rattle.clmodel.specs.Cells.{byte_count, covers};
 ghost use Rattle.shadow.specs.Seen.{byte_mark, mark_of};
-ghost use Rattle.group_traces.specs.Cells.{word_trace, word_at, cell_at, at_key, key_of, trace_of, IsOwn, IsNear, IsWritten, IsMarked, IsSame, IsFitting};
+ghost use Rattle.group_traces.specs.Cells.{word_trace, word_at, cell_at, cell_trace, at_key, key_of, trace_of, IsOwn, IsNear, IsWritten, IsMarked, IsSame, IsFitting};
 ghost use Rattle.group_traces.specs.Traces.{untouched, passes, tells, takes, part_with};
 
 use crate::cell::{Apart, Cell, Word, bytes_with};
 use crate::trace::Sight;
-use crate::word::WordTrace;
 use clmodel::access::Access;
 use shadow::{WordMark, word_mark};
 use std::alloc::{AllocError, Global};
@@ -59,6 +58,7 @@ fn word_of(byte: u64) -> usize
 
 impl Traces {
     /// No accesses. It takes no memory.
+    #[tactic(none)]
     pub fn new(alloc: Global) -> Self
         ensures { (q b : ℕ) → at_key result q b ≡ untouched }
     {
@@ -70,6 +70,7 @@ impl Traces {
     }
 
     /// Forgets all accesses, and keeps the memory.
+    #[tactic(none)]
     pub fn clear(&mut self)
         ensures { (q b : ℕ) → at_key self.new q b ≡ untouched }
     {
@@ -83,18 +84,29 @@ impl Traces {
         self.cells.len() < self.cells.capacity() / 8
     }
 
+    /// Whether the cell at a place is that of a key.
+    fn is_at(&self, i: usize, key: u64) -> bool
+        ensures inside { result ≡ true → i < length self.now.cells.items }
+        ensures own { result ≡ true → (cell_at self.now.cells.items i).key ≡ key }
+        ensures other { result ≡ false → (b : ℕ) → cell_trace self.now.apart.items key (cell_at self.now.cells.items i) b ≡ untouched }
+    {
+        match self.cells.get(i) {
+            None => false,
+            Some(cell) => cell.key == key,
+        }
+    }
+
     /// Where the cell of a key stands, if it is there.
+    #[tactic(none)]
     fn found(&self, key: u64) -> Option<usize>
         ensures { MatchOption result ((b : ℕ) → at_key self.now key b ≡ untouched) (IsOwn self.now key) }
     {
         let i = self.places.get(&key).copied()?;
-        match self.cells.get(i) {
-            Some(cell) if cell.key == key => Some(i),
-            _ => None,
-        }
+        if self.is_at(i, key) { Some(i) } else { None }
     }
 
     /// What is seen of an access at so many bytes of a word, from the first on, by its cell and by the mark of the access there.
+    #[tactic(none)]
     fn part(
         &self,
         i: usize,
@@ -118,6 +130,7 @@ impl Traces {
     }
 
     /// What is seen of an access to an object of a number, in a launch that is uniform or not.
+    #[tactic(none)]
     pub fn look(&self, uniform: bool, number: u32, x: &Access) -> Look
         requires { IsNear x.now }
         ensures place { MatchOption result.place ((b : ℕ) → at_key self.now (key_of number x.now.first) b ≡ untouched) (IsOwn self.now (key_of number x.now.first)) }
@@ -125,6 +138,7 @@ impl Traces {
         ensures told { result.sight.told ≡ true → (byte : ℕ) → covers x.now.first (byte_count x.now.width) byte ≡ true → tells (trace_of self.now number byte) x.now.interval (mark_of x.now byte) ≡ true }
         ensures taken { result.sight.taken ≡ true → (byte : ℕ) → covers x.now.first (byte_count x.now.width) byte ≡ true → takes (trace_of self.now number byte) (mark_of x.now byte) ≡ true }
     {
+        let count = x.width.bytes();
         let place = self.found(key_of(number, x.first));
         let Some(i) = place else {
             return Look {
@@ -136,7 +150,6 @@ impl Traces {
                 },
             };
         };
-        let count = x.width.bytes();
         let low = self.part(i, uniform, x, x.first, count.min(4), word_mark(x, false));
         if count <= 4 {
             return Look { place, sight: low };
@@ -149,6 +162,7 @@ impl Traces {
     }
 
     /// The place of the cell of a key, which is made where it isn't there.
+    #[tactic(none)]
     fn make(&mut self, place: Option<usize>, key: u64) -> Result<usize, AllocError>
         requires { MatchOption place ((b : ℕ) → at_key self.old key b ≡ untouched) (IsOwn self.old key) }
         ensures own { IfOk result (IsOwn self.new key) }
@@ -167,8 +181,9 @@ impl Traces {
     }
 
     /// Keeps the bytes of a word of a cell apart, unless it stays whole where an access is added to so many bytes of it.
+    #[tactic(none)]
     fn fit(&mut self, i: usize, n: usize, count: u64) -> Result<(), AllocError>
-        requires inside { i < length self.old.cells.items }
+        requires own { IsOwn self.old (cell_at self.old.cells.items i).key i }
         requires small { n < 8 }
         ensures same { IsSame self.old self.new }
         ensures own { (key j : ℕ) → IsOwn self.old key j → IsOwn self.new key j }
@@ -178,21 +193,11 @@ impl Traces {
         let cell = &self.cells[i];
         let key = cell.key;
         let word = cell.words[n];
-        match word {
-            Word::Untouched | Word::Whole(_) if count == 4 => return Ok(()),
-            Word::Apart(at) => match self.apart.get(at) {
-                Some(own) if own.key == key && own.word == n => return Ok(()),
-                _ => {}
-            },
-            _ => {}
+        if word.fits(&self.apart, key, n, count) {
+            return Ok(());
         }
         let at = self.apart.len();
-        let traces = [
-            word.byte(&self.apart, key, n, 0),
-            word.byte(&self.apart, key, n, 1),
-            word.byte(&self.apart, key, n, 2),
-            word.byte(&self.apart, key, n, 3),
-        ];
+        let traces = word.bytes(&self.apart, key, n);
         self.apart.push(Apart {
             key,
             word: n,
@@ -203,6 +208,7 @@ impl Traces {
     }
 
     /// Adds an access to so many bytes of a word that fits, from the first on, by the mark of the access there.
+    #[tactic(none)]
     fn write(&mut self, i: usize, x: &Access, first: u64, count: u64, mark: WordMark)
         requires inside { i < length self.old.cells.items }
         requires one_word { first % 4 + count ≤ 4 }
@@ -214,33 +220,26 @@ impl Traces {
         ensures others { (m c : ℕ) → IsFitting self.old i m c → IsFitting self.new i m c }
     {
         let n = word_of(first);
-        let word = match self.cells[i].words[n] {
-            Word::Untouched => Word::Whole(WordTrace::of(x.interval, mark)),
-            Word::Whole(whole) => Word::Whole(whole.with(x.interval, mark)),
+        match self.cells[i].words[n] {
             Word::Apart(at) => {
                 let traces = bytes_with(self.apart[at].traces, x, first, count);
                 self.apart[at].traces = traces;
-                return;
             }
-        };
-        self.cells[i].words[n] = word;
+            word => self.cells[i].words[n] = word.with(x.interval, mark),
+        }
     }
 
     /// Adds an access to an object of a number, by where the cell of its bytes stands. Where memory is refused nothing is added.
-    pub fn mark(
-        &mut self,
-        place: Option<usize>,
-        number: u32,
-        x: &Access,
-    ) -> Result<(), AllocError>
+    #[tactic(none)]
+    pub fn mark(&mut self, place: Option<usize>, number: u32, x: &Access) -> Result<(), AllocError>
         requires near { IsNear x.now }
         requires place { MatchOption place ((b : ℕ) → at_key self.old (key_of number x.now.first) b ≡ untouched) (IsOwn self.old (key_of number x.now.first)) }
         ensures marked { OnOk result (IsMarked self.old self.new number x.now) }
         ensures same { OnErr result (IsSame self.old self.new) }
     {
-        let i = self.make(place, key_of(number, x.first))?;
         let count = x.width.bytes();
         let n = word_of(x.first);
+        let i = self.make(place, key_of(number, x.first))?;
         self.fit(i, n, count.min(4))?;
         if count <= 4 {
             self.write(i, x, x.first, count, word_mark(x, false));

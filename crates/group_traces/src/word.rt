@@ -1,10 +1,10 @@
 //! What is kept of the accesses to a word of four bytes, of which each was to all four.
 
-ghost use Rattle.std.specs.Prelude.{◌≡◌, ◌<◌, ◌||◌, ◌&&◌, ℕ, not, true, false, slice_index_or};
-ghost use Rattle.shadow.specs.Seen.{one_sort, byte_mark};
+ghost use Rattle.std.specs.Prelude.{◌≡◌, ◌<◌, ◌||◌, ℕ, None, not, true, false, slice_index_or};
+ghost use Rattle.shadow.specs.Seen.{one_sort, mark_clash, byte_mark};
 ghost use Rattle.group_traces.specs.Traces.{first_in, trace_with, passes, tells, takes, word_byte};
 
-use crate::trace::{Sight, Trace};
+use crate::trace::{Sight, Trace, or};
 use shadow::{WordMark, agrees, byte_mark, is_one_sort, one_sort};
 
 /// How a group accessed a word, as a `Trace` says it of each byte.
@@ -25,14 +25,19 @@ pub struct WordTrace {
 fn either(a: [bool; 4], b: [bool; 4]) -> [bool; 4]
     ensures { (k : ℕ) → k < 4 → slice_index_or result k false ≡ (slice_index_or a k false || slice_index_or b k false) }
 {
-    [a[0] || b[0], a[1] || b[1], a[2] || b[2], a[3] || b[3]]
+    [
+        or(a[0], b[0]),
+        or(a[1], b[1]),
+        or(a[2], b[2]),
+        or(a[3], b[3]),
+    ]
 }
 
 /// Whether at each byte the first holds or the second doesn't.
 fn settled(a: [bool; 4], b: [bool; 4]) -> bool
     ensures { result ≡ true → (k : ℕ) → k < 4 → (slice_index_or a k false || not (slice_index_or b k false)) ≡ true }
 {
-    (a[0] || !b[0]) && (a[1] || !b[1]) && (a[2] || !b[2]) && (a[3] || !b[3])
+    or(a[0], !b[0]) && or(a[1], !b[1]) && or(a[2], !b[2]) && or(a[3], !b[3])
 }
 
 /// Whether it holds at no byte.
@@ -40,6 +45,14 @@ fn is_none(a: [bool; 4]) -> bool
     ensures { result ≡ true → (k : ℕ) → k < 4 → slice_index_or a k false ≡ false }
 {
     !a[0] && !a[1] && !a[2] && !a[3]
+}
+
+/// Whether two accesses to all of a word are of different sorts at byte k of it.
+fn differ(a: WordMark, b: WordMark, k: usize) -> bool
+    requires { k < 4 }
+    ensures { result ≡ not (one_sort (byte_mark a k) (byte_mark b k)) }
+{
+    !one_sort(byte_mark(a, k), byte_mark(b, k))
 }
 
 /// At which bytes two accesses to all of a word are of different sorts.
@@ -50,10 +63,10 @@ fn differing(a: WordMark, b: WordMark) -> [bool; 4]
         return [false; 4];
     }
     [
-        !one_sort(byte_mark(a, 0), byte_mark(b, 0)),
-        !one_sort(byte_mark(a, 1), byte_mark(b, 1)),
-        !one_sort(byte_mark(a, 2), byte_mark(b, 2)),
-        !one_sort(byte_mark(a, 3), byte_mark(b, 3)),
+        differ(a, b, 0),
+        differ(a, b, 1),
+        differ(a, b, 2),
+        differ(a, b, 3),
     ]
 }
 
@@ -94,7 +107,7 @@ impl WordTrace {
         let several = either(self.several, differing);
         if self.interval == interval {
             return WordTrace {
-                many: self.many || self.mark.item != mark.item,
+                many: or(self.many, self.mark.item != mark.item),
                 mixed: either(self.mixed, differing),
                 several,
                 ..self
@@ -107,6 +120,23 @@ impl WordTrace {
             mixed: [false; 4],
             several,
         }
+    }
+
+    /// Whether all accesses of the interval were of one sort, which doesn't conflict with an access to all of the word.
+    fn all_agree(self, uniform: bool, mark: WordMark) -> bool
+        ensures alike { result ≡ true → (k : ℕ) → k < 4 → slice_index_or self.mixed k false ≡ false }
+        ensures clear { result ≡ true → (k : ℕ) → mark_clash uniform (byte_mark self.mark k) (byte_mark mark k) ≡ None }
+    {
+        is_none(self.mixed) && agrees(uniform, self.mark, mark)
+    }
+
+    /// Whether two items made accesses of one sort alone in the interval, from which an access differs at none of these bytes.
+    fn repeats(self, differing: [bool; 4]) -> bool
+        ensures many { result ≡ true → self.many ≡ true }
+        ensures alike { result ≡ true → (k : ℕ) → k < 4 → slice_index_or self.mixed k false ≡ false }
+        ensures same { result ≡ true → (k : ℕ) → k < 4 → slice_index_or differing k false ≡ false }
+    {
+        self.many && is_none(self.mixed) && is_none(differing)
     }
 
     /// What is seen of an access of an interval.
@@ -131,10 +161,9 @@ impl WordTrace {
                 taken,
             };
         }
-        let alike = is_none(self.mixed);
         Sight {
-            clear: alike && agrees(uniform, self.mark, mark),
-            told: alike && self.many && is_none(differing),
+            clear: self.all_agree(uniform, mark),
+            told: self.repeats(differing),
             taken,
         }
     }
