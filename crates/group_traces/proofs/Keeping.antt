@@ -11,14 +11,14 @@ use Rattle.clmodel.proofs.Steps.{if_true}
 use Rattle.shadow.specs.Seen.{byte_mark, mark_of}
 use Rattle.shadow.specs.declared.words.WordMark.{WordMark}
 use Rattle.group_traces.specs.Traces.{untouched, trace_with, part_with}
-use Rattle.group_traces.specs.Cells.{apart_at, word_trace, IsWhole, cell_at, word_at, placed_trace, IsOwn, IsWritten, FitsWith}
+use Rattle.group_traces.specs.Cells.{apart_at, IsWhole, cell_at, word_at, placed_trace, IsOwn, IsWritten, IsPut, IsPart, FitsWith}
 use Rattle.group_traces.specs.declared.cell.Apart.{Apart}
 use Rattle.group_traces.specs.declared.cell.Cell.{Cell}
 use Rattle.group_traces.specs.declared.cell.Word.{Word}
 use Rattle.group_traces.specs.declared.cell.Word.TheVariants as word
 use Rattle.group_traces.specs.declared.trace.Trace.{Trace}
 use Rattle.group_traces.specs.declared.traces.Traces.{Traces}
-use Rattle.group_traces.proofs.Placing.{at_of, no_cell, no_apart, put_word}
+use Rattle.group_traces.proofs.Placing.{at_of, no_apart}
 
 -- ---- the map
 
@@ -31,30 +31,17 @@ same_map places more e q = ap (lookup (nat_eq q)) e
 -- ---- cells
 
 -- the key of each cell stays
-pub put_key : (cells : List Cell) (i j : ℕ) (w d : Cell) → i < length cells → w ≡ cell_at cells i → d.key ≡ w.key → (cell_at (set cells i d) j).key ≡ (cell_at cells j).key
-put_key cells i j w d inside is key = go (cases_eq j i)
+pub put_key : (cells new : List Cell) (i n : ℕ) (v : Word) → IsPut cells i n v new → (j : ℕ) → (cell_at new j).key ≡ (cell_at cells j).key
+put_key cells new i n v put j = go (cases_eq j i)
   where
-    go : (j ≡ i) ⊎ (j ≡ i → ⊥) → (cell_at (set cells i d) j).key ≡ (cell_at cells j).key
-    go (inl e) =
-        ap (λ k. (cell_at (set cells i d) k).key) e ∙ ap (λ (z : Cell). z.key) (get_or-set_same cells i d no_cell inside) ∙ key ∙ ap (λ (z : Cell). z.key) is
-        ∙ ap (λ k. (cell_at cells k).key) (sym e)
-    go (inr ne) = ap (λ (z : Cell). z.key) (get_or-set_other cells i j d no_cell ne)
+    go : (j ≡ i) ⊎ (j ≡ i → ⊥) → (cell_at new j).key ≡ (cell_at cells j).key
+    go (inl e) = subst (λ k. (cell_at new k).key ≡ (cell_at cells k).key) (sym e) put.key
+    go (inr ne) = ap (λ (z : Cell). z.key) (put.others j ne)
 
 -- so do its places
 pub own_kept : (old new : Traces) (key j : ℕ) → ((q : ℕ) → get nat_eq new.places q ≡ get nat_eq old.places q) → length new.cells.items ≡ length old.cells.items
     → ((k : ℕ) → (cell_at new.cells.items k).key ≡ (cell_at old.cells.items k).key) → IsOwn old key j → IsOwn new key j
 own_kept old new key j places many keys own = record { there = places key ∙ own.there; inside = omega (arith, own.inside, many); own = keys j ∙ own.own }
-
--- what is kept where a word is put, by the cell as it was read
-pub put_read :
-    {S : Type 0} (places : HashMap ℕ ℕ S) (cells : List Cell) (apart more : List Apart) (key i n : ℕ) (w : Cell) (v : Word) (become : ℕ → Trace → Trace)
-    → get nat_eq places key ≡ Some i → i < length cells → w ≡ cell_at cells i → (cell_at cells i).key ≡ key → n < length w.words
-    → ((k : ℕ) → k < 4 → word_trace more key n v k ≡ become k (word_trace apart key n (word_at (cell_at cells i) n) k))
-    → ((q m : ℕ) (u : Word) (k : ℕ) → (q ≡ key → m ≡ n → ⊥) → word_trace more q m u k ≡ word_trace apart q m u k)
-    → IsWritten (at_of places cells apart) (at_of places (set cells i (record w { words = set w.words n v })) more) key n become
-put_read places cells apart more key i n w v become there inside is own room same others =
-    subst (λ (z : Cell). IsWritten (at_of places cells apart) (at_of places (set cells i (record z { words = set z.words n v })) more) key n become) (sym is)
-    (put_word places cells apart key i n there inside own (subst (λ (z : Cell). n < length z.words) is room) v more become same others)
 
 -- nothing is written where each byte stays
 pub nothing_written : (old new : ℕ → ℕ → Trace) (key n : ℕ) → IsWritten old new key n (λ k t. t) → (q b : ℕ) → new q b ≡ old q b
@@ -74,23 +61,17 @@ fits_more apart a key n count (word.Apart at) h =
     let e : apart_at (apart ++ a ∷ []) at ≡ apart_at apart at = get_or_append_left apart (a ∷ []) no_apart at h.0 in
     (omega (arith, length_push apart a, h.0), ap (λ (z : Apart). z.key) e ∙ h.1, ap (λ (z : Apart). z.word) e ∙ h.2)
 
-pub fits_set :
-    (apart : List Apart) (at : ℕ) (a : Apart) → at < length apart → a.key ≡ (apart_at apart at).key → a.word ≡ (apart_at apart at).word
-    → (key n count : ℕ) (w : Word) → FitsWith apart key n count w → FitsWith (set apart at a) key n count w
-fits_set apart at a inside e f key n count word.Untouched h = h
-fits_set apart at a inside e f key n count (word.Whole w) h = h
-fits_set apart at a inside e f key n count (word.Apart p) h = (omega (arith, length-set apart at a, h.0), go.0 ∙ h.1, go.1 ∙ h.2)
+pub fits_part :
+    (x : Access) (first size at : ℕ) (apart new : List Apart) → IsPart x first size apart at new → (key n count : ℕ) (w : Word) → FitsWith apart key n count w → FitsWith new key n count w
+fits_part x first size at apart new part key n count word.Untouched h = h
+fits_part x first size at apart new part key n count (word.Whole w) h = h
+fits_part x first size at apart new part key n count (word.Apart p) h = (omega (arith, part.long, h.0), go.0 ∙ h.1, go.1 ∙ h.2)
   where
-    by : (p ≡ at) ⊎ (p ≡ at → ⊥) → ((apart_at (set apart at a) p).key ≡ (apart_at apart p).key) × ((apart_at (set apart at a) p).word ≡ (apart_at apart p).word)
-    by (inl z) =
-        let s : apart_at (set apart at a) at ≡ a = get_or-set_same apart at a no_apart inside in (
-          ap (λ j. (apart_at (set apart at a) j).key) z ∙ ap (λ (b : Apart). b.key) s ∙ e ∙ ap (λ j. (apart_at apart j).key) (sym z),
-          ap (λ j. (apart_at (set apart at a) j).word) z ∙ ap (λ (b : Apart). b.word) s ∙ f ∙ ap (λ j. (apart_at apart j).word) (sym z),
-        )
-    by (inr z) =
-        let s : apart_at (set apart at a) p ≡ apart_at apart p = get_or-set_other apart at p a no_apart z in (ap (λ (b : Apart). b.key) s, ap (λ (b : Apart). b.word) s)
+    by : (p ≡ at) ⊎ (p ≡ at → ⊥) → ((apart_at new p).key ≡ (apart_at apart p).key) × ((apart_at new p).word ≡ (apart_at apart p).word)
+    by (inl z) = subst (λ j. ((apart_at new j).key ≡ (apart_at apart j).key) × ((apart_at new j).word ≡ (apart_at apart j).word)) (sym z) (part.key, part.word)
+    by (inr z) = (ap (λ (b : Apart). b.key) (part.others p z), ap (λ (b : Apart). b.word) (part.others p z))
 
-    go : ((apart_at (set apart at a) p).key ≡ (apart_at apart p).key) × ((apart_at (set apart at a) p).word ≡ (apart_at apart p).word)
+    go : ((apart_at new p).key ≡ (apart_at apart p).key) × ((apart_at new p).word ≡ (apart_at apart p).word)
     go = by (cases_eq p at)
 
 pub fits_new : (apart : List Apart) (at : ℕ) (a : Apart) (key n count : ℕ) → length apart ≡ at → a.key ≡ key → a.word ≡ n → FitsWith (apart ++ a ∷ []) key n count (word.Apart at)
@@ -111,21 +92,16 @@ fits_whole apart key n count (word.Apart at) h e = absurd h
 
 -- the words of a cell, once one is put
 pub put_fits :
-    (apart more : List Apart) (cells : List Cell) (i m n count : ℕ) (w d : Cell) (v : Word) → i < length cells → w ≡ cell_at cells i → d.key ≡ w.key → d.words ≡ set w.words n v → n < length w.words
+    (apart more : List Apart) (cells new : List Cell) (i n : ℕ) (v : Word) → IsPut cells i n v new → (m count : ℕ)
     → ((u : Word) → FitsWith apart (cell_at cells i).key m count u → FitsWith more (cell_at cells i).key m count u)
     → (m ≡ n → FitsWith apart (cell_at cells i).key m count (word_at (cell_at cells i) m) → FitsWith more (cell_at cells i).key m count v)
-    → FitsWith apart (cell_at cells i).key m count (word_at (cell_at cells i) m) → FitsWith more (cell_at (set cells i d) i).key m count (word_at (cell_at (set cells i d) i) m)
-put_fits apart more cells i m n count w d v inside is key words room kept here h =
-    subst (λ q. FitsWith more q m count (word_at (cell_at (set cells i d) i) m)) (sym (put_key cells i i w d inside is key))
-    (subst (λ (z : Cell). FitsWith more (cell_at cells i).key m count (word_at z m)) (sym (get_or-set_same cells i d no_cell inside))
-    (subst (λ (l : List Word). FitsWith more (cell_at cells i).key m count (get_or l m word.Untouched)) (sym words) (go (cases_eq m n))))
+    → FitsWith apart (cell_at cells i).key m count (word_at (cell_at cells i) m) → FitsWith more (cell_at new i).key m count (word_at (cell_at new i) m)
+put_fits apart more cells new i n v put m count kept here h =
+    subst (λ q. FitsWith more q m count (word_at (cell_at new i) m)) (sym put.key) (go (cases_eq m n))
   where
-    go : (m ≡ n) ⊎ (m ≡ n → ⊥) → FitsWith more (cell_at cells i).key m count (get_or (set w.words n v) m word.Untouched)
-    go (inl e) =
-        subst (λ (u : Word). FitsWith more (cell_at cells i).key m count u) (sym (ap (λ j. get_or (set w.words n v) j word.Untouched) e ∙ get_or-set_same w.words n v word.Untouched room)) (here e h)
-    go (inr ne) =
-        subst (λ (u : Word). FitsWith more (cell_at cells i).key m count u)
-        (sym (get_or-set_other w.words n m v word.Untouched ne ∙ ap (λ (z : Cell). word_at z m) is)) (kept (word_at (cell_at cells i) m) h)
+    go : (m ≡ n) ⊎ (m ≡ n → ⊥) → FitsWith more (cell_at cells i).key m count (word_at (cell_at new i) m)
+    go (inl e) = subst (λ (u : Word). FitsWith more (cell_at cells i).key m count u) (sym (ap (word_at (cell_at new i)) e ∙ put.here)) (here e h)
+    go (inr ne) = subst (λ (u : Word). FitsWith more (cell_at cells i).key m count u) (sym (put.words m ne)) (kept (word_at (cell_at cells i) m) h)
 
 -- ---- an access to all of a word
 

@@ -1,13 +1,20 @@
 -- What the words of an access's cell say of its bytes.
-use Rattle.std.proofs.Common.{◌≡◌, ℕ, ◌+◌, ◌*◌, ◌/◌, ◌%◌, ◌^◌, ◌<◌, ◌≤◌, ◌⊎◌, true, refl, sym, ap, ◌∙◌, subst, inl, inr, arith}
-use Rattle.std.proofs.lemmas.Bool.{cases_lt}
+use Rattle.std.proofs.Common.{◌≡◌, ℕ, ◌+◌, ◌*◌, ◌/◌, ◌%◌, ◌^◌, ◌<◌, ◌≤◌, ◌⊎◌, ◌&&◌, Bool, true, List, refl, sym, ap, ◌∙◌, subst, inl, inr, arith}
+use Rattle.std.proofs.lemmas.Bool.{and_parts, cases_eq, cases_lt}
 use Rattle.clmodel.specs.Cells.{byte_count, covers}
 use Rattle.clmodel.specs.declared.access.Access.{Access}
 use Rattle.clmodel.proofs.CellLaws.{covers_parts}
-use Rattle.group_traces.specs.Traces.{untouched}
+use Rattle.shadow.specs.Seen.{byte_mark, mark_of}
+use Rattle.shadow.specs.declared.seen.Mark.{Mark}
+use Rattle.shadow.specs.declared.words.WordMark.{WordMark}
+use Rattle.group_traces.specs.Traces.{untouched, word_byte}
 use Rattle.group_traces.specs.Cells.{word_trace, cell_at, word_at, placed_trace, at_key, key_of, trace_of, IsOwn, IsNear}
+use Rattle.group_traces.specs.declared.cell.Apart.{Apart}
+use Rattle.group_traces.specs.declared.cell.Word.{Word}
+use Rattle.group_traces.specs.declared.cell.Word.TheVariants as word
 use Rattle.group_traces.specs.declared.trace.Trace.{Trace}
 use Rattle.group_traces.specs.declared.traces.Traces.{Traces}
+use Rattle.group_traces.specs.declared.word.WordTrace.{WordTrace}
 use Rattle.group_traces.proofs.Placing.{own_cell}
 use Rattle.group_traces.proofs.Written.{one_word, part_at, next_word}
 
@@ -92,3 +99,27 @@ seen_two P t number i count x own near e wide low high byte c = go (cases_lt byt
     go (inl h) = in_part P t number i x.first 4 own (omega (arith, two.1)) low byte r.0 h
     go (inr h) =
         in_part P t number i (x.first + 4) 4 (subst (λ k. IsOwn t k i) (sym (next_word number x.first two.1).0) own) (omega (arith, two.1)) high byte h (omega (arith, r.1, two.0))
+
+-- ---- bytes one after another
+
+-- what holds of each byte so far and of the next, where it is seen to
+pub all_with :
+    (P : ℕ → Type 0) (first byte : ℕ) (old one new : Bool) → (old ≡ true → (b : ℕ) → first ≤ b → b < byte → P b) → (one ≡ true → P byte) → new ≡ (old && one)
+    → new ≡ true → (b : ℕ) → first ≤ b → b < byte + 1 → P b
+all_with P first byte old one new h p is e b lo hi = go (cases_eq b byte)
+  where
+    r : (old ≡ true) × (one ≡ true)
+    r = and_parts old one (sym is ∙ e)
+
+    go : (b ≡ byte) ⊎ (b ≡ byte → ⊥) → P b
+    go (inl s) = subst P (sym s) (p r.1)
+    go (inr ne) = h r.0 b lo (omega (arith, hi, ne))
+
+-- what holds of each byte of a word of which all four were accessed at once
+pub whole_byte :
+    (P : Trace → Mark → Type 0) (apart : List Apart) (key n : ℕ) (w : Word) (v : WordTrace) (x : Access) (first count byte : ℕ) (mark : WordMark) → first % 4 + count ≤ 4 → count ≡ 4 → w ≡ word.Whole v
+    → (count ≡ 4 → (k : ℕ) → k < 4 → byte_mark mark k ≡ mark_of x (first + k)) → first ≤ byte → byte < first + count → ((k : ℕ) → k < 4 → P (word_byte v k) (byte_mark mark k))
+    → P (word_trace apart key n w (byte % 4)) (mark_of x byte)
+whole_byte P apart key n w v x first count byte mark fits all is marks lo hi h =
+    subst (λ (u : Word). P (word_trace apart key n u (byte % 4)) (mark_of x byte)) (sym is)
+    (subst (P (word_byte v (byte % 4))) (marks all (byte % 4) (omega arith) ∙ ap (mark_of x) {x = first + byte % 4} {y = byte} (omega (arith, fits, all, lo, hi))) (h (byte % 4) (omega arith)))

@@ -4,8 +4,9 @@ use Rattle.std.specs.HashMap.{HashMap, get}
 use Rattle.std.proofs.lemmas.Bool.{and_from, and_parts, and_left, and_right, cases_eq, cases_lt, ne_eqb, false≢true}
 use Rattle.std.proofs.lemmas.List.{get_or-set_same, get_or-set_other, get_or_append_left, get_or_push, get_or_past, length_push}
 use Rattle.clmodel.proofs.Steps.{if_true, if_false, none_some, some_inj}
-use Rattle.group_traces.specs.Traces.{untouched}
-use Rattle.group_traces.specs.Cells.{apart_at, own_trace, word_trace, cell_at, word_at, cell_trace, placed_trace, IsWritten}
+use Rattle.clmodel.specs.declared.access.Access.{Access}
+use Rattle.group_traces.specs.Traces.{untouched, part_with}
+use Rattle.group_traces.specs.Cells.{apart_at, own_trace, word_trace, cell_at, word_at, cell_trace, placed_trace, IsWritten, IsPut, IsPart}
 use Rattle.group_traces.specs.declared.cell.Apart.{Apart}
 use Rattle.group_traces.specs.declared.cell.Cell.{Cell}
 use Rattle.group_traces.specs.declared.cell.Word.{Word}
@@ -84,114 +85,80 @@ elsewhere key n q b t u ne = go (cases_eq q key) (cases_eq (b / 4) n)
     go (inl e) (inr g) = if_false ((q == key) && (b / 4 == n)) t u (and_right (q == key) (b / 4 == n) (ne_eqb (b / 4) n g))
     go (inr g) _ = if_false ((q == key) && (b / 4 == n)) t u (and_left (q == key) (b / 4 == n) (ne_eqb q key g))
 
--- what is kept where a word of a cell is put
-module _ {S : Type 0} (places : HashMap ℕ ℕ S) (cells : List Cell) (apart : List Apart) (key i n : ℕ) (there : get nat_eq places key ≡ Some i) (inside : i < length cells)
-    (own : (cell_at cells i).key ≡ key) (room : n < length (cell_at cells i).words) where
-  -- each byte is kept as before, in the cells with a word put and with the bytes kept apart as they then are
-  pub put_word :
-      (v : Word) (more : List Apart) (become : ℕ → Trace → Trace)
-      → ((k : ℕ) → k < 4 → word_trace more key n v k ≡ become k (word_trace apart key n (word_at (cell_at cells i) n) k))
-      → ((q m : ℕ) (w : Word) (k : ℕ) → (q ≡ key → m ≡ n → ⊥) → word_trace more q m w k ≡ word_trace apart q m w k)
-      → IsWritten (at_of places cells apart) (at_of places (set cells i (record (cell_at cells i) { words = set (cell_at cells i).words n v })) more) key n become
-  put_word v more become same others q b = go (get nat_eq places q) refl
-    where
-      c : Cell
-      c = cell_at cells i
+-- what is kept of a word that isn't this one, once bytes that are kept apart are
+still :
+    (apart more : List Apart) (key n q b : ℕ) → ((q m : ℕ) (w : Word) (k : ℕ) → (q ≡ key → m ≡ n → ⊥) → word_trace more q m w k ≡ word_trace apart q m w k)
+    → (z : Cell) → (z.key ≡ q → q ≡ key → b / 4 ≡ n → ⊥) → cell_trace more q z b ≡ cell_trace apart q z b
+still apart more key n q b others z ne = at (cases_eq z.key q)
+  where
+    at : (z.key ≡ q) ⊎ (z.key ≡ q → ⊥) → cell_trace more q z b ≡ cell_trace apart q z b
+    at (inl e) = own_cell more q z b e ∙ others q (b / 4) (word_at z (b / 4)) (b % 4) (ne e) ∙ sym (own_cell apart q z b e)
+    at (inr f) = other_cell more q z b f ∙ sym (other_cell apart q z b f)
 
-      d : Cell
-      d = record c { words = set c.words n v }
+-- what is kept where a word of a cell is put: each byte of it becomes what is said, and each other stays
+pub put_word :
+    {S : Type 0} (places : HashMap ℕ ℕ S) (cells new : List Cell) (apart more : List Apart) (key i n : ℕ) (v : Word) (become : ℕ → Trace → Trace)
+    → get nat_eq places key ≡ Some i → (cell_at cells i).key ≡ key → IsPut cells i n v new
+    → ((k : ℕ) → k < 4 → word_trace more key n v k ≡ become k (word_trace apart key n (word_at (cell_at cells i) n) k))
+    → ((q m : ℕ) (w : Word) (k : ℕ) → (q ≡ key → m ≡ n → ⊥) → word_trace more q m w k ≡ word_trace apart q m w k)
+    → IsWritten (at_of places cells apart) (at_of places new more) key n become
+put_word places cells new apart more key i n v become there own put same others q b = go (get nat_eq places q) refl
+  where
+    c : Cell
+    c = cell_at cells i
 
-      new : List Cell
-      new = set cells i d
+    d : Cell
+    d = cell_at new i
 
-      was : Option ℕ → Trace
-      was = placed_trace cells apart q b
+    was : Option ℕ → Trace
+    was = placed_trace cells apart q b
 
-      goal : Option ℕ → Type 0
-      goal o = placed_trace new more q b o ≡ (if (q == key) && (b / 4 == n) then become (b % 4) (was o) else was o)
+    goal : Option ℕ → Type 0
+    goal o = placed_trace new more q b o ≡ (if (q == key) && (b / 4 == n) then become (b % 4) (was o) else was o)
 
-      -- a word that isn't this one
-      still : (z : Cell) → (z.key ≡ q → q ≡ key → b / 4 ≡ n → ⊥) → cell_trace more q z b ≡ cell_trace apart q z b
-      still z ne = at (cases_eq z.key q)
-        where
-          at : (z.key ≡ q) ⊎ (z.key ≡ q → ⊥) → cell_trace more q z b ≡ cell_trace apart q z b
-          at (inl e) = own_cell more q z b e ∙ others q (b / 4) (word_at z (b / 4)) (b % 4) (ne e) ∙ sym (own_cell apart q z b e)
-          at (inr f) = other_cell more q z b f ∙ sym (other_cell apart q z b f)
+    one : (q ≡ key) ⊎ (q ≡ key → ⊥) → (b / 4 ≡ n) ⊎ (b / 4 ≡ n → ⊥)
+        → cell_trace more q (cell_at new i) b
+        ≡ (if (q == key) && (b / 4 == n) then become (b % 4) (cell_trace apart q (cell_at cells i) b) else cell_trace apart q (cell_at cells i) b)
+    one (inr ne) _ =
+        other_cell more q d b (λ e. ne (sym e ∙ put.key ∙ own)) ∙ sym (other_cell apart q c b (λ e. ne (sym e ∙ own)))
+        ∙ sym (elsewhere key n q b (become (b % 4) (cell_trace apart q c b)) (cell_trace apart q c b) (λ e f. ne e))
+    one (inl e) (inr ne) =
+        own_cell more q d b (put.key ∙ own ∙ sym e)
+        ∙ ap (λ w. word_trace more q (b / 4) w (b % 4)) (put.words (b / 4) ne)
+        ∙ others q (b / 4) (word_at c (b / 4)) (b % 4) (λ f g. ne g)
+        ∙ sym (own_cell apart q c b (own ∙ sym e))
+        ∙ sym (elsewhere key n q b (become (b % 4) (cell_trace apart q c b)) (cell_trace apart q c b) (λ f g. ne g))
+    one (inl e) (inl f) =
+        own_cell more q d b (put.key ∙ own ∙ sym e)
+        ∙ ap (λ m. word_trace more q m (word_at (cell_at new i) m) (b % 4)) f
+        ∙ ap (λ w. word_trace more q n w (b % 4)) put.here
+        ∙ ap (λ z. word_trace more z n v (b % 4)) e
+        ∙ same (b % 4) (omega arith)
+        ∙ ap (become (b % 4))
+        (ap (λ z. word_trace apart z n (word_at (cell_at cells i) n) (b % 4)) (sym e) ∙ ap (λ m. word_trace apart q m (word_at (cell_at cells i) m) (b % 4)) (sym f)
+        ∙ sym (own_cell apart q c b (own ∙ sym e)))
+        ∙ sym (here key n q b (become (b % 4) (cell_trace apart q c b)) (cell_trace apart q c b) e f)
 
-      one : (q ≡ key) ⊎ (q ≡ key → ⊥) → (b / 4 ≡ n) ⊎ (b / 4 ≡ n → ⊥) → cell_trace more q d b ≡ (if (q == key) && (b / 4 == n) then become (b % 4) (cell_trace apart q c b) else cell_trace apart q c b)
-      one (inr ne) _ =
-          other_cell more q d b (λ e. ne (sym e ∙ own)) ∙ sym (other_cell apart q c b (λ e. ne (sym e ∙ own)))
-          ∙ sym (elsewhere key n q b (become (b % 4) (cell_trace apart q c b)) (cell_trace apart q c b) (λ e f. ne e))
-      one (inl e) (inr ne) =
-          own_cell more q d b (own ∙ sym e)
-          ∙ ap (λ w. word_trace more q (b / 4) w (b % 4)) (get_or-set_other c.words n (b / 4) v word.Untouched ne)
-          ∙ others q (b / 4) (word_at c (b / 4)) (b % 4) (λ f g. ne g)
-          ∙ sym (own_cell apart q c b (own ∙ sym e))
-          ∙ sym (elsewhere key n q b (become (b % 4) (cell_trace apart q c b)) (cell_trace apart q c b) (λ f g. ne g))
-      one (inl e) (inl f) =
-          own_cell more q d b (own ∙ sym e)
-          ∙ ap (λ m. word_trace more q m (word_at d m) (b % 4)) f
-          ∙ ap (λ w. word_trace more q n w (b % 4)) (get_or-set_same c.words n v word.Untouched room)
-          ∙ ap (λ z. word_trace more z n v (b % 4)) e
-          ∙ same (b % 4) (omega arith)
-          ∙ ap (become (b % 4))
-          (ap (λ z. word_trace apart z n (word_at c n) (b % 4)) (sym e) ∙ ap (λ m. word_trace apart q m (word_at c m) (b % 4)) (sym f) ∙ sym (own_cell apart q c b (own ∙ sym e)))
-          ∙ sym (here key n q b (become (b % 4) (cell_trace apart q c b)) (cell_trace apart q c b) e f)
+    go : (o : Option ℕ) → get nat_eq places q ≡ o → goal o
+    go None e = sym (elsewhere key n q b (become (b % 4) untouched) untouched (λ f g. none_some i (sym e ∙ ap (get nat_eq places) f ∙ there)))
+    go (Some j) e = at (cases_eq j i)
+      where
+        at : (j ≡ i) ⊎ (j ≡ i → ⊥) → goal (Some j)
+        at (inl f) = subst (λ m. goal (Some m)) (sym f) (one (cases_eq q key) (cases_eq (b / 4) n))
+        at (inr ne) =
+            ap (λ z. cell_trace more q z b) (put.others j ne)
+            ∙ still apart more key n q b others (cell_at cells j) (λ z f g. ne (some_inj j i (sym e ∙ ap (get nat_eq places) f ∙ there)))
+            ∙ sym (elsewhere key n q b (become (b % 4) (was (Some j))) (was (Some j)) (λ f g. ne (some_inj j i (sym e ∙ ap (get nat_eq places) f ∙ there))))
 
-      go : (o : Option ℕ) → get nat_eq places q ≡ o → goal o
-      go None e = sym (elsewhere key n q b (become (b % 4) untouched) untouched (λ f g. none_some i (sym e ∙ ap (get nat_eq places) f ∙ there)))
-      go (Some j) e = at (cases_eq j i)
-        where
-          at : (j ≡ i) ⊎ (j ≡ i → ⊥) → goal (Some j)
-          at (inl f) =
-              subst (λ m. goal (Some m)) (sym f)
-              (ap (λ z. cell_trace more q z b) (get_or-set_same cells i d no_cell inside) ∙ one (cases_eq q key) (cases_eq (b / 4) n))
-          at (inr ne) =
-              ap (λ z. cell_trace more q z b) (get_or-set_other cells i j d no_cell ne)
-              ∙ still (cell_at cells j) (λ z f g. ne (some_inj j i (sym e ∙ ap (get nat_eq places) f ∙ there)))
-              ∙ sym (elsewhere key n q b (become (b % 4) (was (Some j))) (was (Some j)) (λ f g. ne (some_inj j i (sym e ∙ ap (get nat_eq places) f ∙ there))))
-
-  -- the same where the cells stay
-  pub put_apart :
-      (more : List Apart) (become : ℕ → Trace → Trace)
-      → ((k : ℕ) → k < 4 → word_trace more key n (word_at (cell_at cells i) n) k ≡ become k (word_trace apart key n (word_at (cell_at cells i) n) k))
-      → ((q m : ℕ) (w : Word) (k : ℕ) → (q ≡ key → m ≡ n → ⊥) → word_trace more q m w k ≡ word_trace apart q m w k)
-      → IsWritten (at_of places cells apart) (at_of places cells more) key n become
-  put_apart more become same others q b = go (get nat_eq places q) refl
-    where
-      was : Option ℕ → Trace
-      was = placed_trace cells apart q b
-
-      goal : Option ℕ → Type 0
-      goal o = placed_trace cells more q b o ≡ (if (q == key) && (b / 4 == n) then become (b % 4) (was o) else was o)
-
-      still : (z : Cell) → (z.key ≡ q → q ≡ key → b / 4 ≡ n → ⊥) → cell_trace more q z b ≡ cell_trace apart q z b
-      still z ne = at (cases_eq z.key q)
-        where
-          at : (z.key ≡ q) ⊎ (z.key ≡ q → ⊥) → cell_trace more q z b ≡ cell_trace apart q z b
-          at (inl e) = own_cell more q z b e ∙ others q (b / 4) (word_at z (b / 4)) (b % 4) (ne e) ∙ sym (own_cell apart q z b e)
-          at (inr f) = other_cell more q z b f ∙ sym (other_cell apart q z b f)
-
-      this : (j : ℕ) → get nat_eq places q ≡ Some j → (q ≡ key) ⊎ (q ≡ key → ⊥) → (b / 4 ≡ n) ⊎ (b / 4 ≡ n → ⊥) → goal (Some j)
-      this j e (inr ne) _ =
-          still (cell_at cells j) (λ z f g. ne f) ∙ sym (elsewhere key n q b (become (b % 4) (was (Some j))) (was (Some j)) (λ f g. ne f))
-      this j e (inl f) (inr ne) =
-          still (cell_at cells j) (λ z h g. ne g) ∙ sym (elsewhere key n q b (become (b % 4) (was (Some j))) (was (Some j)) (λ h g. ne g))
-      this j e (inl f) (inl g) =
-          let is : j ≡ i = some_inj j i (sym e ∙ ap (get nat_eq places) f ∙ there) in
-          subst (λ m. goal (Some m)) (sym is)
-          (own_cell more q (cell_at cells i) b (own ∙ sym f)
-          ∙ ap (λ m. word_trace more q m (word_at (cell_at cells i) m) (b % 4)) g
-          ∙ ap (λ z. word_trace more z n (word_at (cell_at cells i) n) (b % 4)) f
-          ∙ same (b % 4) (omega arith)
-          ∙ ap (become (b % 4))
-          (ap (λ z. word_trace apart z n (word_at (cell_at cells i) n) (b % 4)) (sym f) ∙ ap (λ m. word_trace apart q m (word_at (cell_at cells i) m) (b % 4)) (sym g)
-          ∙ sym (own_cell apart q (cell_at cells i) b (own ∙ sym f)))
-          ∙ sym (here key n q b (become (b % 4) (was (Some i))) (was (Some i)) f g))
-
-      go : (o : Option ℕ) → get nat_eq places q ≡ o → goal o
-      go None e = sym (elsewhere key n q b (become (b % 4) untouched) untouched (λ f g. none_some i (sym e ∙ ap (get nat_eq places) f ∙ there)))
-      go (Some j) e = this j e (cases_eq q key) (cases_eq (b / 4) n)
+-- the same where the cells stay
+pub put_apart :
+    {S : Type 0} (places : HashMap ℕ ℕ S) (cells : List Cell) (apart more : List Apart) (key i n : ℕ) (become : ℕ → Trace → Trace) → get nat_eq places key ≡ Some i → (cell_at cells i).key ≡ key
+    → ((k : ℕ) → k < 4 → word_trace more key n (word_at (cell_at cells i) n) k ≡ become k (word_trace apart key n (word_at (cell_at cells i) n) k))
+    → ((q m : ℕ) (w : Word) (k : ℕ) → (q ≡ key → m ≡ n → ⊥) → word_trace more q m w k ≡ word_trace apart q m w k)
+    → IsWritten (at_of places cells apart) (at_of places cells more) key n become
+put_apart places cells apart more key i n become there own same others =
+    put_word places cells cells apart more key i n (word_at (cell_at cells i) n) become there own
+    (record { long = refl; others = λ j ne. refl; key = refl; here = refl; words = λ m ne. refl }) same others
 
 -- ---- bytes that are kept apart
 
@@ -215,19 +182,19 @@ empty_traces q m k = go (cases_eq 0 q) (cases_eq 0 m)
     go (inr g) _ = not_owned q m no_apart k (λ e _. g e)
 
 -- those of another word, where bytes are written
-pub set_others : (apart : List Apart) (at : ℕ) (a : Apart) (key n : ℕ) → at < length apart → (apart_at apart at).key ≡ key → (apart_at apart at).word ≡ n → a.key ≡ key → a.word ≡ n
-    → (q m : ℕ) (w : Word) (k : ℕ) → (q ≡ key → m ≡ n → ⊥) → word_trace (set apart at a) q m w k ≡ word_trace apart q m w k
-set_others apart at a key n inside e f g h q m word.Untouched k ne = refl
-set_others apart at a key n inside e f g h q m (word.Whole w) k ne = refl
-set_others apart at a key n inside e f g h q m (word.Apart p) k ne = go (cases_eq p at)
+pub part_others :
+    (x : Access) (first count at : ℕ) (apart new : List Apart) (key n : ℕ) → IsPart x first count apart at new → (apart_at apart at).key ≡ key → (apart_at apart at).word ≡ n
+    → (q m : ℕ) (w : Word) (k : ℕ) → (q ≡ key → m ≡ n → ⊥) → word_trace new q m w k ≡ word_trace apart q m w k
+part_others x first count at apart new key n part e f q m word.Untouched k ne = refl
+part_others x first count at apart new key n part e f q m (word.Whole w) k ne = refl
+part_others x first count at apart new key n part e f q m (word.Apart p) k ne = go (cases_eq p at)
   where
-    go : (p ≡ at) ⊎ (p ≡ at → ⊥) → own_trace q m (apart_at (set apart at a) p) k ≡ own_trace q m (apart_at apart p) k
-    go (inr z) = ap (λ b. own_trace q m b k) (get_or-set_other apart at p a no_apart z)
+    go : (p ≡ at) ⊎ (p ≡ at → ⊥) → own_trace q m (apart_at new p) k ≡ own_trace q m (apart_at apart p) k
+    go (inr z) = ap (λ b. own_trace q m b k) (part.others p z)
     go (inl z) =
-        subst (λ j. own_trace q m (apart_at (set apart at a) j) k ≡ own_trace q m (apart_at apart j) k) (sym z)
-        (ap (λ b. own_trace q m b k) (get_or-set_same apart at a no_apart inside)
-        ∙ not_owned q m a k (λ x y. ne (sym x ∙ g) (sym y ∙ h))
-        ∙ sym (not_owned q m (apart_at apart at) k (λ x y. ne (sym x ∙ e) (sym y ∙ f))))
+        subst (λ j. own_trace q m (apart_at new j) k ≡ own_trace q m (apart_at apart j) k) (sym z)
+        (not_owned q m (apart_at new at) k (λ h y. ne (sym h ∙ part.key ∙ e) (sym y ∙ part.word ∙ f))
+        ∙ sym (not_owned q m (apart_at apart at) k (λ h y. ne (sym h ∙ e) (sym y ∙ f))))
 
 -- those of another word, where bytes are added
 pub push_others : (apart : List Apart) (a : Apart) (key n : ℕ) → a.key ≡ key → a.word ≡ n
@@ -245,11 +212,11 @@ push_others apart a key n g h q m (word.Apart p) k ne = go (cases_lt p (length a
         ap (λ b. own_trace q m b k) (get_or_past (apart ++ a ∷ []) p no_apart (omega (arith, length_push apart a, o, z))) ∙ sym (ap (λ b. own_trace q m b k) (get_or_past apart p no_apart o))
 
 -- those of the word itself
-pub set_here : (apart : List Apart) (at : ℕ) (a : Apart) (key n k : ℕ) → at < length apart → a.key ≡ key → a.word ≡ n → word_trace (set apart at a) key n (word.Apart at) k ≡ get_or a.traces k untouched
-set_here apart at a key n k inside e f = ap (λ b. own_trace key n b k) (get_or-set_same apart at a no_apart inside) ∙ owned key n a k e f
-
-pub was_here : (apart : List Apart) (at key n k : ℕ) → (apart_at apart at).key ≡ key → (apart_at apart at).word ≡ n → word_trace apart key n (word.Apart at) k ≡ get_or (apart_at apart at).traces k untouched
-was_here apart at key n k e f = owned key n (apart_at apart at) k e f
+pub part_here :
+    (x : Access) (first count at : ℕ) (apart new : List Apart) (key n k : ℕ) → IsPart x first count apart at new → (apart_at apart at).key ≡ key → (apart_at apart at).word ≡ n → k < 4
+    → word_trace new key n (word.Apart at) k ≡ part_with x first count k (word_trace apart key n (word.Apart at) k)
+part_here x first count at apart new key n k part e f small =
+    owned key n (apart_at new at) k (part.key ∙ e) (part.word ∙ f) ∙ part.traces k small ∙ ap (part_with x first count k) (sym (owned key n (apart_at apart at) k e f))
 
 pub push_here : (apart : List Apart) (at : ℕ) (a : Apart) (key n k : ℕ) → length apart ≡ at → a.key ≡ key → a.word ≡ n → word_trace (apart ++ a ∷ []) key n (word.Apart at) k ≡ get_or a.traces k untouched
 push_here apart at a key n k l e f = ap (λ b. own_trace key n b k) (get_or_push apart a no_apart at l) ∙ owned key n a k e f

@@ -4,7 +4,7 @@ use Rattle.std.specs.HashMap.{get}
 use Rattle.clmodel.specs.Cells.{byte_count, covers}
 use Rattle.clmodel.specs.declared.access.Access.{Access}
 use Rattle.shadow.specs.Seen.{mark_of}
-use Rattle.group_traces.specs.Traces.{untouched, trace_with, word_byte}
+use Rattle.group_traces.specs.Traces.{untouched, trace_with, word_byte, part_with}
 use Rattle.group_traces.specs.declared.cell.Apart.{Apart}
 use Rattle.group_traces.specs.declared.cell.Cell.{Cell}
 use Rattle.group_traces.specs.declared.cell.Word.{Word}
@@ -67,7 +67,7 @@ pub record IsOwn (t : Traces) (key i : ℕ) : Type 0 where
 
 -- the bytes of an access are in one word, or in the two of a pair, and their places are small (own)
 abbrev pub IsNear : Access → Type 0
-IsNear x = (x.first + byte_count x.width ≤ 2 ^ 37) × ((x.first % 4 + byte_count x.width ≤ 4) ⊎ ((byte_count x.width ≡ 8) × (x.first % 8 ≡ 0)))
+IsNear x = (x.first + byte_count x.width < 2 ^ 37) × ((x.first % 4 + byte_count x.width ≤ 4) ⊎ ((byte_count x.width ≡ 8) × (x.first % 8 ≡ 0)))
 
 -- word n of the cell of a key becomes what this says of each of its bytes, and each other word stays (own)
 abbrev pub IsWritten : (ℕ → ℕ → Trace) → (ℕ → ℕ → Trace) → ℕ → ℕ → (ℕ → Trace → Trace) → Type 0
@@ -78,6 +78,22 @@ abbrev pub IsMarked : Traces → Traces → ℕ → Access → Type 0
 IsMarked old new number x =
     (n byte : ℕ) → n < 2 ^ 32
     → trace_of new n byte ≡ (if (n == number) && covers x.first (byte_count x.width) byte then trace_with (trace_of old n byte) x.interval (mark_of x byte) else trace_of old n byte)
+
+-- a word of a cell is put (own)
+pub record IsPut (old : List Cell) (i n : ℕ) (word : Word) (new : List Cell) : Type 0 where
+  pub long : length new ≡ length old
+  pub others : (j : ℕ) → (j ≡ i → ⊥) → cell_at new j ≡ cell_at old j
+  pub key : (cell_at new i).key ≡ (cell_at old i).key
+  pub here : word_at (cell_at new i) n ≡ word
+  pub words : (m : ℕ) → (m ≡ n → ⊥) → word_at (cell_at new i) m ≡ word_at (cell_at old i) m
+
+-- an access is added to so many of the bytes that are kept apart at a place, from the first on (own)
+pub record IsPart (x : Access) (first count : ℕ) (old : List Apart) (at : ℕ) (new : List Apart) : Type 0 where
+  pub long : length new ≡ length old
+  pub others : (p : ℕ) → (p ≡ at → ⊥) → apart_at new p ≡ apart_at old p
+  pub key : (apart_at new at).key ≡ (apart_at old at).key
+  pub word : (apart_at new at).word ≡ (apart_at old at).word
+  pub traces : (k : ℕ) → k < 4 → slice_index_or (apart_at new at).traces k untouched ≡ part_with x first count k (slice_index_or (apart_at old at).traces k untouched)
 
 -- what is kept stays (own)
 abbrev pub IsSame : Traces → Traces → Type 0

@@ -129,7 +129,6 @@ impl Word {
     }
 
     /// The same, by the mark of the access at the whole word, if it is at all of it.
-    #[tactic(none)]
     pub fn sight(
         &self,
         apart: &[Apart],

@@ -3,7 +3,7 @@
 ghost use Rattle.std.specs.Prelude.{◌≡◌, ◌<◌, ◌≤◌, ◌+◌, ◌*◌, ◌/◌, ◌%◌, ◌^◌, ℕ, true, false, nat_eq, OnOk, OnErr, IfOk, MatchOption, length};
 ghost use Rattle.clmodel.specs.Cells.{byte_count, covers};
 ghost use Rattle.shadow.specs.Seen.{byte_mark, mark_of};
-ghost use Rattle.group_traces.specs.Cells.{word_trace, word_at, cell_at, cell_trace, at_key, key_of, trace_of, IsOwn, IsNear, IsWritten, IsMarked, IsSame, IsFitting};
+ghost use Rattle.group_traces.specs.Cells.{word_trace, word_at, cell_at, cell_trace, at_key, key_of, trace_of, IsOwn, IsNear, IsWritten, IsMarked, IsSame, IsPut, IsPart, IsFitting};
 ghost use Rattle.group_traces.specs.Traces.{untouched, passes, tells, takes, part_with};
 
 use crate::cell::{Apart, Cell, Word, bytes_with};
@@ -36,8 +36,7 @@ pub fn is_near(x: &Access) -> bool
     ensures { result ≡ true → IsNear x.now }
 {
     let count = x.width.bytes();
-    x.first + count <= 0x20_0000_0000
-        && (x.first % 4 + count <= 4 || count == 8 && x.first % 8 == 0)
+    x.first + count < 0x20_0000_0000 && (x.first % 4 + count <= 4 || count == 8 && x.first % 8 == 0)
 }
 
 /// The key of the cell of a byte of an object.
@@ -58,7 +57,6 @@ fn word_of(byte: u64) -> usize
 
 impl Traces {
     /// No accesses. It takes no memory.
-    #[tactic(none)]
     pub fn new(alloc: Global) -> Self
         ensures { (q b : ℕ) → at_key result q b ≡ untouched }
     {
@@ -70,7 +68,6 @@ impl Traces {
     }
 
     /// Forgets all accesses, and keeps the memory.
-    #[tactic(none)]
     pub fn clear(&mut self)
         ensures { (q b : ℕ) → at_key self.new q b ≡ untouched }
     {
@@ -129,6 +126,24 @@ impl Traces {
         cell.words[n].sight(&self.apart, cell.key, n, uniform, x, first, count, mark)
     }
 
+    /// What is seen of an access, by the place of the cell of its bytes.
+    #[tactic(none)]
+    fn sight(&self, i: usize, uniform: bool, x: &Access) -> Sight
+        requires inside { i < length self.now.cells.items }
+        requires near { IsNear x.now }
+        ensures clear { result.clear ≡ true → (number : ℕ) → IsOwn self.now (key_of number x.now.first) i → (byte : ℕ) → covers x.now.first (byte_count x.now.width) byte ≡ true → passes uniform (trace_of self.now number byte) x.now.interval (mark_of x.now byte) ≡ true }
+        ensures told { result.told ≡ true → (number : ℕ) → IsOwn self.now (key_of number x.now.first) i → (byte : ℕ) → covers x.now.first (byte_count x.now.width) byte ≡ true → tells (trace_of self.now number byte) x.now.interval (mark_of x.now byte) ≡ true }
+        ensures taken { result.taken ≡ true → (number : ℕ) → IsOwn self.now (key_of number x.now.first) i → (byte : ℕ) → covers x.now.first (byte_count x.now.width) byte ≡ true → takes (trace_of self.now number byte) (mark_of x.now byte) ≡ true }
+    {
+        let count = x.width.bytes();
+        let low = self.part(i, uniform, x, x.first, count.min(4), word_mark(x, false));
+        if count <= 4 {
+            return low;
+        }
+        let high = self.part(i, uniform, x, x.first + 4, 4, word_mark(x, true));
+        low.and(high)
+    }
+
     /// What is seen of an access to an object of a number, in a launch that is uniform or not.
     #[tactic(none)]
     pub fn look(&self, uniform: bool, number: u32, x: &Access) -> Look
@@ -138,26 +153,20 @@ impl Traces {
         ensures told { result.sight.told ≡ true → (byte : ℕ) → covers x.now.first (byte_count x.now.width) byte ≡ true → tells (trace_of self.now number byte) x.now.interval (mark_of x.now byte) ≡ true }
         ensures taken { result.sight.taken ≡ true → (byte : ℕ) → covers x.now.first (byte_count x.now.width) byte ≡ true → takes (trace_of self.now number byte) (mark_of x.now byte) ≡ true }
     {
-        let count = x.width.bytes();
         let place = self.found(key_of(number, x.first));
-        let Some(i) = place else {
-            return Look {
+        match place {
+            None => Look {
                 place,
                 sight: Sight {
                     clear: true,
                     told: false,
                     taken: false,
                 },
-            };
-        };
-        let low = self.part(i, uniform, x, x.first, count.min(4), word_mark(x, false));
-        if count <= 4 {
-            return Look { place, sight: low };
-        }
-        let high = self.part(i, uniform, x, x.first + 4, 4, word_mark(x, true));
-        Look {
-            place,
-            sight: low.and(high),
+            },
+            Some(i) => Look {
+                place,
+                sight: self.sight(i, uniform, x),
+            },
         }
     }
 
@@ -178,6 +187,18 @@ impl Traces {
         })?;
         self.places.insert(key, i)?;
         Ok(i)
+    }
+
+    /// Puts a word of a cell.
+    #[tactic(none)]
+    fn put(&mut self, i: usize, n: usize, word: Word)
+        requires inside { i < length self.old.cells.items }
+        requires small { n < 8 }
+        ensures places { self.new.places ≡ self.old.places }
+        ensures apart { self.new.apart ≡ self.old.apart }
+        ensures cells { IsPut self.old.cells.items i n word self.new.cells.items }
+    {
+        self.cells[i].words[n] = word;
     }
 
     /// Keeps the bytes of a word of a cell apart, unless it stays whole where an access is added to so many bytes of it.
@@ -203,8 +224,22 @@ impl Traces {
             word: n,
             traces,
         })?;
-        self.cells[i].words[n] = Word::Apart(at);
+        self.put(i, n, Word::Apart(at));
         Ok(())
+    }
+
+    /// Adds an access to so many of the bytes that are kept apart at a place, from the first on.
+    #[tactic(none)]
+    fn write_apart(&mut self, at: usize, x: &Access, first: u64, count: u64)
+        requires there { at < length self.old.apart.items }
+        requires one_word { first % 4 + count ≤ 4 }
+        requires short { first + count < 2 ^ 64 }
+        ensures places { self.new.places ≡ self.old.places }
+        ensures cells { self.new.cells ≡ self.old.cells }
+        ensures apart { IsPart x.now first count self.old.apart.items at self.new.apart.items }
+    {
+        let traces = bytes_with(self.apart[at].traces, x, first, count);
+        self.apart[at].traces = traces;
     }
 
     /// Adds an access to so many bytes of a word that fits, from the first on, by the mark of the access there.
@@ -220,13 +255,44 @@ impl Traces {
         ensures others { (m c : ℕ) → IsFitting self.old i m c → IsFitting self.new i m c }
     {
         let n = word_of(first);
-        match self.cells[i].words[n] {
-            Word::Apart(at) => {
-                let traces = bytes_with(self.apart[at].traces, x, first, count);
-                self.apart[at].traces = traces;
-            }
-            word => self.cells[i].words[n] = word.with(x.interval, mark),
+        let word = self.cells[i].words[n];
+        match word {
+            Word::Apart(at) => self.write_apart(at, x, first, count),
+            Word::Untouched | Word::Whole(_) => self.put(i, n, word.with(x.interval, mark)),
         }
+    }
+
+    /// Adds an access to one word of a cell, of which it is at so many bytes.
+    #[tactic(none)]
+    fn mark_one(&mut self, i: usize, x: &Access, count: u64) -> Result<(), AllocError>
+        requires own { IsOwn self.old (cell_at self.old.cells.items i).key i }
+        requires count { count ≡ byte_count x.now.width }
+        requires one_word { x.now.first % 4 + count ≤ 4 }
+        requires short { x.now.first + count < 2 ^ 64 }
+        ensures marked { OnOk result ((number : ℕ) → number < 2 ^ 32 → IsOwn self.old (key_of number x.now.first) i → IsMarked self.old self.new number x.now) }
+        ensures same { OnErr result (IsSame self.old self.new) }
+    {
+        self.fit(i, word_of(x.first), count)?;
+        self.write(i, x, x.first, count, word_mark(x, false));
+        Ok(())
+    }
+
+    /// Adds an access of eight bytes to two words of a cell.
+    #[tactic(none)]
+    fn mark_two(&mut self, i: usize, x: &Access) -> Result<(), AllocError>
+        requires own { IsOwn self.old (cell_at self.old.cells.items i).key i }
+        requires wide { byte_count x.now.width ≡ 8 }
+        requires even { x.now.first % 8 ≡ 0 }
+        requires short { x.now.first + 8 < 2 ^ 64 }
+        ensures marked { OnOk result ((number : ℕ) → number < 2 ^ 32 → IsOwn self.old (key_of number x.now.first) i → IsMarked self.old self.new number x.now) }
+        ensures same { OnErr result (IsSame self.old self.new) }
+    {
+        let n = word_of(x.first);
+        self.fit(i, n, 4)?;
+        self.fit(i, n + 1, 4)?;
+        self.write(i, x, x.first, 4, word_mark(x, false));
+        self.write(i, x, x.first + 4, 4, word_mark(x, true));
+        Ok(())
     }
 
     /// Adds an access to an object of a number, by where the cell of its bytes stands. Where memory is refused nothing is added.
@@ -237,17 +303,12 @@ impl Traces {
         ensures marked { OnOk result (IsMarked self.old self.new number x.now) }
         ensures same { OnErr result (IsSame self.old self.new) }
     {
-        let count = x.width.bytes();
-        let n = word_of(x.first);
         let i = self.make(place, key_of(number, x.first))?;
-        self.fit(i, n, count.min(4))?;
+        let count = x.width.bytes();
         if count <= 4 {
-            self.write(i, x, x.first, count, word_mark(x, false));
-            return Ok(());
+            self.mark_one(i, x, count)
+        } else {
+            self.mark_two(i, x)
         }
-        self.fit(i, n + 1, 4)?;
-        self.write(i, x, x.first, 4, word_mark(x, false));
-        self.write(i, x, x.first + 4, 4, word_mark(x, true));
-        Ok(())
     }
 }
