@@ -171,6 +171,37 @@ impl Side {
         }
     }
 
+    /// Keeps an access for which there is room, of which nothing is kept at its bytes.
+    fn keep_unseen(&mut self, entry: Entry)
+        requires room { self.old.kept.has_room ≡ true }
+        ensures kept { self.new.kept.items ≡ self.old.kept.items ++ entry ∷ [] }
+        ensures interval { self.new.interval ≡ self.old.interval }
+        ensures uniform { self.new.uniform ≡ self.old.uniform }
+        ensures takes { (log : List TheAccess) → TakesOf self.new log }
+    {
+        self.whole = false;
+        self.kept.push_reserved(entry);
+    }
+
+    /// Keeps an access of the running interval for which there is room, by the number of its object and the cell of its bytes. Where memory is
+    /// refused the accesses stay.
+    fn keep_seen(&mut self, glance: Glance, number: u32, entry: Entry) -> Result<(), AllocError>
+        requires interval { entry.access.interval ≡ self.old.interval }
+        requires room { self.old.kept.has_room ≡ true }
+        requires seen { IsSeen self.old entry.access glance number }
+        ensures kept { OnOk result (self.new.kept.items ≡ self.old.kept.items ++ entry ∷ []) }
+        ensures stays { OnErr result (self.new.kept.items ≡ self.old.kept.items) }
+        ensures interval { self.new.interval ≡ self.old.interval }
+        ensures uniform { self.new.uniform ≡ self.old.uniform }
+        ensures takes { OnOk result (in_buffer entry.access.region ≡ true → (log : List TheAccess) → TakesOf self.old log → TakesOf self.new (entry.access ∷ log)) }
+        ensures still { OnErr result ((log : List TheAccess) → TakesOf self.old log → TakesOf self.new log) }
+    {
+        self.traces.mark(glance.look.place, number, &entry.access)?;
+        self.home = Some(self.home.unwrap_or(entry.access.region));
+        self.kept.push_reserved(entry);
+        Ok(())
+    }
+
     /// Keeps an access of the running interval, unless it tells no conflict that kept ones don't tell. Where memory is refused the accesses
     /// stay.
     pub(crate) fn take(&mut self, glance: Glance, entry: Entry) -> Result<(), AllocError>
@@ -189,13 +220,11 @@ impl Side {
         }
         self.kept.reserve()?;
         match glance.number {
-            None => self.whole = false,
-            Some(number) => {
-                self.traces.mark(glance.look.place, number, &entry.access)?;
-                self.home = Some(self.home.unwrap_or(entry.access.region));
+            None => {
+                self.keep_unseen(entry);
+                Ok(())
             }
+            Some(number) => self.keep_seen(glance, number, entry),
         }
-        self.kept.push_reserved(entry);
-        Ok(())
     }
 }

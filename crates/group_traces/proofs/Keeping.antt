@@ -3,7 +3,7 @@ use Rattle.std.proofs.Common.{◌≡◌, ℕ, ◌+◌, ◌-◌, ◌/◌, ◌%◌
 use Rattle.std.specs.HashMap.{HashMap, get}
 use Rattle.std.specs.Map.{lookup}
 use Rattle.std.proofs.lemmas.Bool.{cases_eq}
-use Rattle.std.proofs.lemmas.List.{get_or-set_same, get_or-set_other, get_or_append_left, get_or_push, length_push, length-set}
+use Rattle.std.proofs.lemmas.List.{get_or-set_same, get_or-set_other, get_or_append_left, get_or_push, get_or_default, length_push, length-set}
 use Rattle.clmodel.specs.Cells.{covers}
 use Rattle.clmodel.specs.declared.access.Access.{Access}
 use Rattle.clmodel.proofs.CellLaws.{covers_from}
@@ -11,14 +11,15 @@ use Rattle.clmodel.proofs.Steps.{if_true}
 use Rattle.shadow.specs.Seen.{byte_mark, mark_of}
 use Rattle.shadow.specs.declared.words.WordMark.{WordMark}
 use Rattle.group_traces.specs.Traces.{untouched, trace_with, part_with}
-use Rattle.group_traces.specs.Cells.{apart_at, IsWhole, cell_at, word_at, placed_trace, IsOwn, IsWritten, IsPut, IsPart, FitsWith}
+use Rattle.group_traces.specs.Cells.{apart_at, word_trace, IsWhole, cell_at, word_at, placed_trace, IsOwn, IsWritten, IsPut, IsPart, FitsWith}
 use Rattle.group_traces.specs.declared.cell.Apart.{Apart}
 use Rattle.group_traces.specs.declared.cell.Cell.{Cell}
 use Rattle.group_traces.specs.declared.cell.Word.{Word}
 use Rattle.group_traces.specs.declared.cell.Word.TheVariants as word
 use Rattle.group_traces.specs.declared.trace.Trace.{Trace}
 use Rattle.group_traces.specs.declared.traces.Traces.{Traces}
-use Rattle.group_traces.proofs.Placing.{at_of, no_apart}
+use Rattle.group_traces.proofs.Placing.{at_of, no_cell, no_apart}
+use Rattle.group_traces.proofs.Parts.{ArePart}
 
 -- ---- the map
 
@@ -111,3 +112,53 @@ pub whole_part :
 whole_part x first count k mark t fits all small marks =
     ap (trace_with t x.interval) (marks all k small ∙ ap (mark_of x) {x = first + k} {y = first - first % 4 + k} (omega (arith, fits, all)))
     ∙ sym (if_true (covers (first % 4) count k) (trace_with t x.interval (mark_of x (first - first % 4 + k))) t (covers_from (first % 4) count k (omega (arith, fits, all)) (omega (arith, fits, all, small))))
+
+-- ---- what was read
+
+pub read_cell : (cells : List Cell) (i : ℕ) (w : Cell) → i < length cells → w ≡ get_or cells i w → w ≡ cell_at cells i
+read_cell cells i w inside is = is ∙ sym (get_or_default cells i no_cell w inside)
+
+pub read_word :
+    (apart more : List Apart) (cells : List Cell) (i n m k : ℕ) (w : Cell) → more ≡ apart → i < length cells → w ≡ get_or cells i w → n ≡ m
+    → word_trace more w.key n (word_at w n) k ≡ word_trace apart (cell_at cells i).key m (word_at (cell_at cells i) m) k
+read_word apart more cells i n m k w same inside is at =
+    ap (λ l. word_trace l w.key n (word_at w n) k) same ∙ ap (λ (z : Cell). word_trace apart z.key n (word_at z n) k) (read_cell cells i w inside is)
+    ∙ ap (λ j. word_trace apart (cell_at cells i).key j (word_at (cell_at cells i) j) k) at
+
+pub read_at : (cells : List Cell) (i n m : ℕ) (w : Cell) → i < length cells → w ≡ get_or cells i w → n ≡ m → word_at w n ≡ word_at (cell_at cells i) m
+read_at cells i n m w inside is at = ap (λ (z : Cell). word_at z n) (read_cell cells i w inside is) ∙ ap (word_at (cell_at cells i)) at
+
+pub read_fits :
+    (apart more : List Apart) (cells : List Cell) (i n count : ℕ) (w : Cell) → more ≡ apart → i < length cells → w ≡ get_or cells i w → FitsWith more w.key n count (word_at w n)
+    → FitsWith apart (cell_at cells i).key n count (word_at (cell_at cells i) n)
+read_fits apart more cells i n count w same inside is h =
+    subst (λ (z : Cell). FitsWith apart z.key n count (word_at z n)) (read_cell cells i w inside is) (subst (λ l. FitsWith l w.key n count (word_at w n)) same h)
+
+-- a word that is put
+pub word_put : (cells : List Cell) (i n : ℕ) (w : Cell) (v : Word) → i < length cells → w ≡ get_or cells i w → n < length w.words → IsPut cells i n v (set cells i (record w { words = set w.words n v }))
+word_put cells i n w v inside is room =
+    let d : Cell = record w { words = set w.words n v } in
+    let here : cell_at (set cells i d) i ≡ d = get_or-set_same cells i d no_cell inside in
+    record {
+      long = length-set cells i d;
+      others = λ j ne. get_or-set_other cells i j d no_cell ne;
+      key = ap (λ (z : Cell). z.key) here ∙ ap (λ (z : Cell). z.key) (read_cell cells i w inside is);
+      here = ap (λ (z : Cell). word_at z n) here ∙ get_or-set_same w.words n v word.Untouched room;
+      words = λ m ne. ap (λ (z : Cell). word_at z m) here ∙ get_or-set_other w.words n m v word.Untouched ne ∙ ap (λ (z : Cell). word_at z m) (read_cell cells i w inside is);
+    }
+
+-- bytes that are kept apart and were written
+pub part_put :
+    (x : Access) (first count at : ℕ) (apart : List Apart) (a : Apart) (traces : List Trace) → at < length apart → a ≡ get_or apart at a → ArePart x first count a.traces traces
+    → IsPart x first count apart at (set apart at (record a { traces = traces }))
+part_put x first count at apart a traces inside is part =
+    let b : Apart = record a { traces = traces } in
+    let was : a ≡ apart_at apart at = is ∙ sym (get_or_default apart at no_apart a inside) in
+    let here : apart_at (set apart at b) at ≡ b = get_or-set_same apart at b no_apart inside in
+    record {
+      long = length-set apart at b;
+      others = λ p ne. get_or-set_other apart at p b no_apart ne;
+      key = ap (λ (z : Apart). z.key) here ∙ ap (λ (z : Apart). z.key) was;
+      word = ap (λ (z : Apart). z.word) here ∙ ap (λ (z : Apart). z.word) was;
+      traces = λ k small. ap (λ (z : Apart). get_or z.traces k untouched) here ∙ part k small ∙ ap (λ (z : Apart). part_with x first count k (get_or z.traces k untouched)) was;
+    }

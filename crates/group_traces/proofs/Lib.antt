@@ -1,6 +1,7 @@
 mod Fours
 mod Keeping
 mod Looking
+mod Making
 mod Parts
 mod Placing
 mod Written

@@ -33,6 +33,14 @@ near_two x count near e wide = go near.1
     go (inl h) = absurd (omega (arith, h, e, wide))
     go (inr h) = h
 
+-- its first bytes are of one word
+pub near_part : (x : Access) (count part : ℕ) → IsNear x → count ≡ byte_count x.width → part ≤ 4 → part ≤ count → x.first % 4 + part ≤ 4
+near_part x count part near e small less = go near.1
+  where
+    go : (x.first % 4 + byte_count x.width ≤ 4) ⊎ ((byte_count x.width ≡ 8) × (x.first % 8 ≡ 0)) → x.first % 4 + part ≤ 4
+    go (inl h) = omega (arith, h, e, less)
+    go (inr h) = omega (arith, h.1, small)
+
 -- its bytes are of one cell
 near_cell : (x : Access) (byte : ℕ) → IsNear x → covers x.first (byte_count x.width) byte ≡ true → byte / 32 ≡ x.first / 32
 near_cell x byte near c = go near.1

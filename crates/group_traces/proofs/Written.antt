@@ -9,7 +9,7 @@ use Rattle.clmodel.proofs.Steps.{if_true, if_false}
 use Rattle.shadow.specs.Seen.{mark_of}
 use Rattle.shadow.proofs.Marking.{covers_not}
 use Rattle.group_traces.specs.Traces.{trace_with, part_with}
-use Rattle.group_traces.specs.Cells.{at_key, key_of, trace_of, IsWritten, IsMarked, IsNear}
+use Rattle.group_traces.specs.Cells.{at_key, key_of, trace_of, IsWritten, IsMarked, IsSame}
 use Rattle.group_traces.specs.declared.trace.Trace.{Trace}
 use Rattle.group_traces.specs.declared.traces.Traces.{Traces}
 
@@ -118,15 +118,20 @@ written_byte f g x number n first count byte small near fits w = w (key_of n byt
 
 -- ---- an access
 
+-- where what is kept was the same before
+pub marked_same : (old made new : Traces) (x : Access) (number : ℕ) → IsSame old made → IsMarked made new number x → IsMarked old new number x
+marked_same old made new x number same marked n byte near =
+    marked n byte near
+    ∙ ap (λ t. if (n == number) && covers x.first (byte_count x.width) byte then trace_with t x.interval (mark_of x byte) else t) (same (key_of n byte) (byte % 32))
+
 -- to one word
-pub marked_one : (old made mid new : Traces) (x : Access) (number count : ℕ) → number < 2 ^ 32 → count ≡ byte_count x.width → x.first % 4 + count ≤ 4
-    → ((q b : ℕ) → at_key made q b ≡ at_key old q b) → ((q b : ℕ) → at_key mid q b ≡ at_key made q b)
+pub marked_one : (old mid new : Traces) (x : Access) (number count : ℕ) → number < 2 ^ 32 → count ≡ byte_count x.width → x.first % 4 + count ≤ 4 → IsSame old mid
     → IsWritten (at_key mid) (at_key new) (key_of number x.first) (x.first % 32 / 4) (part_with x x.first count) → IsMarked old new number x
-marked_one old made mid new x number count small e fits same1 same2 w n byte near =
-    let is : trace_of mid n byte ≡ trace_of old n byte = same2 (key_of n byte) (byte % 32) ∙ same1 (key_of n byte) (byte % 32) in
+marked_one old mid new x number count small e fits same w =
+    marked_same old mid new x number same
+    (λ n byte near.
     written_byte (at_key mid) (at_key new) x number n x.first count byte small near fits w
-    ∙ ap (λ t. if (n == number) && covers x.first count byte then trace_with t x.interval (mark_of x byte) else t) is
-    ∙ ap (λ k. if (n == number) && covers x.first k byte then trace_with (trace_of old n byte) x.interval (mark_of x byte) else trace_of old n byte) e
+    ∙ ap (λ k. if (n == number) && covers x.first k byte then trace_with (trace_of mid n byte) x.interval (mark_of x byte) else trace_of mid n byte) e)
 
 -- bytes of the low and of the high word of eight
 two_parts : (f g h : ℕ → ℕ → Trace) (x : Access) (number n first byte : ℕ)
@@ -181,17 +186,16 @@ two_parts f g h x number n first byte t low high = high ∙ go (n == number) ref
         high_out (covers_not (first + 4) 4 byte (inr (omega (arith, c)))) ∙ low_out (covers_not first 4 byte (inr b)) ∙ sym (all_out (covers_not first 8 byte (inr c)))
 
 -- to two words
-pub marked_two : (old made fit mid low new : Traces) (x : Access) (number : ℕ) → number < 2 ^ 32 → byte_count x.width ≡ 8 → x.first % 8 ≡ 0
-    → ((q b : ℕ) → at_key made q b ≡ at_key old q b) → ((q b : ℕ) → at_key fit q b ≡ at_key made q b) → ((q b : ℕ) → at_key mid q b ≡ at_key fit q b)
+pub marked_two : (old mid low new : Traces) (x : Access) (number : ℕ) → number < 2 ^ 32 → byte_count x.width ≡ 8 → x.first % 8 ≡ 0 → IsSame old mid
     → IsWritten (at_key mid) (at_key low) (key_of number x.first) (x.first % 32 / 4) (part_with x x.first 4)
     → IsWritten (at_key low) (at_key new) (key_of number (x.first + 4)) ((x.first + 4) % 32 / 4) (part_with x (x.first + 4) 4) → IsMarked old new number x
-marked_two old made fit mid low new x number small eight even same1 same2 same3 w v n byte near =
-    let is : trace_of mid n byte ≡ trace_of old n byte = same3 (key_of n byte) (byte % 32) ∙ same2 (key_of n byte) (byte % 32) ∙ same1 (key_of n byte) (byte % 32) in
-    two_parts (at_key mid) (at_key low) (at_key new) x number n x.first byte (trace_of old n byte)
-    (written_byte (at_key mid) (at_key low) x number n x.first 4 byte small near (omega (arith, even)) w
-    ∙ ap (λ t. if (n == number) && covers x.first 4 byte then trace_with t x.interval (mark_of x byte) else t) is)
+marked_two old mid low new x number small eight even same w v =
+    marked_same old mid new x number same
+    (λ n byte near.
+    two_parts (at_key mid) (at_key low) (at_key new) x number n x.first byte (trace_of mid n byte)
+    (written_byte (at_key mid) (at_key low) x number n x.first 4 byte small near (omega (arith, even)) w)
     (written_byte (at_key low) (at_key new) x number n (x.first + 4) 4 byte small near (omega (arith, even)) v)
-    ∙ ap (λ k. if (n == number) && covers x.first k byte then trace_with (trace_of old n byte) x.interval (mark_of x byte) else trace_of old n byte) (sym eight)
+    ∙ ap (λ k. if (n == number) && covers x.first k byte then trace_with (trace_of mid n byte) x.interval (mark_of x byte) else trace_of mid n byte) (sym eight))
 
 -- the second word of eight bytes is in the cell of the first
 pub next_word : (number first : ℕ) → first % 8 ≡ 0 → (key_of number (first + 4) ≡ key_of number first) × ((first + 4) % 32 / 4 ≡ first % 32 / 4 + 1)

@@ -32,6 +32,10 @@ IsWhole word.Untouched = Unit {0}
 IsWhole (word.Whole w) = Unit {0}
 IsWhole (word.Apart at) = ⊥
 
+-- they are, at this place (own)
+abbrev pub IsApart : Word → ℕ → Type 0
+IsApart w at = w ≡ word.Apart at
+
 -- the cell at a place, and a word of one (own)
 abbrev pub cell_at : List Cell → ℕ → Cell
 cell_at cells i = slice_index_or cells i (record { key = 0; words = [] })

@@ -1,9 +1,9 @@
 //! Words of a cell.
 
-ghost use Rattle.std.specs.Prelude.{◌≡◌, ◌<◌, ◌≤◌, ◌+◌, ◌%◌, ◌^◌, ℕ, List, true, slice_index_or};
+ghost use Rattle.std.specs.Prelude.{◌≡◌, ◌<◌, ◌≤◌, ◌+◌, ◌%◌, ◌^◌, ℕ, List, true, slice_index_or, MatchOption};
 ghost use Rattle.shadow.specs.Seen.{byte_mark, mark_of};
 ghost use Rattle.group_traces.specs.Traces.{untouched, trace_with, passes, tells, takes, part_with};
-ghost use Rattle.group_traces.specs.Cells.{apart_at, own_trace, word_trace, IsWhole, FitsWith};
+ghost use Rattle.group_traces.specs.Cells.{apart_at, own_trace, word_trace, IsWhole, IsApart, FitsWith};
 ghost use Rattle.group_traces.specs.declared.cell.Apart.{Apart as TheApart};
 
 use crate::trace::{Sight, Trace};
@@ -84,6 +84,16 @@ impl Word {
                 None => false,
                 Some(own) => own.key == key && own.word == n,
             },
+        }
+    }
+
+    /// Where its bytes are kept apart, if they are.
+    pub(crate) fn place(self) -> Option<usize>
+        ensures { MatchOption result (IsWhole self) (IsApart self) }
+    {
+        match self {
+            Word::Untouched | Word::Whole(_) => None,
+            Word::Apart(at) => Some(at),
         }
     }
 

@@ -1,6 +1,7 @@
 //! What is kept of the accesses of a group to the objects of an address space.
 
 ghost use Rattle.std.specs.Prelude.{◌≡◌, ◌<◌, ◌≤◌, ◌+◌, ◌*◌, ◌/◌, ◌%◌, ◌^◌, ℕ, true, false, nat_eq, OnOk, OnErr, IfOk, MatchOption, length};
+ghost use Rattle.std.specs.HashMap.{get};
 ghost use Rattle.clmodel.specs.Cells.{byte_count, covers};
 ghost use Rattle.shadow.specs.Seen.{byte_mark, mark_of};
 ghost use Rattle.group_traces.specs.Cells.{word_trace, word_at, cell_at, cell_trace, at_key, key_of, trace_of, IsOwn, IsNear, IsWritten, IsMarked, IsSame, IsPut, IsPart, IsFitting};
@@ -93,17 +94,24 @@ impl Traces {
         }
     }
 
+    /// What the map says of a key.
+    fn place(&self, key: u64) -> Option<usize>
+        ensures { result ≡ get nat_eq self.now.places key }
+    {
+        self.places.get(&key).copied()
+    }
+
     /// Where the cell of a key stands, if it is there.
-    #[tactic(none)]
     fn found(&self, key: u64) -> Option<usize>
         ensures { MatchOption result ((b : ℕ) → at_key self.now key b ≡ untouched) (IsOwn self.now key) }
     {
-        let i = self.places.get(&key).copied()?;
-        if self.is_at(i, key) { Some(i) } else { None }
+        match self.place(key) {
+            None => None,
+            Some(i) => { if self.is_at(i, key) { Some(i) } else { None } }
+        }
     }
 
     /// What is seen of an access at so many bytes of a word, from the first on, by its cell and by the mark of the access there.
-    #[tactic(none)]
     fn part(
         &self,
         i: usize,
@@ -170,16 +178,12 @@ impl Traces {
         }
     }
 
-    /// The place of the cell of a key, which is made where it isn't there.
-    #[tactic(none)]
-    fn make(&mut self, place: Option<usize>, key: u64) -> Result<usize, AllocError>
-        requires { MatchOption place ((b : ℕ) → at_key self.old key b ≡ untouched) (IsOwn self.old key) }
+    /// Makes the cell of a key, which isn't there, and gives its place.
+    fn add(&mut self, key: u64) -> Result<usize, AllocError>
+        requires { (b : ℕ) → at_key self.old key b ≡ untouched }
         ensures own { IfOk result (IsOwn self.new key) }
         ensures same { IsSame self.old self.new }
     {
-        if let Some(i) = place {
-            return Ok(i);
-        }
         let i = self.cells.len();
         self.cells.push(Cell {
             key,
@@ -189,8 +193,19 @@ impl Traces {
         Ok(i)
     }
 
+    /// The place of the cell of a key, which is made where it isn't there.
+    fn make(&mut self, place: Option<usize>, key: u64) -> Result<usize, AllocError>
+        requires { MatchOption place ((b : ℕ) → at_key self.old key b ≡ untouched) (IsOwn self.old key) }
+        ensures own { IfOk result (IsOwn self.new key) }
+        ensures same { IsSame self.old self.new }
+    {
+        match place {
+            None => self.add(key),
+            Some(i) => Ok(i),
+        }
+    }
+
     /// Puts a word of a cell.
-    #[tactic(none)]
     fn put(&mut self, i: usize, n: usize, word: Word)
         requires inside { i < length self.old.cells.items }
         requires small { n < 8 }
@@ -202,7 +217,6 @@ impl Traces {
     }
 
     /// Keeps the bytes of a word of a cell apart, unless it stays whole where an access is added to so many bytes of it.
-    #[tactic(none)]
     fn fit(&mut self, i: usize, n: usize, count: u64) -> Result<(), AllocError>
         requires own { IsOwn self.old (cell_at self.old.cells.items i).key i }
         requires small { n < 8 }
@@ -229,7 +243,6 @@ impl Traces {
     }
 
     /// Adds an access to so many of the bytes that are kept apart at a place, from the first on.
-    #[tactic(none)]
     fn write_apart(&mut self, at: usize, x: &Access, first: u64, count: u64)
         requires there { at < length self.old.apart.items }
         requires one_word { first % 4 + count ≤ 4 }
@@ -238,8 +251,8 @@ impl Traces {
         ensures cells { self.new.cells ≡ self.old.cells }
         ensures apart { IsPart x.now first count self.old.apart.items at self.new.apart.items }
     {
-        let traces = bytes_with(self.apart[at].traces, x, first, count);
-        self.apart[at].traces = traces;
+        let own = &mut self.apart[at];
+        own.traces = bytes_with(own.traces, x, first, count);
     }
 
     /// Adds an access to so many bytes of a word that fits, from the first on, by the mark of the access there.
@@ -256,9 +269,9 @@ impl Traces {
     {
         let n = word_of(first);
         let word = self.cells[i].words[n];
-        match word {
-            Word::Apart(at) => self.write_apart(at, x, first, count),
-            Word::Untouched | Word::Whole(_) => self.put(i, n, word.with(x.interval, mark)),
+        match word.place() {
+            None => self.put(i, n, word.with(x.interval, mark)),
+            Some(at) => self.write_apart(at, x, first, count),
         }
     }
 
