@@ -6,7 +6,8 @@ use Rattle.clmodel.specs.Cells.{byte_count, covers}
 use Rattle.clmodel.specs.declared.access.Access.{Access}
 use Rattle.clmodel.proofs.CellLaws.{covers_from, covers_parts}
 use Rattle.clmodel.proofs.Steps.{if_true, if_false}
-use Rattle.shadow.specs.Seen.{mark_of}
+use Rattle.shadow.specs.Seen.{byte_mark, half_start, mark_of}
+use Rattle.shadow.specs.declared.words.WordMark.{WordMark}
 use Rattle.shadow.proofs.Marking.{covers_not}
 use Rattle.group_traces.specs.Traces.{trace_with, part_with}
 use Rattle.group_traces.specs.Cells.{at_key, key_of, trace_of, IsWritten, IsMarked, IsSame}
@@ -202,3 +203,11 @@ pub next_word : (number first : ℕ) → first % 8 ≡ 0 → (key_of number (fir
 next_word number first even =
     let same : (first + 4) / 32 ≡ first / 32 = omega (arith, even) in
     (ap (λ k. k * 2 ^ 32 + number) same, omega (arith, even))
+
+-- ---- what the marks of an access say of its words
+
+pub low_mark : (x : Access) (mark : WordMark) → ((k : ℕ) → k < 4 → byte_mark mark k ≡ mark_of x (x.first + (half_start false + k))) → (k : ℕ) → k < 4 → byte_mark mark k ≡ mark_of x (x.first + k)
+low_mark x mark h k small = h k small ∙ ap (mark_of x) {x = x.first + (0 + k)} {y = x.first + k} (omega arith)
+
+pub high_mark : (x : Access) (mark : WordMark) → ((k : ℕ) → k < 4 → byte_mark mark k ≡ mark_of x (x.first + (half_start true + k))) → (k : ℕ) → k < 4 → byte_mark mark k ≡ mark_of x (x.first + 4 + k)
+high_mark x mark h k small = h k small ∙ ap (mark_of x) {x = x.first + (4 + k)} {y = x.first + 4 + k} (omega arith)

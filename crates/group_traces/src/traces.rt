@@ -135,7 +135,6 @@ impl Traces {
     }
 
     /// What is seen of an access, by the place of the cell of its bytes.
-    #[tactic(none)]
     fn sight(&self, i: usize, uniform: bool, x: &Access) -> Sight
         requires inside { i < length self.now.cells.items }
         requires near { IsNear x.now }
@@ -153,7 +152,6 @@ impl Traces {
     }
 
     /// What is seen of an access to an object of a number, in a launch that is uniform or not.
-    #[tactic(none)]
     pub fn look(&self, uniform: bool, number: u32, x: &Access) -> Look
         requires { IsNear x.now }
         ensures place { MatchOption result.place ((b : ℕ) → at_key self.now (key_of number x.now.first) b ≡ untouched) (IsOwn self.now (key_of number x.now.first)) }
@@ -256,7 +254,6 @@ impl Traces {
     }
 
     /// Adds an access to so many bytes of a word that fits, from the first on, by the mark of the access there.
-    #[tactic(none)]
     fn write(&mut self, i: usize, x: &Access, first: u64, count: u64, mark: WordMark)
         requires inside { i < length self.old.cells.items }
         requires one_word { first % 4 + count ≤ 4 }
@@ -276,7 +273,6 @@ impl Traces {
     }
 
     /// Adds an access to one word of a cell, of which it is at so many bytes.
-    #[tactic(none)]
     fn mark_one(&mut self, i: usize, x: &Access, count: u64) -> Result<(), AllocError>
         requires own { IsOwn self.old (cell_at self.old.cells.items i).key i }
         requires count { count ≡ byte_count x.now.width }
@@ -291,7 +287,6 @@ impl Traces {
     }
 
     /// Adds an access of eight bytes to two words of a cell.
-    #[tactic(none)]
     fn mark_two(&mut self, i: usize, x: &Access) -> Result<(), AllocError>
         requires own { IsOwn self.old (cell_at self.old.cells.items i).key i }
         requires wide { byte_count x.now.width ≡ 8 }
@@ -309,7 +304,6 @@ impl Traces {
     }
 
     /// Adds an access to an object of a number, by where the cell of its bytes stands. Where memory is refused nothing is added.
-    #[tactic(none)]
     pub fn mark(&mut self, place: Option<usize>, number: u32, x: &Access) -> Result<(), AllocError>
         requires near { IsNear x.now }
         requires place { MatchOption place ((b : ℕ) → at_key self.old (key_of number x.now.first) b ≡ untouched) (IsOwn self.old (key_of number x.now.first)) }
