@@ -263,3 +263,8 @@ takes_more_of whole traces log x h e = take_more traces log x (h e)
 
 pub takes_more : (side : Side) (log : List Access) (x : Access) → TakesOf side log → TakesOf side (x ∷ log)
 takes_more side log x h e = take_more side.traces log x (h e)
+
+-- an object of global memory is a buffer
+pub buffer_of : (r : Region) → in_buffer r ≡ true → r ≡ region.Buffer (number_of r)
+buffer_of (region.Buffer n) h = refl
+buffer_of (region.Local g n) h = absurd (false≢true h)

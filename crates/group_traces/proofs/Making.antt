@@ -1,17 +1,16 @@
 -- What is kept once a cell is made, a word is kept apart, or an access is added to a word.
 use Rattle.std.proofs.Common.{◌≡◌, ℕ, ◌+◌, ◌%◌, ◌<◌, ◌≤◌, nat_eq, false, Some, List, [], ◌∷◌, ◌++◌, length, get_or, zero, suc, refl, sym, ap, ◌∙◌, subst, arith}
-use Rattle.std.specs.HashMap.{HashMap, get}
+use Rattle.std.specs.HashMap.{get}
 use Rattle.std.proofs.lemmas.List.{get_or_push, length_push}
 use Rattle.clmodel.specs.declared.access.Access.{Access}
 use Rattle.shadow.specs.Seen.{byte_mark, mark_of}
 use Rattle.shadow.specs.declared.words.WordMark.{WordMark}
 use Rattle.group_traces.specs.Traces.{untouched, trace_with, part_with}
-use Rattle.group_traces.specs.Cells.{apart_at, word_trace, IsWhole, cell_at, word_at, placed_trace, at_key, IsOwn, IsWritten, IsPut, IsPart, FitsWith, IsFitting}
+use Rattle.group_traces.specs.Cells.{word_trace, IsWhole, cell_at, word_at, placed_trace, at_key, IsOwn, IsWritten, IsPut, IsPart, FitsWith, IsFitting}
 use Rattle.group_traces.specs.declared.cell.Apart.{Apart}
 use Rattle.group_traces.specs.declared.cell.Cell.{Cell}
 use Rattle.group_traces.specs.declared.cell.Word.{Word}
 use Rattle.group_traces.specs.declared.cell.Word.TheVariants as word
-use Rattle.group_traces.specs.declared.trace.Trace.{Trace}
 use Rattle.group_traces.specs.declared.traces.Traces.{Traces}
 use Rattle.group_traces.proofs.Placing.{at_of, no_cell, pushed, inserted, put_word, put_apart, part_others, part_here, push_others, push_here}
 use Rattle.group_traces.proofs.Keeping.{own_kept, put_key, nothing_written, fits_more, fits_part, fits_new, whole_fits, fits_whole, put_fits, whole_part}

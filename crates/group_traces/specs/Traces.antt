@@ -1,7 +1,6 @@
 -- What is kept of the accesses of a group to each byte (own, on OpenCL 1.2, 3.3.1, 6.5.2 and 6.12.8).
-use Rattle.std.specs.Prelude.{◌≡◌, ℕ, ◌+◌, ◌-◌, ◌*◌, ◌/◌, ◌%◌, ◌^◌, ◌<◌, ◌≤◌, ◌⊎◌, ◌==◌, ◌&&◌, ◌||◌, Bool, true, false, not, nat_eq, is_some, if◌then◌else◌, Option, None, Some, List, [], slice_index_or}
-use Rattle.std.specs.HashMap.{get}
-use Rattle.clmodel.specs.Cells.{byte_count, covers}
+use Rattle.std.specs.Prelude.{ℕ, ◌+◌, ◌-◌, ◌%◌, ◌==◌, ◌&&◌, ◌||◌, Bool, true, false, not, is_some, if◌then◌else◌, slice_index_or}
+use Rattle.clmodel.specs.Cells.{covers}
 use Rattle.clmodel.specs.declared.access.Access.{Access}
 use Rattle.clmodel.specs.declared.access.AccessKind.TheVariants as kind
 use Rattle.shadow.specs.Seen.{one_sort, mark_clash, byte_mark, mark_of}

@@ -38,7 +38,8 @@ pub struct Cell {
     pub words: [Word; 8],
 }
 
-/// What is kept of byte k of a word of a cell, by the bytes at a place: nothing where they are of another word, which never happens.
+/// What is kept of byte k of a word of a cell, by the bytes at a place: nothing where they are of another word, which
+/// never happens.
 fn own_trace(apart: &[Apart], key: u64, n: usize, at: usize, k: usize) -> Trace
     requires { k < 4 }
     ensures { result ≡ own_trace key n (apart_at apart.now at) k }

@@ -6,7 +6,8 @@ ghost use Rattle.group_traces.specs.Traces.{untouched, grows, trace_with, is_now
 use clmodel::access::AccessKind;
 use shadow::{Mark, mark_clash, one_sort};
 
-/// How a group accessed a byte: by which items, and of which sorts, in the newest interval in which it did, and whether there were two sorts
+/// How a group accessed a byte: by which items, and of which sorts, in the newest interval in which it did, and whether
+/// there were two sorts
 /// in all. Two accesses are of one sort where they are of one kind, and stores leave the same byte.
 #[derive(Clone, Copy)]
 pub struct Trace {

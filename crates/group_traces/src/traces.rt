@@ -31,7 +31,8 @@ pub struct Look {
     pub sight: Sight,
 }
 
-/// Whether the bytes of an access are in one word, or in the two of a pair, and their places are small. The bytes of a kernel's accesses are.
+/// Whether the bytes of an access are in one word, or in the two of a pair, and their places are small. The bytes of a
+/// kernel's accesses are.
 pub fn is_near(x: &Access) -> bool
     requires { x.now.first + byte_count x.now.width < 2 ^ 64 }
     ensures { result ≡ true → IsNear x.now }
@@ -111,7 +112,8 @@ impl Traces {
         }
     }
 
-    /// What is seen of an access at so many bytes of a word, from the first on, by its cell and by the mark of the access there.
+    /// What is seen of an access at so many bytes of a word, from the first on, by its cell and by the mark of the
+    /// access there.
     fn part(
         &self,
         i: usize,
@@ -214,7 +216,8 @@ impl Traces {
         self.cells[i].words[n] = word;
     }
 
-    /// Keeps the bytes of a word of a cell apart, unless it stays whole where an access is added to so many bytes of it.
+    /// Keeps the bytes of a word of a cell apart, unless it stays whole where an access is added to so many bytes of
+    /// it.
     fn fit(&mut self, i: usize, n: usize, count: u64) -> Result<(), AllocError>
         requires own { IsOwn self.old (cell_at self.old.cells.items i).key i }
         requires small { n < 8 }
@@ -303,7 +306,8 @@ impl Traces {
         Ok(())
     }
 
-    /// Adds an access to an object of a number, by where the cell of its bytes stands. Where memory is refused nothing is added.
+    /// Adds an access to an object of a number, by where the cell of its bytes stands. Where memory is refused nothing
+    /// is added.
     pub fn mark(&mut self, place: Option<usize>, number: u32, x: &Access) -> Result<(), AllocError>
         requires near { IsNear x.now }
         requires place { MatchOption place ((b : ℕ) → at_key self.old (key_of number x.now.first) b ≡ untouched) (IsOwn self.old (key_of number x.now.first)) }

@@ -130,7 +130,8 @@ impl WordTrace {
         is_none(self.mixed) && agrees(uniform, self.mark, mark)
     }
 
-    /// Whether two items made accesses of one sort alone in the interval, from which an access differs at none of these bytes.
+    /// Whether two items made accesses of one sort alone in the interval, from which an access differs at none of these
+    /// bytes.
     fn repeats(self, differing: [bool; 4]) -> bool
         ensures many { result ≡ true → self.many ≡ true }
         ensures alike { result ≡ true → (k : ℕ) → k < 4 → slice_index_or self.mixed k false ≡ false }

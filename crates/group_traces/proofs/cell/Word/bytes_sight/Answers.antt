@@ -1,4 +1,4 @@
-use Rattle.std.proofs.Common.{◌≡◌, ℕ, ◌%◌, true, sym, ap, ap₂, ◌∙◌}
+use Rattle.std.proofs.Common.{◌≡◌, ℕ, ◌%◌, true, sym, ap₂, ◌∙◌}
 use Rattle.shadow.specs.Seen.{mark_of}
 use Rattle.shadow.specs.declared.seen.Mark.{Mark}
 use Rattle.group_traces.specs.Cells.{word_trace}

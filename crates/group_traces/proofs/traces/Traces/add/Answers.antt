@@ -1,5 +1,5 @@
 use Rattle.std.proofs.Common.{◌∙◌, refl, sym, ap}
-use Rattle.group_traces.specs.Cells.{placed_trace, at_key}
+use Rattle.group_traces.specs.Cells.{placed_trace}
 use Rattle.group_traces.specs.declared.traces.Traces.{Traces}
 use Rattle.std.specs.HashMap.{get}
 use Rattle.std.proofs.Common.{nat_eq}

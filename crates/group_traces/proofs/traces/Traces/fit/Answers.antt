@@ -1,7 +1,6 @@
-use Rattle.std.proofs.Common.{◌≡◌, ℕ, ◌<◌, nat_eq, length, get_or, refl, sym, ap, ◌∙◌, subst}
+use Rattle.std.proofs.Common.{◌≡◌, nat_eq, length, refl, sym, ap, ◌∙◌, subst}
 use Rattle.std.specs.HashMap.{get}
-use Rattle.group_traces.specs.Traces.{untouched}
-use Rattle.group_traces.specs.Cells.{word_trace, cell_at, word_at, placed_trace, FitsWith}
+use Rattle.group_traces.specs.Cells.{cell_at, word_at, placed_trace, FitsWith}
 use Rattle.group_traces.specs.declared.cell.Apart.{Apart}
 use Rattle.group_traces.specs.declared.traces.Traces.{Traces}
 use Rattle.group_traces.proofs.Keeping.{own_kept, read_cell, read_word, read_fits}

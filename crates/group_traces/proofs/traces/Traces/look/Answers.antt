@@ -1,7 +1,7 @@
-use Rattle.std.proofs.Common.{◌≡◌, ◌∙◌, ◌<◌, ℕ, true, sym, ap, refl, subst, arith}
+use Rattle.std.proofs.Common.{◌≡◌, ◌∙◌, ℕ, true, sym, ap, refl, subst, arith}
 use Rattle.shadow.specs.Seen.{mark_of}
-use Rattle.group_traces.specs.Cells.{at_key, key_of, IsOwn}
-use Rattle.group_traces.specs.Traces.{untouched, passes}
+use Rattle.group_traces.specs.Cells.{at_key, IsOwn}
+use Rattle.group_traces.specs.Traces.{passes}
 use Rattle.group_traces.specs.declared.trace.Trace.{Trace}
 use Rattle.group_traces.proofs.Looking.{seen_none}
 use Rattle.group_traces.proofs.traces.Traces.look.Goals as goal

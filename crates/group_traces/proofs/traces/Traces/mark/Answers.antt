@@ -1,7 +1,7 @@
-use Rattle.std.proofs.Common.{◌≡◌, ◌∙◌, ◌<◌, ◌^◌, ℕ, nat_eq, sym, ap, subst, OnOk, OnErr, arith}
+use Rattle.std.proofs.Common.{◌≡◌, ◌∙◌, ◌<◌, ◌^◌, ℕ, sym, subst, arith}
 use Rattle.std.proofs.lemmas.Result.{on_ok_weaker, on_err_weaker}
 use Rattle.std.specs.Prelude.{MatchOption}
-use Rattle.group_traces.specs.Cells.{at_key, key_of, IsOwn, IsMarked}
+use Rattle.group_traces.specs.Cells.{at_key, IsOwn}
 use Rattle.group_traces.specs.Traces.{untouched}
 use Rattle.group_traces.proofs.Looking.{near_one, near_two}
 use Rattle.group_traces.proofs.Making.{own_self}

@@ -1,4 +1,4 @@
-use Rattle.std.proofs.Common.{◌≡◌, ◌∙◌, ℕ, subst}
+use Rattle.std.proofs.Common.{subst}
 use Rattle.group_traces.specs.Cells.{key_of, IsFitting}
 use Rattle.group_traces.proofs.Written.{low_mark, marked_one}
 use Rattle.group_traces.proofs.traces.Traces.mark_one.Goals as goal

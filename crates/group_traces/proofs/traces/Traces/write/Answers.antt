@@ -1,9 +1,8 @@
-use Rattle.std.proofs.Common.{◌≡◌, ◌/◌, ◌%◌, ℕ, sym, ap, ◌∙◌, subst}
+use Rattle.std.proofs.Common.{◌/◌, ◌%◌, sym, ap, ◌∙◌, subst}
 use Rattle.shadow.specs.Seen.{byte_mark}
 use Rattle.group_traces.specs.Cells.{word_trace, IsWhole, cell_at, word_at, IsPut, FitsWith}
 use Rattle.group_traces.specs.Traces.{trace_with}
 use Rattle.group_traces.specs.declared.cell.Word.{Word}
-use Rattle.group_traces.specs.declared.cell.Word.TheVariants as word
 use Rattle.group_traces.proofs.Keeping.{read_at}
 use Rattle.group_traces.proofs.Making.{apart_written, apart_own, apart_others, whole_written, whole_own, whole_others}
 use Rattle.group_traces.proofs.traces.Traces.write.Goals as goal
