@@ -1,5 +1,5 @@
 -- What is kept of a byte stands for the kept accesses, with one more too, and tells of a further one.
-use Rattle.std.proofs.Common.{◌≡◌, ℕ, ◌+◌, ◌<◌, ◌≤◌, ◌⊎◌, ◌==◌, ◌&&◌, ◌||◌, Bool, true, false, not, if◌then◌else◌, Option, None, Some, List, [], ◌∷◌, ◌++◌, refl, sym, ap, ◌∙◌, subst, inl, inr, arith, eqb-true, eq-eqb}
+use Rattle.std.proofs.Common.{◌≡◌, ℕ, ◌+◌, ◌≤◌, ◌⊎◌, ◌==◌, ◌&&◌, ◌||◌, Bool, true, false, not, Option, None, Some, List, [], ◌∷◌, ◌++◌, refl, sym, ap, ◌∙◌, subst, inl, inr, arith, eqb-true, eq-eqb}
 use Rattle.std.specs.Prelude.{All, is_some}
 use Rattle.std.proofs.lemmas.Bool.{and_parts, and_from, or_parts, or_cases, cases_eq, ne_eqb, false≢true}
 use Rattle.std.proofs.lemmas.List.Elements.{All-push, All-weaker}
@@ -8,14 +8,13 @@ use Rattle.clmodel.specs.Launch.{same_region, share, clash_at, left_at, within_g
 use Rattle.clmodel.specs.declared.access.Access.{Access}
 use Rattle.clmodel.specs.declared.access.Clash.{Clash}
 use Rattle.clmodel.specs.declared.access.Region.{Region}
-use Rattle.clmodel.proofs.Steps.{decided, if_true, if_false, none_some}
+use Rattle.clmodel.proofs.Steps.{decided, if_true, if_false}
 use Rattle.clmodel.proofs.Swaps.{same_region-true}
 use Rattle.joining.specs.Memory.{at_byte}
 use Rattle.shadow.specs.Seen.{one_sort, mark_clash, mark_of}
 use Rattle.shadow.specs.declared.seen.Mark.{Mark}
 use Rattle.shadow.proofs.Meetings.{kinds_clash, mark_plain, sort_passes, passes_both}
-use Rattle.shadow.proofs.Absorbing.{sort_self, sort_back, sort_chain}
-use Rattle.shadow_list.specs.Log.{hit_on}
+use Rattle.shadow.proofs.Absorbing.{sort_self, sort_chain}
 use Rattle.shadow_list.specs.declared.log.Entry.{Entry}
 use Rattle.group_traces.specs.Traces.{untouched, first_in, grows, trace_with, is_now, passes, tells}
 use Rattle.group_traces.specs.declared.trace.Trace.{Trace}

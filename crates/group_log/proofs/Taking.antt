@@ -1,13 +1,15 @@
 -- What is kept of all bytes, with one access more, and what it tells of a further one.
-use Rattle.std.proofs.Common.{◌≡◌, ℕ, ◌+◌, ◌%◌, ◌^◌, ◌<◌, ◌⊎◌, ◌==◌, ◌&&◌, ◌||◌, Bool, true, false, not, if◌then◌else◌, Option, None, Some, List, [], ◌∷◌, ◌++◌, refl, sym, ap, ◌∙◌, subst, inl, inr, arith, eqb-true, eq-eqb}
+use Rattle.std.proofs.Common.{◌≡◌, ℕ, ◌+◌, ◌%◌, ◌^◌, ◌<◌, ◌⊎◌, ◌==◌, ◌&&◌, ◌||◌, Bool, true, false, not, if◌then◌else◌, Option, None, Some, List, [], ◌∷◌, ◌++◌, refl, sym, ap, ◌∙◌, subst, inl, inr, eqb-true, eq-eqb}
 use Rattle.std.specs.Prelude.{All, unwrap_or}
+use Rattle.std.proofs.Math.Logic.{∥∥₁_elim}
 use Rattle.std.proofs.lemmas.Bool.{and_parts, and_from, and_left, and_right, or_cases, cases_eq, ne_eqb, false≢true}
 use Rattle.clmodel.specs.Cells.{byte_count, covers}
 use Rattle.clmodel.specs.Launch.{same_region, within_group, conflict_between}
 use Rattle.clmodel.specs.declared.access.Access.{Access}
+use Rattle.clmodel.specs.declared.access.Clash.{Clash}
 use Rattle.clmodel.specs.declared.access.Region.{Region}
 use Rattle.clmodel.specs.declared.access.Region.TheVariants as region
-use Rattle.clmodel.proofs.Steps.{decided, if_true, if_false}
+use Rattle.clmodel.proofs.Steps.{decided, none_some, if_true, if_false}
 use Rattle.clmodel.proofs.Swaps.{same_region_self}
 use Rattle.joining.specs.Memory.{at_byte}
 use Rattle.shadow.specs.Lasting.{AbsorbedAt, Absorbed}
@@ -20,13 +22,13 @@ use Rattle.shadow.proofs.Absorbing.{Takes, takes_marked, takes_apart, sort_self}
 use Rattle.shadow.proofs.Absorbing as absorbing
 use Rattle.shadow_list.specs.Log.{in_buffer}
 use Rattle.shadow_list.specs.declared.log.Entry.{Entry}
-use Rattle.group_traces.specs.Traces.{untouched, first_in, grows, trace_with, is_now, passes, tells, takes}
+use Rattle.group_traces.specs.Traces.{untouched, first_in, grows, trace_with, passes, tells, takes}
 use Rattle.group_traces.specs.Cells.{at_key, key_of, trace_of, IsMarked}
 use Rattle.group_traces.specs.declared.trace.Trace.{Trace}
 use Rattle.group_traces.specs.declared.traces.Traces.{Traces}
 use Rattle.group_log.specs.Covers.{CoversAt, Covers}
 use Rattle.group_log.specs.Stands.{Stands, region_at, number_of, AllStand, AllTake}
-use Rattle.group_log.proofs.Covering.{no_conflict, first_at}
+use Rattle.group_log.proofs.Covering.{no_conflict}
 use Rattle.group_log.proofs.Standing.{stands_told, stands_clear, stands_more, stands_with, stands_begun, stands_none}
 
 -- ---- regions
@@ -63,6 +65,11 @@ base u n kept traces None r h number byte b = stands_none u n kept (trace_of tra
 base u n kept traces (Some home) r h number byte b = h number byte b
 
 -- ---- what is told of an access
+
+-- a conflict is none where what stands says so
+pub none_stood : {A : Type 0} (o : Option Clash) → ∥ A ∥₁ → (A → o ≡ None) → o ≡ None
+none_stood None t f = refl
+none_stood (Some c) t f = absurd (∥∥₁_elim t (λ x y. absurd x) (λ a. none_some c (sym (f a))))
 
 -- it covers no byte that it isn't at
 outside : (u : Bool) (kept : List Entry) (x : Access) (byte : ℕ) → covers x.first (byte_count x.width) byte ≡ false → CoversAt u kept x byte

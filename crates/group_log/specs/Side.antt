@@ -1,5 +1,5 @@
 -- What is known of an access before it is kept (own).
-use Rattle.std.specs.Prelude.{◌≡◌, ℕ, ◌<◌, ◌^◌, true, Option, None, Some, List, unwrap_or, MatchOption}
+use Rattle.std.specs.Prelude.{◌≡◌, ℕ, ◌<◌, ◌^◌, true, Some, List, unwrap_or, MatchOption}
 use Rattle.clmodel.specs.declared.access.Access.{Access}
 use Rattle.group_traces.specs.Traces.{untouched}
 use Rattle.group_traces.specs.Cells.{at_key, key_of, IsOwn, IsNear}

@@ -130,7 +130,6 @@ impl Side {
     }
 
     /// What is known of an access of the running interval.
-    #[tactic(none)]
     pub(crate) fn look(&self, x: &Access) -> Glance
         requires placed { x.now.first + byte_count x.now.width < 2 ^ 64 }
         requires interval { x.now.interval ≡ self.now.interval }
@@ -186,7 +185,6 @@ impl Side {
 
     /// Keeps an access of the running interval for which there is room, by the number of its object and the cell of its bytes. Where memory is
     /// refused the accesses stay.
-    #[tactic(none)]
     fn keep_seen(&mut self, glance: Glance, number: u32, entry: Entry) -> Result<(), AllocError>
         requires interval { entry.access.interval ≡ self.old.interval }
         requires room { self.old.kept.has_room ≡ true }
@@ -206,7 +204,6 @@ impl Side {
 
     /// Keeps an access of the running interval, unless it tells no conflict that kept ones don't tell. Where memory is refused the accesses
     /// stay.
-    #[tactic(none)]
     pub(crate) fn take(&mut self, glance: Glance, entry: Entry) -> Result<(), AllocError>
         requires interval { entry.access.interval ≡ self.old.interval }
         requires told { glance.look.sight.told ≡ true → Covers self.old.uniform self.old.kept.items entry.access }
