@@ -4,3 +4,4 @@ pub mod StateLaws
 pub mod Sources
 pub mod Three
 pub mod AskingLaws
+pub mod AccessLaws

@@ -5,6 +5,7 @@
 //! crate knows no launch and no memory: it hands out an access as an action, and takes its answer.
 #![tactic(auto)]
 
+mod accessing;
 mod asking;
 mod counters;
 mod item;

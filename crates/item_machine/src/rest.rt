@@ -37,6 +37,14 @@ pub(crate) enum Pending {
     Pass,
 }
 
+/// The access that a load or a store makes, and how the item goes on with the answer.
+#[derive(Clone, Copy)]
+pub(crate) struct FoundAccess {
+    pub(crate) pointer: Pointer,
+    pub(crate) operation: Operation,
+    pub(crate) pending: Pending,
+}
+
 /// The action that an item makes, and how it goes on with the answer, if it takes one.
 #[derive(Drop)]
 pub(crate) struct Found {

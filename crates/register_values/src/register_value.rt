@@ -12,8 +12,8 @@ use clnum::{IntType, Value};
 use std::marker::Model;
 use std::mem::size_of;
 
-/// What a register has: a value, or nothing. It takes 16 bytes, where an `Option<Operand>` takes 64: all items of a group
-/// have all their registers at once. Its parts are always there, so that it is copied without a look at what it is.
+/// What a register has: a value, or nothing. It takes 16 bytes, where an `Option<Operand>` takes 64: all items of a
+/// group have all their registers at once. Its parts are always there, so that it is copied without a look at what it is.
 #[derive(Clone, Copy)]
 pub struct RegisterValue {
     /// The low 64 bits of the number, or the offset of the pointer
@@ -161,6 +161,40 @@ impl RegisterValue {
                     None
                 }
             }
+            _ => None,
+        }
+    }
+
+    /// The number that a register has, if it has one.
+    #[inline(always)]
+    pub fn as_number(self) -> Option<Value>
+        ensures { IfSome result (λ value. self ≡ Some (operand.Integral value)) }
+    {
+        match self.form {
+            Form::Integral => Some(Value::new(self.kind, number_of(self.kind, self.bits))),
+            _ => None,
+        }
+    }
+
+    /// The pointer that a register has, if it has one.
+    #[inline(always)]
+    pub fn as_pointer(self) -> Option<Pointer>
+        ensures { IfSome result (λ pointer. self ≡ Some (operand.Pointed pointer)) }
+    {
+        let number = self.number;
+        let element = self.kind;
+        let offset = self.bits.cast_signed();
+        match self.form {
+            Form::Buffer => Some(Pointer {
+                element,
+                offset,
+                object: Object::Buffer(number),
+            }),
+            Form::Local => Some(Pointer {
+                element,
+                offset,
+                object: Object::Local(number),
+            }),
             _ => None,
         }
     }
