@@ -13,7 +13,8 @@ use std::marker::Model;
 use std::mem::size_of;
 
 /// What a register has: a value, or nothing. It takes 16 bytes, where an `Option<Operand>` takes 64: all items of a
-/// group have all their registers at once. Its parts are always there, so that it is copied without a look at what it is.
+/// group have all their registers at once. Its parts are always there, so that it is copied without a look at what it
+/// is.
 #[derive(Clone, Copy)]
 pub struct RegisterValue {
     /// The low 64 bits of the number, or the offset of the pointer
