@@ -11,7 +11,7 @@ use Rattle.clmodel.proofs.Steps.{if_true}
 use Rattle.shadow.specs.Seen.{byte_mark, mark_of}
 use Rattle.shadow.specs.declared.words.WordMark.{WordMark}
 use Rattle.group_traces.specs.Traces.{untouched, trace_with, part_with}
-use Rattle.group_traces.specs.Cells.{apart_at, word_trace, IsWhole, cell_at, word_at, placed_trace, IsOwn, IsWritten, IsPut, IsPart, FitsWith}
+use Rattle.group_traces.specs.Cells.{apart_at, word_trace, Holds, IsWhole, cell_at, word_at, placed_trace, IsOwn, IsWritten, IsPut, IsPart, FitsWith}
 use Rattle.group_traces.specs.declared.cell.Apart.{Apart}
 use Rattle.group_traces.specs.declared.cell.Cell.{Cell}
 use Rattle.group_traces.specs.declared.cell.Word.{Word}
@@ -54,19 +54,22 @@ nothing_written old new key n w q b = w q b ∙ go ((q == key) && (b / 4 == n))
 
 -- ---- words that fit
 
--- as bytes are added, as those of a word are put, and a word that is kept apart then
-pub fits_more : (apart : List Apart) (a : Apart) (key n count : ℕ) (w : Word) → FitsWith apart key n count w → FitsWith (apart ++ a ∷ []) key n count w
-fits_more apart a key n count word.Untouched h = h
-fits_more apart a key n count (word.Whole w) h = h
-fits_more apart a key n count (word.Apart at) h =
+-- as bytes are added, as those of a word are written, and a word that is kept apart then
+pub fits_more : (apart : List Apart) (a : Apart) (key n : ℕ) (x : Access) (first count : ℕ) (w : Word) → FitsWith apart key n x first count w → FitsWith (apart ++ a ∷ []) key n x first count w
+fits_more apart a key n x first count word.Untouched h = h
+fits_more apart a key n x first count (word.Whole w) h = h
+fits_more apart a key n x first count (word.Single how who) h = h
+fits_more apart a key n x first count (word.Apart at) h =
     let e : apart_at (apart ++ a ∷ []) at ≡ apart_at apart at = get_or_append_left apart (a ∷ []) no_apart at h.0 in
     (omega (arith, length_push apart a, h.0), ap (λ (z : Apart). z.key) e ∙ h.1, ap (λ (z : Apart). z.word) e ∙ h.2)
 
 pub fits_part :
-    (x : Access) (first size at : ℕ) (apart new : List Apart) → IsPart x first size apart at new → (key n count : ℕ) (w : Word) → FitsWith apart key n count w → FitsWith new key n count w
-fits_part x first size at apart new part key n count word.Untouched h = h
-fits_part x first size at apart new part key n count (word.Whole w) h = h
-fits_part x first size at apart new part key n count (word.Apart p) h = (omega (arith, part.long, h.0), go.0 ∙ h.1, go.1 ∙ h.2)
+    (x : Access) (first size at : ℕ) (apart new : List Apart) → IsPart x first size apart at new
+    → (key n : ℕ) (y : Access) (f c : ℕ) (w : Word) → FitsWith apart key n y f c w → FitsWith new key n y f c w
+fits_part x first size at apart new part key n y f c word.Untouched h = h
+fits_part x first size at apart new part key n y f c (word.Whole w) h = h
+fits_part x first size at apart new part key n y f c (word.Single how who) h = h
+fits_part x first size at apart new part key n y f c (word.Apart p) h = (omega (arith, part.long, h.0), go.0 ∙ h.1, go.1 ∙ h.2)
   where
     by : (p ≡ at) ⊎ (p ≡ at → ⊥) → ((apart_at new p).key ≡ (apart_at apart p).key) × ((apart_at new p).word ≡ (apart_at apart p).word)
     by (inl z) = subst (λ j. ((apart_at new j).key ≡ (apart_at apart j).key) × ((apart_at new j).word ≡ (apart_at apart j).word)) (sym z) (part.key, part.word)
@@ -75,34 +78,28 @@ fits_part x first size at apart new part key n count (word.Apart p) h = (omega (
     go : ((apart_at new p).key ≡ (apart_at apart p).key) × ((apart_at new p).word ≡ (apart_at apart p).word)
     go = by (cases_eq p at)
 
-pub fits_new : (apart : List Apart) (at : ℕ) (a : Apart) (key n count : ℕ) → length apart ≡ at → a.key ≡ key → a.word ≡ n → FitsWith (apart ++ a ∷ []) key n count (word.Apart at)
-fits_new apart at a key n count l e f =
+pub fits_new :
+    (apart : List Apart) (at : ℕ) (a : Apart) (key n : ℕ) (x : Access) (first count : ℕ) → length apart ≡ at → a.key ≡ key → a.word ≡ n
+    → FitsWith (apart ++ a ∷ []) key n x first count (word.Apart at)
+fits_new apart at a key n x first count l e f =
     let s : apart_at (apart ++ a ∷ []) at ≡ a = get_or_push apart a no_apart at l in
     (omega (arith, length_push apart a, l), ap (λ (z : Apart). z.key) s ∙ e, ap (λ (z : Apart). z.word) s ∙ f)
 
--- a word that isn't kept apart fits an access to all of it alone
-pub whole_fits : (apart : List Apart) (key n count : ℕ) (w : Word) → IsWhole w → FitsWith apart key n count w → count ≡ 4
-whole_fits apart key n count word.Untouched h e = e
-whole_fits apart key n count (word.Whole w) h e = e
-whole_fits apart key n count (word.Apart at) h e = absurd h
+-- what is kept of a word that isn't kept apart can have an access added that fits
+pub whole_holds : (apart : List Apart) (key n : ℕ) (x : Access) (first count : ℕ) (w : Word) → IsWhole w → FitsWith apart key n x first count w → Holds x first count w
+whole_holds apart key n x first count word.Untouched h e = e
+whole_holds apart key n x first count (word.Whole w) h e = e
+whole_holds apart key n x first count (word.Single how who) h e = e
+whole_holds apart key n x first count (word.Apart at) h e = absurd h
 
-pub fits_whole : (apart : List Apart) (key n count : ℕ) (w : Word) → IsWhole w → count ≡ 4 → FitsWith apart key n count w
-fits_whole apart key n count word.Untouched h e = e
-fits_whole apart key n count (word.Whole w) h e = e
-fits_whole apart key n count (word.Apart at) h e = absurd h
-
--- the words of a cell, once one is put
+-- another word of a cell, once one is put
 pub put_fits :
-    (apart more : List Apart) (cells new : List Cell) (i n : ℕ) (v : Word) → IsPut cells i n v new → (m count : ℕ)
-    → ((u : Word) → FitsWith apart (cell_at cells i).key m count u → FitsWith more (cell_at cells i).key m count u)
-    → (m ≡ n → FitsWith apart (cell_at cells i).key m count (word_at (cell_at cells i) m) → FitsWith more (cell_at cells i).key m count v)
-    → FitsWith apart (cell_at cells i).key m count (word_at (cell_at cells i) m) → FitsWith more (cell_at new i).key m count (word_at (cell_at new i) m)
-put_fits apart more cells new i n v put m count kept here h =
-    subst (λ q. FitsWith more q m count (word_at (cell_at new i) m)) (sym put.key) (go (cases_eq m n))
-  where
-    go : (m ≡ n) ⊎ (m ≡ n → ⊥) → FitsWith more (cell_at cells i).key m count (word_at (cell_at new i) m)
-    go (inl e) = subst (λ (u : Word). FitsWith more (cell_at cells i).key m count u) (sym (ap (word_at (cell_at new i)) e ∙ put.here)) (here e h)
-    go (inr ne) = subst (λ (u : Word). FitsWith more (cell_at cells i).key m count u) (sym (put.words m ne)) (kept (word_at (cell_at cells i) m) h)
+    (apart more : List Apart) (cells new : List Cell) (i n : ℕ) (v : Word) → IsPut cells i n v new → (m : ℕ) (x : Access) (first count : ℕ) → (m ≡ n → ⊥)
+    → ((u : Word) → FitsWith apart (cell_at cells i).key m x first count u → FitsWith more (cell_at cells i).key m x first count u)
+    → FitsWith apart (cell_at cells i).key m x first count (word_at (cell_at cells i) m) → FitsWith more (cell_at new i).key m x first count (word_at (cell_at new i) m)
+put_fits apart more cells new i n v put m x first count ne kept h =
+    subst (λ q. FitsWith more q m x first count (word_at (cell_at new i) m)) (sym put.key)
+    (subst (λ (u : Word). FitsWith more (cell_at cells i).key m x first count u) (sym (put.words m ne)) (kept (word_at (cell_at cells i) m) h))
 
 -- ---- an access to all of a word
 
@@ -129,10 +126,11 @@ pub read_at : (cells : List Cell) (i n m : ℕ) (w : Cell) → i < length cells 
 read_at cells i n m w inside is at = ap (λ (z : Cell). word_at z n) (read_cell cells i w inside is) ∙ ap (word_at (cell_at cells i)) at
 
 pub read_fits :
-    (apart more : List Apart) (cells : List Cell) (i n count : ℕ) (w : Cell) → more ≡ apart → i < length cells → w ≡ get_or cells i w → FitsWith more w.key n count (word_at w n)
-    → FitsWith apart (cell_at cells i).key n count (word_at (cell_at cells i) n)
-read_fits apart more cells i n count w same inside is h =
-    subst (λ (z : Cell). FitsWith apart z.key n count (word_at z n)) (read_cell cells i w inside is) (subst (λ l. FitsWith l w.key n count (word_at w n)) same h)
+    (apart more : List Apart) (cells : List Cell) (i n m : ℕ) (x : Access) (first count : ℕ) (w : Cell) → more ≡ apart → i < length cells → w ≡ get_or cells i w → n ≡ m
+    → FitsWith more w.key n x first count (word_at w n) → FitsWith apart (cell_at cells i).key m x first count (word_at (cell_at cells i) m)
+read_fits apart more cells i n m x first count w same inside is at h =
+    subst (λ k. FitsWith apart (cell_at cells i).key k x first count (word_at (cell_at cells i) k)) at
+    (subst (λ (z : Cell). FitsWith apart z.key n x first count (word_at z n)) (read_cell cells i w inside is) (subst (λ l. FitsWith l w.key n x first count (word_at w n)) same h))
 
 -- a word that is put
 pub word_put : (cells : List Cell) (i n : ℕ) (w : Cell) (v : Word) → i < length cells → w ≡ get_or cells i w → n < length w.words → IsPut cells i n v (set cells i (record w { words = set w.words n v }))

@@ -13,7 +13,7 @@ use Rattle.group_traces.specs.declared.cell.Word.{Word}
 use Rattle.group_traces.specs.declared.cell.Word.TheVariants as word
 use Rattle.group_traces.specs.declared.traces.Traces.{Traces}
 use Rattle.group_traces.proofs.Placing.{at_of, no_cell, pushed, inserted, put_word, put_apart, part_others, part_here, push_others, push_here}
-use Rattle.group_traces.proofs.Keeping.{own_kept, put_key, nothing_written, fits_more, fits_part, fits_new, whole_fits, fits_whole, put_fits, whole_part}
+use Rattle.group_traces.proofs.Keeping.{own_kept, put_key, nothing_written, fits_more, fits_part, fits_new, put_fits}
 
 -- ---- a cell that is made
 
@@ -80,28 +80,25 @@ module _ (old new : Traces) (a : Apart) (i n at : ℕ) (places : new.places ≡ 
   pub split_own : (q j : ℕ) → IsOwn old q j → IsOwn new q j
   split_own q j own = own_kept old new q j (λ k. ap (λ m. get nat_eq m k) places) put.long (put_key old.cells.items new.cells.items i n (word.Apart at) put) own
 
-  pub split_fits : (count : ℕ) → IsFitting new i n count
-  split_fits count =
-      subst (λ l. FitsWith l (cell_at new.cells.items i).key n count (word_at (cell_at new.cells.items i) n)) (sym apart)
-      (subst (λ q. FitsWith (old.apart.items ++ a ∷ []) q n count (word_at (cell_at new.cells.items i) n)) (sym put.key)
-      (subst (λ (u : Word). FitsWith (old.apart.items ++ a ∷ []) (cell_at old.cells.items i).key n count u) (sym put.here)
-      (fits_new old.apart.items at a (cell_at old.cells.items i).key n count end key number)))
+  pub split_fits : (x : Access) (first count : ℕ) → IsFitting new i n x first count
+  split_fits x first count =
+      subst (λ l. FitsWith l (cell_at new.cells.items i).key n x first count (word_at (cell_at new.cells.items i) n)) (sym apart)
+      (subst (λ q. FitsWith (old.apart.items ++ a ∷ []) q n x first count (word_at (cell_at new.cells.items i) n)) (sym put.key)
+      (subst (λ (u : Word). FitsWith (old.apart.items ++ a ∷ []) (cell_at old.cells.items i).key n x first count u) (sym put.here)
+      (fits_new old.apart.items at a (cell_at old.cells.items i).key n x first count end key number)))
 
-  pub split_others : (m count : ℕ) → IsFitting old i m count → IsFitting new i m count
-  split_others m count h =
-      put_fits old.apart.items new.apart.items old.cells.items new.cells.items i n (word.Apart at) put m count
-      (λ u f. subst (λ l. FitsWith l (cell_at old.cells.items i).key m count u) (sym apart) (fits_more old.apart.items a (cell_at old.cells.items i).key m count u f))
-      (λ e f.
-      subst (λ l. FitsWith l (cell_at old.cells.items i).key m count (word.Apart at)) (sym apart)
-      (subst (λ j. FitsWith (old.apart.items ++ a ∷ []) (cell_at old.cells.items i).key j count (word.Apart at)) (sym e)
-      (fits_new old.apart.items at a (cell_at old.cells.items i).key n count end key number))) h
+  pub split_others : (m : ℕ) (x : Access) (first count : ℕ) → (m ≡ n → ⊥) → IsFitting old i m x first count → IsFitting new i m x first count
+  split_others m x first count ne h =
+      put_fits old.apart.items new.apart.items old.cells.items new.cells.items i n (word.Apart at) put m x first count ne
+      (λ u f. subst (λ l. FitsWith l (cell_at old.cells.items i).key m x first count u) (sym apart) (fits_more old.apart.items a (cell_at old.cells.items i).key m x first count u f)) h
 
 -- ---- an access that is added to bytes that are kept apart
 
 module _ (old new : Traces) (x : Access) (first count at i n : ℕ) (places : new.places ≡ old.places) (cells : new.cells ≡ old.cells) (part : IsPart x first count old.apart.items at new.apart.items) where
-  pub apart_written : word_at (cell_at old.cells.items i) n ≡ word.Apart at → IsFitting old i n count → (key : ℕ) → IsOwn old key i → IsWritten (at_key old) (at_key new) key n (part_with x first count)
+  pub apart_written : word_at (cell_at old.cells.items i) n ≡ word.Apart at → IsFitting old i n x first count → (key : ℕ) → IsOwn old key i → IsWritten (at_key old) (at_key new) key n (part_with x first count)
   apart_written is fits key own q b =
-      let f : FitsWith old.apart.items (cell_at old.cells.items i).key n count (word.Apart at) = subst (λ (u : Word). FitsWith old.apart.items (cell_at old.cells.items i).key n count u) is fits in
+      let f : FitsWith old.apart.items (cell_at old.cells.items i).key n x first count (word.Apart at) =
+      subst (λ (u : Word). FitsWith old.apart.items (cell_at old.cells.items i).key n x first count u) is fits in
       ap (λ m. placed_trace new.cells.items new.apart.items q b (get nat_eq m q)) places
       ∙ ap (λ v. placed_trace v.items new.apart.items q b (get nat_eq old.places q)) cells
       ∙ put_apart old.places old.cells.items old.apart.items new.apart.items key i n (part_with x first count) own.there own.own
@@ -113,40 +110,30 @@ module _ (old new : Traces) (x : Access) (first count at i n : ℕ) (places : ne
   pub apart_own : (q j : ℕ) → IsOwn old q j → IsOwn new q j
   apart_own q j own = own_kept old new q j (λ k. ap (λ m. get nat_eq m k) places) (ap (λ v. length v.items) cells) (λ k. ap (λ v. (cell_at v.items k).key) cells) own
 
-  pub apart_others : (m c : ℕ) → IsFitting old i m c → IsFitting new i m c
-  apart_others m c h =
-      subst (λ v. FitsWith new.apart.items (cell_at v.items i).key m c (word_at (cell_at v.items i) m)) (sym cells)
-      (fits_part x first count at old.apart.items new.apart.items part (cell_at old.cells.items i).key m c (word_at (cell_at old.cells.items i) m) h)
+  pub apart_others : (m : ℕ) (y : Access) (f c : ℕ) → IsFitting old i m y f c → IsFitting new i m y f c
+  apart_others m y f c h =
+      subst (λ v. FitsWith new.apart.items (cell_at v.items i).key m y f c (word_at (cell_at v.items i) m)) (sym cells)
+      (fits_part x first count at old.apart.items new.apart.items part (cell_at old.cells.items i).key m y f c (word_at (cell_at old.cells.items i) m) h)
 
--- ---- an access that is added to all of a word
+-- ---- an access that is added to a word in one piece
 
 module _ (old new : Traces) (i n : ℕ) (v : Word) (places : new.places ≡ old.places) (apart : new.apart ≡ old.apart) (put : IsPut old.cells.items i n v new.cells.items) where
   pub whole_written :
-      (x : Access) (first count : ℕ) (mark : WordMark) → IsWhole (word_at (cell_at old.cells.items i) n) → IsFitting old i n count → first % 4 + count ≤ 4
-      → (count ≡ 4 → (k : ℕ) → k < 4 → byte_mark mark k ≡ mark_of x (first + k))
-      → ((l : List Apart) (q m k : ℕ) → k < 4 → word_trace l q m v k ≡ trace_with (word_trace l q m (word_at (cell_at old.cells.items i) n) k) x.interval (byte_mark mark k))
+      (x : Access) (first count : ℕ)
+      → ((l : List Apart) (q m k : ℕ) → k < 4 → word_trace l q m v k ≡ part_with x first count k (word_trace l q m (word_at (cell_at old.cells.items i) n) k))
       → (key : ℕ) → IsOwn old key i → IsWritten (at_key old) (at_key new) key n (part_with x first count)
-  whole_written x first count mark whole fits one marks with_it key own q b =
+  whole_written x first count with_it key own q b =
       ap (λ m. placed_trace new.cells.items new.apart.items q b (get nat_eq m q)) places
       ∙ ap (λ l. placed_trace new.cells.items l.items q b (get nat_eq old.places q)) apart
-      ∙ put_word old.places old.cells.items new.cells.items old.apart.items old.apart.items key i n v (part_with x first count) own.there own.own put
-      (λ k small.
-      with_it old.apart.items key n k small
-      ∙ whole_part x first count k mark (word_trace old.apart.items key n (word_at (cell_at old.cells.items i) n) k) one
-      (whole_fits old.apart.items (cell_at old.cells.items i).key n count (word_at (cell_at old.cells.items i) n) whole fits) small marks)
-      (λ r m w k ne. refl) q b
+      ∙ put_word old.places old.cells.items new.cells.items old.apart.items old.apart.items key i n v (part_with x first count) own.there own.own put (with_it old.apart.items key n) (λ r m w k ne. refl) q b
 
   pub whole_own : (q j : ℕ) → IsOwn old q j → IsOwn new q j
   whole_own q j own = own_kept old new q j (λ k. ap (λ m. get nat_eq m k) places) put.long (put_key old.cells.items new.cells.items i n v put) own
 
-  pub whole_others : IsWhole (word_at (cell_at old.cells.items i) n) → IsWhole v → (m c : ℕ) → IsFitting old i m c → IsFitting new i m c
-  whole_others whole still m c h =
-      subst (λ l. FitsWith l.items (cell_at new.cells.items i).key m c (word_at (cell_at new.cells.items i) m)) (sym apart)
-      (put_fits old.apart.items old.apart.items old.cells.items new.cells.items i n v put m c (λ u f. f)
-      (λ e f.
-      fits_whole old.apart.items (cell_at old.cells.items i).key m c v still
-      (whole_fits old.apart.items (cell_at old.cells.items i).key m c (word_at (cell_at old.cells.items i) m)
-      (subst (λ j. IsWhole (word_at (cell_at old.cells.items i) j)) (sym e) whole) f)) h)
+  pub whole_others : (m : ℕ) (y : Access) (f c : ℕ) → (m ≡ n → ⊥) → IsFitting old i m y f c → IsFitting new i m y f c
+  whole_others m y f c ne h =
+      subst (λ l. FitsWith l.items (cell_at new.cells.items i).key m y f c (word_at (cell_at new.cells.items i) m)) (sym apart)
+      (put_fits old.apart.items old.apart.items old.cells.items new.cells.items i n v put m y f c ne (λ u h. h) h)
 
 -- a cell at the place of a key is at that of its own
 pub own_self : (t : Traces) (key i : ℕ) → IsOwn t key i → IsOwn t (cell_at t.cells.items i).key i

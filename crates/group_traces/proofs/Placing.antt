@@ -187,6 +187,7 @@ pub part_others :
     → (q m : ℕ) (w : Word) (k : ℕ) → (q ≡ key → m ≡ n → ⊥) → word_trace new q m w k ≡ word_trace apart q m w k
 part_others x first count at apart new key n part e f q m word.Untouched k ne = refl
 part_others x first count at apart new key n part e f q m (word.Whole w) k ne = refl
+part_others x first count at apart new key n part e f q m (word.Single how who) k ne = refl
 part_others x first count at apart new key n part e f q m (word.Apart p) k ne = go (cases_eq p at)
   where
     go : (p ≡ at) ⊎ (p ≡ at → ⊥) → own_trace q m (apart_at new p) k ≡ own_trace q m (apart_at apart p) k
@@ -201,6 +202,7 @@ pub push_others : (apart : List Apart) (a : Apart) (key n : ℕ) → a.key ≡ k
     → (q m : ℕ) (w : Word) (k : ℕ) → (q ≡ key → m ≡ n → ⊥) → word_trace (apart ++ a ∷ []) q m w k ≡ word_trace apart q m w k
 push_others apart a key n g h q m word.Untouched k ne = refl
 push_others apart a key n g h q m (word.Whole w) k ne = refl
+push_others apart a key n g h q m (word.Single how who) k ne = refl
 push_others apart a key n g h q m (word.Apart p) k ne = go (cases_lt p (length apart)) (cases_eq p (length apart))
   where
     go : (p < length apart) ⊎ (length apart ≤ p) → (p ≡ length apart) ⊎ (p ≡ length apart → ⊥) → own_trace q m (apart_at (apart ++ a ∷ []) p) k ≡ own_trace q m (apart_at apart p) k

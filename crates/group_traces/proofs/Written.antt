@@ -204,6 +204,9 @@ next_word number first even =
     let same : (first + 4) / 32 ≡ first / 32 = omega (arith, even) in
     (ap (λ k. k * 2 ^ 32 + number) same, omega (arith, even))
 
+pub apart_words : (first : ℕ) → first % 8 ≡ 0 → first % 32 / 4 ≡ (first + 4) % 32 / 4 → ⊥
+apart_words first even e = let next : (first + 4) % 32 / 4 ≡ first % 32 / 4 + 1 = (next_word 0 first even).1 in omega (arith, e, next)
+
 -- ---- what the marks of an access say of its words
 
 pub low_mark : (x : Access) (mark : WordMark) → ((k : ℕ) → k < 4 → byte_mark mark k ≡ mark_of x (x.first + (half_start false + k))) → (k : ℕ) → k < 4 → byte_mark mark k ≡ mark_of x (x.first + k)

@@ -4,7 +4,7 @@ use Rattle.std.specs.HashMap.{get}
 use Rattle.clmodel.specs.Cells.{byte_count, covers}
 use Rattle.clmodel.specs.declared.access.Access.{Access}
 use Rattle.shadow.specs.Seen.{mark_of}
-use Rattle.group_traces.specs.Traces.{untouched, trace_with, word_byte, part_with}
+use Rattle.group_traces.specs.Traces.{untouched, trace_with, word_byte, part_with, single_byte, HoldsBytes}
 use Rattle.group_traces.specs.declared.cell.Apart.{Apart}
 use Rattle.group_traces.specs.declared.cell.Cell.{Cell}
 use Rattle.group_traces.specs.declared.cell.Word.{Word}
@@ -24,13 +24,22 @@ own_trace key n a k = if (a.key == key) && (a.word == n) then slice_index_or a.t
 abbrev pub word_trace : List Apart → ℕ → ℕ → Word → ℕ → Trace
 word_trace apart key n word.Untouched k = untouched
 word_trace apart key n (word.Whole w) k = word_byte w k
+word_trace apart key n (word.Single how who) k = single_byte (record { how = how; who = who }) k
 word_trace apart key n (word.Apart at) k = own_trace key n (apart_at apart at) k
 
 -- the bytes of a word aren't kept apart (own)
 abbrev pub IsWhole : Word → Type 0
 IsWhole word.Untouched = Unit {0}
 IsWhole (word.Whole w) = Unit {0}
+IsWhole (word.Single how who) = Unit {0}
 IsWhole (word.Apart at) = ⊥
+
+-- an access at so many bytes of it, from the first on, can be added to what is kept of a word (own)
+abbrev pub Holds : Access → ℕ → ℕ → Word → Type 0
+Holds x first count word.Untouched = Unit {0}
+Holds x first count (word.Whole w) = count ≡ 4
+Holds x first count (word.Single how who) = HoldsBytes (record { how = how; who = who }) x first count
+Holds x first count (word.Apart at) = ⊥
 
 -- they are, at this place (own)
 abbrev pub IsApart : Word → ℕ → Type 0
@@ -103,11 +112,13 @@ pub record IsPart (x : Access) (first count : ℕ) (old : List Apart) (at : ℕ)
 abbrev pub IsSame : Traces → Traces → Type 0
 IsSame old new = (q b : ℕ) → at_key new q b ≡ at_key old q b
 
--- word n of a cell stays whole where an access is added to so many bytes of it, or its bytes are kept apart as its own (own)
-abbrev pub FitsWith : List Apart → ℕ → ℕ → ℕ → Word → Type 0
-FitsWith apart key n count word.Untouched = count ≡ 4
-FitsWith apart key n count (word.Whole w) = count ≡ 4
-FitsWith apart key n count (word.Apart at) = (at < length apart) × ((apart_at apart at).key ≡ key) × ((apart_at apart at).word ≡ n)
+-- an access can be added to what is kept of word n of a cell, or its bytes are kept apart as its own (own)
+abbrev pub FitsWith : List Apart → ℕ → ℕ → Access → ℕ → ℕ → Word → Type 0
+FitsWith apart key n x first count word.Untouched = Unit {0}
+FitsWith apart key n x first count (word.Whole w) = count ≡ 4
+FitsWith apart key n x first count (word.Single how who) =
+    HoldsBytes (record { how = how; who = who }) x first count
+FitsWith apart key n x first count (word.Apart at) = (at < length apart) × ((apart_at apart at).key ≡ key) × ((apart_at apart at).word ≡ n)
 
-abbrev pub IsFitting : Traces → ℕ → ℕ → ℕ → Type 0
-IsFitting t i n count = FitsWith t.apart.items (cell_at t.cells.items i).key n count (word_at (cell_at t.cells.items i) n)
+abbrev pub IsFitting : Traces → ℕ → ℕ → Access → ℕ → ℕ → Type 0
+IsFitting t i n x first count = FitsWith t.apart.items (cell_at t.cells.items i).key n x first count (word_at (cell_at t.cells.items i) n)

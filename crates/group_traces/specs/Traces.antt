@@ -1,10 +1,11 @@
 -- What is kept of the accesses of a group to each byte (own, on OpenCL 1.2, 3.3.1, 6.5.2 and 6.12.8).
-use Rattle.std.specs.Prelude.{ℕ, ◌+◌, ◌-◌, ◌%◌, ◌==◌, ◌&&◌, ◌||◌, Bool, true, false, not, is_some, if◌then◌else◌, slice_index_or}
+use Rattle.std.specs.Prelude.{◌≡◌, ℕ, ◌<◌, ◌≤◌, ◌+◌, ◌-◌, ◌%◌, ◌==◌, ◌&&◌, ◌||◌, Bool, true, false, not, is_some, if◌then◌else◌, slice_index_or}
 use Rattle.clmodel.specs.Cells.{covers}
 use Rattle.clmodel.specs.declared.access.Access.{Access}
 use Rattle.clmodel.specs.declared.access.AccessKind.TheVariants as kind
 use Rattle.shadow.specs.Seen.{one_sort, mark_clash, byte_mark, mark_of}
 use Rattle.shadow.specs.declared.seen.Mark.{Mark}
+use Rattle.group_traces.specs.declared.single.Singles.{Singles}
 use Rattle.group_traces.specs.declared.trace.Trace.{Trace}
 use Rattle.group_traces.specs.declared.word.WordTrace.{WordTrace}
 
@@ -53,3 +54,21 @@ word_byte w k =
 -- where the bytes of an access begin in a word, and what they leave of byte k of it (own)
 abbrev pub part_with : Access → ℕ → ℕ → ℕ → Trace → Trace
 part_with x first count k t = if covers (first % 4) count k then trace_with t x.interval (mark_of x (first - first % 4 + k)) else t
+
+-- what byte k of a word has of its access, of a word of which each byte was accessed once (own)
+abbrev pub single_mark : Singles → ℕ → Mark
+single_mark s k = record { item = slice_index_or s.who.items k 0; kind = s.how.kind; left = slice_index_or s.how.left k 0 }
+
+-- what is kept of it (own)
+abbrev pub single_byte : Singles → ℕ → Trace
+single_byte s k = if slice_index_or s.how.touched k false then first_in s.who.interval (single_mark s k) false else untouched
+
+-- it is still accessed once with an access more: it wasn't accessed, or by the same item, which left the same (own)
+abbrev pub HoldsByte : Singles → ℕ → Mark → Type 0
+HoldsByte s k m = slice_index_or s.how.touched k false ≡ true → single_mark s k ≡ m
+
+-- so are so many bytes, from the first on (own)
+pub record HoldsBytes (s : Singles) (x : Access) (first count : ℕ) : Type 0 where
+  pub interval : s.who.interval ≡ x.interval
+  pub kind : s.how.kind ≡ x.kind
+  pub bytes : (byte : ℕ) → first ≤ byte → byte < first + count → HoldsByte s (byte % 4) (mark_of x byte)

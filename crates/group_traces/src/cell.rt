@@ -2,10 +2,11 @@
 
 ghost use Rattle.std.specs.Prelude.{◌≡◌, ◌<◌, ◌≤◌, ◌+◌, ◌%◌, ◌^◌, ℕ, List, true, slice_index_or, MatchOption};
 ghost use Rattle.shadow.specs.Seen.{byte_mark, mark_of};
-ghost use Rattle.group_traces.specs.Traces.{untouched, trace_with, passes, tells, takes, part_with};
-ghost use Rattle.group_traces.specs.Cells.{apart_at, own_trace, word_trace, IsWhole, IsApart, FitsWith};
+ghost use Rattle.group_traces.specs.Traces.{untouched, passes, tells, takes, part_with, single_byte};
+ghost use Rattle.group_traces.specs.Cells.{apart_at, own_trace, word_trace, Holds, IsWhole, IsApart, FitsWith};
 ghost use Rattle.group_traces.specs.declared.cell.Apart.{Apart as TheApart};
 
+use crate::single::{How, Singles, Who};
 use crate::trace::{Sight, Trace};
 use crate::word::WordTrace;
 use clmodel::access::Access;
@@ -17,6 +18,8 @@ pub enum Word {
     Untouched,
     /// Of all four at once, as long as each access was to all four
     Whole(WordTrace),
+    /// Of bytes that were accessed once each: the two parts of `Singles`, which take less memory so than as one
+    Single(How, Who),
     /// Of each byte, at this place of a list of those
     Apart(usize),
 }
@@ -59,6 +62,7 @@ impl Word {
         match *self {
             Word::Untouched => Trace::untouched(),
             Word::Whole(whole) => whole.byte(k),
+            Word::Single(how, who) => Singles { how, who }.byte(k),
             Word::Apart(at) => own_trace(apart, key, n, at, k),
         }
     }
@@ -75,12 +79,23 @@ impl Word {
         ]
     }
 
-    /// Whether the word stays whole where an access is added to so many bytes of it, or its bytes are kept apart.
-    pub(crate) fn fits(&self, apart: &[Apart], key: u64, n: usize, count: u64) -> bool
-        ensures { result ≡ true → FitsWith apart.now key n count self.now }
+    /// Whether an access at so many bytes of the word, from the first on, can be added to what is kept of it.
+    pub(crate) fn fits(
+        &self,
+        apart: &[Apart],
+        key: u64,
+        n: usize,
+        x: &Access,
+        first: u64,
+        count: u64,
+    ) -> bool
+        requires { first + count < 2 ^ 64 }
+        ensures { result ≡ true → FitsWith apart.now key n x.now first count self.now }
     {
         match *self {
-            Word::Untouched | Word::Whole(_) => count == 4,
+            Word::Untouched => true,
+            Word::Whole(_) => count == 4,
+            Word::Single(how, who) => Singles { how, who }.holds(x, first, count),
             Word::Apart(at) => match apart.get(at) {
                 None => false,
                 Some(own) => own.key == key && own.word == n,
@@ -93,19 +108,47 @@ impl Word {
         ensures { MatchOption result (IsWhole self) (IsApart self) }
     {
         match self {
-            Word::Untouched | Word::Whole(_) => None,
+            Word::Untouched | Word::Whole(_) | Word::Single(_, _) => None,
             Word::Apart(at) => Some(at),
         }
     }
 
-    /// The word with one access more to all of it, unless its bytes are kept apart.
-    pub(crate) fn with(self, interval: u32, mark: WordMark) -> Self
-        ensures with { IsWhole self → (apart : List TheApart) (key n k : ℕ) → k < 4 → word_trace apart key n result k ≡ trace_with (word_trace apart key n self k) interval (byte_mark mark k) }
-        ensures whole { IsWhole self → IsWhole result }
+    /// A word of bytes that were accessed once each.
+    fn of_singles(singles: Singles) -> Self
+        ensures bytes { (apart : List TheApart) (key n k : ℕ) → word_trace apart key n result k ≡ single_byte singles k }
+        ensures whole { IsWhole result }
+    {
+        Word::Single(singles.how, singles.who)
+    }
+
+    /// A word that wasn't accessed, with an access at so many bytes of it.
+    fn first(x: &Access, first: u64, count: u64, mark: WordMark) -> Self
+        requires one_word { first % 4 + count ≤ 4 }
+        requires short { first + count < 2 ^ 64 }
+        requires mark { count ≡ 4 → (k : ℕ) → k < 4 → byte_mark mark k ≡ mark_of x.now (first + k) }
+        ensures with { (apart : List TheApart) (key n k : ℕ) → k < 4 → word_trace apart key n result k ≡ part_with x.now first count k untouched }
+        ensures whole { IsWhole result }
+    {
+        if count == 4 {
+            return Word::Whole(WordTrace::of(x.interval, mark));
+        }
+        Word::of_singles(Singles::none(x.interval, x.kind).with(x, first, count))
+    }
+
+    /// The word with one access more at so many bytes of it, from the first on, which fits, by the mark of the access at
+    /// all of it. One whose bytes are kept apart stays.
+    pub(crate) fn with(self, x: &Access, first: u64, count: u64, mark: WordMark) -> Self
+        requires one_word { first % 4 + count ≤ 4 }
+        requires short { first + count < 2 ^ 64 }
+        requires mark { count ≡ 4 → (k : ℕ) → k < 4 → byte_mark mark k ≡ mark_of x.now (first + k) }
+        requires holds { Holds x.now first count self }
+        ensures with { (apart : List TheApart) (key n k : ℕ) → k < 4 → word_trace apart key n result k ≡ part_with x.now first count k (word_trace apart key n self k) }
+        ensures whole { IsWhole result }
     {
         match self {
-            Word::Untouched => Word::Whole(WordTrace::of(interval, mark)),
-            Word::Whole(whole) => Word::Whole(whole.with(interval, mark)),
+            Word::Untouched => Word::first(x, first, count, mark),
+            Word::Whole(whole) => Word::Whole(whole.with(x.interval, mark)),
+            Word::Single(how, who) => Word::of_singles(Singles { how, who }.with(x, first, count)),
             Word::Apart(_) => self,
         }
     }

@@ -9,12 +9,14 @@
 
 mod cell;
 mod sent;
+mod single;
 mod trace;
 mod traces;
 mod word;
 
 pub use cell::{Apart, Cell, Word};
 pub use sent::traces_are_sent;
+pub use single::{How, Singles, Who};
 pub use trace::{Sight, Trace};
 pub use traces::{Look, Traces, is_near};
 pub use word::WordTrace;

@@ -3,6 +3,7 @@
 ghost use Rattle.std.specs.Prelude.{◌≡◌, ◌<◌, ◌≤◌, ◌+◌, ◌*◌, ◌/◌, ◌%◌, ◌^◌, ℕ, true, false, nat_eq, OnOk, OnErr, IfOk, MatchOption, length};
 ghost use Rattle.std.specs.HashMap.{get};
 ghost use Rattle.clmodel.specs.Cells.{byte_count, covers};
+ghost use Rattle.clmodel.specs.declared.access.Access.{Access as TheAccess};
 ghost use Rattle.shadow.specs.Seen.{byte_mark, mark_of};
 ghost use Rattle.group_traces.specs.Cells.{word_trace, word_at, cell_at, cell_trace, at_key, key_of, trace_of, IsOwn, IsNear, IsWritten, IsMarked, IsSame, IsPut, IsPart, IsFitting};
 ghost use Rattle.group_traces.specs.Traces.{untouched, passes, tells, takes, part_with};
@@ -216,20 +217,21 @@ impl Traces {
         self.cells[i].words[n] = word;
     }
 
-    /// Keeps the bytes of a word of a cell apart, unless it stays whole where an access is added to so many bytes of
-    /// it.
-    fn fit(&mut self, i: usize, n: usize, count: u64) -> Result<(), AllocError>
+    /// Keeps the bytes of a word of a cell apart, unless an access at so many of them, from the first on, can be added to
+    /// what is kept of it.
+    fn fit(&mut self, i: usize, x: &Access, first: u64, count: u64) -> Result<(), AllocError>
         requires own { IsOwn self.old (cell_at self.old.cells.items i).key i }
-        requires small { n < 8 }
+        requires short { first + count < 2 ^ 64 }
         ensures same { IsSame self.old self.new }
         ensures own { (key j : ℕ) → IsOwn self.old key j → IsOwn self.new key j }
-        ensures fits { OnOk result (IsFitting self.new i n count) }
-        ensures others { (m : ℕ) → IsFitting self.old i m count → IsFitting self.new i m count }
+        ensures fits { OnOk result (IsFitting self.new i (first % 32 / 4) x.now first count) }
+        ensures others { (m : ℕ) (y : TheAccess) (f c : ℕ) → (m ≡ first % 32 / 4 → ⊥) → IsFitting self.old i m y f c → IsFitting self.new i m y f c }
     {
+        let n = word_of(first);
         let cell = &self.cells[i];
         let key = cell.key;
         let word = cell.words[n];
-        if word.fits(&self.apart, key, n, count) {
+        if word.fits(&self.apart, key, n, x, first, count) {
             return Ok(());
         }
         let at = self.apart.len();
@@ -262,15 +264,15 @@ impl Traces {
         requires one_word { first % 4 + count ≤ 4 }
         requires short { first + count < 2 ^ 64 }
         requires mark { count ≡ 4 → (k : ℕ) → k < 4 → byte_mark mark k ≡ mark_of x.now (first + k) }
-        requires fits { IsFitting self.old i (first % 32 / 4) count }
+        requires fits { IsFitting self.old i (first % 32 / 4) x.now first count }
         ensures written { (key : ℕ) → IsOwn self.old key i → IsWritten (at_key self.old) (at_key self.new) key (first % 32 / 4) (part_with x.now first count) }
         ensures own { (key j : ℕ) → IsOwn self.old key j → IsOwn self.new key j }
-        ensures others { (m c : ℕ) → IsFitting self.old i m c → IsFitting self.new i m c }
+        ensures others { (m : ℕ) (y : TheAccess) (f c : ℕ) → (m ≡ first % 32 / 4 → ⊥) → IsFitting self.old i m y f c → IsFitting self.new i m y f c }
     {
         let n = word_of(first);
         let word = self.cells[i].words[n];
         match word.place() {
-            None => self.put(i, n, word.with(x.interval, mark)),
+            None => self.put(i, n, word.with(x, first, count, mark)),
             Some(at) => self.write_apart(at, x, first, count),
         }
     }
@@ -284,7 +286,7 @@ impl Traces {
         ensures marked { OnOk result ((number : ℕ) → number < 2 ^ 32 → IsOwn self.old (key_of number x.now.first) i → IsMarked self.old self.new number x.now) }
         ensures same { OnErr result (IsSame self.old self.new) }
     {
-        self.fit(i, word_of(x.first), count)?;
+        self.fit(i, x, x.first, count)?;
         self.write(i, x, x.first, count, word_mark(x, false));
         Ok(())
     }
@@ -298,9 +300,8 @@ impl Traces {
         ensures marked { OnOk result ((number : ℕ) → number < 2 ^ 32 → IsOwn self.old (key_of number x.now.first) i → IsMarked self.old self.new number x.now) }
         ensures same { OnErr result (IsSame self.old self.new) }
     {
-        let n = word_of(x.first);
-        self.fit(i, n, 4)?;
-        self.fit(i, n + 1, 4)?;
+        self.fit(i, x, x.first, 4)?;
+        self.fit(i, x, x.first + 4, 4)?;
         self.write(i, x, x.first, 4, word_mark(x, false));
         self.write(i, x, x.first + 4, 4, word_mark(x, true));
         Ok(())

@@ -1,5 +1,4 @@
-use Rattle.std.proofs.Common.{subst}
-use Rattle.group_traces.specs.Cells.{key_of, IsFitting}
+use Rattle.group_traces.specs.Cells.{key_of}
 use Rattle.group_traces.proofs.Written.{low_mark, marked_one}
 use Rattle.group_traces.proofs.traces.Traces.mark_one.Goals as goal
 
@@ -8,9 +7,6 @@ write-requires-clause-inside c = (c.fit.ensures.own _ c.args.i c.requires.own).i
 
 pub write-requires-clause-mark : goal.write-requires-clause-mark
 write-requires-clause-mark c = λ _. low_mark c.args.x.now c.word_mark.result c.word_mark.ensures
-
-pub write-requires-clause-fits : goal.write-requires-clause-fits
-write-requires-clause-fits c = subst (λ n. IsFitting c.fit.new.self c.args.i n c.args.count) c.word_of.ensures.value c.in_ok-fit.ensures.fits
 
 pub returns-clause-marked : goal.returns-clause-marked
 returns-clause-marked c number small own =

@@ -1,7 +1,7 @@
 use Rattle.std.proofs.Common.{◌≡◌, ◌∙◌, ◌+◌, ◌/◌, ◌%◌, ℕ, sym, subst, arith, rules}
 use Rattle.group_traces.specs.Cells.{cell_at, at_key, key_of, IsOwn, IsFitting}
 use Rattle.group_traces.proofs.Making.{own_self}
-use Rattle.group_traces.proofs.Written.{low_mark, high_mark, next_word, marked_two}
+use Rattle.group_traces.proofs.Written.{low_mark, high_mark, next_word, apart_words, marked_two}
 use Rattle.group_traces.proofs.traces.Traces.mark_two.Goals as goal
 
 pub returns-in_err-fit-2-clause-same : goal.returns-in_err-fit-2-clause-same
@@ -14,9 +14,6 @@ fit-requires-2-clause-own c =
     let own = c.fit.ensures.own _ c.args.i c.requires.own in
     own_self c.fit.new.self (cell_at c.args.self.now.cells.items c.args.i).key c.args.i own
 
-pub fit-requires-2-clause-small : goal.fit-requires-2-clause-small
-fit-requires-2-clause-small c = omega (arith, c.word_of-n.ensures.value, c.requires.even)
-
 pub write-requires-clause-inside : goal.write-requires-clause-inside
 write-requires-clause-inside c = (c.fit-2.ensures.own _ c.args.i (c.fit.ensures.own _ c.args.i c.requires.own)).inside
 
@@ -27,7 +24,9 @@ pub write-requires-clause-mark : goal.write-requires-clause-mark
 write-requires-clause-mark c = λ _. low_mark c.args.x.now c.word_mark.result c.word_mark.ensures
 
 pub write-requires-clause-fits : goal.write-requires-clause-fits
-write-requires-clause-fits c = subst (λ n. IsFitting c.fit-2.new.self c.args.i n 4) c.word_of-n.ensures.value (c.fit-2.ensures.others c.word_of-n.result c.in_ok-fit.ensures.fits)
+write-requires-clause-fits c =
+    let x = c.args.x.now in
+    c.fit-2.ensures.others (x.first % 32 / 4) x x.first 4 (apart_words x.first c.requires.even) c.in_ok-fit.ensures.fits
 
 pub write-requires-2-clause-inside : goal.write-requires-2-clause-inside
 write-requires-2-clause-inside c = (c.write.ensures.own _ c.args.i (c.fit-2.ensures.own _ c.args.i (c.fit.ensures.own _ c.args.i c.requires.own))).inside
@@ -41,8 +40,7 @@ write-requires-2-clause-mark c = λ _. high_mark c.args.x.now c.word_mark-2.resu
 pub write-requires-2-clause-fits : goal.write-requires-2-clause-fits
 write-requires-2-clause-fits c =
     let x = c.args.x.now in
-    let at : c.word_of-n.result + 1 ≡ (x.first + 4) % 32 / 4 = omega (arith, c.word_of-n.ensures.value, c.requires.even) in
-    subst (λ n. IsFitting c.write.new.self c.args.i n 4) at (c.write.ensures.others (c.word_of-n.result + 1) 4 c.in_ok-fit-2.ensures.fits)
+    c.write.ensures.others ((x.first + 4) % 32 / 4) x (x.first + 4) 4 (λ e. apart_words x.first c.requires.even (sym e)) c.in_ok-fit-2.ensures.fits
 
 pub returns-clause-marked : goal.returns-clause-marked
 returns-clause-marked c number small own =
