@@ -1,12 +1,10 @@
 -- What is kept once a cell is made, a word is kept apart, or an access is added to a word.
-use Rattle.std.proofs.Common.{◌≡◌, ℕ, ◌+◌, ◌%◌, ◌<◌, ◌≤◌, nat_eq, false, Some, List, [], ◌∷◌, ◌++◌, length, get_or, zero, suc, refl, sym, ap, ◌∙◌, subst, arith}
+use Rattle.std.proofs.Common.{◌≡◌, ℕ, ◌<◌, nat_eq, false, Some, List, [], ◌∷◌, ◌++◌, length, get_or, zero, suc, refl, sym, ap, ◌∙◌, subst, arith}
 use Rattle.std.specs.HashMap.{get}
 use Rattle.std.proofs.lemmas.List.{get_or_push, length_push}
 use Rattle.clmodel.specs.declared.access.Access.{Access}
-use Rattle.shadow.specs.Seen.{byte_mark, mark_of}
-use Rattle.shadow.specs.declared.words.WordMark.{WordMark}
-use Rattle.group_traces.specs.Traces.{untouched, trace_with, part_with}
-use Rattle.group_traces.specs.Cells.{word_trace, IsWhole, cell_at, word_at, placed_trace, at_key, IsOwn, IsWritten, IsPut, IsPart, FitsWith, IsFitting}
+use Rattle.group_traces.specs.Traces.{untouched, part_with}
+use Rattle.group_traces.specs.Cells.{word_trace, cell_at, word_at, placed_trace, at_key, IsOwn, IsWritten, IsPut, IsPart, FitsWith, IsFitting}
 use Rattle.group_traces.specs.declared.cell.Apart.{Apart}
 use Rattle.group_traces.specs.declared.cell.Cell.{Cell}
 use Rattle.group_traces.specs.declared.cell.Word.{Word}

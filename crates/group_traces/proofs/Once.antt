@@ -1,6 +1,5 @@
 -- Bytes that were accessed once each, with an access more.
-use Rattle.std.proofs.Common.{◌≡◌, ℕ, ◌+◌, ◌-◌, ◌%◌, ◌<◌, ◌≤◌, ◌==◌, ◌&&◌, ◌||◌, Bool, true, false, not, if◌then◌else◌, length, get_or, set, refl, sym, ap, ap₂, ◌∙◌, subst, arith, eq-eqb}
-use Rattle.std.proofs.lemmas.Bool.{false≢true}
+use Rattle.std.proofs.Common.{◌≡◌, ℕ, ◌+◌, ◌%◌, ◌<◌, ◌==◌, Bool, true, false, not, if◌then◌else◌, length, get_or, set, refl, sym, ap, ap₂, ◌∙◌, arith, eq-eqb}
 use Rattle.std.proofs.lemmas.List.{get_or-set_same, get_or-set_other}
 use Rattle.clmodel.specs.declared.access.Access.{Access}
 use Rattle.clmodel.specs.declared.access.AccessKind.{AccessKind}
@@ -8,9 +7,8 @@ use Rattle.clmodel.proofs.Steps.{decided, if_true, if_false}
 use Rattle.shadow.specs.Seen.{one_sort, mark_of}
 use Rattle.shadow.specs.declared.seen.Mark.{Mark}
 use Rattle.shadow.proofs.Absorbing.{sort_self}
-use Rattle.group_traces.specs.Traces.{untouched, first_in, trace_with, grows, part_with, single_mark, single_byte, HoldsByte, HoldsBytes}
+use Rattle.group_traces.specs.Traces.{untouched, first_in, trace_with, single_mark, single_byte, HoldsByte}
 use Rattle.group_traces.specs.declared.single.Singles.{Singles}
-use Rattle.group_traces.specs.declared.trace.Trace.{Trace}
 use Rattle.group_traces.proofs.Parts.{AreWith, uncovered, with_more}
 
 -- ---- one byte

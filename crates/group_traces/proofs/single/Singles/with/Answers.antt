@@ -1,5 +1,4 @@
-use Rattle.std.proofs.Common.{◌≡◌, ◌+◌, ◌-◌, ◌%◌, ◌<◌, ℕ, false, refl, sym, ap, ◌∙◌, subst, arith}
-use Rattle.shadow.specs.Seen.{mark_of}
+use Rattle.std.proofs.Common.{◌≡◌, ◌+◌, ◌-◌, ◌%◌, ◌<◌, false, refl, sym, ap, ◌∙◌, subst, arith}
 use Rattle.shadow.specs.declared.seen.Mark.{Mark}
 use Rattle.group_traces.specs.Traces.{first_in, single_byte}
 use Rattle.group_traces.proofs.Parts.{AreWith, with_none}

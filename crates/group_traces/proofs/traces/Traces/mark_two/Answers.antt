@@ -1,5 +1,5 @@
 use Rattle.std.proofs.Common.{◌≡◌, ◌∙◌, ◌+◌, ◌/◌, ◌%◌, ℕ, sym, subst, arith, rules}
-use Rattle.group_traces.specs.Cells.{cell_at, at_key, key_of, IsOwn, IsFitting}
+use Rattle.group_traces.specs.Cells.{cell_at, at_key, key_of, IsOwn}
 use Rattle.group_traces.proofs.Making.{own_self}
 use Rattle.group_traces.proofs.Written.{low_mark, high_mark, next_word, apart_words, marked_two}
 use Rattle.group_traces.proofs.traces.Traces.mark_two.Goals as goal

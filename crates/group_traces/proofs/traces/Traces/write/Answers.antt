@@ -1,5 +1,5 @@
-use Rattle.std.proofs.Common.{◌/◌, ◌%◌, ℕ, sym, ap, ◌∙◌, subst}
-use Rattle.group_traces.specs.Cells.{word_trace, Holds, cell_at, word_at, IsPut, FitsWith}
+use Rattle.std.proofs.Common.{◌/◌, ◌%◌, sym, ap, ◌∙◌, subst}
+use Rattle.group_traces.specs.Cells.{word_trace, cell_at, word_at, IsPut, FitsWith}
 use Rattle.group_traces.specs.Traces.{part_with}
 use Rattle.group_traces.specs.declared.cell.Word.{Word}
 use Rattle.group_traces.proofs.Keeping.{read_at, whole_holds}
