@@ -15,15 +15,17 @@ use shadow::{GroupAccesses, LastingList};
 use shadow_list::{AccessLog, Entry, Fenced, Hit, Logged};
 use std::alloc::{AllocError, Global};
 
-/// The log of a group that is running, which keeps only accesses that tell a conflict that none before tells. Its list, of all accesses, is
-/// there for proofs alone.
+/// The log of a group that is running, which keeps only accesses that tell a conflict that none before tells. Its list,
+/// of all accesses, is there for proofs alone.
 ///
-/// A new access costs one look-up in a hash table, and a step or two for each word of four bytes, or for each byte of a word that was accessed
-/// in part; and some more where it is kept. While none conflict, at most two are kept of each byte for the running interval, whatever their
-/// number, and those of an address space are let go at a barrier that fences it; and at most two for other groups. What goes on as a loop does
-/// is kept by lines (`EntryLines`), each other access in some 56 bytes. What is known of bytes stays at a barrier: some 300 bytes for each cell
-/// of 32 bytes that was touched, 90 more for each word that was accessed in part. Where an access may conflict all kept ones are walked for the
-/// exact answer, which ends a launch where there is a conflict.
+/// A new access costs one look-up in a hash table, and a step or two for each word of four bytes, or for each byte of
+/// a word that was accessed in part; and some more where it is kept. While none conflict, at most two are kept of
+/// each byte for the running interval, whatever their number, and those of an address space are let go at a barrier
+/// that fences it; and at most two for other groups. What goes on as a loop does is kept by lines (`EntryLines`),
+/// each other access in some 56 bytes. What is known of bytes stays at a barrier: some 300 bytes for each cell of 32
+/// bytes that was touched, and 80 more for each word whose bytes were accessed apart, and by more than one item, kind
+/// or interval. Where an access may conflict all kept ones are walked for the exact answer, which ends a launch where
+/// there is a conflict.
 #[derive(Drop)]
 pub struct GroupLog {
     local: Side,
@@ -54,7 +56,8 @@ fn stamped(entry: Entry, interval: u32) -> Entry
 }
 
 impl GroupLog {
-    /// A log without accesses, in the first interval of both address spaces, of a launch that is uniform or not. It takes no memory.
+    /// A log without accesses, in the first interval of both address spaces, of a launch that is uniform or not. It
+    /// takes no memory.
     pub fn new(alloc: Global, uniform: bool) -> Self
         ensures { logged (all_of result.whole.items) result.local.interval result.global.interval result.global.uniform ≡ fresh_log uniform }
     {
@@ -66,8 +69,8 @@ impl GroupLog {
         }
     }
 
-    /// Forgets all accesses, in the first interval of both address spaces. The memory that told accesses of the group is used again where much
-    /// of it was in use: to clear it takes time in proportion to all of it.
+    /// Forgets all accesses, in the first interval of both address spaces. The memory that told accesses of the group
+    /// is used again where much of it was in use: to clear it takes time in proportion to all of it.
     fn clear(&mut self, alloc: Global)
         ensures { logged (all_of self.new.whole.items) self.new.local.interval self.new.global.interval self.new.global.uniform ≡ fresh_log self.old.global.uniform }
     {

@@ -17,18 +17,21 @@ use group_traces::{Look, Sight, Traces, is_near};
 use shadow_list::{Entry, Hit};
 use std::alloc::{AllocError, Global};
 
-/// What is kept of the accesses of the running interval of local or of global memory: those that tell a conflict that none before tells.
+/// What is kept of the accesses of the running interval of local or of global memory: those that tell a conflict that
+/// none before tells.
 #[derive(Drop)]
 pub(crate) struct Side {
     pub(crate) uniform: bool,
     /// The number of the running interval.
     pub(crate) interval: u32,
     pub(crate) kept: EntryLines,
-    /// The region of the first access that was kept. Others are in regions that differ from it in the object's number alone.
+    /// The region of the first access that was kept. Others are in regions that differ from it in the object's number
+    /// alone.
     home: Option<Region>,
     /// What is kept of each byte, by which most accesses are found to have no conflict, or to tell none anew.
     traces: Traces,
-    /// Whether `traces` tells of all accesses. One that isn't near, or is of another group, ends that: each is judged by the kept ones then.
+    /// Whether `traces` tells of all accesses. One that isn't near, or is of another group, ends that: each is judged
+    /// by the kept ones then.
     whole: bool,
     ghost stands: { whole ≡ true → ∥ AllStand uniform interval kept.items traces home ∥₁ },
 }
@@ -103,7 +106,8 @@ impl Side {
         self.whole = true;
     }
 
-    /// Forgets all accesses, as `new` begins. The memory is kept, or given back where less than an eighth of it was in use.
+    /// Forgets all accesses, as `new` begins. The memory is kept, or given back where less than an eighth of it was in
+    /// use.
     pub(crate) fn clear(&mut self, alloc: Global)
         ensures kept { self.new.kept.items ≡ [] }
         ensures interval { self.new.interval ≡ 0 }
@@ -183,8 +187,8 @@ impl Side {
         self.kept.push_reserved(entry);
     }
 
-    /// Keeps an access of the running interval for which there is room, by the number of its object and the cell of its bytes. Where memory is
-    /// refused the accesses stay.
+    /// Keeps an access of the running interval for which there is room, by the number of its object and the cell of its
+    /// bytes. Where memory is refused the accesses stay.
     fn keep_seen(&mut self, glance: Glance, number: u32, entry: Entry) -> Result<(), AllocError>
         requires interval { entry.access.interval ≡ self.old.interval }
         requires room { self.old.kept.has_room ≡ true }
@@ -202,8 +206,8 @@ impl Side {
         Ok(())
     }
 
-    /// Keeps an access of the running interval, unless it tells no conflict that kept ones don't tell. Where memory is refused the accesses
-    /// stay.
+    /// Keeps an access of the running interval, unless it tells no conflict that kept ones don't tell. Where memory is
+    /// refused the accesses stay.
     pub(crate) fn take(&mut self, glance: Glance, entry: Entry) -> Result<(), AllocError>
         requires interval { entry.access.interval ≡ self.old.interval }
         requires told { glance.look.sight.told ≡ true → Covers self.old.uniform self.old.kept.items entry.access }

@@ -135,8 +135,8 @@ impl Word {
         Word::of_singles(Singles::none(x.interval, x.kind).with(x, first, count))
     }
 
-    /// The word with one access more at so many bytes of it, from the first on, which fits, by the mark of the access at
-    /// all of it. One whose bytes are kept apart stays.
+    /// The word with one access more at so many bytes of it, from the first on, which fits, by the mark of the access
+    /// at all of it. One whose bytes are kept apart stays.
     pub(crate) fn with(self, x: &Access, first: u64, count: u64, mark: WordMark) -> Self
         requires one_word { first % 4 + count ≤ 4 }
         requires short { first + count < 2 ^ 64 }

@@ -7,7 +7,8 @@ use clmodel::access::AccessKind;
 use shadow::{Mark, mark_clash, one_sort};
 
 /// How a group accessed a byte: by which items, and of which sorts, in the newest interval in which it did, and whether
-/// there were two sorts in all. Two accesses are of one sort where they are of one kind, and stores leave the same byte.
+/// there were two sorts in all. Two accesses are of one sort where they are of one kind, and stores leave the same
+/// byte.
 #[derive(Clone, Copy)]
 pub struct Trace {
     pub interval: u32,

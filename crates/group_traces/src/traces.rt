@@ -217,8 +217,8 @@ impl Traces {
         self.cells[i].words[n] = word;
     }
 
-    /// Keeps the bytes of a word of a cell apart, unless an access at so many of them, from the first on, can be added to
-    /// what is kept of it.
+    /// Keeps the bytes of a word of a cell apart, unless an access at so many of them, from the first on, can be added
+    /// to what is kept of it.
     fn fit(&mut self, i: usize, x: &Access, first: u64, count: u64) -> Result<(), AllocError>
         requires own { IsOwn self.old (cell_at self.old.cells.items i).key i }
         requires short { first + count < 2 ^ 64 }
