@@ -80,9 +80,19 @@ def ids(values):
 
 
 def item_text(item):
-    """A work-item with its ids."""
+    """A work-item with its ids, and with the turns of the loops round its place."""
     return (f"work-item {item['item']}: global id {ids(item['global_id'])}, "
-            f"local id {ids(item['local_id'])}, group {ids(item['group_id'])}")
+            f"local id {ids(item['local_id'])}, group {ids(item['group_id'])}{turns_text(item)}")
+
+
+def turns_text(item):
+    """The turns of the loops round a work-item's place, the innermost first, behind commas."""
+    found = []
+    for loop in reversed((place_of(item) or {"loops": []})["loops"]):
+        turn = f"in turn {loop['turn']}" if loop["turn"] else "before the first turn"
+        if loop["turn"] is not None:
+            found.append(f", {turn} of the loop at {loop['script_line']}:{loop['column']}")
+    return "".join(found)
 
 
 def place_of(item):
@@ -115,6 +125,6 @@ def lines_of(whole):
             lines = dict(enumerate(file.read().split(b"\n"), 1))
     except OSError:
         lines = {}
-    if all(text in (text_of(lines.get(number, b"")), lines.get(number, b"").decode(errors="replace")) for number, text in told.items()):
+    if all(text == text_of(lines.get(number, b"")) for number, text in told.items()):
         return lines
     return {number: text.encode() for number, text in told.items()}

@@ -1,6 +1,6 @@
 -- A fault of a source, told (own).
 use Rattle.std.specs.Prelude.{◌≡◌, ℕ, ◌+◌, ◌-◌, ◌^◌, min, max, List, [], ◌++◌, length, slice_range, codes, string_bytes, Option, None, Some, option_copied}
-use Rattle.std.specs.Str.Lossy.{utf8_lossy}
+use Rattle.explanation.specs.Lines.{told_line}
 use Rattle.explain_text.specs.Texts.{place_text}
 use Rattle.lacking_words.specs.Spelling.{word_at}
 use Rattle.source_lines.specs.Lines.{line_of, BeginsLine, EndsLine}
@@ -24,7 +24,7 @@ pub record IsRefusal (source : List ℕ) (first_line : ℕ) (fault : Refused) (r
   pub begins : BeginsLine source refusal.offset begin
   pub ends : EndsLine source begin end
   pub column : begin + refusal.column ≡ refusal.offset + 1
-  pub text : string_bytes refusal.text ≡ utf8_lossy (slice_range source begin end)
+  pub text : string_bytes refusal.text ≡ told_line (slice_range source begin end)
   pub title : refusal.title.now ≡ title_of fault
   pub hint : option_copied refusal.hint ≡ fault_said source fault refusal.offset
 

@@ -8,6 +8,7 @@ use crate::faults::{Refused, kind_of, name_of, number_of, place_of};
 use crate::hints::hint_of;
 use crate::titles::title_of;
 use explain_text::{place_text, write_quote};
+use explanation::line_as_text;
 use lacking_words::word_at;
 use source_lines::{line_text, position_of};
 use std::alloc::{AllocError, Global};
@@ -29,7 +30,7 @@ pub struct Refusal {
     pub line: usize,
     pub script_line: usize,
     pub column: usize,
-    /// The text of its line
+    /// The text of its line, in which its column is the same
     pub text: String,
     /// What the fault says
     pub title: &'static str,
@@ -49,7 +50,7 @@ pub fn refusal_of(
 {
     let offset = (place_of(fault) as usize).min(source.len());
     let place = position_of(source, offset);
-    let text = String::from_utf8_lossy(alloc, line_text(source, place.begin))?;
+    let text = line_as_text(alloc, line_text(source, place.begin))?;
     let hint = hint_of(alloc, source, fault, offset)?;
     let (kind, number, name) = (kind_of(fault), number_of(fault), name_of(fault));
     let length = word_at(source, offset).len().max(1);

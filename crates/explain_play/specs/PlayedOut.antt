@@ -54,10 +54,10 @@ pub record IsEventOf (marks : List Mark) (item number : ℕ) : Type 0 where
   pub at : slice_get marks number ≡ Some mark
   pub is : mark.event ≡ event.Item item
 
--- The events were played from the start to a state, each with the place from which its item acts, and with the numbers that its access finds and
--- leaves. The first accesses of the log there are told.
--- If two accesses are found, they are in the log, and are those of the fault; and each of the two named items acts from the place that is told
--- of it (own).
+-- The events were played from the start to a state, each with where its item stands that acts by it, and with the numbers that its access finds
+-- and leaves. The first accesses of the log there are told.
+-- If two accesses are found, they are in the log, and are those of the fault; and each of the two named items acts from where it is
+-- told to stand (own).
 pub record IsPlayedOut (launch : Launch) (size : ℕ) (events : Events) (f : Fault) (first second most : ℕ) (played : Played) : Type 0 where
   pub end : State
   pub marked : events_in played.marks.items ≡ events
@@ -66,5 +66,5 @@ pub record IsPlayedOut (launch : Launch) (size : ℕ) (events : Events) (f : Fau
   pub paired : IfSome played.pair (λ pair. (told : Told) × Tells launch f told × IsFoundPair launch told (reverse end.log) pair)
   pub first_named : played.first.item ≡ first
   pub second_named : played.second.item ≡ second
-  pub first_acts : ActsFrom launch end first played.first.place
-  pub second_acts : ActsFrom launch end second played.second.place
+  pub first_acts : ActsFrom launch end first played.first.stand
+  pub second_acts : ActsFrom launch end second played.second.stand

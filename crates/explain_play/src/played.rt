@@ -1,4 +1,4 @@
-//! A schedule played with the places of its items.
+//! A schedule played with where its items stand.
 #![tactic(auto)]
 
 ghost use Rattle.std.specs.Prelude.{◌≡◌, ◌≤◌, map, count_by, take, Some, IfOk, IfNone, IfSome};
@@ -27,7 +27,7 @@ use clmodel::text::Name;
 use item_step::Launch;
 use launches::laws::setups_are_runnable;
 use launches::{Described, LoadedLaunch, Runnable, group_count};
-use marked_play::{Mark, Pair, Partner, Replica, Told, find_pair, mark_schedule, place_of};
+use marked_play::{Mark, Pair, Partner, Replica, Stand, Told, find_pair, mark_schedule, stand_of};
 use replay_play::Player;
 use shadow_list::both_store;
 use spaces_base::{Buffers, Plain};
@@ -43,17 +43,17 @@ pub struct Touch {
     pub bytes: u64,
 }
 
-/// Where a named item stands behind a schedule: its place, if it hasn't ended, and the element size of its next access,
-/// if it is one.
-#[derive(Clone, Copy)]
+/// Where a named item stands behind a schedule, if it hasn't ended, and the element size of its next access, if it is
+/// one.
+#[derive(Drop)]
 pub struct Standing {
     pub item: u32,
-    pub place: Option<usize>,
+    pub stand: Option<Stand>,
     pub width: Option<u64>,
 }
 
-/// What a schedule came to: its events with their places, its accesses, the conflicting two of these, and where the
-/// named items stand.
+/// What a schedule came to: its events with where their items stand, its accesses, the conflicting two of these, and
+/// where the named items stand.
 #[derive(Drop)]
 pub struct Played {
     pub marks: Vec<Mark>,
@@ -156,14 +156,14 @@ fn touches_of<D: Described>(
 fn standing_of<D: Runnable>(player: &mut Player<'_, D>, item: u32) -> Result<Standing, AllocError>
     ensures same { (launch : TheLaunch) (state : State) → IsAt D.launch launch player.old state → IsAt D.launch launch player.new state }
     ensures item { IfOk result (λ standing. standing.item ≡ item) }
-    ensures acts { IfOk result (λ standing. (launch : TheLaunch) (state : State) → IsAt D.launch launch player.old state → ActsFrom launch state item standing.place) }
+    ensures acts { IfOk result (λ standing. (launch : TheLaunch) (state : State) → IsAt D.launch launch player.old state → ActsFrom launch state item standing.stand) }
 {
-    let place = place_of(player, item)?;
+    let stand = stand_of(player, item)?;
     let width = match player.action(item)? {
         Some(Action::Access { operation, .. }) => Some(operation.width().bytes()),
         _ => None,
     };
-    Ok(Standing { item, place, width })
+    Ok(Standing { item, stand, width })
 }
 
 /// A replica of the memory of a launch of so many groups, before its first event. An error is out of memory.

@@ -1,4 +1,4 @@
--- From the origin of an instruction to its place in the source, and from an event to the place from which it acts.
+-- From the origin of an instruction to its place in the source, and from an event to where its item stands.
 use Rattle.std.proofs.Common.{◌≡◌, ℕ, Option, None, Some, List, refl, sym, ap, ◌∙◌}
 use Rattle.std.specs.Option.{IfSome, option_and_then}
 use Rattle.std.proofs.lemmas.Option.{IfSome_then}
@@ -10,33 +10,35 @@ use Rattle.explanation.specs.declared.told.NamedItem.{NamedItem}
 use Rattle.marked_play.specs.declared.marks.Mark.{Mark}
 use Rattle.origins.specs.Finding.{IsOriginIn}
 use Rattle.origins.specs.declared.origin.Origin.{Origin}
-use Rattle.explain_reasons.specs.Named.{IsAccessPlace, IsItemPlace, place_of}
+use Rattle.replay_play.specs.declared.slot.Stand.{Stand}
+use Rattle.source_spots.specs.Spots.{HaveTurns}
+use Rattle.explain_reasons.specs.Named.{IsAccessStand, IsItemStand, stand_of}
 use Rattle.explain_reasons.specs.Spotted.{BeginsAt, IsNamed, IsSpotted}
 
 pub spotted :
-    (setup : Setup) (place : ℕ) (text : List ℕ) (first : ℕ) (origin : Origin) (spot : Spot) → IsOriginIn setup.program.functions setup.kernel place (Some origin)
-    → (kernel_in setup.program.functions setup.kernel ≡ None → Some origin ≡ None) → BeginsAt text first origin spot → IsSpotted setup place text first spot
-spotted setup place text first origin spot is none begins = at (kernel_in setup.program.functions setup.kernel) refl
+    (setup : Setup) (stand : Stand) (text : List ℕ) (first : ℕ) (origin : Origin) (spot : Spot) → IsOriginIn setup.program.functions setup.kernel stand.place (Some origin)
+    → (kernel_in setup.program.functions setup.kernel ≡ None → Some origin ≡ None) → BeginsAt text first origin spot → HaveTurns stand.turns spot.loops.items → IsSpotted setup stand text first spot
+spotted setup stand text first origin spot is none begins turns = at (kernel_in setup.program.functions setup.kernel) refl
   where
-    at : (o : Option Func) → kernel_in setup.program.functions setup.kernel ≡ o → IsSpotted setup place text first spot
+    at : (o : Option Func) → kernel_in setup.program.functions setup.kernel ≡ o → IsSpotted setup stand text first spot
     at None e = let n : Some origin ≡ None = none e in cc
-    at (Some f) e = record { kernel = f; known = e; origin = origin; is = is f e; begins_at = begins }
+    at (Some f) e = record { kernel = f; known = e; origin = origin; is = is f e; begins_at = begins; turned = turns }
 
-pub access_place :
-    (marks : List Mark) (access : ℕ) (event place : Option ℕ) → IfSome event (MadeAccess marks access) → place ≡ place_of marks event → (p : ℕ) → place ≡ Some p → IsAccessPlace marks access p
-access_place marks access None place made e p is = let n : None ≡ Some p = sym e ∙ is in cc
-access_place marks access (Some number) place made e p is =
-    record { number = number; made = made; at = sym (ap (option_and_then (λ mark. mark.place)) made.at) ∙ sym e ∙ is }
+pub access_stand :
+    (marks : List Mark) (access : ℕ) (event : Option ℕ) (stand : Option Stand) → IfSome event (MadeAccess marks access) → stand ≡ stand_of marks event → (p : Stand) → stand ≡ Some p → IsAccessStand marks access p
+access_stand marks access None stand made e p is = let n : None ≡ Some p = sym e ∙ is in cc
+access_stand marks access (Some number) stand made e p is =
+    record { number = number; made = made; at = sym (ap (option_and_then (λ mark. mark.stand)) made.at) ∙ sym e ∙ is }
 
-pub item_place :
-    (marks : List Mark) (item : ℕ) (event place : Option ℕ) → IfSome event (IsEventOf marks item) → place ≡ place_of marks event → (p : ℕ) → place ≡ Some p → IsItemPlace marks item p
-item_place marks item None place made e p is = let n : None ≡ Some p = sym e ∙ is in cc
-item_place marks item (Some number) place made e p is =
-    record { number = number; event = made; at = sym (ap (option_and_then (λ mark. mark.place)) made.at) ∙ sym e ∙ is }
+pub item_stand :
+    (marks : List Mark) (item : ℕ) (event : Option ℕ) (stand : Option Stand) → IfSome event (IsEventOf marks item) → stand ≡ stand_of marks event → (p : Stand) → stand ≡ Some p → IsItemStand marks item p
+item_stand marks item None stand made e p is = let n : None ≡ Some p = sym e ∙ is in cc
+item_stand marks item (Some number) stand made e p is =
+    record { number = number; event = made; at = sym (ap (option_and_then (λ mark. mark.stand)) made.at) ∙ sym e ∙ is }
 
 -- the same item, where more is known of the places
 pub named_at :
-    (setup : Setup) (text : List ℕ) (first : ℕ) (here before here' before' : ℕ → Type 0) (item : ℕ) (named : NamedItem) → ((p : ℕ) → here p → here' p) → ((p : ℕ) → before p → before' p)
+    (setup : Setup) (text : List ℕ) (first : ℕ) (here before here' before' : Stand → Type 0) (item : ℕ) (named : NamedItem) → ((p : Stand) → here p → here' p) → ((p : Stand) → before p → before' p)
     → IsNamed setup text first here before item named → IsNamed setup text first here' before' item named
 named_at setup text first here before here' before' item named f g n = record {
   number = n.number;

@@ -12,46 +12,47 @@ use Rattle.explanation.specs.declared.told.NamedItem.{NamedItem}
 use Rattle.item_step.specs.Launches.{setup_of}
 use Rattle.marked_play.specs.declared.marks.Mark.{Mark}
 use Rattle.marked_play.specs.declared.pairs.Pair.{Pair}
+use Rattle.replay_play.specs.declared.slot.Stand.{Stand}
 use Rattle.explain_reasons.specs.Spotted.{IsNamed}
 use Rattle.explain_reasons.specs.declared.context.Context.{Context}
 
--- the place from which the event of a number acts, if there is one
-abbrev pub place_of : List Mark → Option ℕ → Option ℕ
-place_of marks event = option_and_then (λ number. option_and_then (λ mark. mark.place) (slice_get marks number)) event
+-- where the item of the event of a number stands, if there is one
+abbrev pub stand_of : List Mark → Option ℕ → Option Stand
+stand_of marks event = option_and_then (λ number. option_and_then (λ mark. mark.stand) (slice_get marks number)) event
 
--- a place from which the access of a number was made
-pub record IsAccessPlace (marks : List Mark) (access place : ℕ) : Type 0 where
+-- where an item stood that made the access of a number
+pub record IsAccessStand (marks : List Mark) (access : ℕ) (stand : Stand) : Type 0 where
   pub number : ℕ
   pub made : MadeAccess marks access number
-  pub at : made.mark.place ≡ Some place
+  pub at : made.mark.stand ≡ Some stand
 
--- a place from which an item made an access
-pub record IsItemPlace (marks : List Mark) (item place : ℕ) : Type 0 where
+-- where an item stood that made an access
+pub record IsItemStand (marks : List Mark) (item : ℕ) (stand : Stand) : Type 0 where
   pub number : ℕ
   pub event : IsEventOf marks item number
-  pub at : event.mark.place ≡ Some place
+  pub at : event.mark.stand ≡ Some stand
 
--- where an item is told: at the access of this number, at the place at which it stands, or at none, since it has ended
+-- where an item is told: at the access of this number, where it stands, or nowhere, since it has ended
 pub data Site : Type 0 where
   AtAccess : ℕ → Site
-  AtPlace : Option ℕ → Site
+  AtStand : Option Stand → Site
   AtEnd : Site
 
-abbrev pub IsHere : List Mark → Site → ℕ → Type 0
-IsHere marks (AtAccess access) place = IsAccessPlace marks access place
-IsHere marks (AtPlace o) place = o ≡ Some place
-IsHere marks AtEnd place = ⊥
+abbrev pub IsHere : List Mark → Site → Stand → Type 0
+IsHere marks (AtAccess access) stand = IsAccessStand marks access stand
+IsHere marks (AtStand o) stand = o ≡ Some stand
+IsHere marks AtEnd stand = ⊥
 
 -- where the last access of an item is told: of one that has ended
-abbrev pub IsBefore : List Mark → ℕ → Site → ℕ → Type 0
-IsBefore marks item (AtAccess access) place = ⊥
-IsBefore marks item (AtPlace o) place = ⊥
-IsBefore marks item AtEnd place = IsItemPlace marks item place
+abbrev pub IsBefore : List Mark → ℕ → Site → Stand → Type 0
+IsBefore marks item (AtAccess access) stand = ⊥
+IsBefore marks item (AtStand o) stand = ⊥
+IsBefore marks item AtEnd stand = IsItemStand marks item stand
 
 -- the item of a number at a site, of this launch and with places in this source
 abbrev pub IsTold : Context → List Mark → ℕ × Site → NamedItem → Type 0
 IsTold context marks told named =
-    IsNamed (setup_of context.launch.now) context.program.text.now context.program.first_line (λ place. IsHere marks told.1 place) (λ place. IsBefore marks told.0 told.1 place)
+    IsNamed (setup_of context.launch.now) context.program.text.now context.program.first_line (λ stand. IsHere marks told.1 stand) (λ stand. IsBefore marks told.0 told.1 stand)
     told.0 named
 
 -- these items, in this order
@@ -63,21 +64,21 @@ abbrev pub in_order : {X : Type 0} → Pair → X → X → List X
 in_order pair first second = if nat_lt pair.second pair.first then second ∷ first ∷ [] else first ∷ second ∷ []
 
 -- where an item is told that has come to a stop
-abbrev pub site_of : Stop → Option ℕ → Site
-site_of stop.Ended place = AtEnd
-site_of (stop.At instance) place = AtPlace place
+abbrev pub site_of : Stop → Option Stand → Site
+site_of stop.Ended stand = AtEnd
+site_of (stop.At instance) stand = AtStand stand
 
 -- the items that are told: of a conflict its two, or none where its accesses weren't found; else those that stand somewhere
 abbrev pub told_items : Fault → Played → List (ℕ × Site)
 told_items (fault.Conflict clash item kind other_item other_kind location byte) played =
     option_map_or (λ pair. in_order pair (item, AtAccess pair.first) (other_item, AtAccess pair.second)) played.pair []
 told_items (fault.Divergence item one other_item other) played =
-    (played.first.item, site_of one played.first.place) ∷ (played.second.item, site_of other played.second.place) ∷ []
-told_items (fault.Bounds item kind location element) played = (played.first.item, AtPlace played.first.place) ∷ []
-told_items (fault.PrivateBounds item array element) played = (played.first.item, AtPlace played.first.place) ∷ []
-told_items (fault.Unset item kind location byte) played = (played.first.item, AtPlace played.first.place) ∷ []
-told_items (fault.UnsetVariable item variable) played = (played.first.item, AtPlace played.first.place) ∷ []
-told_items (fault.UnsetElement item array element) played = (played.first.item, AtPlace played.first.place) ∷ []
-told_items (fault.DivideByZero item) played = (played.first.item, AtPlace played.first.place) ∷ []
-told_items (fault.DivideOverflow item) played = (played.first.item, AtPlace played.first.place) ∷ []
-told_items (fault.Budget item) played = (played.first.item, AtPlace played.first.place) ∷ []
+    (played.first.item, site_of one played.first.stand) ∷ (played.second.item, site_of other played.second.stand) ∷ []
+told_items (fault.Bounds item kind location element) played = (played.first.item, AtStand played.first.stand) ∷ []
+told_items (fault.PrivateBounds item array element) played = (played.first.item, AtStand played.first.stand) ∷ []
+told_items (fault.Unset item kind location byte) played = (played.first.item, AtStand played.first.stand) ∷ []
+told_items (fault.UnsetVariable item variable) played = (played.first.item, AtStand played.first.stand) ∷ []
+told_items (fault.UnsetElement item array element) played = (played.first.item, AtStand played.first.stand) ∷ []
+told_items (fault.DivideByZero item) played = (played.first.item, AtStand played.first.stand) ∷ []
+told_items (fault.DivideOverflow item) played = (played.first.item, AtStand played.first.stand) ∷ []
+told_items (fault.Budget item) played = (played.first.item, AtStand played.first.stand) ∷ []

@@ -1,5 +1,5 @@
 -- Items that a fault names, with their places in the source (own).
-use Rattle.std.specs.Prelude.{◌≡◌, ℕ, Some, List, length, min, slice_get}
+use Rattle.std.specs.Prelude.{◌≡◌, ℕ, Some, List, length, min, slice_get, string_bytes}
 use Rattle.std.specs.Option.{IfSome}
 use Rattle.clmodel.specs.Setup.{Setup, kernel_in, functions_before}
 use Rattle.clmodel.specs.Tree.{Func}
@@ -9,28 +9,32 @@ use Rattle.item_ids.specs.Ids.{AreIds}
 use Rattle.origins.specs.Finding.{plain}
 use Rattle.origins.specs.Origins.{kernel_origins, node_at, node_of}
 use Rattle.origins.specs.declared.origin.Origin.{Origin}
-use Rattle.source_spots.specs.Spots.{IsPlace}
+use Rattle.replay_play.specs.declared.slot.Stand.{Stand}
+use Rattle.source_spots.specs.Spots.{HaveTurns, IsPlace, IsToldLine}
 
--- a place in the source is where the node of an origin begins
+-- a place in the source is where the node of an origin begins, and is told with its line
 pub record BeginsAt (text : List ℕ) (first : ℕ) (origin : Origin) (spot : Spot) : Type 0 where
   pub begins : spot.offset ≡ min (node_at (node_of origin.node)) (length text)
   pub stands : IsPlace text first spot.offset spot.line spot.column spot.script_line
+  pub told : IsToldLine text spot.offset (string_bytes spot.text)
 
--- a place of a kernel's code in the source: where the node begins whose own instruction stands there
-pub record IsSpotted (setup : Setup) (place : ℕ) (text : List ℕ) (first : ℕ) (spot : Spot) : Type 0 where
+-- Where an item stands in the source: where the node begins whose own instruction stands at the item's place. The loops round it are told in the
+-- item's turns.
+pub record IsSpotted (setup : Setup) (stand : Stand) (text : List ℕ) (first : ℕ) (spot : Spot) : Type 0 where
   pub kernel : Func
   pub known : kernel_in setup.program.functions setup.kernel ≡ Some kernel
   pub origin : Origin
-  pub is : slice_get (kernel_origins (functions_before setup.program.functions setup.kernel) kernel) place ≡ Some (plain origin)
+  pub is : slice_get (kernel_origins (functions_before setup.program.functions setup.kernel) kernel) stand.place ≡ Some (plain origin)
   pub begins_at : BeginsAt text first origin spot
+  pub turned : HaveTurns stand.turns spot.loops.items
 
--- a place in the source is that of a place of the code of which p holds
-abbrev pub HasSpot : Setup → List ℕ → ℕ → (ℕ → Type 0) → Spot → Type 0
-HasSpot setup text first p spot = (place : ℕ) × p place × IsSpotted setup place text first spot
+-- a place in the source is where an item stands of which p holds
+abbrev pub HasSpot : Setup → List ℕ → ℕ → (Stand → Type 0) → Spot → Type 0
+HasSpot setup text first p spot = (stand : Stand) × p stand × IsSpotted setup stand text first spot
 
--- The item of a number with its own ids (OpenCL 1.2, sections 3.2 and 6.12.1). What it does is told at a place of which `here` holds, and its
--- last access at one of which `before` holds.
-pub record IsNamed (setup : Setup) (text : List ℕ) (first : ℕ) (here before : ℕ → Type 0) (item : ℕ) (named : NamedItem) : Type 0 where
+-- The item of a number with its own ids (OpenCL 1.2, sections 3.2 and 6.12.1). What it does is told where it stands so that `here` holds,
+-- and its last access where it stood so that `before` holds.
+pub record IsNamed (setup : Setup) (text : List ℕ) (first : ℕ) (here before : Stand → Type 0) (item : ℕ) (named : NamedItem) : Type 0 where
   pub number : named.item ≡ item
   pub ids : AreIds setup.range item named.ids
   pub spotted : IfSome named.spot (HasSpot setup text first here)

@@ -4,6 +4,7 @@
 use crate::context::Context;
 use clmodel::text::Name;
 use clmodel::tree::{Expression, Function, Statement};
+use marked_play::Stand;
 use origins::Node;
 use std::alloc::AllocError;
 
@@ -165,17 +166,16 @@ fn function_at(functions: &[Function], at: u32) -> Option<&Function> {
     last
 }
 
-/// The private array of a name that is used at a place of the code, where its declaration is found. An error is out of
-/// memory.
+/// The private array of a name that is used where an item stands, if its declaration is found. An error is out of memory.
 pub fn array_of(
     context: &Context<'_>,
-    place: Option<usize>,
+    stand: Option<&Stand>,
     name: &Name,
 ) -> Result<Option<PrivateArray>, AllocError> {
-    let Some(place) = place else {
+    let Some(stand) = stand else {
         return Ok(None);
     };
-    let Some(origin) = context.origin(place)? else {
+    let Some(origin) = context.origin(stand.place)? else {
         return Ok(None);
     };
     let tree = context.launch.tree();

@@ -1,20 +1,21 @@
 //! What is known of a launch: its source, its tree, its commands.
 #![tactic(auto)]
 
-ghost use Rattle.std.specs.Prelude.{◌≡◌, None, Some, IfOk, IfSome};
+ghost use Rattle.std.specs.Prelude.{◌≡◌, None, Some, IfOk, IfSome, option_copied};
 ghost use Rattle.clmodel.specs.Setup.{kernel_in};
 ghost use Rattle.item_step.specs.Launches.{setup_of};
 ghost use Rattle.origins.specs.Finding.{IsOriginIn};
+ghost use Rattle.source_spots.specs.Spots.{HaveTurns};
 ghost use Rattle.explain_reasons.specs.Spotted.{BeginsAt, HasSpot, IsSpotted};
 
 use clmodel::text::Name;
 use clmodel::tree::{Expression, Statement, Target};
-use explanation::{Code, NodeKind, Spot, line_as_text};
+use explanation::{Code, NodeKind, Spot};
 use host_commands::command::Command;
 use item_step::Launch;
 use launch_facts::ProgramSource;
+use marked_play::Stand;
 use origins::{Node, Origin, origin_of};
-use source_lines::{line_text, position_of};
 use source_spots::{Source, code_of, spot_of};
 use std::alloc::{AllocError, Global};
 
@@ -72,22 +73,19 @@ fn kind_of(node: Node<'_>) -> NodeKind {
     }
 }
 
-/// The text of the line in which a byte stands, or the end, with as many bytes as the line has. An error is out of
-/// memory.
-fn line_at(alloc: Global, source: &[u8], at: usize) -> Result<String, AllocError> {
-    let begin = position_of(source, at.min(source.len())).begin;
-    line_as_text(alloc, line_text(source, begin))
-}
-
-/// The place of an origin in a source. An error is out of memory.
-fn spot_in(alloc: Global, source: &Source<'_>, origin: &Origin<'_>) -> Result<Spot, AllocError>
-    ensures { IfOk result (BeginsAt source.now.text.now source.now.first_line origin.now) }
+/// The place of an origin in a source, with the loops round it in these turns. An error is out of memory.
+fn spot_in(
+    alloc: Global,
+    source: &Source<'_>,
+    origin: &Origin<'_>,
+    turns: &[u32],
+) -> Result<Spot, AllocError>
+    ensures begins { IfOk result (BeginsAt source.now.text.now source.now.first_line origin.now) }
+    ensures turns { IfOk result (λ spot. HaveTurns turns.now spot.loops.items) }
 {
     let node = origin.node;
     let through = origin.through.as_slice();
-    let mut spot = spot_of(alloc, source, kind_of(node), node.at(), through)?;
-    spot.text = line_at(alloc, source.text, spot.offset)?;
-    Ok(spot)
+    spot_of(alloc, source, kind_of(node), node.at(), through, turns)
 }
 
 impl<'a> Context<'a> {
@@ -116,35 +114,38 @@ impl<'a> Context<'a> {
         origin_of(self.alloc, self.launch.tree(), self.launch.kernel(), place)
     }
 
-    /// The place in the source of the instruction at a place of the code. An error is out of memory.
-    fn spot_at(&self, place: usize) -> Result<Option<Spot>, AllocError>
-        ensures { IfOk result (λ found. IfSome found (IsSpotted (setup_of self.now.launch.now) place self.now.program.text.now self.now.program.first_line)) }
+    /// Where an item stands in the source. An error is out of memory.
+    fn spot_at(&self, stand: &Stand) -> Result<Option<Spot>, AllocError>
+        ensures { IfOk result (λ found. IfSome found (IsSpotted (setup_of self.now.launch.now) stand.now self.now.program.text.now self.now.program.first_line)) }
     {
         let Some(source) = self.source() else {
             return Ok(None);
         };
-        match self.origin(place)? {
-            Some(origin) => Ok(Some(spot_in(self.alloc, &source, &origin)?)),
+        match self.origin(stand.place)? {
+            Some(origin) => {
+                let turns = stand.turns.as_slice();
+                Ok(Some(spot_in(self.alloc, &source, &origin, turns)?))
+            }
             None => Ok(None),
         }
     }
 
-    /// The place in the source of the instruction at a place of the code, if one is given. An error is out of memory.
-    pub(crate) fn spot(&self, place: Option<usize>) -> Result<Option<Spot>, AllocError>
-        ensures { IfOk result (λ found. IfSome found (HasSpot (setup_of self.now.launch.now) self.now.program.text.now self.now.program.first_line (λ p. place ≡ Some p))) }
+    /// The same, if the item stands anywhere. An error is out of memory.
+    pub(crate) fn spot(&self, stand: Option<&Stand>) -> Result<Option<Spot>, AllocError>
+        ensures { IfOk result (λ found. IfSome found (HasSpot (setup_of self.now.launch.now) self.now.program.text.now self.now.program.first_line (λ s. option_copied stand.entry ≡ Some s))) }
     {
-        match place {
-            Some(place) => self.spot_at(place),
+        match stand {
+            Some(stand) => self.spot_at(stand),
             None => Ok(None),
         }
     }
 
     /// The same in short.
-    pub(crate) fn code(&self, place: Option<usize>) -> Result<Option<Code>, AllocError> {
-        let (Some(place), Some(source)) = (place, self.source()) else {
+    pub(crate) fn code(&self, stand: Option<&Stand>) -> Result<Option<Code>, AllocError> {
+        let (Some(stand), Some(source)) = (stand, self.source()) else {
             return Ok(None);
         };
-        match self.origin(place)? {
+        match self.origin(stand.place)? {
             Some(origin) => {
                 let (kind, at) = (kind_of(origin.node), origin.node.at());
                 Ok(Some(code_of(self.alloc, &source, kind, at)?))

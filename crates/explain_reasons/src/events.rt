@@ -1,11 +1,11 @@
-//! What an event is, and where it is made.
+//! What an event is, and where its item stands.
 #![tactic(auto)]
 
-ghost use Rattle.std.specs.Prelude.{◌≡◌};
-ghost use Rattle.explain_reasons.specs.Named.{place_of};
+ghost use Rattle.std.specs.Prelude.{◌≡◌, option_copied};
+ghost use Rattle.explain_reasons.specs.Named.{stand_of};
 
 use clmodel::schedule::Event;
-use marked_play::Mark;
+use marked_play::{Mark, Stand};
 
 /// Whether an event is an access of an item.
 pub(crate) fn is_access(event: Event, item: u32) -> bool {
@@ -23,12 +23,12 @@ pub(crate) fn is_release(event: Event, group: u32) -> bool {
     }
 }
 
-/// The place of an event, by its number.
-pub(crate) fn place_at(marks: &[Mark], event: Option<usize>) -> Option<usize>
-    ensures { result ≡ place_of marks.now event }
+/// Where the item of an event stands, by the event's number.
+pub(crate) fn stand_at(marks: &[Mark], event: Option<usize>) -> Option<&Stand>
+    ensures { option_copied result ≡ stand_of marks.now event }
 {
     match marks.get(event?) {
-        Some(mark) => mark.place,
+        Some(mark) => mark.stand.as_ref(),
         None => None,
     }
 }

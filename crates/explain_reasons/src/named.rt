@@ -1,22 +1,22 @@
 //! The items that a fault names.
 #![tactic(auto)]
 
-ghost use Rattle.std.specs.Prelude.{◌≡◌, [], ◌∷◌, Some, IfOk};
+ghost use Rattle.std.specs.Prelude.{◌≡◌, [], ◌∷◌, Some, IfOk, option_copied};
 ghost use Rattle.std.specs.Option.{option_map_or};
 ghost use Rattle.item_ids.specs.Ids.{AreIds};
 ghost use Rattle.item_step.specs.Launches.{setup_of};
-ghost use Rattle.explain_reasons.specs.Named.{AreTold, AtAccess, AtEnd, AtPlace, IsTold, in_order, site_of, told_items};
+ghost use Rattle.explain_reasons.specs.Named.{AreTold, AtAccess, AtEnd, AtStand, IsTold, in_order, site_of, told_items};
 ghost use Rattle.explain_reasons.specs.Spotted.{IsNamed};
 
 use crate::context::Context;
-use crate::events::place_at;
+use crate::events::stand_at;
 use clmodel::access::AccessKind;
 use clmodel::action::Stop;
 use clmodel::fault::Fault;
 use explain_play::{Played, Standing, event_of, last_of};
 use explanation::{Does, Ids, NamedItem};
 use item_value::position::{ItemPosition, group_counts};
-use marked_play::Pair;
+use marked_play::{Pair, Stand};
 use std::alloc::{AllocError, Global};
 
 /// The ids of an item of a launch.
@@ -36,15 +36,15 @@ fn ids_of(context: &Context<'_>, item: u32) -> Result<Ids, AllocError>
     item_ids::ids_of(alloc, &position)
 }
 
-/// An item that a fault names, at a place.
+/// An item that a fault names, where it stands.
 fn named(
     context: &Context<'_>,
     item: u32,
     does: Does,
     event: Option<usize>,
-    place: Option<usize>,
+    stand: Option<&Stand>,
 ) -> Result<NamedItem, AllocError>
-    ensures { IfOk result (IsNamed (setup_of context.now.launch.now) context.now.program.text.now context.now.program.first_line (λ p. place ≡ Some p) (λ _. ⊥) item) }
+    ensures { IfOk result (IsNamed (setup_of context.now.launch.now) context.now.program.text.now context.now.program.first_line (λ s. option_copied stand.entry ≡ Some s) (λ _. ⊥) item) }
 {
     let ids = ids_of(context, item)?;
     Ok(NamedItem {
@@ -52,7 +52,7 @@ fn named(
         ids,
         does,
         event,
-        spot: context.spot(place)?,
+        spot: context.spot(stand)?,
         last: None,
     })
 }
@@ -77,15 +77,15 @@ fn accessing(
 {
     let marks = played.marks.as_slice();
     let event = event_of(marks, access);
-    let place = place_at(marks, event);
-    named(context, item, Does::Access(kind), from_one(event), place)
+    let stand = stand_at(marks, event);
+    named(context, item, Does::Access(kind), from_one(event), stand)
 }
 
 /// An item where it stands.
-fn standing(context: &Context<'_>, standing: Standing, does: Does) -> Result<NamedItem, AllocError>
-    ensures { IfOk result (IsNamed (setup_of context.now.launch.now) context.now.program.text.now context.now.program.first_line (λ p. standing.place ≡ Some p) (λ _. ⊥) standing.item) }
+fn standing(context: &Context<'_>, standing: &Standing, does: Does) -> Result<NamedItem, AllocError>
+    ensures { IfOk result (IsNamed (setup_of context.now.launch.now) context.now.program.text.now context.now.program.first_line (λ s. standing.now.stand ≡ Some s) (λ _. ⊥) standing.now.item) }
 {
-    named(context, standing.item, does, None, standing.place)
+    named(context, standing.item, does, None, standing.stand.as_ref())
 }
 
 /// An item that has ended, with its last access.
@@ -93,7 +93,7 @@ fn ended(context: &Context<'_>, played: &Played, item: u32) -> Result<NamedItem,
     ensures { IfOk result (IsTold context.now played.now.marks.items (item, AtEnd)) }
 {
     let marks = played.marks.as_slice();
-    let place = place_at(marks, last_of(marks, item));
+    let stand = stand_at(marks, last_of(marks, item));
     let ids = ids_of(context, item)?;
     Ok(NamedItem {
         item,
@@ -101,7 +101,7 @@ fn ended(context: &Context<'_>, played: &Played, item: u32) -> Result<NamedItem,
         does: Does::Ended,
         event: None,
         spot: None,
-        last: context.spot(place)?,
+        last: context.spot(stand)?,
     })
 }
 
@@ -109,10 +109,10 @@ fn ended(context: &Context<'_>, played: &Played, item: u32) -> Result<NamedItem,
 fn stopped(
     context: &Context<'_>,
     played: &Played,
-    at: Standing,
+    at: &Standing,
     stop: &Stop,
 ) -> Result<NamedItem, AllocError>
-    ensures { IfOk result (IsTold context.now played.now.marks.items (at.item, site_of stop.now at.place)) }
+    ensures { IfOk result (IsTold context.now played.now.marks.items (at.now.item, site_of stop.now at.now.stand)) }
 {
     match stop {
         Stop::Ended => ended(context, played, at.item),
@@ -196,10 +196,10 @@ fn diverging(
     stop: &Stop,
     other_stop: &Stop,
 ) -> Result<Vec<NamedItem>, AllocError>
-    ensures { IfOk result (λ items. AreTold context.now played.now.marks.items ((played.now.first.item, site_of stop.now played.now.first.place) ∷ (played.now.second.item, site_of other_stop.now played.now.second.place) ∷ []) items.items) }
+    ensures { IfOk result (λ items. AreTold context.now played.now.marks.items ((played.now.first.item, site_of stop.now played.now.first.stand) ∷ (played.now.second.item, site_of other_stop.now played.now.second.stand) ∷ []) items.items) }
 {
-    let item = stopped(context, played, played.first, stop)?;
-    let other = stopped(context, played, played.second, other_stop)?;
+    let item = stopped(context, played, &played.first, stop)?;
+    let other = stopped(context, played, &played.second, other_stop)?;
     both(context.alloc, item, other)
 }
 
@@ -213,9 +213,9 @@ fn deed_of(fault: &Fault) -> Does {
 
 /// The one item of a fault.
 fn alone(context: &Context<'_>, played: &Played, does: Does) -> Result<Vec<NamedItem>, AllocError>
-    ensures { IfOk result (λ items. AreTold context.now played.now.marks.items ((played.now.first.item, AtPlace played.now.first.place) ∷ []) items.items) }
+    ensures { IfOk result (λ items. AreTold context.now played.now.marks.items ((played.now.first.item, AtStand played.now.first.stand) ∷ []) items.items) }
 {
-    let item = standing(context, played.first, does)?;
+    let item = standing(context, &played.first, does)?;
     one(context.alloc, item)
 }
 

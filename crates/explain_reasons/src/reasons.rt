@@ -3,28 +3,28 @@
 
 use crate::arrays::array_of;
 use crate::context::Context;
-use crate::events::{is_access, is_release, place_at};
+use crate::events::{is_access, is_release, stand_at};
 use clmodel::access::{AccessKind, Clash, Class};
 use clmodel::fault::{Fault, Location};
 use clmodel::text::Name;
 use explain_play::{Played, Touch, event_of};
 use explanation::Memory;
-use marked_play::Mark;
+use marked_play::{Mark, Stand};
 use std::alloc::{AllocError, Global};
 
-/// The last release of a group between two events, with its place, if there is one.
-fn release_between(marks: &[Mark], group: u32, from: usize, to: usize) -> Option<Mark> {
+/// The last release of a group between two events, if there is one.
+fn release_between(marks: &[Mark], group: u32, from: usize, to: usize) -> Option<&Mark> {
     let mut found = None;
     for (number, mark) in marks.iter().enumerate() {
         if number > from && number < to && is_release(mark.event, group) {
-            found = Some(*mark);
+            found = Some(mark);
         }
     }
     found
 }
 
 /// The last release of a group between the two accesses of a conflict, if there is one.
-fn barrier_between(played: &Played, group: u32) -> Option<Mark> {
+fn barrier_between(played: &Played, group: u32) -> Option<&Mark> {
     let pair = played.pair?;
     let marks = played.marks.as_slice();
     let from = event_of(marks, pair.first.min(pair.second))?;
@@ -40,10 +40,10 @@ fn fence_of(location: &Location) -> (&'static str, &'static str) {
     }
 }
 
-/// The text of a place of the code behind a comma, if one is known.
-fn text_at(context: &Context<'_>, place: Option<usize>) -> Result<String, AllocError> {
+/// The text where an item stands behind a comma, if it is known.
+fn text_at(context: &Context<'_>, stand: Option<&Stand>) -> Result<String, AllocError> {
     let alloc = context.alloc;
-    match context.code(place)? {
+    match context.code(stand)? {
         Some(code) => {
             let (line, column, text) = (code.script_line, code.column, code.text.as_str());
             format!(in alloc; ", {text} at {line}:{column}")
@@ -56,12 +56,12 @@ fn text_at(context: &Context<'_>, place: Option<usize>) -> Result<String, AllocE
 fn unfenced_reason(
     context: &Context<'_>,
     group: u32,
-    barrier: Mark,
+    barrier: &Mark,
     location: &Location,
 ) -> Result<String, AllocError> {
     let alloc = context.alloc;
     let (space, flag) = fence_of(location);
-    let at = text_at(context, barrier.place)?;
+    let at = text_at(context, barrier.stand.as_ref())?;
     let at = at.as_str();
     format!(in alloc;
         "group {group} passes a barrier between the two accesses{at}, but it does not fence {space} memory: {flag} is missing"
@@ -259,12 +259,12 @@ fn nearest_store(touches: &[Touch], location: &Location, byte: u64) -> Option<Ne
 fn store_reason(
     context: &Context<'_>,
     touch: &Touch,
-    place: Option<usize>,
+    stand: Option<&Stand>,
 ) -> Result<String, AllocError> {
     let alloc = context.alloc;
     let (item, first) = (touch.item, touch.byte);
     let last = first.saturating_add(touch.bytes.saturating_sub(1));
-    let at = text_at(context, place)?;
+    let at = text_at(context, stand)?;
     let at = at.as_str();
     if last == first {
         return format!(in alloc;
@@ -286,8 +286,8 @@ fn unset_reason(
     let (marks, touches) = (played.marks.as_slice(), played.touches.as_slice());
     if let Some(near) = nearest_store(touches, location, byte) {
         if let Some(touch) = touches.get(near.number) {
-            let place = place_at(marks, event_of(marks, near.number));
-            return store_reason(context, touch, place);
+            let stand = stand_at(marks, event_of(marks, near.number));
+            return store_reason(context, touch, stand);
         }
     }
     String::from_str(
@@ -396,7 +396,7 @@ fn private_reason(
     name: &Name,
 ) -> Result<String, AllocError> {
     let alloc = context.alloc;
-    match array_of(context, played.first.place, name)? {
+    match array_of(context, played.first.stand.as_ref(), name)? {
         Some(array) => {
             let name = String::from_utf8_lossy(alloc, name.as_slice())?;
             count_reason(alloc, name.as_str(), array.bytes(), array.width)

@@ -143,17 +143,22 @@ fn push_calls(calls: &[CallSite], out: &mut String) -> Result<(), AllocError> {
     Ok(())
 }
 
-/// Adds the turns of the loops round a place that are known, the innermost first.
+/// Adds where in the turns of a loop a place stands, where it is known.
+fn push_turn(turn: Option<u32>, out: &mut String) -> Result<(), AllocError> {
+    match turn {
+        Some(0) => out.push_str("before the first turn of"),
+        Some(turn) => write!(out, "in turn {turn} of"),
+        None => out.push_str("in"),
+    }
+}
+
+/// Adds the loops round a place, the innermost first.
 fn push_loops(loops: &[LoopSite], out: &mut String) -> Result<(), AllocError> {
     for site in loops.iter().rev() {
         let (line, column) = (site.script_line, site.column);
-        match site.turn {
-            Some(turn) => writeln!(
-                out,
-                "           in turn {turn} of the loop at {line}:{column}"
-            )?,
-            None => writeln!(out, "           in the loop at {line}:{column}")?,
-        }
+        out.push_str("           ")?;
+        push_turn(site.turn, out)?;
+        writeln!(out, " the loop at {line}:{column}")?;
     }
     Ok(())
 }

@@ -18,7 +18,7 @@ use fault_facts::{fault_line, fault_name, fault_number, memory_of};
 use host_commands::kernel::parameters_of;
 use item_step::Launch;
 use launch_facts::{line_of, parameters_given, parameters_named};
-use marked_play::Mark;
+use marked_play::{Mark, Stand};
 use shortening::{Named, Shortened, event_count};
 use source_lines::line_text;
 use spaces_base::Buffers;
@@ -177,13 +177,13 @@ fn private_of(fault: &Fault) -> Option<&Name> {
     }
 }
 
-/// The size of a private array that is used at a place of the code, where it is known.
+/// The size of a private array that is used where an item stands, if it is known.
 fn private_size(
     context: &Context<'_>,
-    place: Option<usize>,
+    stand: Option<&Stand>,
     name: &Name,
 ) -> Result<Option<u64>, AllocError> {
-    match array_of(context, place, name)? {
+    match array_of(context, stand, name)? {
         Some(array) => Ok(Some(array.bytes())),
         None => Ok(None),
     }
@@ -205,7 +205,7 @@ fn whole_memory(
         memory.parameters = parameters;
     }
     if let Some(name) = private_of(fault) {
-        memory.size = private_size(context, played.first.place, name)?;
+        memory.size = private_size(context, played.first.stand.as_ref(), name)?;
     }
     Ok(Some(memory))
 }

@@ -34,11 +34,12 @@ pub struct CallSite {
     pub line: usize,
     pub script_line: usize,
     pub column: usize,
-    /// The text of its line
+    /// The text of its line, in which its column is the same
     pub text: String,
 }
 
-/// A loop round a place, with the number of its turn, from 0, where it is known.
+/// A loop round a place, with the number of its turn, where it is known: from 1, as a barrier there tells it. In a test
+/// before the first turn it is 0.
 #[derive(Drop)]
 pub struct LoopSite {
     pub offset: usize,

@@ -1,5 +1,5 @@
 -- Arguments as lists, and the code of a call and of an operator from what emits it.
-use Rattle.std.proofs.Common.{◌≡◌, ℕ, zero, suc, ◌+◌, ◌<◌, ◌≤◌, List, [], ◌∷◌, ◌++◌, map, length, take, drop, get_or, Option, refl, sym, ap, ap₂, ◌∙◌, Vec, Result, Ok, Err, IfOk, OnErr, arith}
+use Rattle.std.proofs.Common.{◌≡◌, ℕ, zero, suc, ◌+◌, ◌<◌, ◌≤◌, List, [], ◌∷◌, ◌++◌, map, length, take, drop, get_or, Option, refl, sym, ap, ap₂, ◌∙◌, Vec, arith}
 use Rattle.std.proofs.lemmas.List.{append_assoc, length-append}
 use Rattle.std.specs.declared.alloc.Global.{Global}
 use mathlib.Core.Former.{Count}
@@ -10,20 +10,20 @@ use Rattle.clnum.specs.declared.int_type.IntType.{IntType}
 use Rattle.clnum.specs.declared.int_type.IntType.TheVariants.{Int}
 use Rattle.clnum.specs.declared.operators.UnaryOperator.{UnaryOperator}
 use Rattle.clmodel.specs.BuiltIns.{built_in}
-use Rattle.clmodel.specs.Next.{Variables, type_of, base_type, argument_type, infix_type}
-use Rattle.clmodel.specs.Tree.{Term, Terms, NoTerm, ThenTerm, Unary, Binary, Call, Choice, term, terms, row_terms, then_all}
+use Rattle.clmodel.specs.Next.{Variables, type_of, base_type, argument_type, call_type, infix_type}
+use Rattle.clmodel.specs.Tree.{Term, Terms, NoTerm, ThenTerm, Unary, Cast, Binary, Call, Choice, term, terms, row_terms, then_all}
+use Rattle.clmodel.specs.declared.setup.BuiltIn.{BuiltIn}
 use Rattle.clmodel.specs.declared.tree.Expression as rust_expression
 use Rattle.clmodel.specs.declared.tree.InfixOperator.{InfixOperator}
 use Rattle.clmodel.specs.declared.tree.InfixOperator.TheVariants.{Arithmetic, LogicalAnd, LogicalOr}
 use Rattle.clmodel.specs.declared.tree.VariableType.{VariableType}
 use Rattle.clmodel.specs.declared.tree.VariableType.TheVariants.{Integer}
-use Rattle.folding.specs.Constants.{constant_of}
+use Rattle.folding.specs.Constants.{unary_constant, cast_constant, infix_constant, choice_constant, call_constant, constant_of, constants_of}
 use Rattle.folding.specs.declared.known.Known.{Known}
 use Rattle.regcode.specs.declared.instruction.Instruction.{Instruction}
 use Rattle.regcode.specs.declared.instruction.Instruction.TheVariants as instruction
 use Rattle.lower_expr.specs.Scope.{Scope, register_at}
 use Rattle.lower_expr.specs.Expressions.{kind_of, folded, expr_code, terms_code, register_for, registers_for, call_code, branch_code, choice_code, count, infix_begun, infix_code}
-use Rattle.lower_expr.proofs.Growth.{settled}
 
 row_same : (ts : Terms) (n : _) (row : rust_expression.Row_of-Expression n) → row_terms ts row ≡ then_all ts (map term (rust_expression.items-the_row-Expression n row))
 row_same ts n rust_expression.end_of-Expression = refl
@@ -82,97 +82,107 @@ begun_length (Arithmetic operator) first = refl
 begun_length LogicalAnd first = refl
 begun_length LogicalOr first = refl
 
-pub binary_laid : (scope : Scope) (level at : ℕ) (operator : InfixOperator) (left right : Term) (old one two three new : List Instruction) (first second : VariableType) (above place : ℕ)
-    → one ≡ old ++ expr_code scope level left → first ≡ kind_of scope left
-    → two ≡ one ++ infix_begun operator (register_at level first) → place ≡ length two → above ≡ level + 1
-    → three ≡ two ++ expr_code scope above right → second ≡ kind_of scope right
-    → ((before r : List Instruction) → three ≡ before ++ (infix_begun operator (register_at level first) ++ r) → place ≡ length before + length (infix_begun operator 0)
-    → new ≡ before ++ infix_code operator (register_at level (infix_type operator first second)) (register_at level first) (register_at (level + 1) second) r)
-    → new ≡ old ++ (expr_code scope level left ++ infix_code operator (register_for scope level (Binary at operator left right)) (register_for scope level left) (register_for scope (level + 1) right) (expr_code scope (level + 1) right))
-binary_laid scope level at operator left right old one two three new first second above place one_is first_is two_is place_is above_is three_is second_is laid =
-    let begun = infix_begun operator (register_at level first) in
-    let inner = expr_code scope (level + 1) right in
-    laid one inner (three_is ∙ ap₂ (λ xs n. xs ++ expr_code scope n right) two_is above_is ∙ append_assoc one begun inner)
-    (omega (arith, place_is, ap length two_is, length-append one begun, begun_length operator (register_at level first)))
-    ∙ ap (λ xs. xs ++ infix_code operator (register_at level (infix_type operator first second)) (register_at level first) (register_at (level + 1) second) inner) one_is
-    ∙ append_assoc old (expr_code scope level left) _
-    ∙ ap₂ (λ f g. old ++ (expr_code scope level left ++ infix_code operator (register_at level (infix_type operator f g)) (register_at level f) (register_at (level + 1) g) inner)) first_is second_is
+-- the code of an operator's parts, the place where the right one begins, and the whole
+pub infix_parts : (operator : InfixOperator) (old one two three left right : List Instruction) (first : ℕ) → one ≡ old ++ left → two ≡ one ++ infix_begun operator first → three ≡ two ++ right
+    → three ≡ old ++ (left ++ (infix_begun operator first ++ right))
+infix_parts operator old one two three left right first one_is two_is three_is =
+    three_is ∙ ap (λ xs. xs ++ right) (two_is ∙ ap (λ xs. xs ++ infix_begun operator first) one_is ∙ append_assoc old left (infix_begun operator first))
+    ∙ append_assoc old (left ++ infix_begun operator first) right ∙ ap (λ xs. old ++ xs) (append_assoc left (infix_begun operator first) right)
 
-pub call_laid : (scope : Scope) (level at name : ℕ) (es : Terms) (old one new : List Instruction) (kind : VariableType) (registers : List ℕ)
-    → one ≡ old ++ terms_code scope level es → registers ≡ registers_for scope level es → kind ≡ kind_of scope (Call at name es)
-    → new ≡ one ++ call_code (built_in name) (register_at level kind) registers
-    → new ≡ old ++ (terms_code scope level es ++ call_code (built_in name) (register_for scope level (Call at name es)) (registers_for scope level es))
-call_laid scope level at name es old one new kind registers one_is registers_are kind_is new_is =
-    new_is ∙ ap (λ xs. xs ++ call_code (built_in name) (register_at level kind) registers) one_is ∙ append_assoc old (terms_code scope level es) _
-    ∙ ap₂ (λ k rs. old ++ (terms_code scope level es ++ call_code (built_in name) (register_at level k) rs)) kind_is registers_are
+pub infix_place : (operator : InfixOperator) (old one two left : List Instruction) (first place : ℕ) → one ≡ old ++ left → two ≡ one ++ infix_begun operator first → place ≡ length two
+    → place ≡ length old + length left + length (infix_begun operator 0)
+infix_place operator old one two left first place one_is two_is place_is =
+    let size = length-append one (infix_begun operator first) in
+    let front = length-append old left in
+    omega (arith, place_is, ap length two_is, size, ap length one_is, front, begun_length operator first)
 
-pub choice_emitted : (scope : Scope) (level at : ℕ) (condition chosen otherwise : Term) (old one two three four five new : List Instruction) (k l m : VariableType) (first second : ℕ)
-    → one ≡ old ++ expr_code scope level condition → k ≡ kind_of scope condition
-    → two ≡ one ++ instruction.JumpIfZero (register_at level k) 0 ∷ [] → first ≡ length two
-    → three ≡ two ++ expr_code scope level chosen → l ≡ kind_of scope chosen
-    → four ≡ three ++ instruction.UsualConversion 0 0 Int ∷ instruction.Jump 0 ∷ [] → second ≡ length four
-    → five ≡ four ++ expr_code scope level otherwise → m ≡ kind_of scope otherwise
-    → ((before a b : List Instruction) → five ≡ before ++ (instruction.JumpIfZero (register_at level k) 0 ∷ (a ++ (instruction.UsualConversion 0 0 Int ∷ instruction.Jump 0 ∷ b)))
-    → first ≡ length before + 1 → second ≡ first + length a + 2
-    → new ≡ before ++ choice_code (register_at level k) (branch_code (register_at level (Integer (common (base_type l) (base_type m)))) a (register_at level l) m)
-    (branch_code (register_at level (Integer (common (base_type l) (base_type m)))) b (register_at level m) l))
-    → new ≡ old ++ (expr_code scope level condition ++ choice_code (register_for scope level condition)
-    (branch_code (register_for scope level (Choice at condition chosen otherwise)) (expr_code scope level chosen) (register_for scope level chosen) (kind_of scope otherwise))
-    (branch_code (register_for scope level (Choice at condition chosen otherwise)) (expr_code scope level otherwise) (register_for scope level otherwise) (kind_of scope chosen)))
-choice_emitted scope level at condition chosen otherwise old one two three four five new k l m first second one_is k_is two_is first_is three_is l_is four_is second_is five_is m_is laid =
-    let a = expr_code scope level chosen in
-    let b = expr_code scope level otherwise in
-    let test : List Instruction = instruction.JumpIfZero (register_at level k) 0 ∷ [] in
+pub infix_whole : (scope : Scope) (level at above : ℕ) (operator : InfixOperator) (left right x : Term) (old : List Instruction) (first second : Known) → x ≡ Binary at operator left right → above ≡ level + 1
+    → first.kind ≡ kind_of scope left → first.constant ≡ constant_of scope.variables left → second.kind ≡ kind_of scope right → second.constant ≡ constant_of scope.variables right
+    → old ++ folded (infix_constant operator first.constant second.constant) level (expr_code scope level left ++ infix_code operator
+    (register_at level (infix_type operator first.kind second.kind)) (register_at level first.kind) (register_at (level + 1) second.kind) (expr_code scope above right))
+    ≡ old ++ expr_code scope level x
+infix_whole scope level at above operator left right x old first second is above_is first_kind first_constant second_kind second_constant =
+    ap₂ (λ v w. old ++ folded (infix_constant operator v w) level (expr_code scope level left ++ infix_code operator
+    (register_at level (infix_type operator first.kind second.kind)) (register_at level first.kind) (register_at (level + 1) second.kind) (expr_code scope above right))) first_constant second_constant
+    ∙ ap₂ (λ f g. old ++ folded (constant_of scope.variables (Binary at operator left right)) level (expr_code scope level left ++ infix_code operator
+    (register_at level (infix_type operator f g)) (register_at level f) (register_at (level + 1) g) (expr_code scope above right))) first_kind second_kind
+    ∙ ap (λ n. old ++ folded (constant_of scope.variables (Binary at operator left right)) level (expr_code scope level left ++ infix_code operator
+    (register_for scope level (Binary at operator left right)) (register_for scope level left) (register_for scope (level + 1) right) (expr_code scope n right))) above_is
+    ∙ ap (λ y. old ++ expr_code scope level y) (sym is)
+
+-- the same of a choice
+pub choice_parts : (old one two three four five condition chosen otherwise : List Instruction) (test : Instruction) → one ≡ old ++ condition → two ≡ one ++ test ∷ [] → three ≡ two ++ chosen
+    → four ≡ three ++ instruction.UsualConversion 0 0 Int ∷ instruction.Jump 0 ∷ [] → five ≡ four ++ otherwise
+    → five ≡ old ++ (condition ++ (test ∷ (chosen ++ (instruction.UsualConversion 0 0 Int ∷ instruction.Jump 0 ∷ otherwise))))
+choice_parts old one two three four five condition chosen otherwise test one_is two_is three_is four_is five_is =
     let between : List Instruction = instruction.UsualConversion 0 0 Int ∷ instruction.Jump 0 ∷ [] in
-    let code : VariableType → VariableType → VariableType → List Instruction = λ i j n. choice_code (register_at level i)
-    (branch_code (register_at level (Integer (common (base_type j) (base_type n)))) a (register_at level j) n)
-    (branch_code (register_at level (Integer (common (base_type j) (base_type n)))) b (register_at level n) j) in
-    laid one a b
-    (five_is ∙ ap (λ xs. xs ++ b) (four_is ∙ ap (λ xs. xs ++ between) (three_is ∙ ap (λ xs. xs ++ a) two_is))
-    ∙ append_assoc ((one ++ test) ++ a) between b ∙ append_assoc (one ++ test) a (instruction.UsualConversion 0 0 Int ∷ instruction.Jump 0 ∷ b)
-    ∙ append_assoc one test (a ++ (instruction.UsualConversion 0 0 Int ∷ instruction.Jump 0 ∷ b)))
-    (omega (arith, first_is, ap length two_is, length-append one test))
-    (omega (arith, first_is, second_is, ap length four_is, length-append three between, ap length three_is, length-append two a))
-    ∙ ap (λ xs. xs ++ code k l m) one_is ∙ append_assoc old (expr_code scope level condition) (code k l m)
-    ∙ ap (λ i. old ++ (expr_code scope level condition ++ code i l m)) k_is
-    ∙ ap₂ (λ j n. old ++ (expr_code scope level condition ++ code (kind_of scope condition) j n)) l_is m_is
+    five_is ∙ ap (λ xs. xs ++ otherwise) (four_is ∙ ap (λ xs. xs ++ between) (three_is ∙ ap (λ xs. xs ++ chosen) (two_is ∙ ap (λ xs. xs ++ test ∷ []) one_is)))
+    ∙ append_assoc (((old ++ condition) ++ test ∷ []) ++ chosen) between otherwise
+    ∙ append_assoc ((old ++ condition) ++ test ∷ []) chosen (instruction.UsualConversion 0 0 Int ∷ instruction.Jump 0 ∷ otherwise)
+    ∙ append_assoc (old ++ condition) (test ∷ []) (chosen ++ (instruction.UsualConversion 0 0 Int ∷ instruction.Jump 0 ∷ otherwise))
+    ∙ append_assoc old condition (test ∷ (chosen ++ (instruction.UsualConversion 0 0 Int ∷ instruction.Jump 0 ∷ otherwise)))
 
--- what holds of a value where a call gives one, and where it doesn't
-pub on_value : {T E : Type 0} {P Q : T → Type 0} (r : Result T E) → ((x : T) → P x → Q x) → IfOk r P → IfOk r Q
-on_value (Ok x) f p = f x p
-on_value (Err e) f p = tt
+pub choice_first : (old one two condition : List Instruction) (test : Instruction) (first : ℕ) → one ≡ old ++ condition → two ≡ one ++ test ∷ [] → first ≡ length two → first ≡ length old + length condition + 1
+choice_first old one two condition test first one_is two_is first_is =
+    let size = length-append one (test ∷ []) in
+    let front = length-append old condition in
+    omega (arith, first_is, ap length two_is, size, ap length one_is, front)
 
-pub on_error : {T E : Type 0} {P Q : Type 0} (r : Result T E) → (P → Q) → OnErr r P → OnErr r Q
-on_error (Ok x) f p = tt
-on_error (Err e) f p = f p
+pub choice_second : (two three four chosen : List Instruction) (first second : ℕ) → first ≡ length two → three ≡ two ++ chosen
+    → four ≡ three ++ instruction.UsualConversion 0 0 Int ∷ instruction.Jump 0 ∷ [] → second ≡ length four → second ≡ first + length chosen + 2
+choice_second two three four chosen first second first_is three_is four_is second_is =
+    let size = length-append three (instruction.UsualConversion 0 0 Int ∷ instruction.Jump 0 ∷ []) in
+    let front = length-append two chosen in
+    omega (arith, second_is, ap length four_is, size, ap length three_is, front, first_is)
 
--- an operator on one number, and a cast, behind their operand
-pub unary_emitted : (scope : Scope) (level at : ℕ) (operator : UnaryOperator) (e : Term) (old one two : List Instruction) (k : VariableType) → one ≡ old ++ expr_code scope level e → k ≡ kind_of scope e
-    → two ≡ one ++ instruction.Unary (register_at level (Integer (unary_kind operator (base_type k)))) operator (register_at level k) ∷ []
-    → two ≡ old ++ (expr_code scope level e ++ instruction.Unary (register_for scope level (Unary at operator e)) operator (register_for scope level e) ∷ [])
-unary_emitted scope level at operator e old one two k one_is k_is two_is =
-    let code : VariableType → List Instruction = λ j. instruction.Unary (register_at level (Integer (unary_kind operator (base_type j)))) operator (register_at level j) ∷ [] in
-    two_is ∙ ap (λ xs. xs ++ code k) one_is ∙ append_assoc old (expr_code scope level e) (code k) ∙ ap (λ j. old ++ (expr_code scope level e ++ code j)) k_is
+pub choice_known : (scope : Scope) (at : ℕ) (condition chosen otherwise : Term) (k l m : Known) → k.constant ≡ constant_of scope.variables condition
+    → l.kind ≡ kind_of scope chosen → l.constant ≡ constant_of scope.variables chosen → m.kind ≡ kind_of scope otherwise → m.constant ≡ constant_of scope.variables otherwise
+    → choice_constant k.constant l.constant (base_type l.kind) m.constant (base_type m.kind) ≡ constant_of scope.variables (Choice at condition chosen otherwise)
+choice_known scope at condition chosen otherwise k l m k_constant l_kind l_constant m_kind m_constant =
+    ap (λ u. choice_constant u l.constant (base_type l.kind) m.constant (base_type m.kind)) k_constant
+    ∙ ap₂ (λ v j. choice_constant (constant_of scope.variables condition) v (base_type j) m.constant (base_type m.kind)) l_constant l_kind
+    ∙ ap₂ (λ w n. choice_constant (constant_of scope.variables condition) (constant_of scope.variables chosen) (base_type (kind_of scope chosen)) w (base_type n)) m_constant m_kind
 
-pub cast_emitted : (scope : Scope) (level : ℕ) (target : IntType) (e : Term) (old one two : List Instruction) (k : VariableType) → one ≡ old ++ expr_code scope level e → k ≡ kind_of scope e
-    → two ≡ one ++ instruction.Convert (register_at level (Integer target)) (register_at level k) target ∷ []
-    → two ≡ old ++ (expr_code scope level e ++ instruction.Convert (register_at level (Integer target)) (register_for scope level e) target ∷ [])
-cast_emitted scope level target e old one two k one_is k_is two_is =
-    let code : VariableType → List Instruction = λ j. instruction.Convert (register_at level (Integer target)) (register_at level j) target ∷ [] in
-    two_is ∙ ap (λ xs. xs ++ code k) one_is ∙ append_assoc old (expr_code scope level e) (code k) ∙ ap (λ j. old ++ (expr_code scope level e ++ code j)) k_is
+pub choice_whole : (scope : Scope) (level at : ℕ) (condition chosen otherwise x : Term) (old : List Instruction) (k l m : Known) → x ≡ Choice at condition chosen otherwise
+    → k.kind ≡ kind_of scope condition → k.constant ≡ constant_of scope.variables condition → l.kind ≡ kind_of scope chosen → l.constant ≡ constant_of scope.variables chosen
+    → m.kind ≡ kind_of scope otherwise → m.constant ≡ constant_of scope.variables otherwise
+    → old ++ folded (choice_constant k.constant l.constant (base_type l.kind) m.constant (base_type m.kind)) level (expr_code scope level condition ++ choice_code (register_at level k.kind)
+    (branch_code (register_at level (Integer (common (base_type l.kind) (base_type m.kind)))) (expr_code scope level chosen) (register_at level l.kind) m.kind)
+    (branch_code (register_at level (Integer (common (base_type l.kind) (base_type m.kind)))) (expr_code scope level otherwise) (register_at level m.kind) l.kind))
+    ≡ old ++ expr_code scope level x
+choice_whole scope level at condition chosen otherwise x old k l m is k_kind k_constant l_kind l_constant m_kind m_constant =
+    let code : Option integers.Integer → VariableType → Option integers.Integer → VariableType → Option integers.Integer → VariableType → List Instruction = λ u i v j w n.
+    old ++ folded (choice_constant u v (base_type j) w (base_type n)) level (expr_code scope level condition ++ choice_code (register_at level i)
+    (branch_code (register_at level (Integer (common (base_type j) (base_type n)))) (expr_code scope level chosen) (register_at level j) n)
+    (branch_code (register_at level (Integer (common (base_type j) (base_type n)))) (expr_code scope level otherwise) (register_at level n) j)) in
+    ap₂ (λ u i. code u i l.constant l.kind m.constant m.kind) k_constant k_kind
+    ∙ ap₂ (λ v j. code (constant_of scope.variables condition) (kind_of scope condition) v j m.constant m.kind) l_constant l_kind
+    ∙ ap₂ (λ w n. code (constant_of scope.variables condition) (kind_of scope condition) (constant_of scope.variables chosen) (kind_of scope chosen) w n) m_constant m_kind
+    ∙ ap (λ y. old ++ expr_code scope level y) (sym is)
 
--- an expression's code, where what its form has is settled
-pub emitted : {T E : Type 0} (scope : Scope) (level : ℕ) (x e : Term) (old mid new plain : List Instruction) (start : ℕ) (o : Option integers.Integer) (r : Result T E)
-    → x ≡ e → start ≡ length old → mid ≡ old ++ plain → o ≡ constant_of scope.variables e → folded (constant_of scope.variables e) level plain ≡ expr_code scope level e
-    → IfOk r (λ _. new ≡ take start mid ++ folded o level (drop start mid)) → IfOk r (λ _. new ≡ old ++ expr_code scope level x)
-emitted scope level x e old mid new plain start o r is at mid_is same code h =
-    on_value r (λ found is_new. settled old mid new plain start level o (constant_of scope.variables e) at mid_is same is_new
-    ∙ ap (λ xs. old ++ xs) code ∙ ap (λ y. old ++ expr_code scope level y) (sym is)) h
+-- an operator on one number, a cast and a call, behind their operands
+pub unary_whole : (scope : Scope) (level at : ℕ) (operator : UnaryOperator) (e x : Term) (old : List Instruction) (operand : Known) → x ≡ Unary at operator e
+    → operand.kind ≡ kind_of scope e → operand.constant ≡ constant_of scope.variables e
+    → old ++ folded (unary_constant operator operand.constant) level
+    (expr_code scope level e ++ instruction.Unary (register_at level (Integer (unary_kind operator (base_type operand.kind)))) operator (register_at level operand.kind) ∷ []) ≡ old ++ expr_code scope level x
+unary_whole scope level at operator e x old operand is kind constant =
+    ap₂ (λ v k. old ++ folded (unary_constant operator v) level
+    (expr_code scope level e ++ instruction.Unary (register_at level (Integer (unary_kind operator (base_type k)))) operator (register_at level k) ∷ [])) constant kind
+    ∙ ap (λ y. old ++ expr_code scope level y) (sym is)
 
--- what is known of it
-pub known_kind : {E : Type 0} (r : Result Known E) (known : Known) (kind : VariableType) → known.kind ≡ kind → IfOk r (λ found. found ≡ known) → IfOk r (λ found. found.kind ≡ kind)
-known_kind r known kind is h = on_value r (λ found same. ap (λ (k : Known). k.kind) same ∙ is) h
+pub cast_whole : (scope : Scope) (level at : ℕ) (target : IntType) (e x : Term) (old : List Instruction) (operand : Known) → x ≡ Cast at target e
+    → operand.kind ≡ kind_of scope e → operand.constant ≡ constant_of scope.variables e
+    → old ++ folded (cast_constant target operand.constant) level (expr_code scope level e ++ instruction.Convert (register_at level (Integer target)) (register_at level operand.kind) target ∷ [])
+    ≡ old ++ expr_code scope level x
+cast_whole scope level at target e x old operand is kind constant =
+    ap₂ (λ v k. old ++ folded (cast_constant target v) level (expr_code scope level e ++ instruction.Convert (register_at level (Integer target)) (register_at level k) target ∷ [])) constant kind
+    ∙ ap (λ y. old ++ expr_code scope level y) (sym is)
 
-pub known_constant : {E : Type 0} (r : Result Known E) (known : Known) (constant : Option integers.Integer) → known.constant ≡ constant → IfOk r (λ found. found ≡ known)
-    → IfOk r (λ found. found.constant ≡ constant)
-known_constant r known constant is h = on_value r (λ found same. ap (λ (k : Known). k.constant) same ∙ is) h
+pub call_whole : (scope : Scope) (level at name : ℕ) (es : Terms) (x : Term) (old : List Instruction) (function : Option BuiltIn) (kind : IntType) (registers : List ℕ) (values : List (Option integers.Integer))
+    → x ≡ Call at name es → function ≡ built_in name → kind ≡ argument_type scope.variables es → registers ≡ registers_for scope level es → values ≡ constants_of scope.variables es
+    → old ++ folded (call_constant function values) level (terms_code scope level es ++ call_code function (register_at level (Integer (call_type function kind))) registers) ≡ old ++ expr_code scope level x
+call_whole scope level at name es x old function kind registers values is function_is kind_is registers_are values_are =
+    ap (λ f. old ++ folded (call_constant f values) level (terms_code scope level es ++ call_code f (register_at level (Integer (call_type f kind))) registers)) function_is
+    ∙ ap₂ (λ vs k. old ++ folded (call_constant (built_in name) vs) level (terms_code scope level es ++ call_code (built_in name) (register_at level (Integer (call_type (built_in name) k))) registers)) values_are kind_is
+    ∙ ap (λ rs. old ++ folded (constant_of scope.variables (Call at name es)) level (terms_code scope level es ++ call_code (built_in name) (register_for scope level (Call at name es)) rs)) registers_are
+    ∙ ap (λ y. old ++ expr_code scope level y) (sym is)

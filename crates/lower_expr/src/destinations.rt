@@ -89,14 +89,9 @@ pub fn fetch(
             private_load(scope, to, destination.name, index, code)
         }
         TargetKind::Pointer(pointer) => {
-            let pointer = register_at(level, pointer);
-            add(
-                code,
-                Instruction::Load {
-                    to: to.0,
-                    pointer: pointer.0,
-                },
-            )
+            let pointer = register_at(level, pointer).0;
+            let to = to.0;
+            add(code, Instruction::Load { to, pointer })
         }
     }
 }
@@ -122,14 +117,9 @@ pub fn put(
             private_store(scope, destination.name, index, from, code)
         }
         TargetKind::Pointer(pointer) => {
-            let pointer = register_at(level, pointer);
-            add(
-                code,
-                Instruction::Store {
-                    pointer: pointer.0,
-                    value: from.0,
-                },
-            )
+            let pointer = register_at(level, pointer).0;
+            let value = from.0;
+            add(code, Instruction::Store { pointer, value })
         }
     }
 }
@@ -146,18 +136,12 @@ fn hold(
     ensures longer { OnErr result (IsLonger code.old.items code.new.items) }
 {
     let kind = scope.kind(name);
+    let from = from.0;
     let to = match scope.register(name) {
-        Some(to) => to,
+        Some(to) => to.0,
         None => from,
     };
-    add(
-        code,
-        Instruction::AssignConversion {
-            to: to.0,
-            from: from.0,
-            kind,
-        },
-    )
+    add(code, Instruction::AssignConversion { to, from, kind })
 }
 
 /// Adds the code of an operator on the value that was there and on a right operand of a type, whose value is put there.

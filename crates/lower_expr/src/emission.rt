@@ -1,26 +1,27 @@
 //! The emission of the code of expressions.
 #![tactic(auto, using(crate::proofs::Growth::unchanged, crate::proofs::Growth::behind))]
 
-ghost use Rattle.std.specs.Prelude.{◌≡◌, ◌+◌, ◌<◌, ◌≤◌, ◌^◌, [], ◌++◌, take, drop, IfOk, OnErr};
+ghost use Rattle.std.specs.Prelude.{◌≡◌, ◌+◌, ◌<◌, ◌≤◌, ◌^◌, [], ◌++◌, IfOk, OnErr};
 ghost use Rattle.clmodel.specs.Next.{argument_type};
 ghost use Rattle.clmodel.specs.Tree.{term, terms, tree_target};
 ghost use Rattle.clmodel.specs.Typing.Sizes.{term_size, terms_size, target_size};
 ghost use Rattle.folding.specs.Constants.{constant_of, constants_of};
 ghost use Rattle.folding.specs.Known.{constants_in};
 ghost use Rattle.lower_expr.specs.Scope.{free_level};
-ghost use Rattle.lower_expr.specs.Expressions.{kind_of, kind_named, folded, expr_code, address_code, terms_code, registers_for, target_code, target_kind};
+ghost use Rattle.lower_expr.specs.Expressions.{kind_of, kind_named, expr_code, address_code, terms_code, registers_for, target_code, target_kind};
 ghost use Rattle.lower_expr.specs.Growth.{IsLonger};
 ghost use Rattle.lower_expr.specs.Registers.{numbers};
 
 use crate::instructions::{
-    Arguments, array_element, call, cast, load, number, offset, point, unary, variable,
+    Arguments, Part, array_element, end_call, end_cast, end_unary, load, number, offset, point,
+    variable,
 };
 use crate::jumps::{begin_choice, begin_infix, between_branches, end_choice, end_infix};
 use crate::scope::{Level, Scope, level_at, register_at};
 use clmodel::setup::built_in_named;
 use clmodel::tree::{Expression, Target, VariableType};
 use clnum::{IntType, Value};
-use folding::{Known, base_type, constants};
+use folding::{Known, base_type};
 use regcode::Instruction;
 use smallvec::SmallVec;
 use std::alloc::AllocError;
@@ -36,26 +37,6 @@ fn levels_suffice(level: Level, arguments: &[Expression])
     requires { level.0 + (terms_size [] (terms arguments.now)).nodes < 2 ^ 28 }
     ensures { level.0 + (terms_size [] (terms arguments.now)).nodes < 2 ^ 28 }
 {}
-
-/// Puts a constant expression's value in place of the code from a place on, which is that of its form; the code of another one stays.
-fn settle(
-    level: Level,
-    start: usize,
-    kind: VariableType,
-    constant: Option<Value>,
-    code: &mut Vec<Instruction>,
-) -> Result<Known, AllocError>
-    requires { level.0 < 2 ^ 28 }
-    ensures code { IfOk result (λ _. code.new.items ≡ take start code.old.items ++ folded constant level.0 (drop start code.old.items)) }
-    ensures known { IfOk result (λ found. found ≡ record { kind = kind; constant = constant }) }
-    ensures cut { OnErr result (code.new.items ≡ take start code.old.items) }
-{
-    if let Some(value) = constant {
-        code.truncate(start);
-        number(level, value, code)?;
-    }
-    Ok(Known { kind, constant })
-}
 
 /// Adds the code of an expression, which leaves its value in the register of its type at a level, and gives its type (OpenCL 1.2,
 /// section 6.3). The level is at least the first that is free. Err if out of memory.
@@ -124,30 +105,23 @@ fn emit(
             let given = arguments.as_slice();
             levels_suffice(level, given);
             let arguments = emit_arguments(scope, level, given, code)?;
-            let function = built_in_named(*name);
-            let kind = call(level, function, &arguments, code)?;
-            let constant = constants::call(function, arguments.known.as_slice());
-            settle(level, start, kind, constant, code)
+            end_call(level, start, built_in_named(*name), &arguments, code)
         }
         Expression::Unary {
             operator,
             operand,
             ..
         } => {
-            let operand = emit(scope, level, operand, code)?;
-            let kind = unary(level, *operator, operand.kind, code)?;
-            let constant = constants::unary(*operator, operand.constant);
-            settle(level, start, kind, constant, code)
+            let known = emit(scope, level, operand, code)?;
+            end_unary(level, *operator, Part { start, known }, code)
         }
         Expression::Cast {
             target,
             operand,
             ..
         } => {
-            let operand = emit(scope, level, operand, code)?;
-            let kind = cast(level, *target, operand.kind, code)?;
-            let constant = constants::cast(*target, operand.constant);
-            settle(level, start, kind, constant, code)
+            let known = emit(scope, level, operand, code)?;
+            end_cast(level, *target, Part { start, known }, code)
         }
         Expression::Binary {
             operator,
@@ -155,12 +129,11 @@ fn emit(
             right,
             ..
         } => {
-            let first = emit(scope, level, left, code)?;
-            let place = begin_infix(level, *operator, first.kind, code)?;
-            let second = emit(scope, level_at(level, 1), right, code)?;
-            let kind = end_infix(level, *operator, first.kind, second.kind, place, code)?;
-            let constant = constants::infix(*operator, first.constant, second.constant);
-            settle(level, start, kind, constant, code)
+            let known = emit(scope, level, left, code)?;
+            let first = Part { start, known };
+            let start = begin_infix(level, *operator, known.kind, code)?;
+            let known = emit(scope, level_at(level, 1), right, code)?;
+            end_infix(level, *operator, first, Part { start, known }, code)
         }
         Expression::Choice {
             condition,
@@ -168,22 +141,14 @@ fn emit(
             otherwise,
             ..
         } => {
-            let condition = emit(scope, level, condition, code)?;
-            let first = begin_choice(level, condition.kind, code)?;
-            let chosen = emit(scope, level, chosen, code)?;
-            let second = between_branches(code)?;
-            let otherwise = emit(scope, level, otherwise, code)?;
-            let kind = end_choice(
-                level,
-                condition.kind,
-                chosen.kind,
-                otherwise.kind,
-                first,
-                second,
-                code,
-            )?;
-            let constant = constants::choice(condition.constant, chosen, otherwise);
-            settle(level, start, kind, constant, code)
+            let known = emit(scope, level, condition, code)?;
+            let condition = Part { start, known };
+            let start = begin_choice(level, known.kind, code)?;
+            let known = emit(scope, level, chosen, code)?;
+            let chosen = Part { start, known };
+            let start = between_branches(code)?;
+            let known = emit(scope, level, otherwise, code)?;
+            end_choice(level, condition, chosen, Part { start, known }, code)
         }
     }
 }

@@ -1,11 +1,13 @@
 //! The instructions of an expression behind those of its operands (OpenCL 1.2, section 6.3).
 #![tactic(auto, using(crate::proofs::Growth::unchanged, crate::proofs::Growth::behind))]
 
-ghost use Rattle.std.specs.Prelude.{◌≡◌, ℕ, ◌+◌, ◌<◌, ◌≤◌, ◌^◌, [], ◌∷◌, ◌++◌, List, Some, length, IfOk, OnOk, OnErr};
+ghost use Rattle.std.specs.Prelude.{◌≡◌, ℕ, ◌+◌, ◌<◌, ◌≤◌, ◌^◌, [], ◌∷◌, ◌++◌, List, Some, length, take, drop, IfOk, OnOk, OnErr};
 ghost use Rattle.clnum.specs.Operations as operations;
 ghost use Rattle.clmodel.specs.Next as next;
 ghost use Rattle.clmodel.specs.declared.setup.BuiltIn.TheVariants as built_in_function;
 ghost use Rattle.clmodel.specs.declared.tree.VariableType.TheVariants as kinds;
+ghost use Rattle.folding.specs.Constants.{unary_constant, cast_constant, call_constant};
+ghost use Rattle.folding.specs.Known.{constants_in};
 ghost use Rattle.regcode.specs.declared.instruction.Instruction.{Instruction};
 ghost use Rattle.regcode.specs.declared.instruction.Instruction.TheVariants as instruction;
 ghost use Rattle.lower_expr.specs.Scope.{free_level, register_at, register_of};
@@ -17,7 +19,7 @@ use crate::scope::{Level, Register, Scope, level_at, register_at};
 use clmodel::setup::{AtomicFunction, BuiltIn, WorkItemFunction};
 use clmodel::tree::{InfixOperator, VariableType};
 use clnum::{Builtin, IntType, UnaryOperator, Value, unary_kind};
-use folding::{Known, base_type, call_type};
+use folding::{Known, base_type, call_type, constants};
 use regcode::{FetchOperands, Instruction};
 use smallvec::SmallVec;
 use std::alloc::AllocError;
@@ -44,6 +46,33 @@ pub(crate) fn number(
     let to = register_at(level, VariableType::Integer(value.kind()));
     code.push(Instruction::Constant { to: to.0, value })?;
     Ok(())
+}
+
+/// A part of an expression: the place where its code begins, and what is known of it.
+#[derive(Clone, Copy)]
+pub(crate) struct Part {
+    pub(crate) start: usize,
+    pub(crate) known: Known,
+}
+
+/// Puts a constant expression's value in place of the code from a place on, which is that of its form; the code of another one stays.
+pub(crate) fn settle(
+    level: Level,
+    start: usize,
+    kind: VariableType,
+    constant: Option<Value>,
+    code: &mut Vec<Instruction>,
+) -> Result<Known, AllocError>
+    requires { level.0 < 2 ^ 28 }
+    ensures code { IfOk result (λ _. code.new.items ≡ take start code.old.items ++ expressions.folded constant level.0 (drop start code.old.items)) }
+    ensures known { IfOk result (λ found. found ≡ record { kind = kind; constant = constant }) }
+    ensures cut { OnErr result (code.new.items ≡ take start code.old.items) }
+{
+    if let Some(value) = constant {
+        code.truncate(start);
+        number(level, value, code)?;
+    }
+    Ok(Known { kind, constant })
 }
 
 /// Adds the code of a variable's value, which is left in a register.
@@ -124,15 +153,9 @@ pub(crate) fn load(
     ensures longer { OnErr result (IsLonger code.old.items code.new.items) }
 {
     let kind = VariableType::Integer(base_type(pointer));
-    let to = register_at(level, kind);
-    let pointer = register_at(level, pointer);
-    add(
-        code,
-        Instruction::Load {
-            to: to.0,
-            pointer: pointer.0,
-        },
-    )?;
+    let to = register_at(level, kind).0;
+    let pointer = register_at(level, pointer).0;
+    add(code, Instruction::Load { to, pointer })?;
     Ok(kind)
 }
 
@@ -221,68 +244,61 @@ pub(crate) fn point(
     ensures code { OnOk result (code.new.items ≡ code.old.items ++ instruction.MovePointer (register_at level.0 pointer) (register_at level.0 pointer) ∷ []) }
     ensures longer { OnErr result (IsLonger code.old.items code.new.items) }
 {
-    let from = register_at(level, pointer);
-    add(
-        code,
-        Instruction::MovePointer {
-            to: from.0,
-            from: from.0,
-        },
-    )
+    let from = register_at(level, pointer).0;
+    add(code, Instruction::MovePointer { to: from, from })
 }
 
-/// Adds an operator on an operand of this type, and gives its type.
-pub(crate) fn unary(
+/// Ends an operator behind its operand: with its instruction, or with its value in place of all of its code.
+pub(crate) fn end_unary(
     level: Level,
     operator: UnaryOperator,
-    operand: VariableType,
+    operand: Part,
     code: &mut Vec<Instruction>,
-) -> Result<VariableType, AllocError>
+) -> Result<Known, AllocError>
     requires { level.0 < 2 ^ 28 }
-    ensures code { IfOk result (λ kind. code.new.items
-        ≡ code.old.items ++ instruction.Unary (register_at level.0 (kinds.Integer (operations.unary_kind operator (next.base_type operand)))) operator (register_at level.0 operand) ∷ []) }
-    ensures kind { IfOk result (λ kind. kind ≡ kinds.Integer (operations.unary_kind operator (next.base_type operand))) }
-    ensures longer { OnErr result (IsLonger code.old.items code.new.items) }
+    ensures code { IfOk result (λ _. (before own : List Instruction) → code.old.items ≡ before ++ own → operand.start ≡ length before
+        → code.new.items ≡ before ++ expressions.folded (unary_constant operator operand.known.constant) level.0
+        (own ++ instruction.Unary (register_at level.0 (kinds.Integer (operations.unary_kind operator (next.base_type operand.known.kind)))) operator (register_at level.0 operand.known.kind) ∷ [])) }
+    ensures kind { IfOk result (λ found. found.kind ≡ kinds.Integer (operations.unary_kind operator (next.base_type operand.known.kind))) }
+    ensures constant { IfOk result (λ found. found.constant ≡ unary_constant operator operand.known.constant) }
+    ensures longer { OnErr result ((before own : List Instruction) → code.old.items ≡ before ++ own → operand.start ≡ length before → IsLonger before code.new.items) }
 {
-    let kind = VariableType::Integer(unary_kind(operator, base_type(operand)));
+    let kind = VariableType::Integer(unary_kind(operator, base_type(operand.known.kind)));
     let to = register_at(level, kind);
-    let operand = register_at(level, operand);
+    let from = register_at(level, operand.known.kind);
     add(
         code,
         Instruction::Unary {
             to: to.0,
             operator,
-            operand: operand.0,
+            operand: from.0,
         },
     )?;
-    Ok(kind)
+    let constant = constants::unary(operator, operand.known.constant);
+    settle(level, operand.start, kind, constant, code)
 }
 
-/// Adds a cast of an operand of this type, and gives its type.
-pub(crate) fn cast(
+/// Ends a cast behind its operand: with its instruction, or with its value in place of all of its code.
+pub(crate) fn end_cast(
     level: Level,
-    target: IntType,
-    operand: VariableType,
+    kind: IntType,
+    operand: Part,
     code: &mut Vec<Instruction>,
-) -> Result<VariableType, AllocError>
+) -> Result<Known, AllocError>
     requires { level.0 < 2 ^ 28 }
-    ensures code { IfOk result (λ kind. code.new.items
-        ≡ code.old.items ++ instruction.Convert (register_at level.0 (kinds.Integer target)) (register_at level.0 operand) target ∷ []) }
-    ensures kind { IfOk result (λ kind. kind ≡ kinds.Integer target) }
-    ensures longer { OnErr result (IsLonger code.old.items code.new.items) }
+    ensures code { IfOk result (λ _. (before own : List Instruction) → code.old.items ≡ before ++ own → operand.start ≡ length before
+        → code.new.items ≡ before ++ expressions.folded (cast_constant kind operand.known.constant) level.0
+        (own ++ instruction.Convert (register_at level.0 (kinds.Integer kind)) (register_at level.0 operand.known.kind) kind ∷ [])) }
+    ensures kind { IfOk result (λ found. found.kind ≡ kinds.Integer kind) }
+    ensures constant { IfOk result (λ found. found.constant ≡ cast_constant kind operand.known.constant) }
+    ensures longer { OnErr result ((before own : List Instruction) → code.old.items ≡ before ++ own → operand.start ≡ length before → IsLonger before code.new.items) }
 {
-    let kind = VariableType::Integer(target);
-    let to = register_at(level, kind);
-    let from = register_at(level, operand);
-    add(
-        code,
-        Instruction::Convert {
-            to: to.0,
-            from: from.0,
-            kind: target,
-        },
-    )?;
-    Ok(kind)
+    let whole = VariableType::Integer(kind);
+    let to = register_at(level, whole).0;
+    let from = register_at(level, operand.known.kind).0;
+    add(code, Instruction::Convert { to, from, kind })?;
+    let constant = constants::cast(kind, operand.known.constant);
+    settle(level, operand.start, whole, constant, code)
 }
 
 /// The registers of arguments, what is known of each, and the integer type of the first, or of what it points to; int where there is none.
@@ -293,27 +309,29 @@ pub struct Arguments {
     pub(crate) known: SmallVec<Known, 2>,
 }
 
-/// Adds the call of a built-in function that gives a value, and gives its type. Where there is no such function with that many
-/// arguments, the item ends.
-pub(crate) fn call(
+/// Ends the call of a built-in function that gives a value, behind its arguments, whose code begins at a place: with its instruction, or with its
+/// value in place of all of its code. Where there is no such function with that many arguments, the item ends.
+pub(crate) fn end_call(
     level: Level,
+    start: usize,
     function: Option<BuiltIn>,
     arguments: &Arguments,
     code: &mut Vec<Instruction>,
-) -> Result<VariableType, AllocError>
+) -> Result<Known, AllocError>
     requires { level.0 < 2 ^ 28 }
-    ensures code { IfOk result (λ kind. code.new.items
-        ≡ code.old.items ++ expressions.call_code function (register_at level.0 (kinds.Integer (next.call_type function arguments.now.kind))) (numbers arguments.now.registers.items)) }
-    ensures kind { IfOk result (λ kind. kind ≡ kinds.Integer (next.call_type function arguments.now.kind)) }
-    ensures longer { OnErr result (IsLonger code.old.items code.new.items) }
+    ensures code { IfOk result (λ _. (before own : List Instruction) → code.old.items ≡ before ++ own → start ≡ length before
+        → code.new.items ≡ before ++ expressions.folded (call_constant function (constants_in arguments.now.known.items)) level.0
+        (own ++ expressions.call_code function (register_at level.0 (kinds.Integer (next.call_type function arguments.now.kind))) (numbers arguments.now.registers.items))) }
+    ensures kind { IfOk result (λ found. found.kind ≡ kinds.Integer (next.call_type function arguments.now.kind)) }
+    ensures constant { IfOk result (λ found. found.constant ≡ call_constant function (constants_in arguments.now.known.items)) }
+    ensures longer { OnErr result ((before own : List Instruction) → code.old.items ≡ before ++ own → start ≡ length before → IsLonger before code.new.items) }
 {
     let kind = VariableType::Integer(call_type(function, arguments.kind));
     let to = register_at(level, kind);
-    add(
-        code,
-        value_call(function, to, arguments.registers.as_slice()),
-    )?;
-    Ok(kind)
+    let instruction = value_call(function, to, arguments.registers.as_slice());
+    add(code, instruction)?;
+    let constant = constants::call(function, arguments.known.as_slice());
+    settle(level, start, kind, constant, code)
 }
 
 /// Adds the call of a built-in function whose value, if it gives one, is left in a register that nothing reads. Where there is no such

@@ -6,17 +6,18 @@ ghost use Rattle.clnum.specs.Conversions.{common};
 ghost use Rattle.clnum.specs.declared.int_type.IntType.TheVariants as integer;
 ghost use Rattle.clmodel.specs.Next.{infix_type, base_type};
 ghost use Rattle.clmodel.specs.declared.tree.VariableType.TheVariants as kinds;
+ghost use Rattle.folding.specs.Constants.{infix_constant, choice_constant};
 ghost use Rattle.regcode.specs.declared.instruction.Instruction.{Instruction};
 ghost use Rattle.regcode.specs.declared.instruction.Instruction.TheVariants as instruction;
 ghost use Rattle.lower_expr.specs.Scope.{register_at};
-ghost use Rattle.lower_expr.specs.Expressions.{truth_code, infix_begun, infix_code, branch_code, choice_code};
+ghost use Rattle.lower_expr.specs.Expressions.{truth_code, folded, infix_begun, infix_code, branch_code, choice_code};
 ghost use Rattle.lower_expr.specs.Growth.{IsLonger};
 
-use crate::instructions::add;
+use crate::instructions::{Part, add, settle};
 use crate::scope::{Level, Register, level_at, register_at};
 use clmodel::tree::{InfixOperator, VariableType};
 use clnum::{BinaryOperator, IntType, Value};
-use folding::{base_type, infix_type};
+use folding::{Known, base_type, constants, infix_type};
 use regcode::Instruction;
 use std::alloc::AllocError;
 
@@ -49,21 +50,12 @@ fn truth(to: Register, code: &mut Vec<Instruction>) -> Result<(), AllocError>
     ensures code { OnOk result (code.new.items ≡ code.old.items ++ truth_code to.0) }
     ensures longer { OnErr result (IsLonger code.old.items code.new.items) }
 {
-    add(
-        code,
-        Instruction::Constant {
-            to: to.0,
-            value: Value::new(IntType::Int, 1),
-        },
-    )?;
+    let to = to.0;
+    let value = Value::new(IntType::Int, 1);
+    add(code, Instruction::Constant { to, value })?;
     add(code, Instruction::Jump { by: 1 })?;
-    add(
-        code,
-        Instruction::Constant {
-            to: to.0,
-            value: Value::new(IntType::Int, 0),
-        },
-    )
+    let value = Value::new(IntType::Int, 0);
+    add(code, Instruction::Constant { to, value })
 }
 
 /// Adds an operator on integers or pointers.
@@ -104,13 +96,8 @@ fn logical_and(
     ensures longer { OnErr result (IsLonger code.old.items code.new.items) }
 {
     let by = (code.len() - place + 3) as u32;
-    add(
-        code,
-        Instruction::JumpIfZero {
-            test: second.0,
-            by: 2,
-        },
-    )?;
+    let test = second.0;
+    add(code, Instruction::JumpIfZero { test, by: 2 })?;
     truth(to, code)?;
     code[place - 1] = Instruction::JumpIfZero { test: first.0, by };
     Ok(())
@@ -131,20 +118,15 @@ fn logical_or(
     ensures longer { OnErr result (IsLonger code.old.items code.new.items) }
 {
     let by = (code.len() - place + 1) as u32;
-    add(
-        code,
-        Instruction::JumpIfZero {
-            test: second.0,
-            by: 2,
-        },
-    )?;
+    let test = second.0;
+    add(code, Instruction::JumpIfZero { test, by: 2 })?;
     truth(to, code)?;
     code[place - 1] = Instruction::Jump { by };
     Ok(())
 }
 
 /// Ends an operator behind its right operand, whose code begins at a place, and gives its type.
-pub fn end_infix(
+fn infix_instructions(
     level: Level,
     operator: InfixOperator,
     first: VariableType,
@@ -174,6 +156,39 @@ pub fn end_infix(
     Ok(kind)
 }
 
+/// Ends an operator behind its right operand: with its instructions, or with its value in place of all of its code.
+pub(crate) fn end_infix(
+    level: Level,
+    operator: InfixOperator,
+    first: Part,
+    second: Part,
+    code: &mut Vec<Instruction>,
+) -> Result<Known, AllocError>
+    requires low { level.0 + 1 < 2 ^ 28 }
+    requires begun { length (infix_begun operator 0) ≤ second.start }
+    requires inside { second.start ≤ length code.old.items }
+    requires near { length code.old.items - second.start + 3 < 2 ^ 32 }
+    ensures code { IfOk result (λ _. (before own right : List Instruction) → code.old.items ≡ before ++ (own ++ (infix_begun operator (register_at level.0 first.known.kind) ++ right))
+        → first.start ≡ length before → second.start ≡ length before + length own + length (infix_begun operator 0)
+        → code.new.items ≡ before ++ folded (infix_constant operator first.known.constant second.known.constant) level.0 (own ++ infix_code operator
+        (register_at level.0 (infix_type operator first.known.kind second.known.kind)) (register_at level.0 first.known.kind) (register_at (level.0 + 1) second.known.kind) right)) }
+    ensures kind { IfOk result (λ found. found.kind ≡ infix_type operator first.known.kind second.known.kind) }
+    ensures constant { IfOk result (λ found. found.constant ≡ infix_constant operator first.known.constant second.known.constant) }
+    ensures longer { OnErr result ((before own right : List Instruction) → code.old.items ≡ before ++ (own ++ (infix_begun operator (register_at level.0 first.known.kind) ++ right))
+        → first.start ≡ length before → second.start ≡ length before + length own + length (infix_begun operator 0) → IsLonger before code.new.items) }
+{
+    let kind = infix_instructions(
+        level,
+        operator,
+        first.known.kind,
+        second.known.kind,
+        second.start,
+        code,
+    )?;
+    let constant = constants::infix(operator, first.known.constant, second.known.constant);
+    settle(level, first.start, kind, constant, code)
+}
+
 /// Begins a choice behind its condition of this type, and gives the place where the chosen branch begins.
 pub fn begin_choice(
     level: Level,
@@ -185,14 +200,8 @@ pub fn begin_choice(
     ensures place { IfOk result (λ place. place ≡ length code.new.items) }
     ensures longer { OnErr result (IsLonger code.old.items code.new.items) }
 {
-    let test = register_at(level, condition);
-    add(
-        code,
-        Instruction::JumpIfZero {
-            test: test.0,
-            by: 0,
-        },
-    )?;
+    let test = register_at(level, condition).0;
+    add(code, Instruction::JumpIfZero { test, by: 0 })?;
     Ok(code.len())
 }
 
@@ -214,51 +223,57 @@ pub fn between_branches(code: &mut Vec<Instruction>) -> Result<usize, AllocError
     Ok(code.len())
 }
 
-/// Ends a choice behind both branches, of these types, which begin at these places, and gives its type.
-pub fn end_choice(
+/// Ends a choice behind both branches: with its instructions, or with its value in place of all of its code.
+pub(crate) fn end_choice(
     level: Level,
-    condition: VariableType,
-    chosen: VariableType,
-    otherwise: VariableType,
-    first: usize,
-    second: usize,
+    condition: Part,
+    chosen: Part,
+    otherwise: Part,
     code: &mut Vec<Instruction>,
-) -> Result<VariableType, AllocError>
+) -> Result<Known, AllocError>
     requires low { level.0 < 2 ^ 28 }
-    requires begun { 0 < first }
-    requires between { first + 2 ≤ second }
-    requires inside { second ≤ length code.old.items }
-    requires near { length code.old.items - first + 1 < 2 ^ 32 }
-    ensures code { OnOk result ((before one other : List Instruction)
-        → code.old.items ≡ before ++ (instruction.JumpIfZero (register_at level.0 condition) 0 ∷ (one ++ (instruction.UsualConversion 0 0 integer.Int ∷ instruction.Jump 0 ∷ other)))
-        → first ≡ length before + 1 → second ≡ first + length one + 2
-        → code.new.items ≡ before ++ choice_code (register_at level.0 condition)
-        (branch_code (register_at level.0 (kinds.Integer (common (base_type chosen) (base_type otherwise)))) one (register_at level.0 chosen) otherwise)
-        (branch_code (register_at level.0 (kinds.Integer (common (base_type chosen) (base_type otherwise)))) other (register_at level.0 otherwise) chosen)) }
-    ensures kind { IfOk result (λ kind. kind ≡ kinds.Integer (common (base_type chosen) (base_type otherwise))) }
-    ensures longer { OnErr result (IsLonger code.old.items code.new.items) }
+    requires begun { 0 < chosen.start }
+    requires between { chosen.start + 2 ≤ otherwise.start }
+    requires inside { otherwise.start ≤ length code.old.items }
+    requires near { length code.old.items - chosen.start + 1 < 2 ^ 32 }
+    ensures code { IfOk result (λ _. (before own one other : List Instruction)
+        → code.old.items ≡ before ++ (own ++ (instruction.JumpIfZero (register_at level.0 condition.known.kind) 0 ∷ (one ++ (instruction.UsualConversion 0 0 integer.Int ∷ instruction.Jump 0 ∷ other))))
+        → condition.start ≡ length before → chosen.start ≡ length before + length own + 1 → otherwise.start ≡ chosen.start + length one + 2
+        → code.new.items ≡ before ++ folded (choice_constant condition.known.constant chosen.known.constant (base_type chosen.known.kind) otherwise.known.constant (base_type otherwise.known.kind)) level.0
+        (own ++ choice_code (register_at level.0 condition.known.kind)
+        (branch_code (register_at level.0 (kinds.Integer (common (base_type chosen.known.kind) (base_type otherwise.known.kind)))) one (register_at level.0 chosen.known.kind) otherwise.known.kind)
+        (branch_code (register_at level.0 (kinds.Integer (common (base_type chosen.known.kind) (base_type otherwise.known.kind)))) other (register_at level.0 otherwise.known.kind) chosen.known.kind))) }
+    ensures kind { IfOk result (λ found. found.kind ≡ kinds.Integer (common (base_type chosen.known.kind) (base_type otherwise.known.kind))) }
+    ensures constant { IfOk result (λ found. found.constant
+        ≡ choice_constant condition.known.constant chosen.known.constant (base_type chosen.known.kind) otherwise.known.constant (base_type otherwise.known.kind)) }
+    ensures longer { OnErr result ((before own one other : List Instruction)
+        → code.old.items ≡ before ++ (own ++ (instruction.JumpIfZero (register_at level.0 condition.known.kind) 0 ∷ (one ++ (instruction.UsualConversion 0 0 integer.Int ∷ instruction.Jump 0 ∷ other))))
+        → condition.start ≡ length before → chosen.start ≡ length before + length own + 1 → otherwise.start ≡ chosen.start + length one + 2 → IsLonger before code.new.items) }
 {
-    let kind = VariableType::Integer(base_type(chosen).common(base_type(otherwise)));
-    let to = register_at(level, kind);
-    let test = register_at(level, condition);
-    let one = register_at(level, chosen);
-    let from = register_at(level, otherwise);
+    let first = base_type(chosen.known.kind);
+    let second = base_type(otherwise.known.kind);
+    let kind = VariableType::Integer(first.common(second));
+    let to = register_at(level, kind).0;
+    let test = register_at(level, condition.known.kind).0;
+    let one = register_at(level, chosen.known.kind).0;
+    let from = register_at(level, otherwise.known.kind).0;
     add(
         code,
         Instruction::UsualConversion {
-            to: to.0,
-            from: from.0,
-            other: base_type(chosen),
+            to,
+            from,
+            other: first,
         },
     )?;
-    let past = (code.len() - second) as u32;
-    let by = (second - first) as u32;
-    code[second - 2] = Instruction::UsualConversion {
-        to: to.0,
-        from: one.0,
-        other: base_type(otherwise),
+    let past = (code.len() - otherwise.start) as u32;
+    let by = (otherwise.start - chosen.start) as u32;
+    code[otherwise.start - 2] = Instruction::UsualConversion {
+        to,
+        from: one,
+        other: second,
     };
-    code[second - 1] = Instruction::Jump { by: past };
-    code[first - 1] = Instruction::JumpIfZero { test: test.0, by };
-    Ok(kind)
+    code[otherwise.start - 1] = Instruction::Jump { by: past };
+    code[chosen.start - 1] = Instruction::JumpIfZero { test, by };
+    let constant = constants::choice(condition.known.constant, chosen.known, otherwise.known);
+    settle(level, condition.start, kind, constant, code)
 }

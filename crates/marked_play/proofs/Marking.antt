@@ -12,31 +12,32 @@ use Rattle.clmodel.specs.declared.schedule.Event.{Event}
 use Rattle.clmodel.specs.declared.schedule.EventRun.{EventRun}
 use Rattle.item_step.specs.Running.{Makes}
 use Rattle.replay.proofs.Played.{after_then, after_never, replicate_more, replicate_never, events_more, events_split}
-use Rattle.replay_play.specs.Items.{Stands, StandsAt, place_of, place_in}
+use Rattle.replay_play.specs.Items.{Stands, StandsAt, stand_of, stand_in}
 use Rattle.replay_play.specs.States.{ActsNext, IsAt, IsPlayed}
 use Rattle.replay_play.specs.declared.player.Player.{Player}
 use Rattle.replay_play.specs.declared.slot.Slot.{Slot}
 use Rattle.replay_play.specs.declared.slot.Slot.TheVariants as slot
+use Rattle.replay_play.specs.declared.slot.Stand.{Stand}
 use Rattle.marked_play.specs.Marks.{ActsFrom, AreMarked, IsCounted, Lead, events_in, item_of}
 use Rattle.marked_play.specs.declared.marks.Mark.{Mark}
 
--- ---- the place of an item
+-- ---- where an item stands
 
 at_slot :
     (l : Launch) (s : State) (item : ℕ) (a : Action) (o : Option Slot) → next_action l s item ≡ a → ((i : Slot) → o ≡ Some i → Stands i a)
-    → ActsFrom l s item (option_and_then place_of o)
+    → ActsFrom l s item (option_and_then stand_of o)
 at_slot l s item a None e h = tt
 at_slot l s item a (Some slot.Waiting) e h = tt
-at_slot l s item a (Some (slot.Running r)) e h = (r, refl, subst (Makes r) (sym e) (h (slot.Running r) refl))
+at_slot l s item a (Some (slot.Running r)) e h = (r, refl, refl, subst (Makes r) (sym e) (h (slot.Running r) refl))
 at_slot l s item a (Some slot.Ended) e h = tt
 
 pub acts_from :
-    {D : Type 0} (launch_of : D → Launch) (l : Launch) (p : Player D) (s : State) (item : ℕ) (action : Option Action) (place : Option ℕ)
-    → IsAt launch_of l p s → ActsNext l s item action → IfSome action (StandsAt p.items.items item) → place ≡ place_in p.items.items item → ActsFrom l s item place
-acts_from launch_of l p s item None place at past stands e =
+    {D : Type 0} (launch_of : D → Launch) (l : Launch) (p : Player D) (s : State) (item : ℕ) (action : Option Action) (stand : Option Stand)
+    → IsAt launch_of l p s → ActsNext l s item action → IfSome action (StandsAt p.items.items item) → stand ≡ stand_in p.items.items item → ActsFrom l s item stand
+acts_from launch_of l p s item None stand at past stands e =
     let none : slice_get p.items.items item ≡ None = slice_get_past p.items.items item (subst (λ n. n ≤ item) (sym at.tells.many) past) in
-    subst (ActsFrom l s item) (sym (e ∙ ap (option_and_then place_of) none)) tt
-acts_from launch_of l p s item (Some a) place at next stands e = subst (ActsFrom l s item) (sym e) (at_slot l s item a (slice_get p.items.items item) next.1 stands)
+    subst (ActsFrom l s item) (sym (e ∙ ap (option_and_then stand_of) none)) tt
+acts_from launch_of l p s item (Some a) stand at next stands e = subst (ActsFrom l s item) (sym e) (at_slot l s item a (slice_get p.items.items item) next.1 stands)
 
 -- ---- marks one behind another
 
@@ -61,7 +62,7 @@ none_marked l z s old at h = ([], s, sym (nil old), refl, refl, h)
     nil (x ∷ xs) = ap (λ ys. x ∷ ys) (nil xs)
 
 pub one_marked :
-    (l : Launch) (z : ℕ) (s : State) (mark : Mark) (old new : List Mark) (at at' : State → Type 0) (answer : Bool) → answer ≡ true → ActsFrom l s (item_of z mark.event) mark.place
+    (l : Launch) (z : ℕ) (s : State) (mark : Mark) (old new : List Mark) (at at' : State → Type 0) (answer : Bool) → answer ≡ true → ActsFrom l s (item_of z mark.event) mark.stand
     → IsPlayed l s mark.event at answer → ((t : State) → step l s mark.event ≡ Some t → at t → IsCounted s t mark × at' t) → new ≡ old ++ mark ∷ []
     → AreMarked l z s (mark.event ∷ []) old new at' true
 one_marked l z s mark old new at at' true all acts (t, goes, h) then e = let done = then t goes h in (mark ∷ [], t, e, refl, (acts, t, goes, done.0, refl), done.1)

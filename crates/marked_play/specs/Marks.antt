@@ -1,4 +1,4 @@
--- Events played with the places of their items, and with the numbers that their accesses find and leave (own; the events are those of OpenCL 1.2,
+-- Events played with where their items stand, and with the numbers that their accesses find and leave (own; the events are those of OpenCL 1.2,
 -- sections 3.2 and 6.12.8).
 use Rattle.std.specs.Prelude.{◌≡◌, ℕ, ◌*◌, ⊤, Bool, true, false, Option, None, Some, List, [], ◌∷◌, ◌++◌, map}
 use Rattle.std.specs.Option.{IfSome}
@@ -11,6 +11,7 @@ use Rattle.clmodel.specs.declared.schedule.Event.TheVariants as event
 use Rattle.item_step.specs.Running.{Running, Makes}
 use Rattle.replay_play.specs.States.{IsAt}
 use Rattle.replay_play.specs.declared.player.Player.{Player}
+use Rattle.replay_play.specs.declared.slot.Stand.{Stand}
 use Rattle.marked_play.specs.Replicas.{Mirrors}
 use Rattle.marked_play.specs.declared.marks.Mark.{Mark}
 use Rattle.marked_play.specs.declared.replica.Replica.{Replica}
@@ -19,16 +20,17 @@ use Rattle.marked_play.specs.declared.replica.Replica.{Replica}
 abbrev pub Follows : {D : Type 0} → (D → Launch) → Launch → Player D → Replica → State → Type 0
 Follows launch_of launch player replica state = IsAt launch_of launch player state × Mirrors launch replica state.memory
 
--- the item at whose place an event is told: of a release, the first of the group (own)
+-- the item of which an event tells where it stands: of a release, the first of the group (own)
 abbrev pub item_of : ℕ → Event → ℕ
 item_of size (event.Item item) = item
 item_of size (event.Release group) = group * size
 
--- a machine stands at a place, where one is told, and the instruction there makes the item's next action, whatever
+-- a machine stands at a place after these turns of loops, where one is told, and the instruction there makes the item's next action, whatever
 -- follows it (own)
-abbrev pub ActsFrom : Launch → State → ℕ → Option ℕ → Type 0
+abbrev pub ActsFrom : Launch → State → ℕ → Option Stand → Type 0
 ActsFrom launch state item None = ⊤
-ActsFrom launch state item (Some place) = (running : Running) × (running.state.place ≡ place) × Makes running (next_action launch state item)
+ActsFrom launch state item (Some stand) =
+    (running : Running) × (running.state.place ≡ stand.place) × (running.state.counters ≡ stand.turns) × Makes running (next_action launch state item)
 
 -- the events of marks (own)
 abbrev pub events_in : List Mark → List Event
@@ -44,12 +46,12 @@ pub record IsCounted (state next : State) (mark : Mark) : Type 0 where
   pub found : IfSome mark.found (HasThere state next state.memory)
   pub left : IfSome mark.left (HasThere state next next.memory)
 
--- marks lead from a state to another: each event is possible in its turn, its item acts from its place, and its numbers are those of its access
+-- marks lead from a state to another: each event is possible in its turn, its item acts from where it stands, and its numbers are those of its access
 -- (own)
 abbrev pub Lead : Launch → ℕ → State → List Mark → State → Type 0
 Lead launch size state [] end = state ≡ end
 Lead launch size state (mark ∷ marks) end =
-    ActsFrom launch state (item_of size mark.event) mark.place × (next : State) × (step launch state mark.event ≡ Some next) × IsCounted state next mark
+    ActsFrom launch state (item_of size mark.event) mark.stand × (next : State) × (step launch state mark.event ≡ Some next) × IsCounted state next mark
     × Lead launch size next marks end
 
 -- events were played one after another, their marks were added, and what is kept tells of the state that they lead to;

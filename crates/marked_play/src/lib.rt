@@ -1,5 +1,5 @@
-//! A schedule that is played with the place of each event, which is the instruction at which its item stands, and with
-//! the numbers that its access finds and leaves. And the two accesses of a log that a fault tells as a conflict. It
+//! A schedule that is played with where the item of each event stands, which is an instruction and the turns of the loops
+//! round it, and with the numbers that its access finds and leaves. And the two accesses of a log that a fault tells as a conflict. It
 //! knows a launch by what `launches` says of it, and neither a tree nor a source.
 #![tactic(auto)]
 
@@ -7,6 +7,7 @@ mod marks;
 mod pairs;
 mod replica;
 
-pub use marks::{Mark, mark_schedule, place_of};
+pub use marks::{Mark, mark_schedule, stand_of};
 pub use pairs::{Pair, Partner, Told, find_pair};
+pub use replay_play::Stand;
 pub use replica::Replica;

@@ -1,4 +1,4 @@
-//! The events of a schedule, each with the place of its item.
+//! The events of a schedule, each with where its item stands.
 #![tactic(auto)]
 
 ghost use Rattle.std.specs.Prelude.{◌≡◌, true, [], ◌∷◌, replicate, IfOk, IfSome};
@@ -14,46 +14,45 @@ use crate::replica::{Deed, Replica};
 use clmodel::action::Action;
 use clmodel::schedule::{Event, EventRun};
 use launches::Runnable;
-use replay_play::Player;
+use replay_play::{Player, Stand};
 use std::alloc::AllocError;
 
-/// An event with the place in its code of the instruction from which its item acts: of a release, the group's first
-/// item.
-#[derive(Clone, Copy)]
+/// An event with where the item stands that acts by it: of a release, the group's first item.
+#[derive(Drop)]
 pub struct Mark {
     pub event: Event,
-    pub place: Option<usize>,
+    pub stand: Option<Stand>,
     /// The number that the bytes of its access held before it, where it is known: what a load and an atomic function give
     pub found: Option<u64>,
     /// The number that they hold behind it, where it is known
     pub left: Option<u64>,
 }
 
-/// The place from which an item acts next, if it is under way. An error is out of memory.
-pub fn place_of<D: Runnable>(
+/// Where an item stands that is under way, from which it acts next. An error is out of memory.
+pub fn stand_of<D: Runnable>(
     player: &mut Player<'_, D>,
     item: u32,
-) -> Result<Option<usize>, AllocError>
+) -> Result<Option<Stand>, AllocError>
     ensures same { (launch : Launch) (state : State) → IsAt D.launch launch player.old state → IsAt D.launch launch player.new state }
-    ensures acts { IfOk result (λ place. (launch : Launch) (state : State) → IsAt D.launch launch player.old state → ActsFrom launch state item place) }
+    ensures acts { IfOk result (λ stand. (launch : Launch) (state : State) → IsAt D.launch launch player.old state → ActsFrom launch state item stand) }
 {
     player.action(item)?;
-    Ok(player.place(item))
+    Ok(player.stand(item))
 }
 
-/// The place at which an event is told, before it is played. An error is out of memory.
-fn place_before<D: Runnable>(
+/// Where the item of an event stands, before it is played. An error is out of memory.
+fn stand_before<D: Runnable>(
     player: &mut Player<'_, D>,
     group_size: u32,
     event: Event,
-) -> Result<Option<usize>, AllocError>
+) -> Result<Option<Stand>, AllocError>
     ensures same { (launch : Launch) (state : State) → IsAt D.launch launch player.old state → IsAt D.launch launch player.new state }
-    ensures acts { IfOk result (λ place. (launch : Launch) (state : State) → IsAt D.launch launch player.old state → ActsFrom launch state (item_of group_size event) place) }
+    ensures acts { IfOk result (λ stand. (launch : Launch) (state : State) → IsAt D.launch launch player.old state → ActsFrom launch state (item_of group_size event) stand) }
 {
     match event {
-        Event::Item(item) => place_of(player, item),
+        Event::Item(item) => stand_of(player, item),
         Event::Release(group) => match group.checked_mul(group_size) {
-            Some(first) => place_of(player, first),
+            Some(first) => stand_of(player, first),
             None => Ok(None),
         },
     }
@@ -111,7 +110,7 @@ fn mark_event<D: Runnable>(
     ensures { IfOk result (λ yes. (launch : Launch) (state : State) → Follows D.launch launch player.old replica.old state
         → AreMarked launch group_size state (event ∷ []) marks.old.items marks.new.items (Follows D.launch launch player.new replica.new) yes) }
 {
-    let place = place_before(player, group_size, event)?;
+    let stand = stand_before(player, group_size, event)?;
     let deed = deed_before(player, event)?;
     let found = replica.number_at(deed);
     if !player.play(event)? {
@@ -121,7 +120,7 @@ fn mark_event<D: Runnable>(
     let left = replica.number_at(deed);
     marks.push(Mark {
         event,
-        place,
+        stand,
         found,
         left,
     })?;
@@ -173,8 +172,8 @@ fn mark_run<D: Runnable>(
     }
 }
 
-/// Plays the events of a schedule (OpenCL 1.2, section 3.2), up to one that isn't possible, and adds each with its
-/// place and its numbers. Answers whether all are. An error is out of memory.
+/// Plays the events of a schedule (OpenCL 1.2, section 3.2), up to one that isn't possible, and adds each with where its
+/// item stands and with its numbers. Answers whether all are. An error is out of memory.
 pub fn mark_schedule<D: Runnable>(
     player: &mut Player<'_, D>,
     replica: &mut Replica,

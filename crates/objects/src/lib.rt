@@ -20,7 +20,7 @@ use std::alloc::{AllocError, Global};
 pub fn local_objects(alloc: Global, sizes: &[u64]) -> Result<Vec<LocalMem>, AllocError>
     ensures { IfOk result (λ locals. locals.items ≡ map (λ size. replicate size None) sizes.now) }
 {
-    let mut locals = Vec::new(alloc);
+    let mut locals = Vec::with_capacity(alloc, sizes.len())?;
     for i in 0..sizes.len() {
         locals.push(LocalMem::new(alloc, sizes[i] as usize)?)?;
     }

@@ -10,6 +10,7 @@ use Rattle.clmodel.specs.declared.action.Stop.{Stop}
 use Rattle.item_step.specs.Running.{Makes, action_of}
 use Rattle.replay_play.specs.declared.slot.Slot.{Slot}
 use Rattle.replay_play.specs.declared.slot.Slot.TheVariants as slot
+use Rattle.replay_play.specs.declared.slot.Stand.{Stand}
 
 -- the action that an item makes after further answers: before it is asked what its launch says, and at its end the end
 abbrev pub acts_of : Launch → ℕ → Slot → List Answer → Action
@@ -31,15 +32,15 @@ IsAskedAt items item = (i : Slot) → slice_get items item ≡ Some i → IsAske
 abbrev pub AreAsked : List Slot → ℕ → ℕ → Type 0
 AreAsked items first end = (k : ℕ) → first ≤ k → k < end → IsAskedAt items k
 
--- the place in its code of the instruction where an item stands that is under way
-abbrev pub place_of : Slot → Option ℕ
-place_of slot.Waiting = None
-place_of (slot.Running running) = Some running.state.place
-place_of slot.Ended = None
+-- where an item stands that is under way: the place of its machine, and the turns that loops have made there
+abbrev pub stand_of : Slot → Option Stand
+stand_of slot.Waiting = None
+stand_of (slot.Running running) = Some (record { place = running.state.place; turns = running.state.counters })
+stand_of slot.Ended = None
 
 -- that of the item of a number
-abbrev pub place_in : List Slot → ℕ → Option ℕ
-place_in items item = option_and_then place_of (slice_get items item)
+abbrev pub stand_in : List Slot → ℕ → Option Stand
+stand_in items item = option_and_then stand_of (slice_get items item)
 
 -- where an item is under way, the instruction where it stands makes this action, whatever follows it
 abbrev pub Stands : Slot → Action → Type 0

@@ -13,3 +13,4 @@ mod player;
 mod slot;
 
 pub use player::Player;
+pub use slot::Stand;

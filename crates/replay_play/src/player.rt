@@ -8,12 +8,12 @@ ghost use Rattle.clmodel.specs.declared.action.Action.TheVariants as action;
 ghost use Rattle.clmodel.specs.declared.action.Instance.{Instance};
 ghost use Rattle.clmodel.specs.declared.schedule.Event.TheVariants as event;
 ghost use Rattle.launches.specs.Groups.{IsRunnable, filled};
-ghost use Rattle.replay_play.specs.Items.{AreAsked, IsAskedAt, StandsAt, place_in};
+ghost use Rattle.replay_play.specs.Items.{AreAsked, IsAskedAt, StandsAt, stand_in};
 ghost use Rattle.replay_play.specs.States.{ActsNext, Gathers, IsAt, IsPlayed};
 
 use crate::group::{Group, new_groups};
 use crate::members::{answer_all, are_at};
-use crate::slot::{Slot, waiting_items};
+use crate::slot::{Slot, Stand, waiting_items};
 use clmodel::access::{Access, Object, Operation};
 use clmodel::action::{Action, Fences, Stop};
 use clmodel::schedule::Event;
@@ -108,13 +108,13 @@ impl<'a, D: Runnable> Player<'a, D> {
         Ok(Some(action))
     }
 
-    /// The place in its code of the instruction where an item stands, if it is under way. Once `action` has told its next action, it is that
-    /// of the instruction that makes the action. An item that wasn't asked, or has ended, stands nowhere.
-    pub fn place(&self, item: u32) -> Option<usize>
-        ensures { result ≡ place_in self.now.items.items item }
+    /// Where an item stands, if it is under way. Once `action` has told its next action, it is the instruction that makes
+    /// the action. An item that wasn't asked, or has ended, stands nowhere.
+    pub fn stand(&self, item: u32) -> Option<Stand>
+        ensures { result ≡ stand_in self.now.items.items item }
     {
         match self.items.get(item as usize) {
-            Some(slot) => slot.place(),
+            Some(slot) => slot.stand(self.alloc),
             None => None,
         }
     }

@@ -4,10 +4,10 @@ ghost use Rattle.std.specs.Prelude.{◌≡◌, ℕ, Some, [], ◌∷◌, List, r
 ghost use Rattle.clmodel.specs.Launch.{Launch};
 ghost use Rattle.clmodel.specs.Run.{stop_of};
 ghost use Rattle.clmodel.specs.declared.action.Answer.{Answer};
-ghost use Rattle.replay_play.specs.Items.{acts_of, is_at, place_of, IsAsked, Stands};
+ghost use Rattle.replay_play.specs.Items.{acts_of, is_at, stand_of, IsAsked, Stands};
 ghost use Rattle.replay_play.specs.declared.slot.Slot.TheVariants as slot;
 
-use clmodel::action::{Action, Answer, Stop};
+use clmodel::action::{Action, Answer, Stop, Turns};
 use divergence::same_stop;
 use item_step::Item;
 use launches::Runnable;
@@ -23,6 +23,15 @@ pub enum Slot<'a> {
     Running(Item<'a>),
     /// It is at its end.
     Ended,
+}
+
+/// Where an item stands: the place in its code of an instruction, and the numbers of the turns that loops have made by
+/// then, the outermost loop first. The first n of these are those of the n loops round the place, as a barrier there
+/// would tell them.
+#[derive(Drop)]
+pub struct Stand {
+    pub place: usize,
+    pub turns: Turns,
 }
 
 /// Items that weren't asked yet. An error is out of memory.
@@ -99,13 +108,15 @@ impl<'a> Slot<'a> {
         Ok(self.goes_on())
     }
 
-    /// The place in its code of the instruction where the item stands, if it is under way. After `next` it is that of the instruction that
-    /// makes the action.
-    pub fn place(&self) -> Option<usize>
-        ensures { result ≡ place_of self.now }
+    /// Where the item stands, if it is under way. After `next` it is the instruction that makes the action.
+    pub fn stand(&self, alloc: Global) -> Option<Stand>
+        ensures { result ≡ stand_of self.now }
     {
         match self {
-            Slot::Running(running) => Some(running.place()),
+            Slot::Running(running) => Some(Stand {
+                place: running.place(),
+                turns: Turns::of(alloc, running.turns()),
+            }),
             Slot::Waiting | Slot::Ended => None,
         }
     }

@@ -1,11 +1,12 @@
 //! The lines and columns of a byte.
 #![tactic(auto)]
 
-ghost use Rattle.std.specs.Prelude.{◌≡◌, ◌≤◌, ◌<◌, ◌^◌, min, length, IfOk};
+ghost use Rattle.std.specs.Prelude.{◌≡◌, ◌≤◌, ◌<◌, ◌^◌, min, length, string_bytes, IfOk};
 ghost use Rattle.source_lines.specs.Lines.{BeginsLine};
-ghost use Rattle.source_spots.specs.Spots.{IsPlace};
+ghost use Rattle.source_spots.specs.Spots.{IsPlace, IsToldLine};
 
 use clmodel::tree::Function;
+use explanation::line_as_text;
 use source_lines::{line_text, position_of};
 use std::alloc::{AllocError, Global};
 
@@ -34,7 +35,8 @@ pub(crate) struct Place {
 pub(crate) fn place_of(source: &Source<'_>, at: u32) -> Place
     ensures at { result.at ≡ min at (length source.now.text.now) }
     ensures place { IsPlace source.now.text.now source.now.first_line result.at result.line result.column result.script_line }
-    ensures begin { result.begin ≤ length source.now.text.now }
+    ensures begins { BeginsLine source.now.text.now result.at result.begin }
+    ensures within { result.begin ≤ length source.now.text.now }
 {
     let at = (at as usize).min(source.text.len());
     let found = position_of(source.text, at);
@@ -47,9 +49,15 @@ pub(crate) fn place_of(source: &Source<'_>, at: u32) -> Place
     }
 }
 
-/// The text of the line that begins at a byte. What is no UTF-8 is replaced.
-pub(crate) fn line_of(alloc: Global, text: &[u8], begin: usize) -> Result<String, AllocError>
-    requires { begin ≤ length text.now }
+/// The text of the line of a place, of as many bytes. An error is out of memory.
+pub(crate) fn line_of(
+    alloc: Global,
+    source: &Source<'_>,
+    place: Place,
+) -> Result<String, AllocError>
+    requires begins { BeginsLine source.now.text.now place.at place.begin }
+    requires within { place.begin ≤ length source.now.text.now }
+    ensures { IfOk result (λ line. IsToldLine source.now.text.now place.at (string_bytes line)) }
 {
-    String::from_utf8_lossy(alloc, line_text(text, begin))
+    line_as_text(alloc, line_text(source.text, place.begin))
 }

@@ -1,8 +1,8 @@
 //! Places with all that is told of them.
 #![tactic(auto)]
 
-ghost use Rattle.std.specs.Prelude.{◌≡◌, ◌+◌, ◌-◌, min, length, IfOk};
-ghost use Rattle.source_spots.specs.Spots.{IsPlace};
+ghost use Rattle.std.specs.Prelude.{◌≡◌, ◌+◌, ◌-◌, min, length, string_bytes, IfOk};
+ghost use Rattle.source_spots.specs.Spots.{HaveTurns, IsPlace, IsToldLine};
 
 use crate::loops::loops_of;
 use crate::places::{Source, line_of, place_of};
@@ -29,9 +29,10 @@ fn form_of(node: NodeKind) -> Form {
 fn call_of(alloc: Global, source: &Source<'_>, at: u32) -> Result<CallSite, AllocError>
     ensures at { IfOk result (λ call. call.offset ≡ min at (length source.now.text.now)) }
     ensures place { IfOk result (λ call. IsPlace source.now.text.now source.now.first_line call.offset call.line call.column call.script_line) }
+    ensures text { IfOk result (λ call. IsToldLine source.now.text.now call.offset (string_bytes call.text)) }
 {
     let place = place_of(source, at);
-    let text = line_of(alloc, source.text, place.begin)?;
+    let text = line_of(alloc, source, place)?;
     Ok(CallSite {
         offset: place.at,
         line: place.line,
@@ -41,10 +42,11 @@ fn call_of(alloc: Global, source: &Source<'_>, at: u32) -> Result<CallSite, Allo
     })
 }
 
-/// A loop round a place.
-fn loop_of(source: &Source<'_>, at: u32) -> LoopSite
+/// A loop round a place, in this turn.
+fn loop_of(source: &Source<'_>, at: u32, turn: Option<u32>) -> LoopSite
     ensures at { result.offset ≡ min at (length source.now.text.now) }
     ensures place { IsPlace source.now.text.now source.now.first_line result.offset result.line result.column result.script_line }
+    ensures turn { result.turn ≡ turn }
 {
     let place = place_of(source, at);
     LoopSite {
@@ -52,7 +54,7 @@ fn loop_of(source: &Source<'_>, at: u32) -> LoopSite
         line: place.line,
         script_line: place.script_line,
         column: place.column,
-        turn: None,
+        turn,
     }
 }
 
@@ -68,37 +70,44 @@ fn calls_of(
     Ok(calls)
 }
 
+/// The loops that begin at these bytes, each with its turn among these, where it has one.
 fn loop_sites(
     alloc: Global,
     source: &Source<'_>,
-    through: &[u32],
-    at: u32,
-) -> Result<Vec<LoopSite>, AllocError> {
-    let begins = loops_of(alloc, source.functions, through, at)?;
+    begins: &[u32],
+    turns: &[u32],
+) -> Result<Vec<LoopSite>, AllocError>
+    ensures { IfOk result (λ loops. HaveTurns turns.now loops.items) }
+{
     let mut loops = Vec::new(alloc);
-    for begin in &begins {
-        loops.push(loop_of(source, *begin))?;
+    for (number, begin) in begins.iter().enumerate() {
+        loops.push(loop_of(source, *begin, turns.get(number).copied()))?;
     }
     Ok(loops)
 }
 
-/// The place of a node that begins at a byte, with the calls of helpers that begin at these bytes round it, the
-/// outermost first. A byte past the end stands for the end. An error is out of memory. It takes the time of the source.
+/// The place of a node that begins at a byte, with the calls of helpers that begin at these bytes round it, and with the
+/// loops round it and round these calls, in these turns: calls, loops and turns from the outermost one on. A byte past
+/// the end stands for the end. An error is out of memory. It takes the time of the source.
 pub fn spot_of(
     alloc: Global,
     source: &Source<'_>,
     node: NodeKind,
     at: u32,
     through: &[u32],
+    turns: &[u32],
 ) -> Result<Spot, AllocError>
     ensures at { IfOk result (λ spot. spot.offset ≡ min at (length source.now.text.now)) }
     ensures place { IfOk result (λ spot. IsPlace source.now.text.now source.now.first_line spot.offset spot.line spot.column spot.script_line) }
     ensures node { IfOk result (λ spot. spot.node ≡ node) }
+    ensures text { IfOk result (λ spot. IsToldLine source.now.text.now spot.offset (string_bytes spot.text)) }
+    ensures turns { IfOk result (λ spot. HaveTurns turns.now spot.loops.items) }
 {
     let place = place_of(source, at);
-    let text = line_of(alloc, source.text, place.begin)?;
+    let text = line_of(alloc, source, place)?;
     let calls = calls_of(alloc, source, through)?;
-    let loops = loop_sites(alloc, source, through, at)?;
+    let begins = loops_of(alloc, source.functions, through, at)?;
+    let loops = loop_sites(alloc, source, begins.as_slice(), turns)?;
     Ok(Spot {
         offset: place.at,
         length: extent(source.text, place.at, form_of(node)),

@@ -1,21 +1,21 @@
-use Rattle.std.proofs.Common.{refl, ap, subst, ◌∙◌}
+use Rattle.std.proofs.Common.{refl, ap, option_copied, subst, ◌∙◌}
 use Rattle.std.specs.Option.{IfSome}
 use Rattle.std.proofs.lemmas.Option.{IfSome_then}
 use Rattle.explain_play.specs.PlayedOut.{IsEventOf}
-use Rattle.explain_reasons.specs.Named.{place_of}
-use Rattle.explain_reasons.proofs.Spotting.{item_place}
+use Rattle.explain_reasons.specs.Named.{stand_of}
+use Rattle.explain_reasons.proofs.Spotting.{item_stand}
 use Rattle.explain_reasons.proofs.named.ended.Goals as goal
 
 pub returns : goal.returns
 returns c =
     let same = c.as_slice-marks.ensures.value in
     let made = subst (λ xs. IfSome c.last_of.result (IsEventOf xs c.args.item)) same c.last_of.ensures in
-    let place = c.place_at-place.ensures ∙ ap (λ xs. place_of xs c.last_of.result) same in
+    let stand = c.stand_at-stand.ensures ∙ ap (λ xs. stand_of xs c.last_of.result) same in
     record {
       number = refl;
       ids = c.in_ok-ids.ensures;
       spotted = tt;
       last_spotted =
           IfSome_then c.in_ok-spot.field-0 c.in_ok-spot.ensures
-          (λ spot s. (s.0, item_place c.args.played.now.marks.items c.args.item c.last_of.result c.place_at-place.result made place s.0 s.1, s.2));
+          (λ spot s. (s.0, item_stand c.args.played.now.marks.items c.args.item c.last_of.result (option_copied c.stand_at-stand.result) made stand s.0 s.1, s.2));
     }

@@ -1,18 +1,37 @@
-use Rattle.std.proofs.Common.{◌+◌, [], ◌∷◌, ◌++◌, length, ap, ap₂, sym, ◌∙◌, arith}
+use Rattle.std.proofs.Common.{◌≡◌, ◌+◌, ◌++◌, length, sym, ◌∙◌, arith}
 use Rattle.std.proofs.lemmas.List.{length-append, append_assoc}
 use Rattle.clmodel.specs.Next.{infix_type}
-use Rattle.regcode.specs.declared.instruction.Instruction.TheVariants as instruction
 use Rattle.lower_expr.specs.Scope.{register_at}
-use Rattle.lower_expr.specs.Expressions.{truth_code}
+use Rattle.lower_expr.specs.Expressions.{infix_begun, infix_code}
+use Rattle.lower_expr.proofs.Growth.{on_value, on_error, settled, cut_back, known_kind, known_constant}
 use Rattle.lower_expr.proofs.jumps.end_infix.Goals as goal
 
-pub returns-in_ok-logical_or-in-LogicalOr-clause-code : goal.returns-in_ok-logical_or-in-LogicalOr-clause-code
-returns-in_ok-logical_or-in-LogicalOr-clause-code c =
-    rw c.in-LogicalOr.is (λ before right e p.
+pub returns-clause-code : goal.returns-clause-code
+returns-clause-code c =
     let a = c.args in
-    let test = instruction.JumpIfZero (register_at a.level.0 a.first) 1 in
-    let to = c.register_at-to.ensures ∙ ap (register_at a.level.0) (c.infix_type-kind.ensures ∙ ap (λ o. infix_type o a.first a.second) c.in-LogicalOr.is) in
-    let second = c.register_at-right.ensures ∙ ap (λ n. register_at n a.second) c.level_at.ensures in
-    c.in_ok-logical_or-in-LogicalOr.ensures.code (before ++ test ∷ []) right (e ∙ sym (append_assoc before (test ∷ []) (instruction.Jump 0 ∷ right))) (omega (arith, p, length-append before (test ∷ [])))
-    ∙ append_assoc before (test ∷ []) _
-    ∙ ap₂ (λ r t. before ++ test ∷ instruction.Jump (length right + 1) ∷ (right ++ instruction.JumpIfZero r 2 ∷ truth_code t)) second to)
+    let first = register_at a.level.0 a.first.known.kind in
+    let to = register_at a.level.0 (infix_type a.operator a.first.known.kind a.second.known.kind) in
+    let second = register_at (a.level.0 + 1) a.second.known.kind in
+    on_value c.settle.result (λ found is before own right e p q.
+    settled before c.infix_instructions.new.code.items c.settle.new.code.items (own ++ infix_code a.operator to first second right) a.first.start a.level.0 c.infix-constant.result _ p
+    (c.in_ok-kind.ensures.code (before ++ own) right (e ∙ sym (append_assoc before own (infix_begun a.operator first ++ right))) (omega (arith, q, length-append before own))
+    ∙ append_assoc before own (infix_code a.operator to first second right))
+    c.infix-constant.ensures is) c.settle.ensures.code
+
+pub returns-clause-kind : goal.returns-clause-kind
+returns-clause-kind c = known_kind c.settle.result _ _ c.in_ok-kind.ensures.kind c.settle.ensures.known
+
+pub returns-clause-constant : goal.returns-clause-constant
+returns-clause-constant c = known_constant c.settle.result _ _ c.infix-constant.ensures c.settle.ensures.known
+
+pub returns-clause-longer : goal.returns-clause-longer
+returns-clause-longer c =
+    let a = c.args in
+    let first = register_at a.level.0 a.first.known.kind in
+    let to = register_at a.level.0 (infix_type a.operator a.first.known.kind a.second.known.kind) in
+    let second = register_at (a.level.0 + 1) a.second.known.kind in
+    on_error c.settle.result (λ is before own right e p q.
+    cut_back before c.infix_instructions.new.code.items c.settle.new.code.items (own ++ infix_code a.operator to first second right) a.first.start p
+    (c.in_ok-kind.ensures.code (before ++ own) right (e ∙ sym (append_assoc before own (infix_begun a.operator first ++ right))) (omega (arith, q, length-append before own))
+    ∙ append_assoc before own (infix_code a.operator to first second right))
+    is) c.settle.ensures.cut

@@ -1,6 +1,7 @@
 use Rattle.std.proofs.Common.{sym, subst, ◌∙◌}
 use Rattle.item_step.specs.Launches.{setup_of}
 use Rattle.origins.specs.Finding.{IsOriginIn}
+use Rattle.source_spots.specs.Spots.{HaveTurns}
 use Rattle.explain_reasons.specs.Spotted.{BeginsAt}
 use Rattle.explain_reasons.proofs.Spotting.{spotted}
 use Rattle.explain_reasons.proofs.context.Context.spot_at.Goals as goal
@@ -10,8 +11,9 @@ returns-in_ok-spot_in-in-Some-2 c =
     let setup = setup_of c.args.self.now.launch.now in
     let origin = c.in-Some-2.origin in
     let spot = c.in_ok-spot_in-in-Some-2.field-0 in
-    spotted setup c.args.place c.args.self.now.program.text.now c.args.self.now.program.first_line origin spot
-    (subst (λ o. IsOriginIn setup.program.functions setup.kernel c.args.place o) c.in-Some-2.is c.in_ok-origin.ensures.origin)
+    spotted setup c.args.stand.now c.args.self.now.program.text.now c.args.self.now.program.first_line origin spot
+    (subst (λ o. IsOriginIn setup.program.functions setup.kernel c.args.stand.now.place o) c.in-Some-2.is c.in_ok-origin.ensures.origin)
     (λ none. sym c.in-Some-2.is ∙ c.in_ok-origin.ensures.none none)
     (subst (λ t. BeginsAt t c.args.self.now.program.first_line origin spot) c.in-Some.ensures.text
-    (subst (λ n. BeginsAt c.in-Some.source.text.now n origin spot) c.in-Some.ensures.first c.in_ok-spot_in-in-Some-2.ensures))
+    (subst (λ n. BeginsAt c.in-Some.source.text.now n origin spot) c.in-Some.ensures.first c.in_ok-spot_in-in-Some-2.ensures.begins))
+    (subst (λ t. HaveTurns t spot.loops.items) c.as_slice-turns.ensures c.in_ok-spot_in-in-Some-2.ensures.turns)

@@ -1,0 +1,115 @@
+//! The steps of a schedule.
+#![tactic(auto)]
+
+use crate::context::Context;
+use clmodel::access::AccessKind;
+use clmodel::fault::Location;
+use clmodel::schedule::Event;
+use explain_play::{Played, Touch};
+use explanation::Step;
+use marked_play::Mark;
+use std::alloc::{AllocError, Global};
+
+/// How many steps are told.
+pub const MOST_STEPS: usize = 1000;
+
+/// The name of a location, as a reply has it.
+fn location_text(alloc: Global, location: &Location) -> Result<String, AllocError> {
+    match location {
+        Location::Buffer(name) => {
+            let name = String::from_utf8_lossy(alloc, name.as_slice())?;
+            let name = name.as_str();
+            format!(in alloc; "buffer {name}")
+        }
+        Location::Local { group, name } => {
+            let name = String::from_utf8_lossy(alloc, name.as_slice())?;
+            let name = name.as_str();
+            format!(in alloc; "local {group} {name}")
+        }
+    }
+}
+
+/// The numbers of an access: what a load gives, what a store leaves, and what an atomic function finds and leaves.
+fn values_of(kind: AccessKind, mark: &Mark) -> (Option<u64>, Option<u64>) {
+    match kind {
+        AccessKind::Load => (mark.found, None),
+        AccessKind::Store => (mark.left, None),
+        AccessKind::Update(_) | AccessKind::Fetch => (mark.found, mark.left),
+    }
+}
+
+/// The step of an access.
+fn access_step(context: &Context<'_>, touch: &Touch, mark: &Mark) -> Result<Step, AllocError> {
+    let code = context.code(mark.stand.as_ref())?;
+    let (value, left) = values_of(touch.kind, mark);
+    Ok(Step::Item {
+        item: touch.item,
+        does: touch.kind,
+        memory: location_text(context.alloc, &touch.location)?,
+        byte: touch.byte,
+        bytes: touch.bytes,
+        value,
+        left,
+        code,
+    })
+}
+
+/// The step of an event, where the next access is this one; none of an item's event of which no access is known.
+fn step_of(
+    context: &Context<'_>,
+    mark: &Mark,
+    touch: Option<&Touch>,
+) -> Result<Option<Step>, AllocError> {
+    match mark.event {
+        Event::Release(group) => {
+            let code = context.code(mark.stand.as_ref())?;
+            Ok(Some(Step::Release { group, code }))
+        }
+        Event::Item(_) => match touch {
+            Some(touch) => Ok(Some(access_step(context, touch, mark)?)),
+            None => Ok(None),
+        },
+    }
+}
+
+/// How many accesses there are up to an event, where so many are before it.
+fn with_event(accesses: usize, event: Event) -> usize {
+    match event {
+        Event::Item(_) => accesses.saturating_add(1),
+        Event::Release(_) => accesses,
+    }
+}
+
+/// The first steps of what was played. An error is out of memory.
+pub fn steps_of(context: &Context<'_>, played: &Played) -> Result<Vec<Step>, AllocError> {
+    let mut steps = Vec::new(context.alloc);
+    let mut accesses = 0usize;
+    let marks = played.marks.as_slice();
+    for mark in &marks[..marks.len().min(MOST_STEPS)] {
+        let touch = played.touches.get(accesses);
+        if let Some(step) = step_of(context, mark, touch)? {
+            steps.push(step)?;
+        }
+        accesses = with_event(accesses, mark.event);
+    }
+    Ok(steps)
+}
+
+/// The items that make events, each as often as it makes one.
+fn acting(alloc: Global, marks: &[Mark]) -> Result<Vec<u32>, AllocError> {
+    let mut items = Vec::new(alloc);
+    for mark in marks {
+        if let Event::Item(item) = mark.event {
+            items.push(item)?;
+        }
+    }
+    Ok(items)
+}
+
+/// How many items make events. An error is out of memory.
+pub fn items_in(alloc: Global, marks: &[Mark]) -> Result<usize, AllocError> {
+    let mut items = acting(alloc, marks)?;
+    items.sort_unstable();
+    items.dedup();
+    Ok(items.len())
+}

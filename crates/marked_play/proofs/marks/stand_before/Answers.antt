@@ -1,0 +1,13 @@
+use Rattle.std.proofs.Common.{◌≡◌, IfOk, ap, sym, ◌∙◌, subst}
+use Rattle.clmodel.specs.Launch.{Launch}
+use Rattle.clmodel.specs.Run.{State}
+use Rattle.replay_play.specs.States.{IsAt}
+use Rattle.marked_play.specs.Marks.{ActsFrom, item_of}
+use Rattle.marked_play.proofs.marks.stand_before.Goals as goal
+
+pub returns-in-Some-clause-acts : goal.returns-in-Some-clause-acts
+returns-in-Some-clause-acts g c =
+    let item : c.in-Some.first ≡ item_of c.args.group_size c.args.event = c.in-Some.ensures.1 ∙ ap (item_of c.args.group_size) (sym c.in-Release.is) in
+    subst
+    (λ i. IfOk c.stand_of-in-Some.result (λ stand. (launch : Launch) (state : State) → IsAt {D = g.row.D.Denot} g.D.Described.launch launch c.args.player.now state → ActsFrom launch state i stand))
+    item c.stand_of-in-Some.ensures.acts
