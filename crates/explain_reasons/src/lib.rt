@@ -9,10 +9,10 @@ mod context;
 mod events;
 mod named;
 mod reasons;
-mod steps;
+mod schedule_steps;
 
 pub use arrays::{PrivateArray, array_of};
 pub use context::Context;
 pub use named::named_items;
 pub use reasons::reasons_of;
-pub use steps::{MOST_STEPS, items_in, steps_of};
+pub use schedule_steps::{MOST_STEPS, items_in, steps_of};

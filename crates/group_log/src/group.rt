@@ -20,9 +20,10 @@ use std::alloc::{AllocError, Global};
 /// A new access costs one look-up in a hash table, a step or two for each word of four bytes, or for each byte of a word that was accessed in
 /// part, and a look at what is kept of the accesses that begin in the same word, at most one for each first byte, width and kind; and two
 /// look-ups more where it is kept. While none conflict, at most ten are kept of each first byte, width and kind, whatever their number, and
-/// those of an address space are let go at a barrier that fences it. What is known of bytes and places stays then: some 110 bytes for each cell
-/// of eight bytes that was touched, 80 more for each word that was accessed in part, and at most 160 for each first byte, width and kind. Where
-/// an access may conflict all kept ones are walked for the exact answer, which ends a launch where there is a conflict.
+/// those of an address space are let go at a barrier that fences it. What goes on as a loop does is kept by lines (`EntryLines`). What is
+/// known of bytes and places stays at a barrier: some 110 bytes for each cell of eight bytes that was touched, 80 more for each word that was
+/// accessed in part, and at most 160 for each first byte, width and kind. Where an access may conflict all kept ones are walked for the exact
+/// answer, which ends a launch where there is a conflict.
 #[derive(Drop)]
 pub struct GroupLog {
     local: Side,
@@ -151,7 +152,7 @@ impl GroupAccesses for GroupLog {
     }
 
     fn get(&self, i: usize) -> Entry {
-        self.lasting.entries[i]
+        self.lasting.entries.get(i)
     }
 
     fn has_last(&self) -> bool {

@@ -9,6 +9,7 @@ ghost use Rattle.group_log.specs.Lasting.{Stays};
 
 use crate::chains::{Chains, OfBytes};
 use clmodel::access::Access;
+use entry_lines::EntryLines;
 use shadow::{LastingList, Told};
 use shadow_list::Entry;
 use std::alloc::{AllocError, Global};
@@ -23,7 +24,7 @@ impl OfBytes for Told {
 /// most two for each byte of these.
 #[derive(Drop)]
 pub(crate) struct Lasting {
-    pub(crate) entries: Vec<Entry>,
+    pub(crate) entries: EntryLines,
     /// What they tell of the same bytes, by the slot of the first one.
     pub(crate) told: Chains<Told>,
     /// Whether the newest access of the group is one of them.
@@ -54,7 +55,7 @@ impl Lasting {
         ensures has_last { result.has_last ≡ false }
     {
         Lasting {
-            entries: Vec::new(alloc),
+            entries: EntryLines::new(alloc),
             told: Chains::new(alloc),
             has_last: false,
         }
@@ -77,7 +78,7 @@ impl Lasting {
         ensures entries { self.new.entries.items ≡ [] }
         ensures has_last { self.new.has_last ≡ false }
     {
-        if self.entries.len() < self.entries.capacity() / 8 {
+        if self.entries.is_roomy() {
             *self = Lasting::new(alloc);
         } else {
             self.forget();
@@ -110,7 +111,8 @@ impl Lasting {
             self.pass();
             return Ok(false);
         }
-        self.entries.push(*entry)?;
+        self.entries.reserve()?;
+        self.entries.push_reserved(*entry);
         keep_told(&mut self.told, slot, &entry.access);
         self.has_last = true;
         Ok(true)
@@ -130,7 +132,7 @@ impl Lasting {
         ensures entries { IfOk result (λ list. list.entries.items ≡ self.now.entries.items) }
         ensures has_last { IfOk result (λ list. list.has_last ≡ self.now.has_last) }
     {
-        let entries = Vec::from_slice(alloc, self.entries.as_slice())?;
+        let entries = self.entries.to_vec(alloc)?;
         Ok(LastingList::from_entries(entries, self.has_last))
     }
 }

@@ -8,8 +8,9 @@ ghost use Rattle.group_log.specs.contracts.side.Side as SideType;
 use crate::chains::Chains;
 use crate::place::Place;
 use crate::whole::Whole;
+use entry_lines::lines_are_sent;
 use shadow::Told;
-use shadow_list::{Cells, Entry};
+use shadow_list::Cells;
 use std::marker::Send;
 
 /// The type's values may go to another thread.
@@ -21,7 +22,7 @@ fn is_sent<T: Send>()
 fn sides_are_sent()
     ensures { IsSend SideType.the_row }
 {
-    is_sent::<Vec<Entry>>();
+    lines_are_sent();
     is_sent::<Cells>();
     is_sent::<Chains<Place>>();
 }
@@ -30,7 +31,7 @@ fn sides_are_sent()
 fn lasting_accesses_are_sent()
     ensures { IsSend LastingType.the_row }
 {
-    is_sent::<Vec<Entry>>();
+    lines_are_sent();
     is_sent::<Chains<Told>>();
 }
 

@@ -13,7 +13,8 @@ ghost use Rattle.group_log.specs.Place.{IsFaithful};
 use crate::chains::Chains;
 use crate::place::Place;
 use clmodel::access::{Access, Rule};
-use shadow_list::{Cells, Entry, Hit, hit};
+use entry_lines::EntryLines;
+use shadow_list::{Cells, Entry, Hit};
 use std::alloc::{AllocError, Global};
 
 /// What is kept of the accesses of the running interval of local or of global memory: those that tell a conflict that none before tells.
@@ -23,12 +24,11 @@ pub(crate) struct Side {
     pub(crate) uniform: bool,
     /// The number of the running interval.
     pub(crate) interval: u32,
-    pub(crate) kept: Vec<Entry>,
+    pub(crate) kept: EntryLines,
     /// What is kept of each byte, by which most accesses are found to have no conflict.
     pub(crate) cells: Cells,
     /// What is kept of each place, by the slot of its first byte in `cells`.
     pub(crate) places: Chains<Place>,
-    ghost placed: { All IsPlaced kept.items },
     ghost marked: { All (λ (y : TheEntry). IsMarked cells y.access) kept.items },
     ghost faithful: { All (IsFaithful uniform interval kept.items) places.values.items },
 }
@@ -75,7 +75,7 @@ impl Side {
         Side {
             uniform,
             interval: 0,
-            kept: Vec::new(alloc),
+            kept: EntryLines::new(alloc),
             cells: Cells::new(alloc),
             places: Chains::new(alloc),
         }
@@ -134,7 +134,7 @@ impl Side {
         if self.cells.is_clear(cell, self.uniform, &x.access) {
             None
         } else {
-            hit(Rule::within_group(self.uniform), x, self.kept.as_slice())
+            self.kept.hit(Rule::within_group(self.uniform), x)
         }
     }
 
@@ -171,7 +171,7 @@ impl Side {
             }
         }
         self.cells.mark(cell, x)?;
-        self.kept.reserve(1)?;
+        self.kept.reserve()?;
         let start = cell.or_else(|| self.cells.found(x.region, x.first));
         Ok(Seat {
             slot: slot_in(start.unwrap_or(0), x),

@@ -1,7 +1,3 @@
 pub mod Starts
 pub mod Objects
 pub mod Declarations
-pub mod Turns
-pub mod ArrayLaws
-pub mod StateLaws
-pub mod AskingLaws

@@ -2,8 +2,5 @@ pub mod Setups
 pub mod Launches
 pub mod Objects
 pub mod Running
-pub mod Sound
-pub mod Asking
-pub mod Waiting
 pub use Rattle.item_value.specs.Arrays
 pub use Rattle.item_value.specs.ItemContext

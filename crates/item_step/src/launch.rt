@@ -9,28 +9,32 @@ ghost use Rattle.clmodel.specs.Setup.{names_among, same_text, group_items};
 ghost use Rattle.clmodel.specs.declared.action.Answer.{Answer};
 ghost use Rattle.item_step.specs.Setups.{plain, ActsAsNext};
 ghost use Rattle.item_step.specs.Objects.{Lists, are_too_large};
-ghost use Rattle.item_step.specs.Running.{action_of};
+ghost use Rattle.item_machine.specs.Running.{action_of};
+ghost use Rattle.steps.specs.Steps.{Prepared, Prepared-prop};
 
-use crate::item::Item;
 use crate::local_objects::{LocalObjects, local_objects};
 use crate::setup::Setup;
 use clmodel::setup::{Argument, Range};
 use clmodel::text::Name;
 use clmodel::tree::Tree;
+use item_machine::Item;
 use item_value::item_context::ItemContext;
 use item_value::position::{ItemPosition, group_counts};
 use regcode::Code;
 use std::alloc::{AllocError, Global};
+use steps::{PreparedCode, Step, prepare};
 
 /// A kernel that is ready to run: its setup with lent code that acts as its text. The items may be started in any order.
 #[derive(Drop)]
 pub struct Launch<'a> {
     setup: Setup<'a>,
     code: &'a Code,
+    steps: Vec<Step>,
     group_size: u32,
     buffers: Vec<Name>,
     group_counts: Vec<u64>,
     local_objects: LocalObjects,
+    ghost prepared: { Prepared code.now.instructions steps.items } by { Prepared-prop code.now.instructions steps.items },
     ghost faithful: { ActsAsNext code.now (plain setup) },
     ghost named: { buffers.items ≡ names_among [] setup.arguments.now },
     ghost few: { length buffers.items < 2 ^ 32 },
@@ -83,33 +87,19 @@ impl<'a> Launch<'a> {
         requires fits { are_too_large (model.local_objects (plain setup)) ≡ false }
         ensures { IfOk result (λ launch. setup_of launch ≡ plain setup.entry) }
     {
+        let steps = prepare(alloc, code)?;
         let buffers = buffers_of(alloc, setup.arguments)?;
         let group_counts = group_counts(alloc, setup.range)?;
         let local_objects = local_objects(alloc, setup.tree, setup.kernel, setup.arguments)?;
         Ok(Launch {
             setup,
             code,
+            steps,
             group_size,
             buffers,
             group_counts,
             local_objects,
         })
-    }
-
-    /// The launch with other code that acts as its program.
-    pub fn with_code(self, other: &'a Code) -> Launch<'a>
-        requires { ActsAsNext other.now (setup_of self) }
-        ensures setup { setup_of result ≡ setup_of self.entry }
-        ensures code { result.code.now ≡ other.now }
-    {
-        Launch {
-            setup: self.setup,
-            code: other,
-            group_size: self.group_size,
-            buffers: self.buffers,
-            group_counts: self.group_counts,
-            local_objects: self.local_objects,
-        }
     }
 
     /// The tree of its program.
@@ -186,6 +176,10 @@ impl<'a> Launch<'a> {
             arguments: self.setup.arguments,
             registers: self.code.tables().registers.as_slice(),
         };
-        Item::start(self.code, context, self.setup.budget)
+        let code = PreparedCode {
+            code: self.code,
+            steps: self.steps.as_slice(),
+        };
+        Item::start(code, context, self.setup.budget)
     }
 }

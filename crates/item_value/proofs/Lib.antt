@@ -1,5 +1,4 @@
 pub mod Arguments
 pub mod Counts
 pub mod ArrayLaws
-pub mod LeadingLaws
-pub mod RegisterValues
+mod Assigned

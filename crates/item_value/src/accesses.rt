@@ -1,7 +1,7 @@
 //! The accesses that items make, and the numbers that they are answered (OpenCL 1.2, sections 6.5 and 6.12.11).
 #![tactic(auto)]
 
-ghost use Rattle.std.specs.Prelude.{◌≡◌, pos};
+ghost use Rattle.std.specs.Prelude.{◌≡◌, Some, pos};
 ghost use Rattle.clnum.specs.Integer.{bits_of};
 ghost use Rattle.clnum.specs.Operations.{wrapped};
 ghost use Rattle.clnum.specs.declared.int_type.IntType.TheVariants as int_type;
@@ -12,9 +12,10 @@ ghost use Rattle.clmodel.specs.declared.operand.Operand.TheVariants as operand;
 
 use clmodel::access::{Class, FetchOp, Operation, Width};
 use clmodel::action::Answer;
-use clmodel::operand::Operand;
 use clmodel::setup::AtomicFunction;
 use clnum::{IntType, UnaryOperator, Value, unary};
+use register_values::kept_values::read_bits;
+use register_values::register_value::RegisterValue;
 
 /// The width of an integer type.
 fn width(kind: IntType) -> Width
@@ -45,10 +46,10 @@ pub fn load_of(element: IntType) -> Operation
 }
 
 /// The value of an element that an access was answered.
-pub fn loaded(element: IntType, answer: Answer) -> Operand
-    ensures { result ≡ operand.Integral (wrapped element (pos (answered answer))) }
+pub fn loaded(element: IntType, answer: Answer) -> RegisterValue
+    ensures { result ≡ Some (operand.Integral (wrapped element (pos (answered answer)))) }
 {
-    Operand::Integral(Value::from_bits(element, number_of(answer)))
+    read_bits(element, number_of(answer))
 }
 
 /// A store of an element.

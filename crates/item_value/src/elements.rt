@@ -1,7 +1,7 @@
 //! The elements of private arrays: how instructions name them, how they are read, and where they are put.
 #![tactic(auto)]
 
-ghost use Rattle.std.specs.Prelude.{◌≡◌, ◌<◌, ℕ, [], Option, List, length, slice_set, IfOk};
+ghost use Rattle.std.specs.Prelude.{◌≡◌, ◌<◌, ℕ, [], Option, Some, List, length, slice_set, IfOk};
 ghost use Rattle.clnum.specs.Integer.{Integer, bits_of};
 ghost use Rattle.clnum.specs.declared.int_type.IntType as int_type;
 ghost use Rattle.clmodel.specs.Next as next;
@@ -9,13 +9,14 @@ ghost use Rattle.clmodel.specs.Next.{Continuation};
 ghost use Rattle.clmodel.specs.declared.operand.Operand.{Operand};
 ghost use Rattle.regcode.specs.Machine.{entry_at};
 ghost use Rattle.item_value.specs.Arrays.{all_present};
-ghost use Rattle.item_value.specs.Leading.{Leads};
+ghost use Rattle.register_values.specs.Leading.{Leads};
 
 use crate::private_array::PrivateArray;
-use crate::termination::Termination;
 use clmodel::action::Cause;
-use clmodel::operand::Operand;
-use clnum::{IntType, Value};
+use clnum::IntType;
+use register_values::kept_values::read_bits;
+use register_values::register_value::RegisterValue;
+use register_values::termination::Termination;
 
 /// An element of a private array as an instruction names it.
 #[derive(Clone, Copy)]
@@ -58,11 +59,11 @@ pub(crate) fn element_value(
     name: u32,
     index: i64,
     kind: IntType,
-) -> Result<Operand, Termination>
-    ensures { (after : Operand → Continuation) → Leads result (next.element_value name index kind (next.element_at elements.now index) after) after }
+) -> Result<RegisterValue, Termination>
+    ensures { (after : Option Operand → Continuation) → Leads result (next.element_value name index kind (next.element_at elements.now index) (λ v. after (Some v))) after }
 {
     match at_index(elements, index) {
-        Some(Some(bits)) => Ok(Operand::Integral(Value::from_bits(kind, bits))),
+        Some(Some(bits)) => Ok(read_bits(kind, bits)),
         Some(None) => Err(Termination::Fail(Cause::UnsetElement {
             array: name,
             element: index,

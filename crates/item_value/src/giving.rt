@@ -6,24 +6,24 @@ ghost use Rattle.clmodel.specs.Next.{Continuation};
 ghost use Rattle.regcode.specs.Machine.{State, act, with_put};
 ghost use Rattle.item_value.specs.Arrays.{registers_with};
 ghost use Rattle.item_value.specs.ItemContext.{item_context};
-ghost use Rattle.item_value.specs.Leading.{Leads};
+ghost use Rattle.register_values.specs.Leading.{Leads};
 ghost use Rattle.item_value.specs.Giving.{gives, target};
 
 use crate::elements::PrivateElement;
 use crate::item_context::ItemContext;
-use crate::operators::work_dim;
 use crate::parameters::parameter;
-use crate::pointers::local_pointer;
 use crate::private_array::PrivateArray;
-use crate::register_value::RegisterValue;
+use crate::queries::work_dim;
 use crate::registers::RegisterFile;
-use crate::termination::Termination;
 use crate::values::{
     Variable, apply_binary, apply_unary, assign, call_builtin, call_builtin_of_two, cast,
     load_private, load_variable, move_pointer, pointer_operand, query_work_item, to_common_type,
 };
 use clmodel::operand::Operand;
 use regcode::Instruction;
+use register_values::pointers::local_pointer;
+use register_values::register_value::RegisterValue;
+use register_values::termination::Termination;
 
 /// The value that an instruction with a target gives it without an answer.
 pub fn value_of(
@@ -31,7 +31,7 @@ pub fn value_of(
     values: &[RegisterValue],
     arrays: &[PrivateArray],
     instruction: &Instruction,
-) -> Result<Option<Operand>, Termination>
+) -> Result<RegisterValue, Termination>
     requires { IsTrue (gives instruction.now) }
     ensures { (place : ℕ) (counters : List ℕ) (on after : State → Continuation) →
         let state : State = record { place = place; registers = registers_with values.now arrays.now; counters = counters } in
@@ -42,8 +42,10 @@ pub fn value_of(
         values,
     };
     match instruction {
-        Instruction::Constant { value, .. } => Ok(Some(Operand::Integral(*value))),
-        Instruction::Unset { .. } => Ok(None),
+        Instruction::Constant { value, .. } => Ok(RegisterValue::new(Some(Operand::Integral(
+            *value,
+        )))),
+        Instruction::Unset { .. } => Ok(RegisterValue::unset()),
         Instruction::Move { from, name, .. } => load_variable(
             registers,
             Variable {
@@ -76,20 +78,26 @@ pub fn value_of(
             None => call_builtin(registers, *function, *first),
             Some(second) => call_builtin_of_two(registers, *function, *first, *second),
         },
-        Instruction::Dimensions { .. } => Ok(Some(work_dim(&context.position))),
+        Instruction::Dimensions { .. } => {
+            Ok(RegisterValue::new(Some(work_dim(&context.position))))
+        },
         Instruction::Query {
             function,
             dimension,
             ..
         } => query_work_item(registers, &context.position, *function, *dimension),
         Instruction::Argument { number, kind, .. } => {
-            Ok(parameter(context.buffers, context.arguments, *number, *kind))
+            let value = parameter(context.buffers, context.arguments, *number, *kind);
+            Ok(RegisterValue::new(value))
         }
         Instruction::Local {
             number,
             element,
             ..
-        } => Ok(Some(Operand::Pointed(local_pointer(*number, *element)))),
+        } => {
+            let pointer = local_pointer(*number, *element);
+            Ok(RegisterValue::new(Some(Operand::Pointed(pointer))))
+        }
         Instruction::PrivateLoad {
             array,
             index,

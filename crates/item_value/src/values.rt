@@ -1,7 +1,7 @@
 //! The values that instructions give to registers.
 #![tactic(auto)]
 
-ghost use Rattle.std.specs.Prelude.{◌≡◌, Option, [], ◌∷◌};
+ghost use Rattle.std.specs.Prelude.{Bool, Option, Some, [], ◌∷◌};
 ghost use Rattle.clnum.specs.Integer.{converted};
 ghost use Rattle.clnum.specs.Operations.{unary_value};
 ghost use Rattle.item_value.specs.Position.{item_position};
@@ -13,68 +13,81 @@ ghost use Rattle.clmodel.specs.declared.setup.BuiltIn.TheVariants as built_in;
 ghost use Rattle.clmodel.specs.declared.tree.VariableType.TheVariants as variable_type;
 ghost use Rattle.regcode.specs.Machine.{entry_at};
 ghost use Rattle.item_value.specs.Arrays.{all_present};
-ghost use Rattle.item_value.specs.Leading.{Leads};
+ghost use Rattle.register_values.specs.Leading.{Leads};
 ghost use Rattle.item_value.specs.Reading.{reads};
 
 use crate::elements::{PrivateElement, element_value, elements_of};
-use crate::operators::{chosen_value, combined, of_one, of_two, work_item};
-use crate::pointers::{index_of, moved, number, pointing};
 use crate::position::ItemPosition;
 use crate::private_array::PrivateArray;
-use crate::registers::{RegisterFile, operand, register};
-use crate::termination::Termination;
+use crate::queries::work_item;
+use crate::registers::{RegisterFile, kept, kept_operand, operand};
 use clmodel::action::Cause;
-use clmodel::operand::Operand;
 use clmodel::setup::WorkItemFunction;
 use clmodel::tree::VariableType;
-use clnum::{BinaryOperator, Builtin, IntType, UnaryOperator, convert, unary};
+use clnum::{BinaryOperator, Builtin, IntType, UnaryOperator};
+use register_values::kept_values::{
+    combined_bits, combined_values, common_value, converted_value, held, moved_value, pointer_of,
+    tested_value, unary_of,
+};
+use register_values::operators::{of_one, of_two};
+use register_values::pointers::{index_of, number};
+use register_values::register_value::RegisterValue;
+use register_values::termination::Termination;
 
 /// A variable: the number of its register, and the place of its name in the table of names.
 #[derive(Clone, Copy)]
-pub(crate) struct Variable {
-    pub(crate) register: u32,
-    pub(crate) name: u32,
+pub struct Variable {
+    pub register: u32,
+    pub name: u32,
 }
 
 /// The value of a variable, which must be set.
-pub(crate) fn load_variable(
+#[inline(always)]
+pub fn load_variable(
     registers: RegisterFile<'_>,
     variable: Variable,
-) -> Result<Option<Operand>, Termination>
+) -> Result<RegisterValue, Termination>
     ensures { (after : Option Operand → Continuation) → Leads result (next.known variable.name (entry_at None registers.entry.values.now variable.register) (λ v. after (Some v))) after }
 {
-    match register(registers.values, variable.register) {
-        Some(value) => Ok(Some(value)),
-        None => Err(Termination::Fail(Cause::UnsetVariable {
+    let value = kept(registers.values, variable.register);
+    if value.is_set() {
+        Ok(value)
+    } else {
+        Err(Termination::Fail(Cause::UnsetVariable {
             variable: variable.name,
-        })),
-    }
-}
-
-/// A value as a variable of a type holds it (C99 6.5.16.1).
-fn assigned(kind: VariableType, value: Operand) -> Operand
-    ensures { result ≡ next.held kind value }
-{
-    // One match in another: so each arm is one case of the definition.
-    match kind {
-        VariableType::Integer(kind) => match value {
-            Operand::Integral(number) => Operand::Integral(convert(number, kind)),
-            Operand::Pointed(pointer) => Operand::Pointed(pointer),
-        },
-        VariableType::Pointer(_) => value,
+        }))
     }
 }
 
 /// An operand as a variable of a type holds it.
+#[inline(never)]
 pub(crate) fn assign(
     registers: RegisterFile<'_>,
     from: u32,
     kind: VariableType,
-) -> Result<Option<Operand>, Termination>
+) -> Result<RegisterValue, Termination>
     ensures { (after : Option Operand → Continuation) → Leads result (reads registers.entry from (λ v. after (Some (next.held kind v)))) after }
 {
-    let value = operand(registers, from)?;
-    Ok(Some(assigned(kind, value)))
+    match kept_operand(registers, from) {
+        Ok(value) => Ok(held(kind, value)),
+        Err(termination) => Err(termination),
+    }
+}
+
+/// An operand as a variable of a type holds it, which mostly is of that type.
+#[inline(always)]
+pub fn assign_as(
+    registers: RegisterFile<'_>,
+    from: u32,
+    kind: IntType,
+) -> Result<RegisterValue, Termination>
+    ensures { (after : Option Operand → Continuation) → Leads result (reads registers.entry from (λ v. after (Some (next.held (variable_type.Integer kind) v)))) after }
+{
+    let value = kept(registers.values, from);
+    match value.bits_as(kind) {
+        Some(_) => Ok(value),
+        None => assign(registers, from, VariableType::Integer(kind)),
+    }
 }
 
 /// An operand in another type.
@@ -82,12 +95,13 @@ pub(crate) fn cast(
     registers: RegisterFile<'_>,
     from: u32,
     kind: IntType,
-) -> Result<Option<Operand>, Termination>
+) -> Result<RegisterValue, Termination>
     ensures { (after : Option Operand → Continuation) → Leads result (reads registers.entry from (λ v. next.number v (λ n. after (Some (operand.Integral (converted n kind)))))) after }
 {
-    let value = operand(registers, from)?;
-    let number = number(value)?;
-    Ok(Some(Operand::Integral(convert(number, kind))))
+    match kept_operand(registers, from) {
+        Ok(value) => converted_value(value, kind),
+        Err(termination) => Err(termination),
+    }
 }
 
 /// An operand in the common type of its own and another type.
@@ -95,12 +109,13 @@ pub(crate) fn to_common_type(
     registers: RegisterFile<'_>,
     from: u32,
     other: IntType,
-) -> Result<Option<Operand>, Termination>
+) -> Result<RegisterValue, Termination>
     ensures { (after : Option Operand → Continuation) → Leads result (reads registers.entry from (λ v. next.chosen_value v (variable_type.Integer other) (λ w. after (Some w)))) after }
 {
-    let value = operand(registers, from)?;
-    let value = chosen_value(value, other)?;
-    Ok(Some(value))
+    match kept_operand(registers, from) {
+        Ok(value) => common_value(value, other),
+        Err(termination) => Err(termination),
+    }
 }
 
 /// An operator on one integer.
@@ -108,27 +123,63 @@ pub(crate) fn apply_unary(
     registers: RegisterFile<'_>,
     from: u32,
     operator: UnaryOperator,
-) -> Result<Option<Operand>, Termination>
+) -> Result<RegisterValue, Termination>
     ensures { (after : Option Operand → Continuation) → Leads result (reads registers.entry from (λ v. next.number v (λ n. after (Some (operand.Integral (unary_value operator n)))))) after }
 {
-    let value = operand(registers, from)?;
-    let number = number(value)?;
-    Ok(Some(Operand::Integral(unary(operator, number))))
+    match kept_operand(registers, from) {
+        Ok(value) => unary_of(operator, value),
+        Err(termination) => Err(termination),
+    }
 }
 
 /// An operator on two values.
+#[inline(never)]
 pub(crate) fn apply_binary(
     registers: RegisterFile<'_>,
     operator: BinaryOperator,
     left: u32,
     right: u32,
-) -> Result<Option<Operand>, Termination>
+) -> Result<RegisterValue, Termination>
     ensures { (after : Option Operand → Continuation) → Leads result (reads registers.entry left (λ v. reads registers.entry right (λ w. next.combined operator v w (λ x. after (Some x))))) after }
 {
-    let left = operand(registers, left)?;
-    let right = operand(registers, right)?;
-    let value = combined(operator, left, right)?;
-    Ok(Some(value))
+    match kept_operand(registers, left) {
+        Ok(v) => match kept_operand(registers, right) {
+            Ok(w) => combined_values(operator, v, w),
+            Err(termination) => Err(termination),
+        },
+        Err(termination) => Err(termination),
+    }
+}
+
+/// An operator on two values, which mostly are numbers of these types.
+#[inline(always)]
+pub fn apply_binary_to(
+    registers: RegisterFile<'_>,
+    operator: BinaryOperator,
+    kinds: (IntType, IntType),
+    left: u32,
+    right: u32,
+) -> Result<RegisterValue, Termination>
+    ensures { (after : Option Operand → Continuation) → Leads result (reads registers.entry left (λ v. reads registers.entry right (λ w. next.combined operator v w (λ x. after (Some x))))) after }
+{
+    match kept(registers.values, left).bits_as(kinds.0) {
+        Some(v) => match kept(registers.values, right).bits_as(kinds.1) {
+            Some(w) => combined_bits(operator, kinds.0, v, kinds.1, w),
+            None => apply_binary(registers, operator, left, right),
+        },
+        None => apply_binary(registers, operator, left, right),
+    }
+}
+
+/// Whether an operand is a number other than zero.
+#[inline(always)]
+pub fn tested(registers: RegisterFile<'_>, number: u32) -> Result<bool, Termination>
+    ensures { (after : Bool → Continuation) → Leads result (reads registers.entry number (λ v. next.test v after)) after }
+{
+    match kept_operand(registers, number) {
+        Ok(value) => tested_value(value),
+        Err(termination) => Err(termination),
+    }
 }
 
 /// A function of one integer.
@@ -136,12 +187,12 @@ pub(crate) fn call_builtin(
     registers: RegisterFile<'_>,
     function: Builtin,
     first: u32,
-) -> Result<Option<Operand>, Termination>
+) -> Result<RegisterValue, Termination>
     ensures { (after : Option Operand → Continuation) → Leads result (reads registers.entry first (λ v. next.integer_call function (v ∷ []) (λ x. after (Some x)))) after }
 {
     let first = operand(registers, first)?;
     let value = of_one(function, first)?;
-    Ok(Some(value))
+    Ok(RegisterValue::new(Some(value)))
 }
 
 /// A function of two integers.
@@ -150,13 +201,13 @@ pub(crate) fn call_builtin_of_two(
     function: Builtin,
     first: u32,
     second: u32,
-) -> Result<Option<Operand>, Termination>
+) -> Result<RegisterValue, Termination>
     ensures { (after : Option Operand → Continuation) → Leads result (reads registers.entry first (λ v. reads registers.entry second (λ w. next.integer_call function (v ∷ w ∷ []) (λ x. after (Some x))))) after }
 {
     let first = operand(registers, first)?;
     let second = operand(registers, second)?;
     let value = of_two(function, first, second)?;
-    Ok(Some(value))
+    Ok(RegisterValue::new(Some(value)))
 }
 
 /// What a work-item function gives in a dimension.
@@ -165,37 +216,42 @@ pub(crate) fn query_work_item(
     position: &ItemPosition<'_>,
     function: WorkItemFunction,
     dimension: u32,
-) -> Result<Option<Operand>, Termination>
+) -> Result<RegisterValue, Termination>
     ensures { (after : Option Operand → Continuation) → Leads result (reads registers.entry dimension (λ d. next.call (item_position position.now) (Some (built_in.WorkItem function)) (d ∷ []) (λ x. after (Some x)))) after }
 {
     let dimension = operand(registers, dimension)?;
-    Ok(Some(work_item(position, function, dimension)))
+    Ok(RegisterValue::new(Some(work_item(position, function, dimension))))
 }
 
 /// An operand that is a pointer.
 pub(crate) fn pointer_operand(
     registers: RegisterFile<'_>,
     from: u32,
-) -> Result<Option<Operand>, Termination>
+) -> Result<RegisterValue, Termination>
     ensures { (after : Option Operand → Continuation) → Leads result (reads registers.entry from (λ v. next.pointing v (λ p. after (Some (operand.Pointed p))))) after }
 {
-    let value = operand(registers, from)?;
-    let pointer = pointing(value)?;
-    Ok(Some(Operand::Pointed(pointer)))
+    match kept_operand(registers, from) {
+        Ok(value) => pointer_of(value),
+        Err(termination) => Err(termination),
+    }
 }
 
 /// A pointer moved by a number of elements.
-pub(crate) fn move_pointer(
+#[inline(always)]
+pub fn move_pointer(
     registers: RegisterFile<'_>,
     pointer: u32,
     index: u32,
-) -> Result<Option<Operand>, Termination>
+) -> Result<RegisterValue, Termination>
     ensures { (after : Option Operand → Continuation) → Leads result (reads registers.entry pointer (λ p. reads registers.entry index (λ i. next.moved p i (λ q. after (Some (operand.Pointed q)))))) after }
 {
-    let pointer = operand(registers, pointer)?;
-    let index = operand(registers, index)?;
-    let moved = moved(pointer, index)?;
-    Ok(Some(Operand::Pointed(moved)))
+    match kept_operand(registers, pointer) {
+        Ok(pointer) => match kept_operand(registers, index) {
+            Ok(index) => moved_value(pointer, index),
+            Err(termination) => Err(termination),
+        },
+        Err(termination) => Err(termination),
+    }
 }
 
 /// An element of a private array; a fault with its name where there is none, or none that is set.
@@ -203,12 +259,11 @@ pub(crate) fn load_private(
     registers: RegisterFile<'_>,
     arrays: &[PrivateArray],
     element: PrivateElement,
-) -> Result<Option<Operand>, Termination>
+) -> Result<RegisterValue, Termination>
     ensures { (after : Option Operand → Continuation) → Leads result (reads registers.entry element.index (λ i. next.read_element element.name element.kind (entry_at [] (all_present arrays.now) element.array) i (λ v. after (Some v)))) after }
 {
     let index = operand(registers, element.index)?;
     let index = number(index)?;
     let elements = elements_of(arrays, element.array);
-    let value = element_value(elements, element.name, index_of(index), element.kind)?;
-    Ok(Some(value))
+    element_value(elements, element.name, index_of(index), element.kind)
 }

@@ -40,7 +40,7 @@ pub sort_self : (a : Mark) → one_sort a a ≡ true
 sort_self a = sort_from a a refl refl
 
 -- two of one sort with a third
-sort_chain : (a b c : Mark) → one_sort a b ≡ true → one_sort a c ≡ true → one_sort b c ≡ true
+pub sort_chain : (a b c : Mark) → one_sort a b ≡ true → one_sort a c ≡ true → one_sort b c ≡ true
 sort_chain a b c e f = let p = sort_parts a b e in let q = sort_parts a c f in sort_from b c (sym p.0 ∙ q.0) (sym p.1 ∙ q.1)
 
 pub sort_back : (a b : Mark) → one_sort a b ≡ true → one_sort b a ≡ true

@@ -41,7 +41,7 @@ left_plain kind.Store left = inl refl
 left_plain (kind.Update c) left = inr refl
 left_plain kind.Fetch left = inr refl
 
-mark_plain : (x : Access) (byte : ℕ) → Plain (mark_of x byte)
+pub mark_plain : (x : Access) (byte : ℕ) → Plain (mark_of x byte)
 mark_plain x byte = left_plain x.kind (left_at x byte)
 
 -- the two that are kept are of different sorts
@@ -293,7 +293,7 @@ judged u x y byte ne here =
     ∙ ap (λ (z : Bool). if z && covers y.first (byte_count y.width) byte then clash_at (across_groups u) y x byte else None) (region_swapped y.region x.region)
 
 -- marks clash as the accesses do
-kinds_clash : (u : Bool) (k k2 : AccessKind) (a b : ℕ)
+pub kinds_clash : (u : Bool) (k k2 : AccessKind) (a b : ℕ)
     → (if both_store k k2 && u && (left_by k a == left_by k2 b) then None else clash k k2) ≡ (if both_store k k2 && u && (a == b) then None else clash k k2)
 kinds_clash u kind.Load k2 a b = refl
 kinds_clash u kind.Store kind.Load a b = refl

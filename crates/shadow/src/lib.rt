@@ -19,5 +19,6 @@ mod words;
 
 pub use footprint::Footprint;
 pub use group_accesses::{GroupAccesses, LastingList};
-pub use seen::{Mark, Meeting};
+pub use seen::{Mark, Meeting, mark_clash, mark_of, one_sort};
 pub use told::Told;
+pub use words::{WordMark, agrees, byte_mark, is_one_sort, word_mark};

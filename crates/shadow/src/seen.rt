@@ -54,7 +54,7 @@ impl Meeting {
 }
 
 /// Who made an access, how, and what a store leaves at this byte.
-pub(crate) fn mark_of(x: &Access, byte: u64) -> Mark
+pub fn mark_of(x: &Access, byte: u64) -> Mark
     ensures { result ≡ mark_of x.now byte }
 {
     Mark {
@@ -68,7 +68,7 @@ pub(crate) fn mark_of(x: &Access, byte: u64) -> Mark
 }
 
 /// Whether two accesses to a byte are of one sort.
-pub(crate) fn one_sort(a: Mark, b: Mark) -> bool
+pub fn one_sort(a: Mark, b: Mark) -> bool
     ensures { result ≡ one_sort a b }
 {
     kind_number(a.kind) == kind_number(b.kind) && a.left == b.left
@@ -124,7 +124,7 @@ pub(crate) fn is_written(seen: Seen) -> bool
 }
 
 /// How two accesses to a byte conflict, by whether the launch is uniform.
-fn mark_clash(uniform: bool, a: Mark, b: Mark) -> Option<Clash>
+pub fn mark_clash(uniform: bool, a: Mark, b: Mark) -> Option<Clash>
     ensures { result ≡ mark_clash uniform a b }
 {
     if both_store(a.kind, b.kind) && uniform && a.left == b.left {

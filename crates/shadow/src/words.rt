@@ -13,11 +13,11 @@ use shadow_list::{both_store, clash, kind_number};
 
 /// Who accessed all four bytes of a word, and how.
 #[derive(Clone, Copy)]
-pub(crate) struct WordMark {
-    pub(crate) item: u32,
-    pub(crate) kind: AccessKind,
+pub struct WordMark {
+    pub item: u32,
+    pub kind: AccessKind,
     /// The number that a store left; 0 of all others
-    pub(crate) left: u32,
+    pub left: u32,
 }
 
 /// What is kept of each byte of a word.
@@ -62,7 +62,7 @@ fn left_in(x: &Access, high: bool) -> u32
 }
 
 /// The mark of an access at the first or the second word that it is at.
-pub(crate) fn word_mark(x: &Access, high: bool) -> WordMark
+pub fn word_mark(x: &Access, high: bool) -> WordMark
     ensures { (k : ℕ) → k < 4 → byte_mark result k ≡ mark_of x.now (x.now.first + (half_start high + k)) }
 {
     WordMark {
@@ -73,7 +73,7 @@ pub(crate) fn word_mark(x: &Access, high: bool) -> WordMark
 }
 
 /// What the mark of a word says of its byte k.
-fn byte_mark(mark: WordMark, k: usize) -> Mark
+pub fn byte_mark(mark: WordMark, k: usize) -> Mark
     requires { k < 4 }
     ensures { result ≡ byte_mark mark k }
 {
@@ -120,7 +120,7 @@ fn leaves_same(left: u32, other: u32) -> bool
 }
 
 /// Whether two accesses to a word are of one sort at each byte.
-fn is_one_sort(a: WordMark, b: WordMark) -> bool
+pub fn is_one_sort(a: WordMark, b: WordMark) -> bool
     ensures same { result ≡ true → (k : ℕ) → k < 4 → one_sort (byte_mark a k) (byte_mark b k) ≡ true }
     ensures other { result ≡ false → (k : ℕ) × (k < 4) × (one_sort (byte_mark a k) (byte_mark b k) ≡ false) }
 {
@@ -202,7 +202,7 @@ pub(crate) fn mark_in(bytes: &mut [Seen; 4], k: usize, mark: Mark) -> bool
 }
 
 /// Whether accesses to all of a word with these marks don't conflict.
-fn agrees(uniform: bool, a: WordMark, b: WordMark) -> bool
+pub fn agrees(uniform: bool, a: WordMark, b: WordMark) -> bool
     ensures { result ≡ true → (k : ℕ) → mark_clash uniform (byte_mark a k) (byte_mark b k) ≡ None }
 {
     both_store(a.kind, b.kind) && uniform && a.left == b.left || clash(a.kind, b.kind).is_none()

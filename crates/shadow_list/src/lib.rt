@@ -21,7 +21,7 @@ mod word;
 
 pub use access_list::AccessList;
 pub use cells::Cells;
-pub use compare::left_at;
+pub use compare::{hit_between, left_at};
 pub use kinds::{both_store, clash, kind_number};
 pub use list::ListLog;
 pub use log::{AccessLog, Accesses, Entry, Fenced, Hit, Logged};

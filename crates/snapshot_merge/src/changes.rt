@@ -9,7 +9,7 @@ ghost use Rattle.joining.specs.Memory as joining;
 ghost use Rattle.shadow.specs.Seen.{IsFootprint};
 ghost use Rattle.snapshot_merge.specs.Changes.{number_or_0, value_of, changes_at, access_changes, changes_of, cells_at, filled_at, bytes_of, all_bytes, IsValue, AreBytes, WroteBytes, AllWroteBytes, AreChanged};
 
-use crate::words::joined_number;
+use crate::joined_numbers::joined_number;
 use clmodel::access::{Access, AccessKind, Class, Region, Width};
 use clmodel::text::Bytes;
 use shadow::{Footprint, GroupAccesses};

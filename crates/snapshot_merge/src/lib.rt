@@ -10,12 +10,12 @@ mod around;
 mod changes;
 mod cutting;
 mod joined_groups;
+mod joined_numbers;
 mod laws;
 mod meetings;
 mod merging;
 mod rounds;
 mod run;
-mod words;
 
 pub use around::Around;
 pub use joined_groups::JoinedGroups;

@@ -15,6 +15,7 @@ use group_log::logs_are_sent;
 use regcode::Code;
 use spaces_base::Buffers;
 use std::marker::Sync;
+use steps::Step;
 
 /// The type's values may be shared.
 fn is_shared<T: Sync>()
@@ -49,6 +50,7 @@ fn launches_are_shared()
     is_shared::<Vec<Name>>();
     is_shared::<Vec<u64>>();
     is_shared::<Vec<u32>>();
+    is_shared::<Vec<Step>>();
 }
 
 /// Logs of groups that are done may be shared, behind their lock.

@@ -1,0 +1,55 @@
+//! Lines of entries.
+
+ghost use Rattle.std.specs.Prelude.{◌≡◌, ◌+◌, ◌<◌, ◌≤◌, length};
+ghost use Rattle.entry_lines.specs.Lines.{entry_at};
+
+use crate::step::Step;
+use shadow_list::Entry;
+
+/// Entries that stand one after another in a log, in rounds of so many: those of the first round, and for all others what each round adds.
+#[derive(Clone, Copy)]
+pub(crate) struct Line {
+    /// How many entries stand before it
+    pub(crate) start: usize,
+    /// Where the entries of its first round stand
+    pub(crate) head: usize,
+    /// How many entries a round has
+    pub(crate) period: usize,
+    /// Where the steps of a round stand, if it has more than one
+    pub(crate) step: usize,
+    /// How many entries it has
+    pub(crate) count: usize,
+}
+
+impl Line {
+    /// No entries, behind so many, where so many entries of first rounds stand.
+    pub(crate) fn empty(start: usize, head: usize) -> Self
+        ensures start { result.start ≡ start }
+        ensures head { result.head ≡ head }
+        ensures period { result.period ≡ 0 }
+        ensures count { result.count ≡ 0 }
+    {
+        Line {
+            start,
+            head,
+            period: 0,
+            step: 0,
+            count: 0,
+        }
+    }
+
+    /// The entry at a place of it, or the one that it would have there.
+    #[tactic(auto, unfolding(crate::specs::Lines::entry_at))]
+    pub(crate) fn entry(&self, heads: &[Entry], steps: &[Step], k: usize) -> Entry
+        requires heads { self.now.head + self.now.period ≤ length heads.now }
+        requires steps { self.now.period ≤ k → (0 < self.now.period) × (self.now.step + self.now.period ≤ length steps.now) }
+        ensures { result ≡ entry_at heads.now steps.now self.now.head self.now.period self.now.step k }
+    {
+        if k < self.period {
+            return heads[self.head + k];
+        }
+        let place = k % self.period;
+        let rounds = (k / self.period) as u64;
+        steps[self.step + place].ahead(&heads[self.head + place], rounds)
+    }
+}

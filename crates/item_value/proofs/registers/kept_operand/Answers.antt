@@ -1,0 +1,10 @@
+use Rattle.std.proofs.Common.{sym, ◌∙◌}
+use Rattle.std.proofs.lemmas.Bool.{false≢true}
+use Rattle.register_values.proofs.Outcomes.{read_some, read_none}
+use Rattle.item_value.proofs.registers.kept_operand.Goals as goal
+
+pub returns-then-is_set : goal.returns-then-is_set
+returns-then-is_set c = read_some _ _ _ c.kept-kept.ensures (c.is_set.ensures.0 c.if-is_set.true)
+
+pub returns-else-is_set : goal.returns-else-is_set
+returns-else-is_set c after = read_none _ _ _ _ after c.kept-kept.ensures c.register_name.ensures (λ i. false≢true (sym c.if-is_set.false ∙ c.is_set.ensures.1 i))

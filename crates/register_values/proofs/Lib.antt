@@ -1,0 +1,4 @@
+pub mod LeadingLaws
+pub mod RegisterValues
+pub mod Outcomes
+pub mod KeptValues

@@ -1,0 +1,3 @@
+pub mod Leading
+pub mod RegisterValues
+pub mod Kept
