@@ -1,5 +1,5 @@
 pub mod Covering
-pub mod Faithful
-pub mod Kept
 pub mod Shortened
+pub mod Standing
+pub mod Taking
 pub mod Telling

@@ -1,5 +1,5 @@
 pub mod Covers
 pub mod Lasting
-pub mod Place
 pub mod Side
+pub mod Stands
 pub mod Tells

@@ -1,11 +1,21 @@
--- Room for one access more (own).
-use Rattle.std.specs.Prelude.{◌≡◌, Bool, true, false}
+-- What is known of an access before it is kept (own).
+use Rattle.std.specs.Prelude.{◌≡◌, ℕ, ◌<◌, ◌^◌, true, Some, List, unwrap_or, MatchOption}
 use Rattle.clmodel.specs.declared.access.Access.{Access}
-use Rattle.shadow_list.specs.Cells.{IsMarked}
-use Rattle.group_log.specs.Covers.{Covers}
+use Rattle.group_traces.specs.Traces.{untouched}
+use Rattle.group_traces.specs.Cells.{at_key, key_of, IsOwn, IsNear}
+use Rattle.group_log.specs.Stands.{region_at, number_of, AllTake}
+use Rattle.group_log.specs.declared.side.Glance.{Glance}
 use Rattle.group_log.specs.declared.side.Side.{Side}
 
--- there is room for an access that is to be kept, and its bytes are marked; one that isn't to be kept tells nothing that kept ones don't (own)
-abbrev pub IsReady : Bool → Side → Access → Type 0
-IsReady true side x = (side.kept.has_room ≡ true) × IsMarked side.cells x
-IsReady false side x = Covers side.uniform side.kept.items x
+-- what is kept of the bytes of buffers, where it tells of all accesses, tells which tell other groups nothing new (6.5.2, own)
+abbrev pub TakesOf : Side → List Access → Type 0
+TakesOf side log = side.whole ≡ true → AllTake side.traces log
+
+-- where the bytes of an access are looked at, they are near, and its cell stands where it is said to (own)
+abbrev pub IsSeen : Side → Access → Glance → ℕ → Type 0
+IsSeen side x g number =
+    (number ≡ number_of x.region) × (number < 2 ^ 32) × IsNear x × (x.region ≡ region_at (unwrap_or side.home x.region) number)
+    × MatchOption g.look.place ((b : ℕ) → at_key side.traces (key_of number x.first) b ≡ untouched) (IsOwn side.traces (key_of number x.first))
+
+abbrev pub IsKnown : Side → Access → Glance → Type 0
+IsKnown side x g = (number : ℕ) → g.number ≡ Some number → IsSeen side x g number

@@ -1,9 +1,10 @@
 //! The log of a group that is running.
 
-ghost use Rattle.std.specs.Prelude.{◌≡◌, ◌<◌, ◌-◌, ◌^◌, [], All, IfOk, false, true};
-ghost use Rattle.shadow.specs.Lasting.{StandsWith, IsTold};
+ghost use Rattle.std.specs.Prelude.{◌≡◌, ◌<◌, ◌-◌, ◌^◌, [], IfOk, false, true};
+ghost use Rattle.shadow.specs.Lasting.{StandsWith};
 ghost use Rattle.shadow_list.specs.Log.{IsPlaced, IsNoted, logged, fresh_log, in_buffer};
 ghost use Rattle.group_log.specs.Lasting.{all_of, short_of, last_of, made, LeavesOut};
+ghost use Rattle.group_log.specs.Side.{TakesOf};
 ghost use Rattle.group_log.specs.Tells.{Tells};
 
 use crate::lasting::Lasting;
@@ -14,16 +15,17 @@ use shadow::{GroupAccesses, LastingList};
 use shadow_list::{AccessLog, Entry, Fenced, Hit, Logged};
 use std::alloc::{AllocError, Global};
 
-/// The log of a group that is running, which keeps only accesses that tell a conflict that none before tells. Its list, of all accesses, is
-/// there for proofs alone.
+/// The log of a group that is running, which keeps only accesses that tell a conflict that none before tells. Its list,
+/// of all accesses, is there for proofs alone.
 ///
-/// A new access costs one look-up in a hash table, a step or two for each word of four bytes, or for each byte of a word that was accessed in
-/// part, and a look at what is kept of the accesses that begin in the same word, at most one for each first byte, width and kind; and two
-/// look-ups more where it is kept. While none conflict, at most ten are kept of each first byte, width and kind, whatever their number, and
-/// those of an address space are let go at a barrier that fences it. What goes on as a loop does is kept by lines (`EntryLines`). What is
-/// known of bytes and places stays at a barrier: some 110 bytes for each cell of eight bytes that was touched, 80 more for each word that was
-/// accessed in part, and at most 160 for each first byte, width and kind. Where an access may conflict all kept ones are walked for the exact
-/// answer, which ends a launch where there is a conflict.
+/// A new access costs one look-up in a hash table, and a step or two for each word of four bytes, or for each byte of
+/// a word that was accessed in part; and some more where it is kept. While none conflict, at most two are kept of
+/// each byte for the running interval, whatever their number, and those of an address space are let go at a barrier
+/// that fences it; and at most two for other groups. What goes on as a loop does is kept by lines (`EntryLines`),
+/// each other access in some 56 bytes. What is known of bytes stays at a barrier: some 300 bytes for each cell of 32
+/// bytes that was touched, and 80 more for each word whose bytes were accessed apart, and by more than one item, kind
+/// or interval. Where an access may conflict all kept ones are walked for the exact answer, which ends a launch where
+/// there is a conflict.
 #[derive(Drop)]
 pub struct GroupLog {
     local: Side,
@@ -34,7 +36,7 @@ pub struct GroupLog {
     ghost one_launch: { local.uniform ≡ global.uniform },
     ghost local_tells: { Tells local.uniform false local.interval local.kept.items (all_of whole.items) },
     ghost global_tells: { Tells global.uniform true global.interval global.kept.items (all_of whole.items) },
-    ghost told: { All (IsTold (made [] whole.items)) lasting.told.values.items },
+    ghost takes: { TakesOf global (made [] whole.items) },
     ghost entries: { lasting.entries.items ≡ short_of whole.items },
     ghost has_last: { lasting.has_last ≡ last_of false whole.items },
     ghost left_out: { LeavesOut [] whole.items },
@@ -54,7 +56,8 @@ fn stamped(entry: Entry, interval: u32) -> Entry
 }
 
 impl GroupLog {
-    /// A log without accesses, in the first interval of both address spaces, of a launch that is uniform or not. It takes no memory.
+    /// A log without accesses, in the first interval of both address spaces, of a launch that is uniform or not. It
+    /// takes no memory.
     pub fn new(alloc: Global, uniform: bool) -> Self
         ensures { logged (all_of result.whole.items) result.local.interval result.global.interval result.global.uniform ≡ fresh_log uniform }
     {
@@ -66,8 +69,8 @@ impl GroupLog {
         }
     }
 
-    /// Forgets all accesses, in the first interval of both address spaces. The memory that told accesses of the group is used again where much
-    /// of it was in use: to clear it takes time in proportion to all of it.
+    /// Forgets all accesses, in the first interval of both address spaces. The memory that told accesses of the group
+    /// is used again where much of it was in use: to clear it takes time in proportion to all of it.
     fn clear(&mut self, alloc: Global)
         ensures { logged (all_of self.new.whole.items) self.new.local.interval self.new.global.interval self.new.global.uniform ≡ fresh_log self.old.global.uniform }
     {
@@ -112,11 +115,10 @@ impl GroupLog {
         ensures { IsNoted (logged (all_of self.old.whole.items) self.old.local.interval self.old.global.interval self.old.global.uniform) entry (logged (all_of self.new.whole.items) self.new.local.interval self.new.global.interval self.new.global.uniform) result }
     {
         let entry = stamped(entry, self.local.interval);
-        let cell = self.local.cell(&entry.access);
-        let found = self.local.judge(cell, &entry);
-        let seat = self.local.make_room(cell, &entry.access)?;
+        let glance = self.local.look(&entry.access);
+        let found = self.local.judge(glance.look.sight.clear, &entry);
+        self.local.take(glance, entry)?;
         self.lasting.pass();
-        self.local.put(seat, entry);
         self.whole = self.whole.with(&entry, &false);
         Ok(found)
     }
@@ -128,12 +130,13 @@ impl GroupLog {
         ensures { IsNoted (logged (all_of self.old.whole.items) self.old.local.interval self.old.global.interval self.old.global.uniform) entry (logged (all_of self.new.whole.items) self.new.local.interval self.new.global.interval self.new.global.uniform) result }
     {
         let entry = stamped(entry, self.global.interval);
-        let cell = self.global.cell(&entry.access);
-        let found = self.global.judge(cell, &entry);
-        let seat = self.global.make_room(cell, &entry.access)?;
-        let lasts = self.lasting.note(seat.slot, &entry)?;
-        self.global.put(seat, entry);
-        self.whole = self.whole.with(&entry, &lasts);
+        let glance = self.global.look(&entry.access);
+        let found = self.global.judge(glance.look.sight.clear, &entry);
+        let news = !glance.look.sight.taken;
+        self.lasting.make_room(news)?;
+        self.global.take(glance, entry)?;
+        self.lasting.note(entry, news);
+        self.whole = self.whole.with(&entry, &news);
         Ok(found)
     }
 }

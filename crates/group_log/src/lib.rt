@@ -7,10 +7,8 @@
 //! crate knows no memory and no item.
 #![tactic(auto)]
 
-mod chains;
 mod group;
 mod lasting;
-mod place;
 mod sent;
 mod side;
 mod whole;

@@ -5,12 +5,10 @@ ghost use Rattle.group_log.specs.contracts.group.GroupLog as GroupLogType;
 ghost use Rattle.group_log.specs.contracts.lasting.Lasting as LastingType;
 ghost use Rattle.group_log.specs.contracts.side.Side as SideType;
 
-use crate::chains::Chains;
-use crate::place::Place;
 use crate::whole::Whole;
+use clmodel::access::Region;
 use entry_lines::lines_are_sent;
-use shadow::Told;
-use shadow_list::Cells;
+use group_traces::traces_are_sent;
 use std::marker::Send;
 
 /// The type's values may go to another thread.
@@ -23,8 +21,8 @@ fn sides_are_sent()
     ensures { IsSend SideType.the_row }
 {
     lines_are_sent();
-    is_sent::<Cells>();
-    is_sent::<Chains<Place>>();
+    is_sent::<Option<Region>>();
+    traces_are_sent();
 }
 
 /// What is kept for other groups may go to another thread.
@@ -32,7 +30,6 @@ fn lasting_accesses_are_sent()
     ensures { IsSend LastingType.the_row }
 {
     lines_are_sent();
-    is_sent::<Chains<Told>>();
 }
 
 /// Logs may go from one thread to another. It does nothing when it runs.

@@ -1,69 +1,78 @@
 //! The accesses of the running interval of one address space.
 
-ghost use Rattle.std.specs.Prelude.{◌≡◌, ◌+◌, ◌-◌, ◌<◌, ◌^◌, ◌++◌, ◌∷◌, [], Bool, List, nat_eq, All, IsTrue, IfOk};
-ghost use Rattle.std.specs.HashMap.{get};
-ghost use Rattle.clmodel.specs.Cells.{byte_count};
-ghost use Rattle.clmodel.specs.Launch.{within_group};
-ghost use Rattle.shadow_list.specs.Cells.{IsMarked, cell_key};
-ghost use Rattle.shadow_list.specs.Log.{IsPlaced, hit};
+ghost use Rattle.std.specs.Prelude.{◌≡◌, ◌+◌, ◌-◌, ◌<◌, ◌^◌, ◌++◌, ◌∷◌, [], ℕ, Bool, List, Some, None, true, unwrap_or, All, IsTrue, IfSome, IfOk, OnOk, OnErr, MatchOption};
+ghost use Rattle.clmodel.specs.Cells.{byte_count, covers};
+ghost use Rattle.clmodel.specs.Launch.{within_group, conflict_between};
+ghost use Rattle.clmodel.specs.declared.access.Access.{Access as TheAccess};
+ghost use Rattle.group_traces.specs.Cells.{IsNear};
+ghost use Rattle.shadow.specs.Lasting.{Absorbed};
+ghost use Rattle.shadow_list.specs.Log.{IsPlaced, hit, in_buffer};
 ghost use Rattle.shadow_list.specs.declared.log.Entry.{Entry as TheEntry};
 ghost use Rattle.group_log.specs.Covers.{Covers};
-ghost use Rattle.group_log.specs.Place.{IsFaithful};
+ghost use Rattle.group_log.specs.Stands.{region_at, number_of, AllStand, AllTake};
 
-use crate::chains::Chains;
-use crate::place::Place;
-use clmodel::access::{Access, Rule};
+use clmodel::access::{Access, Region, Rule};
 use entry_lines::EntryLines;
-use shadow_list::{Cells, Entry, Hit};
+use group_traces::{Look, Sight, Traces, is_near};
+use shadow_list::{Entry, Hit};
 use std::alloc::{AllocError, Global};
 
-/// What is kept of the accesses of the running interval of local or of global memory: those that tell a conflict that none before tells.
-/// There are ten at most for each first byte, width and kind of operation.
+/// What is kept of the accesses of the running interval of local or of global memory: those that tell a conflict that
+/// none before tells.
 #[derive(Drop)]
 pub(crate) struct Side {
     pub(crate) uniform: bool,
     /// The number of the running interval.
     pub(crate) interval: u32,
     pub(crate) kept: EntryLines,
-    /// What is kept of each byte, by which most accesses are found to have no conflict.
-    pub(crate) cells: Cells,
-    /// What is kept of each place, by the slot of its first byte in `cells`.
-    pub(crate) places: Chains<Place>,
-    ghost marked: { All (λ (y : TheEntry). IsMarked cells y.access) kept.items },
-    ghost faithful: { All (IsFaithful uniform interval kept.items) places.values.items },
-}
-
-/// The slot of the first byte of an access, which is one for the bytes of a word of four, by where the cell of that byte starts.
-fn slot_in(cell: usize, x: &Access) -> usize {
-    cell.wrapping_add((x.first % 8 / 4) as usize)
+    /// The region of the first access that was kept. Others are in regions that differ from it in the object's number
+    /// alone.
+    home: Option<Region>,
+    /// What is kept of each byte, by which most accesses are found to have no conflict, or to tell none anew.
+    traces: Traces,
+    /// Whether `traces` tells of all accesses. One that isn't near, or is of another group, ends that: each is judged
+    /// by the kept ones then.
+    whole: bool,
+    ghost stands: { whole ≡ true → ∥ AllStand uniform interval kept.items traces home ∥₁ },
 }
 
 /// What is known of an access before it is kept.
 #[derive(Clone, Copy)]
-pub(crate) struct Seat {
-    /// The slot of its first byte.
-    pub(crate) slot: usize,
-    /// Whether it is to be kept.
-    pub(crate) needed: bool,
+pub(crate) struct Glance {
+    /// The number of its object, where its bytes are looked at.
+    pub(crate) number: Option<u32>,
+    pub(crate) look: Look,
 }
 
-/// Keeps in the places of accesses what a kept one tells of later ones, where there is memory for that.
-fn keep_place(places: &mut Chains<Place>, slot: usize, x: &Access)
-    requires { x.now.first + byte_count x.now.width < 2 ^ 64 }
-    ensures { (uniform : Bool) (kept : List TheEntry) (e : TheEntry) → e.access ≡ x.now → All (IsFaithful uniform x.now.interval kept) places.old.values.items → All (IsFaithful uniform x.now.interval (kept ++ e ∷ [])) places.new.values.items }
+/// The number of an object.
+fn number_of(region: Region) -> u32
+    ensures { result ≡ number_of region }
 {
-    match places.find(slot, x) {
-        Some(i) => places.values[i] = places.values[i].with(x),
-        None => {
-            // Where memory is refused here, nothing is known of this place, and a later equal access is kept once more. No answer depends on it:
-            // only what is known lets an access be left out, and an access that conflicts with one of two equal ones conflicts with the other.
-            let _ = places.add(slot, x.first, Place::of(x));
-        }
+    match region {
+        Region::Buffer(number) => number,
+        Region::Local { number, .. } => number,
+    }
+}
+
+/// Whether a region differs from that of the first access in the object's number alone.
+fn is_at(home: Option<Region>, region: Region) -> bool
+    ensures { result ≡ true → region ≡ region_at (unwrap_or home region) (number_of region) }
+{
+    match home {
+        None => true,
+        Some(Region::Buffer(_)) => match region {
+            Region::Buffer(_) => true,
+            Region::Local { .. } => false,
+        },
+        Some(Region::Local { group, .. }) => match region {
+            Region::Buffer(_) => false,
+            Region::Local { group: other, .. } => group == other,
+        },
     }
 }
 
 impl Side {
-    ghost use Rattle.group_log.specs.Side.{IsReady};
+    ghost use Rattle.group_log.specs.Side.{TakesOf, IsSeen, IsKnown};
     ghost use Rattle.group_log.specs.Tells.{IsTaken};
 
     /// No accesses, in the first interval. It takes no memory.
@@ -71,13 +80,15 @@ impl Side {
         ensures kept { result.kept.items ≡ [] }
         ensures interval { result.interval ≡ 0 }
         ensures uniform { result.uniform ≡ uniform }
+        ensures takes { (log : List TheAccess) → TakesOf result log }
     {
         Side {
             uniform,
             interval: 0,
             kept: EntryLines::new(alloc),
-            cells: Cells::new(alloc),
-            places: Chains::new(alloc),
+            home: None,
+            traces: Traces::new(alloc),
+            whole: true,
         }
     }
 
@@ -86,20 +97,24 @@ impl Side {
         ensures kept { self.new.kept.items ≡ [] }
         ensures interval { self.new.interval ≡ 0 }
         ensures uniform { self.new.uniform ≡ self.old.uniform }
+        ensures takes { (log : List TheAccess) → TakesOf self.new log }
     {
         self.kept.clear();
         self.interval = 0;
-        self.cells.clear();
-        self.places.clear();
+        self.home = None;
+        self.traces.clear();
+        self.whole = true;
     }
 
-    /// Forgets all accesses, as `new` begins. The memory is kept, or given back where less than an eighth of it was in use.
+    /// Forgets all accesses, as `new` begins. The memory is kept, or given back where less than an eighth of it was in
+    /// use.
     pub(crate) fn clear(&mut self, alloc: Global)
         ensures kept { self.new.kept.items ≡ [] }
         ensures interval { self.new.interval ≡ 0 }
         ensures uniform { self.new.uniform ≡ self.old.uniform }
+        ensures takes { (log : List TheAccess) → TakesOf self.new log }
     {
-        if self.places.values.len() < self.places.values.capacity() / 8 {
+        if self.traces.is_roomy() {
             *self = Side::new(alloc, self.uniform);
         } else {
             self.forget();
@@ -112,85 +127,108 @@ impl Side {
         ensures kept { self.new.kept.items ≡ [] }
         ensures interval { self.new.interval ≡ self.old.interval + 1 }
         ensures uniform { self.new.uniform ≡ self.old.uniform }
+        ensures takes { (log : List TheAccess) → TakesOf self.old log → TakesOf self.new log }
     {
         self.kept.clear();
         self.interval += 1;
     }
 
-    /// Where the cell of an access's first byte starts, if it is there.
-    pub(crate) fn cell(&self, x: &Access) -> Option<usize>
-        ensures { result ≡ get nat_eq self.now.cells.starts (cell_key x.now.region x.now.first) }
+    /// What is known of an access of the running interval.
+    pub(crate) fn look(&self, x: &Access) -> Glance
+        requires placed { x.now.first + byte_count x.now.width < 2 ^ 64 }
+        requires interval { x.now.interval ≡ self.now.interval }
+        ensures clear { result.look.sight.clear ≡ true → (byte : ℕ) → All (λ (y : TheEntry). conflict_between (within_group self.now.uniform) y.access x.now byte ≡ None) self.now.kept.items }
+        ensures told { result.look.sight.told ≡ true → Covers self.now.uniform self.now.kept.items x.now }
+        ensures taken { result.look.sight.taken ≡ true → (log : List TheAccess) → TakesOf self.now log → Absorbed log x.now }
+        ensures known { IsKnown self.now x.now result }
     {
-        self.cells.found(x.region, x.first)
+        if self.whole && is_near(x) && is_at(self.home, x.region) {
+            let number = number_of(x.region);
+            return Glance {
+                number: Some(number),
+                look: self.traces.look(self.uniform, number, x),
+            };
+        }
+        Glance {
+            number: None,
+            look: Look {
+                place: None,
+                sight: Sight {
+                    clear: false,
+                    told: false,
+                    taken: false,
+                },
+            },
+        }
     }
 
-    /// The conflict of an access with those that are kept, by where the cell of its first byte starts. Only where there may be one are all of
-    /// them walked.
-    pub(crate) fn judge(&self, cell: Option<usize>, x: &Entry) -> Option<Hit>
+    /// The conflict of an access with those that are kept. Only where there may be one are all of them walked.
+    pub(crate) fn judge(&self, clear: bool, x: &Entry) -> Option<Hit>
         requires placed { IsPlaced x.now }
-        requires found { cell ≡ get nat_eq self.now.cells.starts (cell_key x.now.access.region x.now.access.first) }
+        requires clear { clear ≡ true → (byte : ℕ) → All (λ (y : TheEntry). conflict_between (within_group self.now.uniform) y.access x.now.access byte ≡ None) self.now.kept.items }
         ensures { result ≡ hit (within_group self.now.uniform) x.now self.now.kept.items }
     {
-        if self.cells.is_clear(cell, self.uniform, &x.access) {
+        if clear {
             None
         } else {
             self.kept.hit(Rule::within_group(self.uniform), x)
         }
     }
 
-    /// Whether whatever conflicts with an access of the running interval conflicts with a kept one as well, by the slot of its first byte.
-    fn covers(&self, slot: usize, x: &Access) -> bool
-        requires placed { x.now.first + byte_count x.now.width < 2 ^ 64 }
-        requires interval { x.now.interval ≡ self.now.interval }
-        ensures { IsTrue result → Covers self.now.uniform self.now.kept.items x.now }
-    {
-        match self.places.find(slot, x) {
-            None => false,
-            Some(i) => self.places.values[i].covers(x),
-        }
-    }
-
-    /// Whether an access of the running interval is to be kept, with room for it where it is, by where the cell of its first byte starts. Where
-    /// memory is refused the accesses stay.
-    pub(crate) fn make_room(&mut self, cell: Option<usize>, x: &Access) -> Result<Seat, AllocError>
-        requires placed { x.now.first + byte_count x.now.width < 2 ^ 64 }
-        requires interval { x.now.interval ≡ self.old.interval }
-        requires found { cell ≡ get nat_eq self.old.cells.starts (cell_key x.now.region x.now.first) }
-        ensures kept { self.new.kept.items ≡ self.old.kept.items }
+    /// Keeps an access for which there is room, of which nothing is kept at its bytes.
+    fn keep_unseen(&mut self, entry: Entry)
+        requires room { self.old.kept.has_room ≡ true }
+        ensures kept { self.new.kept.items ≡ self.old.kept.items ++ entry ∷ [] }
         ensures interval { self.new.interval ≡ self.old.interval }
         ensures uniform { self.new.uniform ≡ self.old.uniform }
-        ensures there { IfOk result (λ seat. IsReady seat.needed self.new x.now) }
+        ensures takes { (log : List TheAccess) → TakesOf self.new log }
     {
-        if let Some(start) = cell {
-            let slot = slot_in(start, x);
-            if self.covers(slot, x) {
-                return Ok(Seat {
-                    slot,
-                    needed: false,
-                });
-            }
-        }
-        self.cells.mark(cell, x)?;
-        self.kept.reserve()?;
-        let start = cell.or_else(|| self.cells.found(x.region, x.first));
-        Ok(Seat {
-            slot: slot_in(start.unwrap_or(0), x),
-            needed: true,
-        })
+        self.whole = false;
+        self.kept.push_reserved(entry);
     }
 
-    /// Keeps an access of the running interval for which there is room, where it is to be kept.
-    pub(crate) fn put(&mut self, seat: Seat, entry: Entry)
-        requires placed { IsPlaced entry }
+    /// Keeps an access of the running interval for which there is room, by the number of its object and the cell of its
+    /// bytes. Where memory is refused the accesses stay.
+    fn keep_seen(&mut self, glance: Glance, number: u32, entry: Entry) -> Result<(), AllocError>
         requires interval { entry.access.interval ≡ self.old.interval }
-        requires there { IsReady seat.needed self.old entry.access }
-        ensures kept { IsTaken self.old.uniform self.old.kept.items entry self.new.kept.items }
+        requires room { self.old.kept.has_room ≡ true }
+        requires seen { IsSeen self.old entry.access glance number }
+        ensures kept { OnOk result (self.new.kept.items ≡ self.old.kept.items ++ entry ∷ []) }
+        ensures stays { OnErr result (self.new.kept.items ≡ self.old.kept.items) }
         ensures interval { self.new.interval ≡ self.old.interval }
         ensures uniform { self.new.uniform ≡ self.old.uniform }
+        ensures takes { OnOk result (in_buffer entry.access.region ≡ true → (log : List TheAccess) → TakesOf self.old log → TakesOf self.new (entry.access ∷ log)) }
+        ensures still { OnErr result ((log : List TheAccess) → TakesOf self.old log → TakesOf self.new log) }
     {
-        if seat.needed {
-            keep_place(&mut self.places, seat.slot, &entry.access);
-            self.kept.push_reserved(entry);
+        self.traces.mark(glance.look.place, number, &entry.access)?;
+        self.home = Some(self.home.unwrap_or(entry.access.region));
+        self.kept.push_reserved(entry);
+        Ok(())
+    }
+
+    /// Keeps an access of the running interval, unless it tells no conflict that kept ones don't tell. Where memory is
+    /// refused the accesses stay.
+    pub(crate) fn take(&mut self, glance: Glance, entry: Entry) -> Result<(), AllocError>
+        requires interval { entry.access.interval ≡ self.old.interval }
+        requires told { glance.look.sight.told ≡ true → Covers self.old.uniform self.old.kept.items entry.access }
+        requires known { IsKnown self.old entry.access glance }
+        ensures kept { OnOk result (IsTaken self.old.uniform self.old.kept.items entry self.new.kept.items) }
+        ensures stays { OnErr result (self.new.kept.items ≡ self.old.kept.items) }
+        ensures interval { self.new.interval ≡ self.old.interval }
+        ensures uniform { self.new.uniform ≡ self.old.uniform }
+        ensures takes { OnOk result (in_buffer entry.access.region ≡ true → (log : List TheAccess) → TakesOf self.old log → TakesOf self.new (entry.access ∷ log)) }
+        ensures still { OnErr result ((log : List TheAccess) → TakesOf self.old log → TakesOf self.new log) }
+    {
+        if glance.look.sight.told {
+            return Ok(());
+        }
+        self.kept.reserve()?;
+        match glance.number {
+            None => {
+                self.keep_unseen(entry);
+                Ok(())
+            }
+            Some(number) => self.keep_seen(glance, number, entry),
         }
     }
 }

@@ -7,8 +7,8 @@ ghost use Rattle.shadow_list.specs.declared.log.Entry.{Entry as TheEntry};
 use shadow_list::Entry;
 use std::marker::Model;
 
-/// All accesses of a group in their order, each with whether it is kept for other groups. Only proofs read it: it takes no memory, and its
-/// methods do nothing when they run.
+/// All accesses of a group in their order, each with whether it is kept for other groups. Only proofs read it: it takes
+/// no memory, and its methods do nothing when they run.
 #[derive(Drop)]
 pub struct Whole {
     seal: (),

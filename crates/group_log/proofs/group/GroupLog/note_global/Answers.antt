@@ -1,12 +1,12 @@
-use Rattle.std.proofs.Common.{◌≡◌, true, false, [], ◌∷◌, ◌++◌, if◌then◌else◌, refl, sym, ap, ◌∙◌, subst, inr}
+use Rattle.std.proofs.Common.{◌≡◌, Bool, not, true, false, [], ◌∷◌, ◌++◌, if◌then◌else◌, refl, sym, ap, ◌∙◌, subst, inr}
 use Rattle.std.proofs.lemmas.Bool.{false≢true}
+use Rattle.group_log.proofs.Taking.{not_true}
 use Rattle.shadow_list.specs.Log.{stamped, in_buffer, IsKept}
 use Rattle.shadow_list.specs.declared.log.Entry.{Entry}
-use Rattle.std.specs.Prelude.{All}
-use Rattle.shadow.specs.Lasting.{IsTold}
+use Rattle.group_log.specs.Side.{TakesOf}
 use Rattle.group_log.specs.Lasting.{all_of, short_of, last_of, made, LeavesOut}
 use Rattle.group_log.specs.declared.group.GroupLog.{GroupLog}
-use Rattle.group_log.proofs.Shortened.{made_more, short_more, last_more, all_more, left_out_more, log_of}
+use Rattle.group_log.proofs.Shortened.{made_more, short_more, last_more, all_more, left_out_more, absorbed_stays, log_of}
 use Rattle.group_log.proofs.Telling.{stamped_global, told, noted_tells, other_tells}
 use Rattle.group_log.proofs.group.GroupLog.note_global.Goals as goal
 
@@ -15,17 +15,18 @@ invariant_of-self-2 c =
     let l : GroupLog = c.args.self.now in
     let x : Entry = c.stamped-entry.result in
     let space : in_buffer x.access.region ≡ true = ap (λ (z : Entry). in_buffer z.access.region) c.stamped-entry.ensures ∙ c.requires.space in
-    let kept : IsKept (all_of l.whole.items) x (all_of c.with-self.result.items) = inr (ap all_of c.with-self.ensures ∙ all_more l.whole.items x c.in_ok-lasts.lasts) in
+    let news : Bool = not c.look-glance.result.look.sight.taken in
+    let kept : IsKept (all_of l.whole.items) x (all_of c.with-self.result.items) = inr (ap all_of c.with-self.ensures ∙ all_more l.whole.items x news) in
     record {
-      one_launch = l.one_launch ∙ sym (c.put.ensures.uniform ∙ c.make_room.ensures.uniform);
+      one_launch = l.one_launch ∙ sym c.take.ensures.uniform;
       local_tells = other_tells l.local.uniform false l.local.interval l.local.kept.items (all_of l.whole.items) (all_of c.with-self.result.items) x l.local_tells (λ e. false≢true (sym e ∙ space)) kept;
-      global_tells = noted_tells l.global.uniform true l.global.interval l.global.kept.items (all_of l.whole.items) x c.make_room.new.self.uniform c.put.new.self.uniform c.make_room.new.self.interval c.put.new.self.interval
-          c.make_room.new.self.kept.items c.put.new.self.kept.items (all_of c.with-self.result.items) l.global_tells (ap (λ (z : Entry). z.access.interval) c.stamped-entry.ensures)
-          c.make_room.ensures.uniform c.make_room.ensures.interval c.make_room.ensures.kept c.put.ensures.uniform c.put.ensures.interval c.put.ensures.kept kept;
-      told = subst (λ log. All (IsTold log) c.note.new.self.told.values.items) (sym (ap (made []) c.with-self.ensures ∙ made_more [] l.whole.items (x, c.in_ok-lasts.lasts))) (c.in_ok-lasts.ensures.told (made [] l.whole.items) l.told);
-      entries = c.in_ok-lasts.ensures.entries ∙ ap (λ z. if c.in_ok-lasts.lasts then z ++ x ∷ [] else z) l.entries ∙ sym (ap short_of c.with-self.ensures ∙ short_more l.whole.items x c.in_ok-lasts.lasts);
-      has_last = c.in_ok-lasts.ensures.has_last ∙ sym (ap (last_of false) c.with-self.ensures ∙ last_more false l.whole.items x c.in_ok-lasts.lasts);
-      left_out = subst (LeavesOut []) (sym c.with-self.ensures) (left_out_more [] l.whole.items x c.in_ok-lasts.lasts l.left_out (λ f. c.in_ok-lasts.ensures.left_out f (made [] l.whole.items) l.told));
+      global_tells = noted_tells l.global.uniform true l.global.interval l.global.kept.items (all_of l.whole.items) x l.global.uniform c.take.new.self.uniform l.global.interval c.take.new.self.interval
+          l.global.kept.items c.take.new.self.kept.items (all_of c.with-self.result.items) l.global_tells (ap (λ (z : Entry). z.access.interval) c.stamped-entry.ensures)
+          refl refl refl c.take.ensures.uniform c.take.ensures.interval c.in_ok-take.ensures.kept kept;
+      takes = subst (TakesOf c.take.new.self) (sym (ap (made []) c.with-self.ensures ∙ made_more [] l.whole.items (x, news))) (c.in_ok-take.ensures.takes space (made [] l.whole.items) l.takes);
+      entries = c.note.ensures.entries ∙ ap (λ z. if news then z ++ x ∷ [] else z) (c.make_room.ensures.entries ∙ l.entries) ∙ sym (ap short_of c.with-self.ensures ∙ short_more l.whole.items x news);
+      has_last = c.note.ensures.has_last ∙ sym (ap (last_of false) c.with-self.ensures ∙ last_more false l.whole.items x news);
+      left_out = subst (LeavesOut []) (sym c.with-self.ensures) (left_out_more [] l.whole.items x news l.left_out (λ f. absorbed_stays (made [] l.whole.items) x.access (c.look-glance.ensures.taken (not_true c.look-glance.result.look.sight.taken f) (made [] l.whole.items) l.takes)));
     }
 
 pub returns : goal.returns
@@ -33,11 +34,12 @@ returns c =
     let l : GroupLog = c.args.self.now in
     let x : Entry = c.stamped-entry.result in
     let space : in_buffer x.access.region ≡ true = ap (λ (z : Entry). in_buffer z.access.region) c.stamped-entry.ensures ∙ c.requires.space in
-    let kept : IsKept (all_of l.whole.items) x (all_of c.with-self.result.items) = inr (ap all_of c.with-self.ensures ∙ all_more l.whole.items x c.in_ok-lasts.lasts) in
+    let news : Bool = not c.look-glance.result.look.sight.taken in
+    let kept : IsKept (all_of l.whole.items) x (all_of c.with-self.result.items) = inr (ap all_of c.with-self.ensures ∙ all_more l.whole.items x news) in
     let same : x ≡ stamped (log_of l) c.args.entry = stamped_global (log_of l) c.args.entry x c.requires.space c.stamped-entry.ensures in (
       told l.global.uniform true l.global.interval l.global.kept.items (all_of l.whole.items) (log_of l) c.args.entry x c.judge-found.result l.global_tells c.judge-found.ensures same space (ap (λ (z : Entry). z.access.interval) c.stamped-entry.ensures),
       subst (λ z. IsKept (all_of l.whole.items) z (all_of c.with-self.result.items)) same kept,
       refl,
-      c.put.ensures.interval ∙ c.make_room.ensures.interval,
-      c.put.ensures.uniform ∙ c.make_room.ensures.uniform,
+      c.take.ensures.interval,
+      c.take.ensures.uniform,
     )

@@ -1,13 +1,11 @@
-use Rattle.std.proofs.Common.{◌≡◌, true, false, [], ◌∷◌, refl, sym, ap, ◌∙◌, subst, inr}
+use Rattle.std.proofs.Common.{◌≡◌, true, false, [], refl, sym, ap, ◌∙◌, subst, inr}
 use Rattle.std.proofs.lemmas.Bool.{false≢true}
 use Rattle.clmodel.specs.Launch.{within_group}
 use Rattle.shadow_list.specs.Log.{stamped, in_buffer, hit, IsKept}
 use Rattle.shadow_list.specs.declared.log.Entry.{Entry}
-use Rattle.std.specs.Prelude.{All}
-use Rattle.shadow.specs.Lasting.{IsTold}
-use Rattle.shadow.proofs.Telling.{told_more}
-use Rattle.std.proofs.lemmas.List.Elements.{All-weaker}
+use Rattle.group_log.specs.Side.{TakesOf}
 use Rattle.group_log.specs.Lasting.{all_of, short_of, last_of, made, LeavesOut}
+use Rattle.group_log.proofs.Taking.{takes_more}
 use Rattle.group_log.specs.declared.group.GroupLog.{GroupLog}
 use Rattle.group_log.proofs.Shortened.{made_more, short_more, last_more, all_more, left_out_more, local_stays, log_of}
 use Rattle.group_log.proofs.Telling.{stamped_local, told, noted_tells, other_tells}
@@ -20,14 +18,12 @@ invariant_of-self-2 c =
     let space : in_buffer x.access.region ≡ false = ap (λ (z : Entry). in_buffer z.access.region) c.stamped-entry.ensures ∙ c.requires.space in
     let kept : IsKept (all_of l.whole.items) x (all_of c.with-self.result.items) = inr (ap all_of c.with-self.ensures ∙ all_more l.whole.items x false) in
     record {
-      one_launch = c.put.ensures.uniform ∙ c.make_room.ensures.uniform ∙ l.one_launch;
-      local_tells = noted_tells l.local.uniform false l.local.interval l.local.kept.items (all_of l.whole.items) x c.make_room.new.self.uniform c.put.new.self.uniform c.make_room.new.self.interval c.put.new.self.interval
-          c.make_room.new.self.kept.items c.put.new.self.kept.items (all_of c.with-self.result.items) l.local_tells (ap (λ (z : Entry). z.access.interval) c.stamped-entry.ensures)
-          c.make_room.ensures.uniform c.make_room.ensures.interval c.make_room.ensures.kept c.put.ensures.uniform c.put.ensures.interval c.put.ensures.kept kept;
+      one_launch = c.take.ensures.uniform ∙ l.one_launch;
+      local_tells = noted_tells l.local.uniform false l.local.interval l.local.kept.items (all_of l.whole.items) x l.local.uniform c.take.new.self.uniform l.local.interval c.take.new.self.interval
+          l.local.kept.items c.take.new.self.kept.items (all_of c.with-self.result.items) l.local_tells (ap (λ (z : Entry). z.access.interval) c.stamped-entry.ensures)
+          refl refl refl c.take.ensures.uniform c.take.ensures.interval c.in_ok-take.ensures.kept kept;
       global_tells = other_tells l.global.uniform true l.global.interval l.global.kept.items (all_of l.whole.items) (all_of c.with-self.result.items) x l.global_tells (λ e. false≢true (sym space ∙ e)) kept;
-      told = subst (λ log. All (IsTold log) c.pass.new.self.told.values.items) (sym (ap (made []) c.with-self.ensures ∙ made_more [] l.whole.items (x, false)))
-          (subst (λ t. All (IsTold (x.access ∷ made [] l.whole.items)) t.values.items) (sym c.pass.ensures.told)
-          (All-weaker (IsTold (made [] l.whole.items)) (IsTold (x.access ∷ made [] l.whole.items)) (told_more (made [] l.whole.items) x.access) l.lasting.told.values.items l.told));
+      takes = subst (TakesOf l.global) (sym (ap (made []) c.with-self.ensures ∙ made_more [] l.whole.items (x, false))) (takes_more l.global (made [] l.whole.items) x.access l.takes);
       entries = c.pass.ensures.entries ∙ l.entries ∙ sym (ap short_of c.with-self.ensures ∙ short_more l.whole.items x false);
       has_last = c.pass.ensures.has_last ∙ sym (ap (last_of false) c.with-self.ensures ∙ last_more false l.whole.items x false);
       left_out = subst (LeavesOut []) (sym c.with-self.ensures) (left_out_more [] l.whole.items x false l.left_out (λ f. local_stays (made [] l.whole.items) x.access space));
@@ -43,7 +39,7 @@ returns c =
       told l.local.uniform false l.local.interval l.local.kept.items (all_of l.whole.items) (log_of l) c.args.entry x c.judge-found.result l.local_tells c.judge-found.ensures same space (ap (λ (z : Entry). z.access.interval) c.stamped-entry.ensures)
           ∙ ap (λ u. hit (within_group u) (stamped (log_of l) c.args.entry) (all_of l.whole.items)) l.one_launch,
       subst (λ z. IsKept (all_of l.whole.items) z (all_of c.with-self.result.items)) same kept,
-      c.put.ensures.interval ∙ c.make_room.ensures.interval,
+      c.take.ensures.interval,
       refl,
       refl,
     )
