@@ -2,14 +2,17 @@
 #include "session.h"
 #include <errno.h>
 #include <fcntl.h>
+#include <sched.h>
 #include <spawn.h>
 #include <stdarg.h>
 #include <stdio.h>
 #include <stdlib.h>
 #include <string.h>
+#include <sys/ioctl.h>
 #include <sys/mman.h>
 #include <sys/socket.h>
 #include <sys/wait.h>
+#include <time.h>
 #include <unistd.h>
 
 extern char **environ;
@@ -18,12 +21,17 @@ struct session {
     pid_t owner, child;
     int fd;
     bool gone, recording;
+    bool looks; // whether the child may answer while this thread looks for the reply
     char *in; // what came of replies
     size_t begin, end, room;
     FILE *record;
 };
 
 enum { MAX_WORDS = 32, COMMAND_ROOM = 4096 };
+
+// How long a reply is looked for before the thread sleeps. Small commands are answered within it, and waking a processor
+// that sleeps takes as long as they do.
+enum { LOOK_NANOSECONDS = 50000 };
 
 // ---- settings and lines that are told ----
 
@@ -103,6 +111,12 @@ static const char *lose(session *s, const char *why) {
     return NULL;
 }
 
+// Whether this process may run on more than one processor.
+static bool has_processors(void) {
+    cpu_set_t all;
+    return !sched_getaffinity(0, sizeof all, &all) && CPU_COUNT(&all) > 1;
+}
+
 session *session_open(void) {
     static const char version[] = "clsim 2\n";
     char room[COMMAND_ROOM], *words[MAX_WORDS];
@@ -124,6 +138,7 @@ session *session_open(void) {
         return NULL;
     }
     s->fd = ends[0];
+    s->looks = has_processors();
     s->owner = getpid();
     s->recording = true;
     s->record = open_record();
@@ -143,6 +158,20 @@ void session_close(session *s) {
 }
 
 // ---- commands and replies ----
+
+static long long nanoseconds(void) {
+    struct timespec now = {0};
+    clock_gettime(CLOCK_MONOTONIC, &now);
+    return now.tv_sec * 1000000000LL + now.tv_nsec;
+}
+
+// Looks for the reply for a while, so that neither side's processor sleeps between small commands.
+static void look(const session *s) {
+    int there = 0;
+    if (!s->looks) return;
+    for (long long last = nanoseconds() + LOOK_NANOSECONDS; !there && nanoseconds() < last;)
+        if (ioctl(s->fd, FIONREAD, &there)) return;
+}
 
 static const char *read_line(session *s) {
     size_t seen = 0;
@@ -181,6 +210,7 @@ const char *session_ask(session *s, const char *command, size_t length) {
         command += sent;
         length -= (size_t)sent;
     }
+    look(s);
     return read_line(s);
 }
 

@@ -16,17 +16,19 @@ const LOCAL: Region = Region::Local {
 };
 
 /// The item, the object, the first byte and the operation of an access; the byte of its conflict; whether a running log keeps it for other
-/// groups, as it does unless each byte had an access of its sort, or of two sorts, that began at the same byte and was as wide. Behind a
-/// barrier, before which item 5 has stored 7 at byte 6 of the buffer.
-const ROWS: [(u32, Region, u8, Operation, Option<u64>, bool); 10] = [
+/// groups, as it does unless each byte had an access of its sort, or of two sorts. Behind a barrier, before which item 5 has stored 7 at byte 6
+/// of the buffer. From the first access that isn't aligned on, a running log keeps each one.
+const ROWS: [(u32, Region, u8, Operation, Option<u64>, bool); 13] = [
     (0, BUFFER, 0, Operation::Load(Width::Four), None, true),
     (0, BUFFER, 0, Operation::Load(Width::Four), None, false),
     (1, BUFFER, 0, Operation::Load(Width::Four), None, false),
+    (2, BUFFER, 2, Operation::Load(Width::Two), None, false),
+    (2, BUFFER, 0, Operation::Load(Width::One), None, false),
+    (0, BUFFER, 0, Operation::Load(Width::Eight), None, true),
     (0, LOCAL, 0, Operation::Store(Width::One, 7), None, false),
     (1, LOCAL, 0, Operation::Load(Width::One), Some(0), false),
-    (0, BUFFER, 2, Operation::Load(Width::Four), None, true),
     (0, BUFFER, 4, Operation::Store(Width::Two, 1), None, true),
-    (0, BUFFER, 4, Operation::Store(Width::Two, 2), None, true),
+    (0, BUFFER, 4, Operation::Store(Width::Two, 2), None, false),
     (
         1,
         BUFFER,
@@ -36,14 +38,15 @@ const ROWS: [(u32, Region, u8, Operation, Option<u64>, bool); 10] = [
         true,
     ),
     (1, BUFFER, 6, Operation::Load(Width::One), None, true),
+    (0, BUFFER, 2, Operation::Load(Width::Four), Some(3), true),
 ];
 
 /// The numbers of the events that a running log keeps: 0 is the store before the barrier.
-const KEPT: [u32; 7] = [0, 1, 6, 7, 8, 9, 10];
+const KEPT: [u32; 7] = [0, 1, 6, 9, 11, 12, 13];
 
 /// The numbers of those that tell other groups something new: the first access of a byte, and the first of another kind or by which a store
 /// leaves another byte.
-const LASTING: [u32; 5] = [0, 1, 6, 7, 9];
+const LASTING: [u32; 5] = [0, 1, 6, 9, 11];
 
 /// The numbers of the events of a group's accesses, as other groups ask for them.
 fn events_of<L: GroupAccesses>(alloc: Global, log: &L) -> Result<Vec<u32>, AllocError> {
