@@ -13,9 +13,13 @@ use shadow_list::{Entry, Hit, hit_between};
 use std::alloc::{AllocError, Global};
 use std::marker::Model;
 
-/// Entries in their order, seen as a list. Where they go on by equal steps, as the accesses of a loop do, they take memory for the entries of
-/// one round and their steps, however many follow; each other entry takes some 56 bytes. To add an entry costs a few steps, and to get one a
-/// search among the lines, in as many steps as their number has binary digits.
+/// So many entries of first rounds stay as they are, so that a short list costs no search for rounds. They take 56 KiB at most.
+const SHORT: usize = 1024;
+
+/// Entries in their order, seen as a list. Where they go on by equal steps, as the accesses of a loop do, they take
+/// memory for the entries of one round and their steps, however many follow; each other entry takes some 56 bytes, and
+/// so do the first 1,024. To add an entry costs a few steps, and looks at up to 64 earlier ones where none is alike;
+/// to get one costs a search among the lines, in as many steps as their number has binary digits.
 #[derive(Drop)]
 pub struct EntryLines {
     /// The entries of the first round of each line, line by line: those of the line that goes on are the last
@@ -62,6 +66,9 @@ fn folded(heads: &mut Vec<Entry>, steps: &mut Vec<Step>, closed: &mut Vec<Line>,
     ensures lined { IsLined heads.new.items steps.new.items closed.new.items result }
     ensures same { entries_all heads.new.items steps.new.items (closed.new.items ++ result ∷ []) ≡ entries_all heads.old.items steps.old.items (closed.old.items ++ last ∷ []) }
 {
+    if heads.len() < SHORT {
+        return last;
+    }
     let Some(line) = tail_of(heads.as_slice(), steps, &last) else {
         return last;
     };

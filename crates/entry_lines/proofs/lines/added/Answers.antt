@@ -1,4 +1,4 @@
-use Rattle.std.proofs.Common.{◌≡◌, ◌+◌, ◌<◌, ◌≤◌, ◌&&◌, ◌^◌, ◌++◌, ◌∷◌, [], nat_lt, length, refl, sym, ap, ap₂, ◌∙◌, subst, arith, ltb-true}
+use Rattle.std.proofs.Common.{◌+◌, ◌<◌, ◌&&◌, ◌^◌, ◌++◌, ◌∷◌, [], nat_lt, sym, ap, ap₂, ◌∙◌, subst, arith, ltb-true}
 use Rattle.std.specs.Prelude.{vec_len, vec_capacity}
 use Rattle.std.proofs.lemmas.Bool.{and_parts}
 use Rattle.entry_lines.specs.Lines.{IsLined, entry_at, entries_all}

@@ -1,4 +1,4 @@
-use Rattle.std.proofs.Common.{◌≡◌, ◌-◌, ◌++◌, ◌∷◌, [], length, take, refl, sym, ap, ◌∙◌, subst, arith}
+use Rattle.std.proofs.Common.{◌-◌, ◌++◌, ◌∷◌, [], length, refl, sym, ap, ◌∙◌, subst, arith}
 use Rattle.entry_lines.specs.Lines.{IsLined, IsTail, entries_all}
 use Rattle.entry_lines.specs.declared.line.Line.{Line}
 use Rattle.entry_lines.proofs.Lining.{kept_all, two_same, one_same, two_lined}

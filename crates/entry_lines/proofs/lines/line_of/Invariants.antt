@@ -1,4 +1,4 @@
-use Rattle.std.proofs.Common.{◌≡◌, ◌+◌, ◌-◌, ◌<◌, ◌≤◌, ◌⊎◌, length, get_or}
+use Rattle.std.proofs.Common.{◌≡◌, ◌-◌, ◌<◌, ◌≤◌, ◌⊎◌, length, get_or}
 use Rattle.entry_lines.specs.declared.line.Line.{Line}
 use Rattle.entry_lines.proofs.lines.line_of.Given as goal
 
