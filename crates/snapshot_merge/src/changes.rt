@@ -329,8 +329,9 @@ pub(crate) fn make_changes<L: GroupAccesses>(
 )
     ensures { (value : ℕ → TheAccess → ℕ → ℕ) → AllWroteBytes (map (λ space. space.bytes) own.now) (L.listed log.now) → AreUpdates value (map (λ space. space.bytes) own.now) 0 (L.listed log.now) updates.now → AreChanged contents.old contents.new (changes_of value (L.listed log.now)) }
 {
+    let count = log.len();
     let mut next = 0;
-    for place in 0..log.len() {
+    for place in 0..count {
         let kept = kept_at(updates, next, place);
         change_access(contents, own, &log.get(place).access, kept);
         if kept.is_some() {

@@ -17,7 +17,7 @@ loop-place-preserved g c =
     let x = c.get.result in
     let kept = c.kept_at-kept.result in
     let updates = c.args.updates.now in
-    let inside : i < length entries = omega (arith, c.loop-place-test.true, c.len-place-end.ensures) in
+    let inside : i < length entries = omega (arith, c.loop-place-test.true, c.len-count.ensures) in
     let at : slice_get entries i ≡ Some x = entry_at entries i x inside c.get.ensures.value in
     let before = c.loop-place.invariant in
     let changed : (value : ℕ → Access → ℕ → ℕ) → AllWroteBytes own entries → AreUpdates value own 0 entries updates → AreChanged c.args.contents.now c.change_access.new.contents (changes_of value (take (i + 1) entries))
