@@ -106,14 +106,16 @@ pub record WroteBytes (own : List (List (Option ℕ))) (x : Access) : Type 0 whe
 abbrev pub AllWroteBytes : List (List (Option ℕ)) → List Entry → Type 0
 AllWroteBytes own entries = (k : ℕ) (e : Entry) → slice_get entries k ≡ Some e → WroteBytes own e.access
 
--- what is kept of an access before any change: what its bytes become, as a number, or nothing where they become the further group's own (own)
+-- what is kept of an access before any change: what its bytes become, as a number, or nothing where they become the
+-- further group's own (own)
 abbrev pub IsKept : (ℕ → Access → ℕ → ℕ) → List (List (Option ℕ)) → Access → Option ℕ → Type 0
 IsKept value own x None =
     (number : ℕ) → writes x.kind ≡ true → x.region ≡ region.Buffer number → (byte : ℕ) → covers x.first (byte_count x.width) byte ≡ true
     → value number x byte ≡ number_or_0 (cells_at own number) byte 1
 IsKept value own x (Some kept) = (number : ℕ) → x.region ≡ region.Buffer number → IsValue x.first (byte_count x.width) (value number x) kept
 
--- what is kept of accesses, of which the first has this place: all those whose bytes don't become the further group's own are there (own)
+-- what is kept of accesses, of which the first has this place: each of them whose bytes don't become the further
+-- group's own is there, in their order (own)
 abbrev pub AreUpdates : (ℕ → Access → ℕ → ℕ) → List (List (Option ℕ)) → ℕ → List Entry → List JoinedUpdate → Type 0
 AreUpdates value own place [] updates = updates ≡ []
 AreUpdates value own place (e ∷ entries) updates =
