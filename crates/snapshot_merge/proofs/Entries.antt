@@ -3,21 +3,22 @@ use Rattle.std.proofs.Common.{◌≡◌, Bool, ℕ, ◌+◌, ◌<◌, ◌≤◌,
 use Rattle.std.specs.Prelude.{slice_get}
 use Rattle.std.proofs.lemmas.Bool.{cases_lt}
 use Rattle.std.proofs.lemmas.Grind.{flat_map-append}
-use Rattle.std.proofs.lemmas.List.{append-nil, reverse-append, take_all}
+use Rattle.std.proofs.lemmas.List.{append-nil, reverse-append}
 use Rattle.std.proofs.lemmas.Option.{slice_get-get_or}
 use Rattle.clmodel.specs.declared.access.Access.{Access}
 use Rattle.clmodel.proofs.Steps.{some_inj}
 use Rattle.group_run.specs.Logs.{accesses_of}
 use Rattle.shadow_list.specs.declared.log.Entry.{Entry}
-use Rattle.snapshot_merge.specs.Changes.{ByteChange, access_changes, changes_of}
+use Rattle.snapshot_merge.specs.Changes.{AreChanged, access_changes, changes_of}
 use Rattle.shadow.specs.Seen.{met_at}
 use Rattle.shadow.proofs.Listing.{take_next}
+use Rattle.snapshot_merge.proofs.Changing.{changed_more}
 use Rattle.snapshot_merge.specs.Meetings.{MissUpTo}
 
 pub entry_at : (xs : List Entry) (i : ℕ) (x : Entry) → i < length xs → x ≡ get_or xs i x → slice_get xs i ≡ Some x
 entry_at xs i x h e = slice_get-get_or xs i x h ∙ ap Some (sym e)
 
-take_one : (xs : List Entry) (i : ℕ) (x : Entry) → slice_get xs i ≡ Some x → take (i + 1) xs ≡ take i xs ++ x ∷ []
+pub take_one : (xs : List Entry) (i : ℕ) (x : Entry) → slice_get xs i ≡ Some x → take (i + 1) xs ≡ take i xs ++ x ∷ []
 take_one xs i x h = ap (λ n. take n xs) (add-one i) ∙ take_next xs i x h
 
 pub miss_more :
@@ -34,15 +35,13 @@ miss_more u xs kept i x h n m k e b q = go (cases_lt k i)
 pub accesses_more : (xs : List Entry) (i : ℕ) (x : Entry) → slice_get xs i ≡ Some x → accesses_of (take (i + 1) xs) ≡ x.access ∷ accesses_of (take i xs)
 accesses_more xs i x h = ap accesses_of (take_one xs i x h) ∙ ap (map (λ (y : Entry). y.access)) (reverse-append (take i xs) (x ∷ []))
 
-pub changes_push :
-    (value : ℕ → Access → ℕ → ℕ) (new old : List ByteChange) (xs : List Entry) (i : ℕ) (x : Entry) → slice_get xs i ≡ Some x → new ≡ old ++ access_changes value x.access
-    → old ≡ changes_of value (take i xs) → new ≡ changes_of value (take (i + 1) xs)
-changes_push value new old xs i x h n o =
-    n
-    ∙ ap (λ z. z ++ access_changes value x.access) o
-    ∙ ap (λ z. changes_of value (take i xs) ++ z) (sym (append-nil (access_changes value x.access)))
+-- the changes of one more entry
+pub changes_more :
+    (value : ℕ → Access → ℕ → ℕ) (first mid last : List (List ℕ)) (xs : List Entry) (i : ℕ) (x : Entry) → slice_get xs i ≡ Some x → AreChanged first mid (changes_of value (take i xs))
+    → AreChanged mid last (access_changes value x.access) → AreChanged first last (changes_of value (take (i + 1) xs))
+changes_more value first mid last xs i x h some one =
+    subst (AreChanged first last)
+    (ap (λ z. changes_of value (take i xs) ++ z) (sym (append-nil (access_changes value x.access)))
     ∙ sym (flat_map-append (λ (e : Entry). access_changes value e.access) (take i xs) (x ∷ []))
-    ∙ ap (changes_of value) (sym (take_one xs i x h))
-
-pub changes_end : (value : ℕ → Access → ℕ → ℕ) (items : List ByteChange) (xs : List Entry) (i : ℕ) → length xs ≤ i → items ≡ changes_of value (take i xs) → items ≡ changes_of value xs
-changes_end value items xs i h e = e ∙ ap (changes_of value) (take_all i xs h)
+    ∙ ap (changes_of value) (sym (take_one xs i x h)))
+    (changed_more first mid last (changes_of value (take i xs)) (access_changes value x.access) some one)

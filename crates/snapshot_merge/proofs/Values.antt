@@ -1,22 +1,21 @@
 -- Numbers whose bytes are what the bytes of an access become.
-use Rattle.std.proofs.Common.{◌≡◌, ℕ, zero, suc, ◌+◌, ◌-◌, ◌*◌, ◌/◌, ◌%◌, ◌^◌, ◌<◌, ◌≤◌, ◌⊎◌, Bool, true, false, Option, None, Some, List, [], ◌∷◌, ◌++◌, length, set, take, refl, sym, ap, ap₂, ◌∙◌, subst, inl, inr, arith}
-use Rattle.std.specs.Prelude.{slice_get, IfSome, min}
+use Rattle.std.proofs.Common.{◌≡◌, ℕ, zero, suc, ◌+◌, ◌-◌, ◌*◌, ◌/◌, ◌%◌, ◌^◌, ◌<◌, ◌≤◌, ◌⊎◌, Bool, true, Option, None, Some, List, [], ◌∷◌, length, set, take, refl, sym, ap, ap₂, ◌∙◌, subst, inl, inr, arith}
+use Rattle.std.specs.Prelude.{slice_get, min}
 use Rattle.std.specs.Int.{to_le_bytes, bytes_low_first, byte_at, w64}
 use Rattle.std.proofs.Math.Nat.{pow-succ', div-div-eq-div-mul, div-one}
-use Rattle.std.proofs.lemmas.Bool.{true≢false}
-use Rattle.std.proofs.lemmas.Grind.{flat_map-append}
-use Rattle.std.proofs.lemmas.List.{append-nil, length-take-le}
+use Rattle.std.proofs.lemmas.List.{length-take-le}
 use Rattle.clmodel.specs.Cells.{Cells, byte_count, byte_of, covers, joined, number}
 use Rattle.clmodel.specs.declared.access.Access.{Access}
 use Rattle.clmodel.specs.declared.access.AccessKind.{AccessKind}
 use Rattle.clmodel.specs.declared.access.AccessKind.TheVariants as kind
 use Rattle.clmodel.specs.declared.access.Class.{Class}
+use Rattle.clmodel.specs.declared.access.Region.{Region}
 use Rattle.clmodel.specs.declared.access.Region.TheVariants as region
 use Rattle.clmodel.proofs.CellLaws.{covers_parts, covers_from}
 use Rattle.clmodel.proofs.Steps.{none_some, some_inj, if_true}
 use Rattle.joining.specs.Memory.{writes}
 use Rattle.snapshot_merge.specs.declared.changes.Change.{Change}
-use Rattle.snapshot_merge.specs.Changes.{ByteChange, byte_changes, changes_at, access_changes, bytes_of, all_bytes, number_or_0, joined_value, value_of, cells_at, filled_at, buffer_at, AreChanged, IsValue, AreBytes}
+use Rattle.snapshot_merge.specs.Changes.{ByteChange, byte_changes, changes_at, access_changes, bytes_of, number_or_0, joined_value, value_of, cells_at, filled_at, buffer_at, AreChanged, IsValue, AreBytes, IsKept}
 use Rattle.snapshot_merge.proofs.Numbers.{one_byte, first_or_later}
 use Rattle.snapshot_merge.proofs.Changing.{with_row, take_get, changed_put}
 
@@ -65,39 +64,30 @@ number_bytes cells first (suc count) v byte h b c =
 
 -- ---- what the bytes of an access become
 
--- the group's own, where no lower group wrote the byte or it was no update
-own_value : (k : AccessKind) (b : Bool) (first lower own : Cells) (byte : ℕ) → ((class : Class) → k ≡ kind.Update class → b ≡ false) → joined_value k b first lower own byte ≡ number_or_0 own byte 1
-own_value kind.Load false first lower own byte h = refl
-own_value kind.Load true first lower own byte h = refl
-own_value kind.Store false first lower own byte h = refl
-own_value kind.Store true first lower own byte h = refl
-own_value kind.Fetch false first lower own byte h = refl
-own_value kind.Fetch true first lower own byte h = refl
-own_value (kind.Update class) false first lower own byte h = refl
-own_value (kind.Update class) true first lower own byte h = absurd (true≢false (h class refl))
+-- the further group's own number, where it is set
+pub own_number :
+    (cells : Cells) (first count : ℕ) (found : Option ℕ) (v : ℕ) → found ≡ number cells first count → found ≡ Some v → AreBytes cells first count
+    → IsValue first count (λ byte. number_or_0 cells byte 1) v
+own_number cells first count found v e f b = record { each = λ byte c. number_bytes cells first count v byte (sym e ∙ f) b c }
 
--- the group's own number, where it is set
-own_is :
-    (first lower : List (List ℕ)) (wrote : ℕ → ℕ → Bool) (own : List (List (Option ℕ))) (n : ℕ) (x : Access) (v : ℕ) → number (cells_at own n) x.first (byte_count x.width) ≡ Some v
-    → AreBytes (cells_at own n) x.first (byte_count x.width) → ((byte : ℕ) (class : Class) → covers x.first (byte_count x.width) byte ≡ true → x.kind ≡ kind.Update class → wrote n byte ≡ false)
-    → IsValue x.first (byte_count x.width) (value_of first lower wrote own n x) v
-own_is first lower wrote own n x v h b none =
+abbrev buffer_of : Region → ℕ
+buffer_of (region.Buffer n) = n
+buffer_of (region.Local group n) = n
+
+-- the number of what the bytes of an update become is kept of it
+pub update_kept :
+    (first lower : List (List ℕ)) (wrote : ℕ → ℕ → Bool) (own : List (List (Option ℕ))) (n : ℕ) (class : Class) (x : Access) (count v : ℕ) → x.kind ≡ kind.Update class → x.region ≡ region.Buffer n
+    → count ≡ byte_count x.width
+    → IsValue x.first count (λ byte. joined_value (kind.Update class) (wrote n byte) (filled_at first n) (filled_at lower n) (cells_at own n) byte) v
+    → IsKept (value_of first lower wrote own) own x (Some v)
+update_kept first lower wrote own n class x count v k r e is = λ m q.
+    let same : n ≡ m = ap buffer_of (sym r ∙ q) in
     record {
-      each = λ byte c. number_bytes (cells_at own n) x.first (byte_count x.width) v byte h b c
-          ∙ sym (own_value x.kind (wrote n byte) (filled_at first n) (filled_at lower n) (cells_at own n) byte (λ class e. none byte class c e));
+      each = λ byte c.
+          is.each byte (subst (λ z. covers x.first z byte ≡ true) (sym e) c)
+          ∙ ap (λ z. joined_value (kind.Update class) (wrote z byte) (filled_at first z) (filled_at lower z) (cells_at own z) byte) same
+          ∙ ap (λ z. joined_value z (wrote m byte) (filled_at first m) (filled_at lower m) (cells_at own m) byte) (sym k);
     }
-
-pub own_found :
-    (first lower : List (List ℕ)) (wrote : ℕ → ℕ → Bool) (own : List (List (Option ℕ))) (n : ℕ) (x : Access) (r : Option ℕ) → r ≡ number (cells_at own n) x.first (byte_count x.width)
-    → AreBytes (cells_at own n) x.first (byte_count x.width) → ((byte : ℕ) (class : Class) → covers x.first (byte_count x.width) byte ≡ true → x.kind ≡ kind.Update class → wrote n byte ≡ false)
-    → IfSome r (IsValue x.first (byte_count x.width) (value_of first lower wrote own n x))
-own_found first lower wrote own n x None h b none = tt
-own_found first lower wrote own n x (Some v) h b none = own_is first lower wrote own n x v (sym h) b none
-
-pub no_update : (k : AccessKind) (class : Class) → (k ≡ kind.Load) ⊎ ((k ≡ kind.Store) ⊎ (k ≡ kind.Fetch)) → k ≡ kind.Update class → ⊥
-no_update k class (inl h) e = cc (h, e)
-no_update k class (inr (inl h)) e = cc (h, e)
-no_update k class (inr (inr h)) e = cc (h, e)
 
 -- no bytes, and one more byte below others
 pub value_none : (first : ℕ) (f : ℕ → ℕ) (v : ℕ) → IsValue first 0 f v
@@ -128,21 +118,21 @@ same_changes n first (suc count) f g h =
     (same_changes n (first + 1) count f g
     (λ byte c. let p = covers_parts (first + 1) count byte c in h byte (covers_from first (suc count) byte (omega (arith, p.0)) (omega (arith, p.1)))))
 
--- the bytes of a change that is added behind others
-pub bytes_push : (xs : List Change) (c : Change) → all_bytes (xs ++ c ∷ []) ≡ all_bytes xs ++ bytes_of c
-bytes_push xs c = flat_map-append bytes_of xs (c ∷ []) ∙ ap (λ z. all_bytes xs ++ z) (append-nil (bytes_of c))
-
--- the change of an access that wrote bytes of a buffer is added
-pub change_pushed :
-    (value : ℕ → Access → ℕ → ℕ) (new old : List Change) (n : ℕ) (x : Access) (v : ℕ) → writes x.kind ≡ true → x.region ≡ region.Buffer n
-    → new ≡ old ++ record { buffer = n; width = x.width; first = x.first; value = v } ∷ [] → IsValue x.first (byte_count x.width) (value n x) v → all_bytes new ≡ all_bytes old ++ access_changes value x
-change_pushed value new old n x v w r e is =
-    ap all_bytes e
-    ∙ bytes_push old (record { buffer = n; width = x.width; first = x.first; value = v })
-    ∙ ap (λ z. all_bytes old ++ z)
+-- the change of an access that wrote bytes of a buffer
+pub change_made :
+    (value : ℕ → Access → ℕ → ℕ) (old new : List (List ℕ)) (n : ℕ) (x : Access) (v : ℕ) → writes x.kind ≡ true → x.region ≡ region.Buffer n → IsValue x.first (byte_count x.width) (value n x) v
+    → AreChanged old new (bytes_of (record { buffer = n; width = x.width; first = x.first; value = v })) → AreChanged old new (access_changes value x)
+change_made value old new n x v w r is =
+    subst (AreChanged old new)
     (same_changes n x.first (byte_count x.width) (λ byte. byte_of (byte - x.first) v) (value n x) is.each
     ∙ ap (changes_at value x) (sym r)
     ∙ sym (if_true (writes x.kind) (changes_at value x x.region) [] w))
+
+-- the further group's own number, where nothing is kept of an access
+pub own_kept :
+    (value : ℕ → Access → ℕ → ℕ) (own : List (List (Option ℕ))) (n : ℕ) (x : Access) (v : ℕ) → writes x.kind ≡ true → x.region ≡ region.Buffer n → IsKept value own x None
+    → IsValue x.first (byte_count x.width) (λ byte. number_or_0 (cells_at own n) byte 1) v → IsValue x.first (byte_count x.width) (value n x) v
+own_kept value own n x v w r kept is = record { each = λ byte c. is.each byte c ∙ sym (kept n w r byte c) }
 
 -- ---- a number as a row of bytes
 

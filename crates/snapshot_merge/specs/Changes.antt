@@ -1,5 +1,5 @@
 -- The bytes that a further group changes in what the lower groups left (OpenCL 1.2, 3.3, 6.12.11; own in the list).
-use Rattle.std.specs.Prelude.{◌≡◌, ℕ, ◌-◌, ◌/◌, ◌*◌, ◌%◌, ◌<◌, ◌==◌, Bool, true, false, ◌&&◌, if◌then◌else◌, Option, Some, List, [], ◌∷◌, length, map, slice_get, slice_index_or}
+use Rattle.std.specs.Prelude.{◌≡◌, ℕ, suc, ◌-◌, ◌/◌, ◌*◌, ◌%◌, ◌<◌, ◌==◌, Bool, true, false, ◌&&◌, if◌then◌else◌, ◌⊎◌, Option, None, Some, List, [], ◌∷◌, length, map, slice_get, slice_index_or}
 use Rattle.std.specs.List.{range_with_len, flat_map}
 use Rattle.std.specs.Option.{option_map, unwrap_or}
 use Rattle.clmodel.specs.Cells.{Cells, cells_of, byte_count, byte_of, covers, number}
@@ -11,6 +11,7 @@ use Rattle.clmodel.specs.declared.access.Region.TheVariants as region
 use Rattle.joining.specs.Memory.{joined_number, writes}
 use Rattle.shadow_list.specs.declared.log.Entry.{Entry}
 use Rattle.snapshot_merge.specs.declared.changes.Change.{Change}
+use Rattle.snapshot_merge.specs.declared.changes.JoinedUpdate.{JoinedUpdate}
 
 -- a byte of a buffer, and what it becomes (own)
 pub record ByteChange : Type 0 where
@@ -104,3 +105,25 @@ pub record WroteBytes (own : List (List (Option ℕ))) (x : Access) : Type 0 whe
 -- what each of the accesses wrote in buffers are bytes (C99 6.2.6.1)
 abbrev pub AllWroteBytes : List (List (Option ℕ)) → List Entry → Type 0
 AllWroteBytes own entries = (k : ℕ) (e : Entry) → slice_get entries k ≡ Some e → WroteBytes own e.access
+
+-- what is kept of an access before any change: what its bytes become, as a number, or nothing where they become the
+-- further group's own (own)
+abbrev pub IsKept : (ℕ → Access → ℕ → ℕ) → List (List (Option ℕ)) → Access → Option ℕ → Type 0
+IsKept value own x None =
+    (number : ℕ) → writes x.kind ≡ true → x.region ≡ region.Buffer number → (byte : ℕ) → covers x.first (byte_count x.width) byte ≡ true
+    → value number x byte ≡ number_or_0 (cells_at own number) byte 1
+IsKept value own x (Some kept) = (number : ℕ) → x.region ≡ region.Buffer number → IsValue x.first (byte_count x.width) (value number x) kept
+
+-- what is kept of accesses, of which the first has this place: each of them whose bytes don't become the further
+-- group's own is there, in their order (own)
+abbrev pub AreUpdates : (ℕ → Access → ℕ → ℕ) → List (List (Option ℕ)) → ℕ → List Entry → List JoinedUpdate → Type 0
+AreUpdates value own place [] updates = updates ≡ []
+AreUpdates value own place (e ∷ entries) updates =
+    (IsKept value own e.access None × AreUpdates value own (suc place) entries updates)
+    ⊎ ((kept : ℕ) × (later : List JoinedUpdate) × (updates ≡ record { place = place; value = kept } ∷ later) × IsKept value own e.access (Some kept)
+    × AreUpdates value own (suc place) entries later)
+
+-- what is kept of the access at a place, if the first of these updates is of it (own)
+abbrev pub kept_at : ℕ → List JoinedUpdate → Option ℕ
+kept_at place [] = None
+kept_at place (update ∷ updates) = if update.place == place then Some update.value else None

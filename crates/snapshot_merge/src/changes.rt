@@ -1,13 +1,18 @@
 //! The bytes that a work-group changes in what the lower groups left.
+//!
+//! An update of bytes that lower groups wrote joins its word as they left it, before the group changes anything. So
+//! `joined_updates` keeps what the bytes of such updates become, and `make_changes` makes all changes of the group
+//! afterwards, each by the number kept of it or else by the group's own bytes. A group without such updates keeps
+//! nothing.
 
-ghost use Rattle.std.specs.Prelude.{◌≡◌, ◌<◌, ◌≤◌, ◌+◌, ◌%◌, ◌++◌, ◌^◌, ℕ, List, Some, map, true, IfOk, OnOk, IfSome};
+ghost use Rattle.std.specs.Prelude.{◌≡◌, ◌<◌, ◌≤◌, ◌+◌, ◌%◌, ◌^◌, ℕ, List, Some, map, drop, true, IfOk, IfSome};
 ghost use Rattle.clmodel.specs.Cells.{cells_of, byte_count, byte_of, covers, number};
 ghost use Rattle.clmodel.specs.declared.access.Access.{Access as TheAccess};
 ghost use Rattle.clmodel.specs.declared.access.AccessKind.TheVariants as kind;
 ghost use Rattle.clmodel.specs.declared.access.Region.TheVariants as region;
 ghost use Rattle.joining.specs.Memory as joining;
 ghost use Rattle.shadow.specs.Seen.{IsFootprint};
-ghost use Rattle.snapshot_merge.specs.Changes.{number_or_0, value_of, changes_at, access_changes, changes_of, cells_at, filled_at, bytes_of, all_bytes, IsValue, AreBytes, WroteBytes, AllWroteBytes, AreChanged};
+ghost use Rattle.snapshot_merge.specs.Changes.{number_or_0, joined_value, value_of, access_changes, changes_of, cells_at, filled_at, bytes_of, IsValue, AreBytes, WroteBytes, AllWroteBytes, AreChanged, IsKept, AreUpdates, kept_at};
 
 use crate::joined_numbers::joined_number;
 use clmodel::access::{Access, AccessKind, Class, Region, Width};
@@ -17,7 +22,8 @@ use spaces::{Overlay, Space};
 use spaces_base::cells::{is_inside, read};
 use std::alloc::{AllocError, Global};
 
-/// The bytes of a buffer that an access of a further group wrote, and what they become once the group is joined. They may be what they were.
+/// The bytes of a buffer that an access of a further group wrote, and what they become once the group is joined. They
+/// may be what they were.
 #[derive(Clone, Copy)]
 pub(crate) struct Change {
     /// The buffer's number
@@ -28,8 +34,17 @@ pub(crate) struct Change {
     pub(crate) value: u64,
 }
 
-/// What is known before a further group is joined: the first bytes of the launch's buffers, what the lower groups left in them and
-/// which bytes they accessed, and what the further group alone leaves in them.
+/// An update of a further group of whose bytes lower groups wrote some.
+#[derive(Clone, Copy)]
+pub(crate) struct JoinedUpdate {
+    /// Its place in the group's log, 0 for the oldest access
+    pub(crate) place: usize,
+    /// Its low bytes are what the bytes become, the lowest first
+    pub(crate) value: u64,
+}
+
+/// What is known before a further group is joined: the first bytes of the launch's buffers, what the lower groups left
+/// in them and which bytes they accessed, and what the further group alone leaves in them.
 #[derive(Clone, Copy)]
 pub(crate) struct Before<'a, 'b, 's, 'o> {
     pub(crate) first: &'a [&'b [u8]],
@@ -71,6 +86,39 @@ fn loaded(spaces: &[Overlay<'_>], number: u32, at: u64, width: Width) -> u64
     ensures below { result < 256 ^ byte_count width }
 {
     number_in(spaces, number, at, width).unwrap_or(0)
+}
+
+/// The byte that the further group alone leaves, 0 where there is none.
+fn own_byte(own: &[Overlay<'_>], number: u32, byte: u64) -> u8
+    ensures { result ≡ number_or_0 (cells_at (map (λ space. space.bytes) own.now) number) byte 1 }
+{
+    loaded(own, number, byte, Width::One) as u8
+}
+
+/// The n bytes that the further group alone leaves, one after another, as a number.
+fn own_by_bytes(own: &[Overlay<'_>], number: u32, first: u64, count: u64) -> u64
+    requires short { count ≤ 8 }
+    requires inside { first + count < 2 ^ 64 }
+    ensures value { IsValue first count (λ byte. number_or_0 (cells_at (map (λ space. space.bytes) own.now) number) byte 1) result }
+    ensures below { result < 256 ^ count }
+{
+    if count == 0 {
+        return 0;
+    }
+    let byte = own_byte(own, number, first);
+    let further = own_by_bytes(own, number, first + 1, count - 1);
+    byte as u64 + 256 * further
+}
+
+/// The bytes of an access that the further group alone leaves, as a number.
+fn own_value(own: &[Overlay<'_>], number: u32, x: &Access) -> u64
+    requires { x.now.first + byte_count x.now.width < 2 ^ 64 }
+    ensures { AreBytes (cells_at (map (λ space. space.bytes) own.now) number) x.now.first (byte_count x.now.width) → IsValue x.now.first (byte_count x.now.width) (λ byte. number_or_0 (cells_at (map (λ space. space.bytes) own.now) number) byte 1) result }
+{
+    match number_in(own, number, x.first, x.width) {
+        Some(value) => value,
+        None => own_by_bytes(own, number, x.first, x.width.bytes()),
+    }
 }
 
 /// A byte of a number, the lowest first.
@@ -124,43 +172,29 @@ impl Before<'_, '_, '_, '_> {
         joined_number(class, first, lower, own)
     }
 
-    /// The byte that the further group alone leaves, 0 where there is none.
-    fn own_byte(&self, number: u32, byte: u64) -> u8
-        ensures { result ≡ number_or_0 (cells_at (map (λ space. space.bytes) self.now.own.now) number) byte 1 }
+    /// What a byte of a buffer becomes that an update of the further group wrote.
+    fn joined_byte(&self, class: Class, number: u32, byte: u64) -> u8
+        ensures { (log : List TheAccess) → IsFootprint self.now.footprint.now log → result ≡ joined_value (kind.Update class) (joining.wrote log (region.Buffer number) byte) (filled_at (map (λ row. row.now) self.now.first.now) number) (filled_at self.now.lower.now number) (cells_at (map (λ space. space.bytes) self.now.own.now) number) byte }
     {
-        loaded(self.own, number, byte, Width::One) as u8
-    }
-
-    /// What a byte of a buffer becomes that an access of the further group wrote.
-    fn joined_byte(&self, number: u32, x: &Access, byte: u64) -> u8
-        ensures { (log : List TheAccess) → IsFootprint self.now.footprint.now log → result ≡ value_of (map (λ row. row.now) self.now.first.now) self.now.lower.now (λ n b. joining.wrote log (region.Buffer n) b) (map (λ space. space.bytes) self.now.own.now) number x.now byte }
-    {
-        match x.kind {
-            AccessKind::Load | AccessKind::Store | AccessKind::Fetch => {
-                self.own_byte(number, byte)
-            }
-            AccessKind::Update(class) => {
-                if self.footprint.is_written(number, byte) {
-                    byte_of(self.joined_word(class, number, byte / 4 * 4), byte % 4)
-                } else {
-                    self.own_byte(number, byte)
-                }
-            }
+        if self.footprint.is_written(number, byte) {
+            byte_of(self.joined_word(class, number, byte / 4 * 4), byte % 4)
+        } else {
+            own_byte(self.own, number, byte)
         }
     }
 
-    /// What n bytes that an access of the further group wrote become, one after another, as a number.
-    fn value_by_bytes(&self, number: u32, x: &Access, first: u64, count: u64) -> u64
+    /// What n bytes that an update of the further group wrote become, one after another, as a number.
+    fn value_by_bytes(&self, class: Class, number: u32, first: u64, count: u64) -> u64
         requires short { count ≤ 8 }
         requires inside { first + count < 2 ^ 64 }
-        ensures value { (log : List TheAccess) → IsFootprint self.now.footprint.now log → IsValue first count (value_of (map (λ row. row.now) self.now.first.now) self.now.lower.now (λ n b. joining.wrote log (region.Buffer n) b) (map (λ space. space.bytes) self.now.own.now) number x.now) result }
+        ensures value { (log : List TheAccess) → IsFootprint self.now.footprint.now log → IsValue first count (λ byte. joined_value (kind.Update class) (joining.wrote log (region.Buffer number) byte) (filled_at (map (λ row. row.now) self.now.first.now) number) (filled_at self.now.lower.now number) (cells_at (map (λ space. space.bytes) self.now.own.now) number) byte) result }
         ensures below { result < 256 ^ count }
     {
         if count == 0 {
             return 0;
         }
-        let low = self.joined_byte(number, x, first);
-        let high = self.value_by_bytes(number, x, first + 1, count - 1);
+        let low = self.joined_byte(class, number, first);
+        let high = self.value_by_bytes(class, number, first + 1, count - 1);
         low as u64 + 256 * high
     }
 
@@ -178,79 +212,51 @@ impl Before<'_, '_, '_, '_> {
         Some(wrote)
     }
 
-    /// What the bytes of an update become, as a number, where lower groups wrote none of them, or the whole word.
+    /// What the bytes of an update become, as a number, where lower groups wrote some of them.
     fn updated_value(&self, class: Class, number: u32, x: &Access) -> Option<u64>
-        requires { x.now.first + byte_count x.now.width < 2 ^ 64 }
-        ensures { (log : List TheAccess) → IsFootprint self.now.footprint.now log → x.now.kind ≡ kind.Update class → AreBytes (cells_at (map (λ space. space.bytes) self.now.own.now) number) x.now.first (byte_count x.now.width) → IfSome result (IsValue x.now.first (byte_count x.now.width) (value_of (map (λ row. row.now) self.now.first.now) self.now.lower.now (λ n b. joining.wrote log (region.Buffer n) b) (map (λ space. space.bytes) self.now.own.now) number x.now)) }
+        requires bound { x.now.first + byte_count x.now.width < 2 ^ 64 }
+        requires update { x.now.kind ≡ kind.Update class }
+        requires place { x.now.region ≡ region.Buffer number }
+        ensures { (log : List TheAccess) → IsFootprint self.now.footprint.now log → IsKept (value_of (map (λ row. row.now) self.now.first.now) self.now.lower.now (λ n b. joining.wrote log (region.Buffer n) b) (map (λ space. space.bytes) self.now.own.now)) (map (λ space. space.bytes) self.now.own.now) x.now result }
     {
-        if !self.lower_wrote(number, x)? {
-            return number_in(self.own, number, x.first, x.width);
-        }
-        if is_word(x) {
-            Some(self.joined_word(class, number, x.first) as u64)
-        } else {
-            None
+        match self.lower_wrote(number, x) {
+            Some(false) => None,
+            Some(true) if is_word(x) => Some(self.joined_word(class, number, x.first) as u64),
+            _ => Some(self.value_by_bytes(class, number, x.first, x.width.bytes())),
         }
     }
 
-    /// What the bytes that an access of the further group wrote become, as a number, where they need not be looked at one by one.
-    fn whole_value(&self, number: u32, x: &Access) -> Option<u64>
+    /// What the bytes of an access become, as a number, if it is an update of a buffer's bytes of which lower groups
+    /// wrote some.
+    fn kept_value(&self, x: &Access) -> Option<u64>
         requires { x.now.first + byte_count x.now.width < 2 ^ 64 }
-        ensures { (log : List TheAccess) → IsFootprint self.now.footprint.now log → AreBytes (cells_at (map (λ space. space.bytes) self.now.own.now) number) x.now.first (byte_count x.now.width) → IfSome result (IsValue x.now.first (byte_count x.now.width) (value_of (map (λ row. row.now) self.now.first.now) self.now.lower.now (λ n b. joining.wrote log (region.Buffer n) b) (map (λ space. space.bytes) self.now.own.now) number x.now)) }
+        ensures { (log : List TheAccess) → IsFootprint self.now.footprint.now log → IsKept (value_of (map (λ row. row.now) self.now.first.now) self.now.lower.now (λ n b. joining.wrote log (region.Buffer n) b) (map (λ space. space.bytes) self.now.own.now)) (map (λ space. space.bytes) self.now.own.now) x.now result }
     {
-        match x.kind {
-            AccessKind::Load | AccessKind::Store | AccessKind::Fetch => {
-                number_in(self.own, number, x.first, x.width)
-            }
-            AccessKind::Update(class) => self.updated_value(class, number, x),
-        }
-    }
-
-    /// What the bytes that an access of the further group wrote become, as a number.
-    fn value(&self, number: u32, x: &Access) -> u64
-        requires { x.now.first + byte_count x.now.width < 2 ^ 64 }
-        ensures { (log : List TheAccess) → IsFootprint self.now.footprint.now log → AreBytes (cells_at (map (λ space. space.bytes) self.now.own.now) number) x.now.first (byte_count x.now.width) → IsValue x.now.first (byte_count x.now.width) (value_of (map (λ row. row.now) self.now.first.now) self.now.lower.now (λ n b. joining.wrote log (region.Buffer n) b) (map (λ space. space.bytes) self.now.own.now) number x.now) result }
-    {
-        match self.whole_value(number, x) {
-            Some(value) => value,
-            None => self.value_by_bytes(number, x, x.first, x.width.bytes()),
-        }
-    }
-
-    /// Adds the change of an access: of the bytes of a buffer, if it wrote them.
-    fn add_access(&self, changes: &mut Vec<Change>, x: &Access) -> Result<(), AllocError>
-        requires { x.now.first + byte_count x.now.width < 2 ^ 64 }
-        ensures { OnOk result ((log : List TheAccess) → IsFootprint self.now.footprint.now log → WroteBytes (map (λ space. space.bytes) self.now.own.now) x.now → all_bytes changes.new.items ≡ all_bytes changes.old.items ++ access_changes (value_of (map (λ row. row.now) self.now.first.now) self.now.lower.now (λ n b. joining.wrote log (region.Buffer n) b) (map (λ space. space.bytes) self.now.own.now)) x.now) }
-    {
-        if let AccessKind::Load = x.kind {
-            return Ok(());
-        }
-        let Region::Buffer(number) = x.region else {
-            return Ok(());
+        let AccessKind::Update(class) = x.kind else {
+            return None;
         };
-        changes.push(Change {
-            buffer: number,
-            width: x.width,
-            first: x.first,
-            value: self.value(number, x),
-        })?;
-        Ok(())
+        let Region::Buffer(number) = x.region else {
+            return None;
+        };
+        self.updated_value(class, number, x)
     }
 
-    /// The changes that the accesses of the further group make, in their order. An error is out of memory.
-    pub(crate) fn changes<L: GroupAccesses>(
+    /// The updates of the further group of whose bytes lower groups wrote some, in their order, and what these bytes
+    /// become: 16 bytes for each. An error is out of memory.
+    pub(crate) fn joined_updates<L: GroupAccesses>(
         &self,
         alloc: Global,
         log: &L,
-    ) -> Result<Vec<Change>, AllocError>
-        ensures { IfOk result (λ changes. (kept : List TheAccess) → IsFootprint self.now.footprint.now kept → AllWroteBytes (map (λ space. space.bytes) self.now.own.now) (L.listed log.now) → all_bytes changes.items ≡ changes_of (value_of (map (λ row. row.now) self.now.first.now) self.now.lower.now (λ n b. joining.wrote kept (region.Buffer n) b) (map (λ space. space.bytes) self.now.own.now)) (L.listed log.now)) }
+    ) -> Result<Vec<JoinedUpdate>, AllocError>
+        ensures { IfOk result (λ updates. (kept : List TheAccess) → IsFootprint self.now.footprint.now kept → AreUpdates (value_of (map (λ row. row.now) self.now.first.now) self.now.lower.now (λ n b. joining.wrote kept (region.Buffer n) b) (map (λ space. space.bytes) self.now.own.now)) (map (λ space. space.bytes) self.now.own.now) 0 (L.listed log.now) updates.items) }
     {
-        let count = log.len();
-        let mut changes = Vec::with_capacity(alloc, count)?;
-        for i in 0..count {
-            self.add_access(&mut changes, &log.get(i).access)?;
+        let mut updates = Vec::new(alloc);
+        for place in 0..log.len() {
+            if let Some(value) = self.kept_value(&log.get(place).access) {
+                updates.push(JoinedUpdate { place, value })?;
+            }
         }
-        Ok(changes)
+        Ok(updates)
     }
 }
 
@@ -269,11 +275,67 @@ fn make_change(contents: &mut [Bytes], change: Change)
     }
 }
 
-/// Makes changes, one after another.
-pub(crate) fn make_changes(contents: &mut [Bytes], changes: &[Change])
-    ensures { AreChanged contents.old contents.new (all_bytes changes.now) }
+/// What the bytes of a buffer that an access of the further group wrote become, as a number: the number kept of it, or
+/// else the group's own.
+fn changed_value(own: &[Overlay<'_>], number: u32, x: &Access, kept: Option<u64>) -> u64
+    requires { x.now.first + byte_count x.now.width < 2 ^ 64 }
+    ensures { (value : ℕ → TheAccess → ℕ → ℕ) → joining.writes x.now.kind ≡ true → x.now.region ≡ region.Buffer number → AreBytes (cells_at (map (λ space. space.bytes) own.now) number) x.now.first (byte_count x.now.width) → IsKept value (map (λ space. space.bytes) own.now) x.now kept → IsValue x.now.first (byte_count x.now.width) (value number x.now) result }
 {
-    for change in changes {
-        make_change(contents, *change);
+    match kept {
+        Some(value) => value,
+        None => own_value(own, number, x),
+    }
+}
+
+/// Makes the change of an access, if it wrote bytes of a buffer: they become the number kept of it, or else the group's
+/// own.
+fn change_access(contents: &mut [Bytes], own: &[Overlay<'_>], x: &Access, kept: Option<u64>)
+    requires { x.now.first + byte_count x.now.width < 2 ^ 64 }
+    ensures { (value : ℕ → TheAccess → ℕ → ℕ) → WroteBytes (map (λ space. space.bytes) own.now) x.now → IsKept value (map (λ space. space.bytes) own.now) x.now kept → AreChanged contents.old contents.new (access_changes value x.now) }
+{
+    if let AccessKind::Load = x.kind {
+        return;
+    }
+    let Region::Buffer(buffer) = x.region else {
+        return;
+    };
+    make_change(
+        contents,
+        Change {
+            buffer,
+            width: x.width,
+            first: x.first,
+            value: changed_value(own, buffer, x, kept),
+        },
+    );
+}
+
+/// The number kept of the access at a place, if the next of the updates is of it.
+fn kept_at(updates: &[JoinedUpdate], next: usize, place: usize) -> Option<u64>
+    ensures { result ≡ kept_at place (drop next updates.now) }
+{
+    match updates.get(next) {
+        Some(update) if update.place == place => Some(update.value),
+        _ => None,
+    }
+}
+
+/// Makes the changes of a group's accesses, one after another.
+pub(crate) fn make_changes<L: GroupAccesses>(
+    contents: &mut [Bytes],
+    own: &[Overlay<'_>],
+    log: &L,
+    updates: &[JoinedUpdate],
+)
+    ensures { (value : ℕ → TheAccess → ℕ → ℕ) → AllWroteBytes (map (λ space. space.bytes) own.now) (L.listed log.now) → AreUpdates value (map (λ space. space.bytes) own.now) 0 (L.listed log.now) updates.now → AreChanged contents.old contents.new (changes_of value (L.listed log.now)) }
+{
+    let count = log.len();
+    let mut next = 0;
+    for place in 0..count {
+        let kept = kept_at(updates, next, place);
+        change_access(contents, own, &log.get(place).access, kept);
+        if kept.is_some() {
+            next += 1;
+        }
     }
 }

@@ -133,8 +133,13 @@ impl<'a> JoinedGroups<'a> {
             footprint: &self.footprint,
             own: spaces,
         };
-        let changes = before.changes(alloc, log)?;
-        make_changes(self.contents.as_mut_slice(), changes.as_slice());
+        let updates = before.joined_updates(alloc, log)?;
+        make_changes(
+            self.contents.as_mut_slice(),
+            spaces,
+            log,
+            updates.as_slice(),
+        );
         Ok(())
     }
 
