@@ -2,6 +2,6 @@ pub mod Turns
 pub mod ArrayLaws
 pub mod StateLaws
 pub mod Sources
-pub mod Three
+pub mod Chains
 pub mod AskingLaws
 pub mod AccessLaws

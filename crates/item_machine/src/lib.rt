@@ -13,6 +13,7 @@ mod machine;
 mod prepared_steps;
 mod rest;
 mod run;
+mod several_steps;
 mod stepping;
 
 pub use item::Item;
