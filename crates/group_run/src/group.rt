@@ -143,6 +143,7 @@ impl<'a, D: Runnable, G: Space, L: AccessLog> Machine for Group<'a, D, G, L> {
         self.items.len() as u32
     }
 
+    #[inline(always)]
     fn next(&mut self, k: u32) -> Result<Action, AllocError> {
         self.items[k as usize].next()
     }
@@ -155,7 +156,6 @@ impl<'a, D: Runnable, G: Space, L: AccessLog> Machine for Group<'a, D, G, L> {
         operation: Operation,
     ) -> Result<Made, AllocError> {
         let item = self.first + k;
-        let region = object.region(self.number);
         let Some(first) = place(
             self.buffers.as_slice(),
             self.locals.as_slice(),
@@ -163,7 +163,16 @@ impl<'a, D: Runnable, G: Space, L: AccessLog> Machine for Group<'a, D, G, L> {
             element,
             operation,
         ) else {
-            let fault = bounds_fault(self.alloc, self.launch, item, region, element, operation)?;
+            let kind = operation.kind();
+            let fault = bounds_fault(
+                self.alloc,
+                self.launch,
+                item,
+                object,
+                self.number,
+                element,
+                kind,
+            )?;
             return Ok(Made::Refused(fault));
         };
         let answer = match perform_on(
@@ -175,13 +184,23 @@ impl<'a, D: Runnable, G: Space, L: AccessLog> Machine for Group<'a, D, G, L> {
         ) {
             Ok(answer) => answer,
             Err(SpaceFault::Unset(byte)) => {
-                let fault = unset_fault(self.alloc, self.launch, item, region, byte, operation)?;
+                let kind = operation.kind();
+                let fault = unset_fault(
+                    self.alloc,
+                    self.launch,
+                    item,
+                    object,
+                    self.number,
+                    byte,
+                    kind,
+                )?;
                 return Ok(Made::Refused(fault));
             }
             Err(SpaceFault::OutOfMemory) => return Err(AllocError),
             Err(SpaceFault::Bounds) => unreachable!(),
             Err(SpaceFault::ReadOnly) => unreachable!(),
         };
+        let region = object.region(self.number);
         let entry = Entry::of(item, region, first, operation, self.made);
         let report = judge(self.alloc, self.launch, &mut self.log, entry)?;
         self.items[k as usize].answer(answer)?;
