@@ -86,18 +86,22 @@ pub fn run_group<D: Runnable, G: Space + Drop, L: AccessLog + Drop>(
     let mut runs = Runs::new(alloc);
     let report = run_items(&mut machine, &mut runs)?;
     let runs = runs.into_schedule();
+    // Each result is returned where it is made: joined first, it would be copied once more, with its log.
     match report {
-        None => Ok(GroupResult::Done {
-            group,
-            spaces: machine.buffers,
-            log: machine.log,
-            runs,
-        }),
-        Some(fault) => Ok(GroupResult::Stopped {
-            group,
-            fault: Box::into_inner(fault),
-            log: machine.log,
-            runs,
-        }),
+        None => {}
+        Some(fault) => {
+            return Ok(GroupResult::Stopped {
+                group,
+                fault: Box::into_inner(fault),
+                log: machine.log,
+                runs,
+            });
+        }
     }
+    Ok(GroupResult::Done {
+        group,
+        spaces: machine.buffers,
+        log: machine.log,
+        runs,
+    })
 }
