@@ -27,8 +27,8 @@ pub enum Slot<'a, D> {
 }
 
 impl<'a, D: Runnable> Slot<'a, D> {
-    /// Starts the item where it wasn't asked yet. It is no part of those that call it: each access would have to make room for an
-    /// item. An error is out of memory.
+    /// Starts the item where it wasn't asked yet. It is no part of those that call it, where each access would have to
+    /// make room for an item. An error is out of memory.
     #[inline(never)]
     fn begin(&mut self) -> Result<(), AllocError>
         ensures same { (answers : List Answer) → acts_of D.Described.launch self.new answers ≡ acts_of D.Described.launch self.old answers }
@@ -59,7 +59,7 @@ impl<'a, D: Runnable> Slot<'a, D> {
         }
     }
 
-    /// Gives the item's memory back, at its end.
+    /// Gives the item's memory back, at its end. It is no part of `next`, which mostly finds another action.
     #[inline(never)]
     fn end(&mut self)
         ensures { self.new ≡ slot.Ended }
