@@ -1,6 +1,6 @@
 //! The run of one group.
 
-ghost use Rattle.std.specs.Prelude.{◌≡◌, ◌+◌, ◌*◌, ◌<◌, ◌^◌, None, false, map, replicate, IfOk};
+ghost use Rattle.std.specs.Prelude.{◌≡◌, ◌+◌, ◌*◌, ◌<◌, ◌^◌, false, map, IfOk};
 ghost use Rattle.launches.specs.Groups.{IsRunnable, filled};
 ghost use Rattle.shadow_list.specs.Log.{fresh_log};
 ghost use Rattle.group_run.specs.Fits.{AreStarted};
@@ -17,7 +17,7 @@ use clmodel::schedule::Schedule;
 use launches::Runnable;
 use objects::local_objects;
 use shadow_list::AccessLog;
-use spaces_base::{LocalMem, Space};
+use spaces_base::Space;
 use std::alloc::{AllocError, Global};
 
 /// `count` items from the first on, which weren't asked yet.
@@ -42,17 +42,6 @@ fn waiting_items<'a, D: Runnable>(
     Ok(items)
 }
 
-/// A group's local objects of these sizes, unset: without any it takes no memory. An error is out of memory.
-fn locals_of(alloc: Global, sizes: &[u64]) -> Result<Vec<LocalMem>, AllocError>
-    ensures { IfOk result (λ locals. locals.items ≡ map (λ size. replicate size None) sizes.now) }
-{
-    if sizes.is_empty() {
-        Ok(Vec::new(alloc))
-    } else {
-        local_objects(alloc, sizes)
-    }
-}
-
 /// The canonical run of one group of a launch, on spaces for its buffers that hold their first bytes. An error is out of memory.
 pub fn run_group<D: Runnable, G: Space + Drop, L: AccessLog + Drop>(
     alloc: Global,
@@ -70,7 +59,7 @@ pub fn run_group<D: Runnable, G: Space + Drop, L: AccessLog + Drop>(
 {
     let count = launch.group_size();
     let first = group * count;
-    let locals = locals_of(alloc, launch.local_sizes())?;
+    let locals = local_objects(alloc, launch.local_sizes())?;
     let items = waiting_items(alloc, launch, first, count)?;
     let mut machine = Group {
         alloc,
