@@ -1,6 +1,6 @@
 -- Arguments as lists, and the code of a call and of an operator from what emits it.
 use Rattle.std.proofs.Common.{◌≡◌, ℕ, zero, suc, ◌+◌, ◌<◌, ◌≤◌, List, [], ◌∷◌, ◌++◌, map, length, take, drop, get_or, Option, refl, sym, ap, ap₂, ◌∙◌, Vec, arith}
-use Rattle.std.proofs.lemmas.List.{append_assoc, length-append}
+use Rattle.std.proofs.lemmas.List.{append_assoc, length-append, map-append}
 use Rattle.std.specs.declared.alloc.Global.{Global}
 use mathlib.Core.Former.{Count}
 use Rattle.clnum.specs.Conversions.{common}
@@ -19,11 +19,14 @@ use Rattle.clmodel.specs.declared.tree.InfixOperator.TheVariants.{Arithmetic, Lo
 use Rattle.clmodel.specs.declared.tree.VariableType.{VariableType}
 use Rattle.clmodel.specs.declared.tree.VariableType.TheVariants.{Integer}
 use Rattle.folding.specs.Constants.{unary_constant, cast_constant, infix_constant, choice_constant, call_constant, constant_of, constants_of}
+use Rattle.folding.specs.Known.{constants_in}
 use Rattle.folding.specs.declared.known.Known.{Known}
 use Rattle.regcode.specs.declared.instruction.Instruction.{Instruction}
 use Rattle.regcode.specs.declared.instruction.Instruction.TheVariants as instruction
 use Rattle.lower_expr.specs.Scope.{Scope, register_at}
 use Rattle.lower_expr.specs.Expressions.{kind_of, folded, expr_code, terms_code, register_for, registers_for, call_code, branch_code, choice_code, count, infix_begun, infix_code}
+use Rattle.lower_expr.specs.Registers.{numbers}
+use Rattle.lower_expr.specs.declared.scope.Register.{Register}
 
 row_same : (ts : Terms) (n : _) (row : rust_expression.Row_of-Expression n) → row_terms ts row ≡ then_all ts (map term (rust_expression.items-the_row-Expression n row))
 row_same ts n rust_expression.end_of-Expression = refl
@@ -66,6 +69,26 @@ terms_more es i e h p =
 
 pub terms_count : (es : List rust_expression.Expression) (i : ℕ) → i ≤ length es → count (terms (take i es)) ≡ i
 terms_count es i h = let n = all_count NoTerm (take i es) in let k = take_count es i h in omega (arith, n, k)
+
+-- what stands for one argument more: its code, its register, its type and its constant
+pub code_more : (scope : Scope) (level above : ℕ) (ts us : Terms) (e : Term) (old mid new : List Instruction) → us ≡ ThenTerm ts e → above ≡ level + count ts
+    → mid ≡ old ++ terms_code scope level ts → new ≡ mid ++ expr_code scope above e → new ≡ old ++ terms_code scope level us
+code_more scope level above ts us e old mid new us_are above_is mid_is new_is =
+    new_is ∙ ap₂ (λ (xs : List Instruction) (n : ℕ). xs ++ expr_code scope n e) mid_is above_is ∙ append_assoc old (terms_code scope level ts) (expr_code scope (level + count ts) e)
+    ∙ ap (λ (vs : Terms). old ++ terms_code scope level vs) (sym us_are)
+
+pub registers_more : (scope : Scope) (level above : ℕ) (ts us : Terms) (e : Term) (was now : List Register) (register : Register) (kind : VariableType) → us ≡ ThenTerm ts e → above ≡ level + count ts
+    → numbers was ≡ registers_for scope level ts → now ≡ was ++ register ∷ [] → register.0 ≡ register_at above kind → kind ≡ kind_of scope e → numbers now ≡ registers_for scope level us
+registers_more scope level above ts us e was now register kind us_are above_is was_are now_are register_is kind_is =
+    let number : register.0 ≡ register_for scope (level + count ts) e = register_is ∙ ap₂ (λ (n : ℕ) (k : VariableType). register_at n k) above_is kind_is in
+    ap numbers now_are ∙ map-append (λ (r : Register). r.0) was (register ∷ []) ∙ ap₂ (λ (rs : List ℕ) (r : ℕ). rs ++ r ∷ []) was_are number
+    ∙ ap (λ (vs : Terms). registers_for scope level vs) (sym us_are)
+
+pub constants_more : (variables : Variables) (ts us : Terms) (e : Term) (was now : List Known) (known : Known) → us ≡ ThenTerm ts e
+    → constants_in was ≡ constants_of variables ts → now ≡ was ++ known ∷ [] → known.constant ≡ constant_of variables e → constants_in now ≡ constants_of variables us
+constants_more variables ts us e was now known us_are was_are now_are known_is =
+    ap constants_in now_are ∙ map-append (λ (k : Known). k.constant) was (known ∷ [])
+    ∙ ap₂ (λ (xs : List (Option integers.Integer)) (x : Option integers.Integer). xs ++ x ∷ []) was_are known_is ∙ ap (λ (vs : Terms). constants_of variables vs) (sym us_are)
 
 -- the type of the first of them, before the second and behind it
 

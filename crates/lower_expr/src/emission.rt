@@ -1,9 +1,9 @@
 //! The emission of the code of expressions.
 #![tactic(auto, using(crate::proofs::Growth::unchanged, crate::proofs::Growth::behind))]
 
-ghost use Rattle.std.specs.Prelude.{◌≡◌, ◌+◌, ◌<◌, ◌≤◌, ◌^◌, [], ◌++◌, IfOk, OnErr};
+ghost use Rattle.std.specs.Prelude.{◌≡◌, ◌+◌, ◌<◌, ◌≤◌, ◌^◌, [], ◌++◌, None, IfOk, OnErr};
 ghost use Rattle.clmodel.specs.Next.{argument_type};
-ghost use Rattle.clmodel.specs.Tree.{term, terms, tree_target};
+ghost use Rattle.clmodel.specs.Tree.{Element, Call, Binary, Choice, term, terms, tree_target};
 ghost use Rattle.clmodel.specs.Typing.Sizes.{term_size, terms_size, target_size};
 ghost use Rattle.folding.specs.Constants.{constant_of, constants_of};
 ghost use Rattle.folding.specs.Known.{constants_in};
@@ -19,7 +19,7 @@ use crate::instructions::{
 use crate::jumps::{begin_choice, begin_infix, between_branches, end_choice, end_infix};
 use crate::scope::{Level, Scope, level_at, register_at};
 use clmodel::setup::built_in_named;
-use clmodel::tree::{Expression, Target, VariableType};
+use clmodel::tree::{Expression, InfixOperator, Target, VariableType};
 use clnum::{IntType, Value};
 use folding::{Known, base_type};
 use regcode::Instruction;
@@ -81,15 +81,7 @@ fn emit(
         Expression::Variable { name, .. } => Ok(Known::varying(variable(
             scope, level, *name, code,
         )?)),
-        Expression::Element { name, index, .. } => {
-            if scope.is_private_array(*name) {
-                let index = emit(scope, level, index, code)?;
-                let kind = array_element(scope, level, *name, index.kind, code)?;
-                return Ok(Known::varying(kind));
-            }
-            let pointer = emit_address(scope, level, *name, index, code)?;
-            Ok(Known::varying(load(level, pointer, code)?))
-        }
+        Expression::Element { name, index, .. } => emit_element(scope, level, *name, index, code),
         Expression::ElementAddress { name, index, .. } => Ok(Known::varying(emit_address(
             scope, level, *name, index, code,
         )?)),
@@ -104,8 +96,7 @@ fn emit(
         } => {
             let given = arguments.as_slice();
             levels_suffice(level, given);
-            let arguments = emit_arguments(scope, level, given, code)?;
-            end_call(level, start, built_in_named(*name), &arguments, code)
+            emit_call(scope, level, *name, given, code)
         }
         Expression::Unary {
             operator,
@@ -128,29 +119,118 @@ fn emit(
             left,
             right,
             ..
-        } => {
-            let known = emit(scope, level, left, code)?;
-            let first = Part { start, known };
-            let start = begin_infix(level, *operator, known.kind, code)?;
-            let known = emit(scope, level_at(level, 1), right, code)?;
-            end_infix(level, *operator, first, Part { start, known }, code)
-        }
+        } => emit_infix(scope, level, *operator, left, right, code),
         Expression::Choice {
             condition,
             chosen,
             otherwise,
             ..
-        } => {
-            let known = emit(scope, level, condition, code)?;
-            let condition = Part { start, known };
-            let start = begin_choice(level, known.kind, code)?;
-            let known = emit(scope, level, chosen, code)?;
-            let chosen = Part { start, known };
-            let start = between_branches(code)?;
-            let known = emit(scope, level, otherwise, code)?;
-            end_choice(level, condition, chosen, Part { start, known }, code)
-        }
+        } => emit_choice(scope, level, condition, chosen, otherwise, code),
     }
+}
+
+/// Adds the code of an element of the private array of a name, or of one that its pointer leads to.
+#[cycle(emission)]
+fn emit_element(
+    scope: &Scope,
+    level: Level,
+    name: u32,
+    index: &Expression,
+    code: &mut Vec<Instruction>,
+) -> Result<Known, AllocError>
+    requires free { free_level scope.now ≤ level.0 }
+    requires low { level.0 + 1 + (term_size [] (term index.now)).nodes < 2 ^ 28 }
+    ensures code { IfOk result (λ _. code.new.items ≡ code.old.items ++ expr_code scope.now level.0 (Element 0 name (term index.now))) }
+    ensures kind { IfOk result (λ found. found.kind ≡ kind_of scope.now (Element 0 name (term index.now))) }
+    ensures constant { IfOk result (λ found. found.constant ≡ None) }
+    ensures longer { OnErr result (IsLonger code.old.items code.new.items) }
+{
+    if scope.is_private_array(name) {
+        let index = emit(scope, level, index, code)?;
+        let _constant: Option<Value> = index.constant; // tells the borrow checker of this type
+        let kind = array_element(scope, level, name, index.kind, code)?;
+        return Ok(Known::varying(kind));
+    }
+    let pointer = emit_address(scope, level, name, index, code)?;
+    Ok(Known::varying(load(level, pointer, code)?))
+}
+
+/// Adds the code of the call of a function.
+#[cycle(emission)]
+fn emit_call(
+    scope: &Scope,
+    level: Level,
+    name: u32,
+    arguments: &[Expression],
+    code: &mut Vec<Instruction>,
+) -> Result<Known, AllocError>
+    requires free { free_level scope.now ≤ level.0 }
+    requires low { level.0 + (terms_size [] (terms arguments.now)).nodes < 2 ^ 28 }
+    ensures code { IfOk result (λ _. code.new.items ≡ code.old.items ++ expr_code scope.now level.0 (Call 0 name (terms arguments.now))) }
+    ensures kind { IfOk result (λ found. found.kind ≡ kind_of scope.now (Call 0 name (terms arguments.now))) }
+    ensures constant { IfOk result (λ found. found.constant ≡ constant_of scope.now.variables (Call 0 name (terms arguments.now))) }
+    ensures longer { OnErr result (IsLonger code.old.items code.new.items) }
+{
+    let start = code.len();
+    let found = emit_arguments(scope, level, arguments, code)?;
+    end_call(level, start, built_in_named(name), &found, code)
+}
+
+/// Adds the code of an operator between two operands.
+#[cycle(emission)]
+fn emit_infix(
+    scope: &Scope,
+    level: Level,
+    operator: InfixOperator,
+    left: &Expression,
+    right: &Expression,
+    code: &mut Vec<Instruction>,
+) -> Result<Known, AllocError>
+    requires free { free_level scope.now ≤ level.0 }
+    requires low { level.0 + (term_size [] (term left.now)).nodes + (term_size [] (term right.now)).nodes + 1 < 2 ^ 28 }
+    ensures code { IfOk result (λ _. code.new.items ≡ code.old.items ++ expr_code scope.now level.0 (Binary 0 operator (term left.now) (term right.now))) }
+    ensures kind { IfOk result (λ found. found.kind ≡ kind_of scope.now (Binary 0 operator (term left.now) (term right.now))) }
+    ensures constant { IfOk result (λ found. found.constant ≡ constant_of scope.now.variables (Binary 0 operator (term left.now) (term right.now))) }
+    ensures longer { OnErr result (IsLonger code.old.items code.new.items) }
+{
+    let start = code.len();
+    let known = emit(scope, level, left, code)?;
+    let Known { kind, constant } = known; // tells the borrow checker of these types
+    let known = Known { kind, constant };
+    let first = Part { start, known };
+    let start = begin_infix(level, operator, kind, code)?;
+    let known = emit(scope, level_at(level, 1), right, code)?;
+    end_infix(level, operator, first, Part { start, known }, code)
+}
+
+/// Adds the code of a choice by a condition.
+#[cycle(emission)]
+fn emit_choice(
+    scope: &Scope,
+    level: Level,
+    condition: &Expression,
+    chosen: &Expression,
+    otherwise: &Expression,
+    code: &mut Vec<Instruction>,
+) -> Result<Known, AllocError>
+    requires free { free_level scope.now ≤ level.0 }
+    requires low { level.0 + (term_size [] (term condition.now)).nodes + (term_size [] (term chosen.now)).nodes + (term_size [] (term otherwise.now)).nodes < 2 ^ 28 }
+    ensures code { IfOk result (λ _. code.new.items ≡ code.old.items ++ expr_code scope.now level.0 (Choice 0 (term condition.now) (term chosen.now) (term otherwise.now))) }
+    ensures kind { IfOk result (λ found. found.kind ≡ kind_of scope.now (Choice 0 (term condition.now) (term chosen.now) (term otherwise.now))) }
+    ensures constant { IfOk result (λ found. found.constant ≡ constant_of scope.now.variables (Choice 0 (term condition.now) (term chosen.now) (term otherwise.now))) }
+    ensures longer { OnErr result (IsLonger code.old.items code.new.items) }
+{
+    let start = code.len();
+    let known = emit(scope, level, condition, code)?;
+    let Known { kind, constant } = known; // tells the borrow checker of these types
+    let known = Known { kind, constant };
+    let condition = Part { start, known };
+    let start = begin_choice(level, kind, code)?;
+    let known = emit(scope, level, chosen, code)?;
+    let chosen = Part { start, known };
+    let start = between_branches(code)?;
+    let known = emit(scope, level, otherwise, code)?;
+    end_choice(level, condition, chosen, Part { start, known }, code)
 }
 
 /// Adds the code of a pointer variable's value moved by an index, left at a level, and gives its type. Err if out of memory.

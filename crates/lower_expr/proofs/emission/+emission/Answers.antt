@@ -1,4 +1,4 @@
-use Rattle.std.proofs.Common.{◌≡◌, ℕ, ◌+◌, ◌++◌, ◌∷◌, [], List, length, take, sym, ap, ap₂, refl, ◌∙◌, arith, Option}
+use Rattle.std.proofs.Common.{◌≡◌, ℕ, ◌+◌, ◌++◌, ◌∷◌, [], List, length, take, sym, ap, ap₂, refl, subst, ◌∙◌, arith, Option, IfOk}
 use Rattle.std.proofs.lemmas.List.{append_assoc, length-append, map-append}
 use Rattle.clnum.specs.Conversions.{common}
 use Rattle.clnum.specs.Integer as integers
@@ -36,27 +36,21 @@ emit_arguments-loop-i-preserved t c =
     let i = c.loop-i.i in
     let e = c.index-arguments-i.result in
     let before = terms (take i es) in
-    let more = sym (terms_more es i e c.loop-i-test.true c.index-arguments-i.is) in
+    let more = terms_more es i e c.loop-i-test.true c.index-arguments-i.is in
     let counted = terms_count es i (omega (arith, c.loop-i-test.true)) in
     let above : c.level_at-above.result.0 ≡ level + count before = omega (arith, c.level_at-above.ensures, counted) in
     let kind = c.in_ok-found.ensures.kind in (
-      c.in_ok-found.ensures.code
-          ∙ ap₂ (λ (code : List Instruction) (n : ℕ). code ++ expr_code scope n (term e)) c.loop-i.invariant.0 above
-          ∙ append_assoc c.args.code.now.items (terms_code scope level before) (expr_code scope (level + count before) (term e))
-          ∙ ap (λ (ts : Terms). c.args.code.now.items ++ terms_code scope level ts) more,
-      ap numbers c.in_ok-push-2.ensures.ok
-          ∙ map-append (λ (r : Register). r.0) c.loop-i.registers.items (c.register_at.result ∷ [])
-          ∙ ap₂ (λ (rs : List ℕ) (r : ℕ). rs ++ r ∷ []) c.loop-i.invariant.1 (c.register_at.ensures ∙ ap₂ (λ (n : ℕ) (k : VariableType). register_at n k) above kind)
-          ∙ ap (λ (ts : Terms). registers_for scope level ts) more,
+      code_more scope level c.level_at-above.result.0 before (terms (take (i + 1) es)) (term e) c.args.code.now.items c.loop-i.code.items c.emit.new.code.items
+          more above c.loop-i.invariant.0 c.in_ok-found.ensures.code,
+      registers_more scope level c.level_at-above.result.0 before (terms (take (i + 1) es)) (term e) c.loop-i.registers.items _ c.register_at.result c.in_ok-found.found.kind
+          more above c.loop-i.invariant.1 c.in_ok-push-2.ensures.ok c.register_at.ensures kind,
       elim c.if-i-eq0.branch [
         | emit_arguments-then-i-eq0 w ↦ w.kind-is ∙ w.base_type-kind.ensures ∙ ap base_type kind ∙ sym (type_here scope.variables before (term e) (omega (arith, counted)))
         | emit_arguments-else-i-eq0 w ↦ w.kind-is ∙ c.loop-i.invariant.2 ∙ sym (type_stays scope.variables before (term e) (λ none. absurd (omega (arith, counted, none))))
       ]
-          ∙ ap (λ (ts : Terms). argument_type scope.variables ts) more,
-      ap constants_in c.in_ok-push.ensures.ok
-          ∙ map-append (λ (known : Known). known.constant) c.loop-i.known.items (c.in_ok-found.found ∷ [])
-          ∙ ap₂ (λ (xs : List (Option integers.Integer)) (x : Option integers.Integer). xs ++ x ∷ []) c.loop-i.invariant.3 c.in_ok-found.ensures.constant
-          ∙ ap (λ (ts : Terms). constants_of scope.variables ts) more,
+          ∙ ap (λ (ts : Terms). argument_type scope.variables ts) (sym more),
+      constants_more scope.variables before (terms (take (i + 1) es)) (term e) c.loop-i.known.items _ c.in_ok-found.found
+          more c.loop-i.invariant.3 c.in_ok-push.ensures.ok c.in_ok-found.ensures.constant,
     )
 
 pub emit-returns-in_ok-known-in-Unary-clause-code : goal.emit-returns-in_ok-known-in-Unary-clause-code
@@ -141,217 +135,6 @@ emit-returns-in_ok-known-in-Cast-clause-longer t c =
     let start : c.len-start.result ≡ length old = omega (arith, c.len-start.ensures, c.args.code.now.ok.0) in
     on_error c.end_cast.result (λ longer. longer old (expr_code scope level e) operand.ensures.code start) c.end_cast.ensures.longer
 
-pub emit-returns-in_ok-arguments-in-Call-clause-code : goal.emit-returns-in_ok-arguments-in-Call-clause-code
-emit-returns-in_ok-arguments-in-Call-clause-code t c =
-    let scope = c.args.scope.now in
-    let level = c.args.level.0 in
-    let old = c.args.code.now.items in
-    let node = c.in-Call in
-    let es = terms c.as_slice-given.result.now in
-    let found = c.in_ok-arguments-in-Call in
-    let start : c.len-start.result ≡ length old = omega (arith, c.len-start.ensures, c.args.code.now.ok.0) in
-    let is : term c.args.expression.now ≡ Call node.at node.name es = ap term node.is ∙ calls node.at node.name node.arguments ∙ ap (λ (xs : List Expression). Call node.at node.name (terms xs)) (sym c.as_slice-given.ensures.value) in
-    on_value c.end_call.result (λ ended laid. laid old (terms_code scope level es) found.ensures.code start
-    ∙ call_whole scope level node.at node.name es (term c.args.expression.now) old c.built_in_named.result found.arguments.kind (numbers found.arguments.registers.items) (constants_in found.arguments.known.items)
-    is c.built_in_named.ensures found.ensures.kind found.ensures.registers found.ensures.constants) c.end_call.ensures.code
-
-pub emit-returns-in_ok-arguments-in-Call-clause-kind : goal.emit-returns-in_ok-arguments-in-Call-clause-kind
-emit-returns-in_ok-arguments-in-Call-clause-kind t c =
-    let scope = c.args.scope.now in
-    let node = c.in-Call in
-    let es = terms c.as_slice-given.result.now in
-    let found = c.in_ok-arguments-in-Call in
-    let is : term c.args.expression.now ≡ Call node.at node.name es = ap term node.is ∙ calls node.at node.name node.arguments ∙ ap (λ (xs : List Expression). Call node.at node.name (terms xs)) (sym c.as_slice-given.ensures.value) in
-    on_value c.end_call.result (λ ended kind. kind ∙ ap₂ (λ (f : Option BuiltIn) (k : IntType). Integer (call_type f k)) c.built_in_named.ensures found.ensures.kind ∙ ap (kind_of scope) (sym is)) c.end_call.ensures.kind
-
-pub emit-returns-in_ok-arguments-in-Call-clause-constant : goal.emit-returns-in_ok-arguments-in-Call-clause-constant
-emit-returns-in_ok-arguments-in-Call-clause-constant t c =
-    let scope = c.args.scope.now in
-    let node = c.in-Call in
-    let es = terms c.as_slice-given.result.now in
-    let found = c.in_ok-arguments-in-Call in
-    let is : term c.args.expression.now ≡ Call node.at node.name es = ap term node.is ∙ calls node.at node.name node.arguments ∙ ap (λ (xs : List Expression). Call node.at node.name (terms xs)) (sym c.as_slice-given.ensures.value) in
-    on_value c.end_call.result (λ ended constant. constant ∙ ap₂ call_constant c.built_in_named.ensures found.ensures.constants ∙ ap (constant_of scope.variables) (sym is)) c.end_call.ensures.constant
-
-pub emit-returns-in_ok-arguments-in-Call-clause-longer : goal.emit-returns-in_ok-arguments-in-Call-clause-longer
-emit-returns-in_ok-arguments-in-Call-clause-longer t c =
-    let scope = c.args.scope.now in
-    let level = c.args.level.0 in
-    let old = c.args.code.now.items in
-    let es = terms c.as_slice-given.result.now in
-    let found = c.in_ok-arguments-in-Call in
-    let start : c.len-start.result ≡ length old = omega (arith, c.len-start.ensures, c.args.code.now.ok.0) in
-    on_error c.end_call.result (λ longer. longer old (terms_code scope level es) found.ensures.code start) c.end_call.ensures.longer
-
-pub emit-returns-in_ok-known-in-Binary-2-clause-code : goal.emit-returns-in_ok-known-in-Binary-2-clause-code
-emit-returns-in_ok-known-in-Binary-2-clause-code t c =
-    let scope = c.args.scope.now in
-    let level = c.args.level.0 in
-    let old = c.args.code.now.items in
-    let node = c.in-Binary in
-    let above = c.level_at.result.0 in
-    let left = term c.deref-in-Binary.result.now in
-    let right = term c.deref-in-Binary-2.result.now in
-    let first = c.in_ok-known-in-Binary in
-    let second = c.in_ok-known-in-Binary-2 in
-    let begun = c.in_ok-start-in-Binary in
-    let start : c.len-start.result ≡ length old = omega (arith, c.len-start.ensures, c.args.code.now.ok.0) in
-    let is : term c.args.expression.now ≡ Binary node.at node.operator left right = ap term node.is
-    ∙ ap₂ (λ (x y : Expression). Binary node.at node.operator (term x) (term y)) (sym c.deref-in-Binary.ensures) (sym c.deref-in-Binary-2.ensures) in
-    let one = c.emit-in-Binary.new.code.items in
-    let two = c.begin_infix.new.code.items in
-    let three = c.emit-in-Binary-2.new.code.items in
-    let register = register_at level first.known.kind in
-    let parts = infix_parts node.operator old one two three (expr_code scope level left) (expr_code scope above right) register first.ensures.code begun.ensures.code second.ensures.code in
-    let place = infix_place node.operator old one two (expr_code scope level left) register begun.start first.ensures.code begun.ensures.code begun.ensures.place in
-    on_value c.end_infix.result (λ found laid. laid old (expr_code scope level left) (expr_code scope above right) parts start place
-    ∙ infix_whole scope level node.at above node.operator left right (term c.args.expression.now) old first.known second.known is c.level_at.ensures
-    first.ensures.kind first.ensures.constant second.ensures.kind second.ensures.constant) c.end_infix.ensures.code
-
-pub emit-returns-in_ok-known-in-Binary-2-clause-kind : goal.emit-returns-in_ok-known-in-Binary-2-clause-kind
-emit-returns-in_ok-known-in-Binary-2-clause-kind t c =
-    let scope = c.args.scope.now in
-    let node = c.in-Binary in
-    let above = c.level_at.result.0 in
-    let left = term c.deref-in-Binary.result.now in
-    let right = term c.deref-in-Binary-2.result.now in
-    let first = c.in_ok-known-in-Binary in
-    let second = c.in_ok-known-in-Binary-2 in
-    let begun = c.in_ok-start-in-Binary in
-    let is : term c.args.expression.now ≡ Binary node.at node.operator left right = ap term node.is
-    ∙ ap₂ (λ (x y : Expression). Binary node.at node.operator (term x) (term y)) (sym c.deref-in-Binary.ensures) (sym c.deref-in-Binary-2.ensures) in
-    on_value c.end_infix.result (λ found kind. kind ∙ ap₂ (infix_type node.operator) first.ensures.kind second.ensures.kind ∙ ap (kind_of scope) (sym is)) c.end_infix.ensures.kind
-
-pub emit-returns-in_ok-known-in-Binary-2-clause-constant : goal.emit-returns-in_ok-known-in-Binary-2-clause-constant
-emit-returns-in_ok-known-in-Binary-2-clause-constant t c =
-    let scope = c.args.scope.now in
-    let node = c.in-Binary in
-    let above = c.level_at.result.0 in
-    let left = term c.deref-in-Binary.result.now in
-    let right = term c.deref-in-Binary-2.result.now in
-    let first = c.in_ok-known-in-Binary in
-    let second = c.in_ok-known-in-Binary-2 in
-    let begun = c.in_ok-start-in-Binary in
-    let is : term c.args.expression.now ≡ Binary node.at node.operator left right = ap term node.is
-    ∙ ap₂ (λ (x y : Expression). Binary node.at node.operator (term x) (term y)) (sym c.deref-in-Binary.ensures) (sym c.deref-in-Binary-2.ensures) in
-    on_value c.end_infix.result (λ found constant. constant ∙ ap₂ (infix_constant node.operator) first.ensures.constant second.ensures.constant ∙ ap (constant_of scope.variables) (sym is)) c.end_infix.ensures.constant
-
-pub emit-returns-in_ok-known-in-Binary-2-clause-longer : goal.emit-returns-in_ok-known-in-Binary-2-clause-longer
-emit-returns-in_ok-known-in-Binary-2-clause-longer t c =
-    let scope = c.args.scope.now in
-    let level = c.args.level.0 in
-    let old = c.args.code.now.items in
-    let node = c.in-Binary in
-    let above = c.level_at.result.0 in
-    let left = term c.deref-in-Binary.result.now in
-    let right = term c.deref-in-Binary-2.result.now in
-    let first = c.in_ok-known-in-Binary in
-    let second = c.in_ok-known-in-Binary-2 in
-    let begun = c.in_ok-start-in-Binary in
-    let start : c.len-start.result ≡ length old = omega (arith, c.len-start.ensures, c.args.code.now.ok.0) in
-    let one = c.emit-in-Binary.new.code.items in
-    let two = c.begin_infix.new.code.items in
-    let three = c.emit-in-Binary-2.new.code.items in
-    let register = register_at level first.known.kind in
-    let parts = infix_parts node.operator old one two three (expr_code scope level left) (expr_code scope above right) register first.ensures.code begun.ensures.code second.ensures.code in
-    let place = infix_place node.operator old one two (expr_code scope level left) register begun.start first.ensures.code begun.ensures.code begun.ensures.place in
-    on_error c.end_infix.result (λ longer. longer old (expr_code scope level left) (expr_code scope above right) parts start place) c.end_infix.ensures.longer
-
-pub emit-returns-in_ok-known-in-Choice-3-clause-code : goal.emit-returns-in_ok-known-in-Choice-3-clause-code
-emit-returns-in_ok-known-in-Choice-3-clause-code t c =
-    let scope = c.args.scope.now in
-    let level = c.args.level.0 in
-    let old = c.args.code.now.items in
-    let node = c.in-Choice in
-    let e = term c.deref-in-Choice.result.now in
-    let d = term c.deref-in-Choice-2.result.now in
-    let f = term c.deref-in-Choice-3.result.now in
-    let condition = c.in_ok-known-in-Choice in
-    let chosen = c.in_ok-known-in-Choice-2 in
-    let otherwise = c.in_ok-known-in-Choice-3 in
-    let first = c.in_ok-start-in-Choice in
-    let second = c.in_ok-start-in-Choice-2 in
-    let start : c.len-start.result ≡ length old = omega (arith, c.len-start.ensures, c.args.code.now.ok.0) in
-    let is : term c.args.expression.now ≡ Choice node.at e d f = ap term node.is
-    ∙ ap (λ (x : Expression). Choice node.at (term x) (term node.chosen.value) (term node.otherwise.value)) (sym c.deref-in-Choice.ensures)
-    ∙ ap₂ (λ (x y : Expression). Choice node.at e (term x) (term y)) (sym c.deref-in-Choice-2.ensures) (sym c.deref-in-Choice-3.ensures) in
-    let one = c.emit-in-Choice.new.code.items in
-    let two = c.begin_choice.new.code.items in
-    let three = c.emit-in-Choice-2.new.code.items in
-    let four = c.between_branches.new.code.items in
-    let five = c.emit-in-Choice-3.new.code.items in
-    let test = instruction.JumpIfZero (register_at level condition.known.kind) 0 in
-    let parts = choice_parts old one two three four five (expr_code scope level e) (expr_code scope level d) (expr_code scope level f) test
-    condition.ensures.code first.ensures.code chosen.ensures.code second.ensures.code otherwise.ensures.code in
-    let place = choice_first old one two (expr_code scope level e) test first.start condition.ensures.code first.ensures.code first.ensures.place in
-    let next = choice_second two three four (expr_code scope level d) first.start second.start first.ensures.place chosen.ensures.code second.ensures.code second.ensures.place in
-    on_value c.end_choice.result (λ found laid. laid old (expr_code scope level e) (expr_code scope level d) (expr_code scope level f) parts start place next
-    ∙ choice_whole scope level node.at e d f (term c.args.expression.now) old condition.known chosen.known otherwise.known is
-    condition.ensures.kind condition.ensures.constant chosen.ensures.kind chosen.ensures.constant otherwise.ensures.kind otherwise.ensures.constant) c.end_choice.ensures.code
-
-pub emit-returns-in_ok-known-in-Choice-3-clause-kind : goal.emit-returns-in_ok-known-in-Choice-3-clause-kind
-emit-returns-in_ok-known-in-Choice-3-clause-kind t c =
-    let scope = c.args.scope.now in
-    let node = c.in-Choice in
-    let e = term c.deref-in-Choice.result.now in
-    let d = term c.deref-in-Choice-2.result.now in
-    let f = term c.deref-in-Choice-3.result.now in
-    let condition = c.in_ok-known-in-Choice in
-    let chosen = c.in_ok-known-in-Choice-2 in
-    let otherwise = c.in_ok-known-in-Choice-3 in
-    let first = c.in_ok-start-in-Choice in
-    let second = c.in_ok-start-in-Choice-2 in
-    let is : term c.args.expression.now ≡ Choice node.at e d f = ap term node.is
-    ∙ ap (λ (x : Expression). Choice node.at (term x) (term node.chosen.value) (term node.otherwise.value)) (sym c.deref-in-Choice.ensures)
-    ∙ ap₂ (λ (x y : Expression). Choice node.at e (term x) (term y)) (sym c.deref-in-Choice-2.ensures) (sym c.deref-in-Choice-3.ensures) in
-    on_value c.end_choice.result (λ found kind. kind ∙ ap₂ (λ (j k : VariableType). Integer (common (base_type j) (base_type k))) chosen.ensures.kind otherwise.ensures.kind ∙ ap (kind_of scope) (sym is)) c.end_choice.ensures.kind
-
-pub emit-returns-in_ok-known-in-Choice-3-clause-constant : goal.emit-returns-in_ok-known-in-Choice-3-clause-constant
-emit-returns-in_ok-known-in-Choice-3-clause-constant t c =
-    let scope = c.args.scope.now in
-    let node = c.in-Choice in
-    let e = term c.deref-in-Choice.result.now in
-    let d = term c.deref-in-Choice-2.result.now in
-    let f = term c.deref-in-Choice-3.result.now in
-    let condition = c.in_ok-known-in-Choice in
-    let chosen = c.in_ok-known-in-Choice-2 in
-    let otherwise = c.in_ok-known-in-Choice-3 in
-    let first = c.in_ok-start-in-Choice in
-    let second = c.in_ok-start-in-Choice-2 in
-    let is : term c.args.expression.now ≡ Choice node.at e d f = ap term node.is
-    ∙ ap (λ (x : Expression). Choice node.at (term x) (term node.chosen.value) (term node.otherwise.value)) (sym c.deref-in-Choice.ensures)
-    ∙ ap₂ (λ (x y : Expression). Choice node.at e (term x) (term y)) (sym c.deref-in-Choice-2.ensures) (sym c.deref-in-Choice-3.ensures) in
-    on_value c.end_choice.result (λ found constant. constant
-    ∙ choice_known scope node.at e d f condition.known chosen.known otherwise.known condition.ensures.constant chosen.ensures.kind chosen.ensures.constant otherwise.ensures.kind otherwise.ensures.constant
-    ∙ ap (constant_of scope.variables) (sym is)) c.end_choice.ensures.constant
-
-pub emit-returns-in_ok-known-in-Choice-3-clause-longer : goal.emit-returns-in_ok-known-in-Choice-3-clause-longer
-emit-returns-in_ok-known-in-Choice-3-clause-longer t c =
-    let scope = c.args.scope.now in
-    let level = c.args.level.0 in
-    let old = c.args.code.now.items in
-    let node = c.in-Choice in
-    let e = term c.deref-in-Choice.result.now in
-    let d = term c.deref-in-Choice-2.result.now in
-    let f = term c.deref-in-Choice-3.result.now in
-    let condition = c.in_ok-known-in-Choice in
-    let chosen = c.in_ok-known-in-Choice-2 in
-    let otherwise = c.in_ok-known-in-Choice-3 in
-    let first = c.in_ok-start-in-Choice in
-    let second = c.in_ok-start-in-Choice-2 in
-    let start : c.len-start.result ≡ length old = omega (arith, c.len-start.ensures, c.args.code.now.ok.0) in
-    let one = c.emit-in-Choice.new.code.items in
-    let two = c.begin_choice.new.code.items in
-    let three = c.emit-in-Choice-2.new.code.items in
-    let four = c.between_branches.new.code.items in
-    let five = c.emit-in-Choice-3.new.code.items in
-    let test = instruction.JumpIfZero (register_at level condition.known.kind) 0 in
-    let parts = choice_parts old one two three four five (expr_code scope level e) (expr_code scope level d) (expr_code scope level f) test
-    condition.ensures.code first.ensures.code chosen.ensures.code second.ensures.code otherwise.ensures.code in
-    let place = choice_first old one two (expr_code scope level e) test first.start condition.ensures.code first.ensures.code first.ensures.place in
-    let next = choice_second two three four (expr_code scope level d) first.start second.start first.ensures.place chosen.ensures.code second.ensures.code second.ensures.place in
-    on_error c.end_choice.result (λ longer. longer old (expr_code scope level e) (expr_code scope level d) (expr_code scope level f) parts start place next) c.end_choice.ensures.longer
-
 pub emit-levels_suffice-requires : goal.emit-levels_suffice-requires
 emit-levels_suffice-requires t c =
     let called = c.in-Call in
@@ -359,20 +142,6 @@ emit-levels_suffice-requires t c =
     let inner = ap (λ (xs : List Expression). (terms_size [] (terms xs)).nodes) c.as_slice-given.ensures.value in
     let low = c.requires.low in
     omega (arith, whole, inner, low)
-
-pub emit-end_infix-requires-clause-near : goal.emit-end_infix-requires-clause-near
-emit-end_infix-requires-clause-near t c =
-    let scope = c.args.scope.now in
-    let level = c.level_at.result.0 in
-    let right = term c.deref-in-Binary-2.result.now in
-    let before = c.begin_infix.new.code.items in
-    let size = ap length c.in_ok-known-in-Binary-2.ensures.code ∙ length-append before (expr_code scope level right) in
-    let short = (expr_short [] scope level right).most in
-    let place = c.in_ok-start-in-Binary.ensures.place in
-    let whole = ap (λ x. (term_size [] (term x)).nodes) c.in-Binary.is in
-    let inner = ap (λ x. (term_size [] (term x)).nodes) c.deref-in-Binary-2.ensures in
-    let low = c.requires.low in
-    omega (arith, size, short, place, whole, inner, low)
 
 pub emit_arguments-level_at-above-requires : goal.emit_arguments-level_at-above-requires
 emit_arguments-level_at-above-requires t c =
@@ -387,30 +156,248 @@ emit_arguments-register_at-requires t c =
     let low = c.requires.low in
     omega (arith, room, above, low)
 
-pub emit-end_choice-requires-clause-near : goal.emit-end_choice-requires-clause-near
-emit-end_choice-requires-clause-near t c =
-    let scope = c.args.scope.now in
-    let level = c.args.level.0 in
-    let begun = c.begin_choice.new.code.items in
-    let one = c.emit-in-Choice-2.new.code.items in
-    let two = c.between_branches.new.code.items in
-    let chosen = term c.deref-in-Choice-2.result.now in
-    let otherwise = term c.deref-in-Choice-3.result.now in
-    let size_one = ap length c.in_ok-known-in-Choice-2.ensures.code ∙ length-append begun (expr_code scope level chosen) in
-    let size_two : length two ≡ length one + 2 = ap length c.in_ok-start-in-Choice-2.ensures.code ∙ length-append one _ in
-    let size_all = ap length c.in_ok-known-in-Choice-3.ensures.code ∙ length-append two (expr_code scope level otherwise) in
-    let short_one = (expr_short [] scope level chosen).most in
-    let short_two = (expr_short [] scope level otherwise).most in
-    let first = c.in_ok-start-in-Choice.ensures.place in
-    let whole = ap (λ x. (term_size [] (term x)).nodes) c.in-Choice.is in
-    let inner_one = ap (λ x. (term_size [] (term x)).nodes) c.deref-in-Choice-2.ensures in
-    let inner_two = ap (λ x. (term_size [] (term x)).nodes) c.deref-in-Choice-3.ensures in
-    let low = c.requires.low in
-    omega (arith, size_one, size_two, size_all, short_one, short_two, first, whole, inner_one, inner_two, low)
-
 pub emit_arguments-level_suffices-requires : goal.emit_arguments-level_suffices-requires
 emit_arguments-level_suffices-requires t c =
     let room = argument_room [] c.args.arguments.now c.loop-i.i c.index-arguments-i.result c.loop-i-test.true c.index-arguments-i.is in
     let above = c.level_at-above.ensures in
     let low = c.requires.low in
     omega (arith, room, above, low)
+
+pub emit-returns-in-Call-clause-code : goal.emit-returns-in-Call-clause-code
+emit-returns-in-Call-clause-code t c =
+    let node = c.in-Call in
+    let is = ap term node.is ∙ calls node.at node.name node.arguments ∙ ap (λ (xs : List Expression). Call node.at node.name (terms xs)) (sym c.as_slice-given.ensures.value) in
+    subst (λ (e : Term). IfOk c.emit_call.result (λ _. c.emit_call.new.code.items ≡ c.args.code.now.items ++ expr_code c.args.scope.now c.args.level.0 e)) (sym is) c.emit_call.ensures.code
+
+pub emit-returns-in-Call-clause-kind : goal.emit-returns-in-Call-clause-kind
+emit-returns-in-Call-clause-kind t c =
+    let node = c.in-Call in
+    let is = ap term node.is ∙ calls node.at node.name node.arguments ∙ ap (λ (xs : List Expression). Call node.at node.name (terms xs)) (sym c.as_slice-given.ensures.value) in
+    subst (λ (e : Term). IfOk c.emit_call.result (λ (found : Known). found.kind ≡ kind_of c.args.scope.now e)) (sym is) c.emit_call.ensures.kind
+
+pub emit-returns-in-Call-clause-constant : goal.emit-returns-in-Call-clause-constant
+emit-returns-in-Call-clause-constant t c =
+    let node = c.in-Call in
+    let is = ap term node.is ∙ calls node.at node.name node.arguments ∙ ap (λ (xs : List Expression). Call node.at node.name (terms xs)) (sym c.as_slice-given.ensures.value) in
+    subst (λ (e : Term). IfOk c.emit_call.result (λ (found : Known). found.constant ≡ constant_of c.args.scope.now.variables e)) (sym is) c.emit_call.ensures.constant
+
+pub emit-returns-in-Binary-clause-code : goal.emit-returns-in-Binary-clause-code
+emit-returns-in-Binary-clause-code t c =
+    let node = c.in-Binary in
+    let is = ap term node.is ∙ ap₂ (λ (x y : Expression). Binary node.at node.operator (term x) (term y)) (sym c.deref-in-Binary.ensures) (sym c.deref-in-Binary-2.ensures) in
+    subst (λ (e : Term). IfOk c.emit_infix.result (λ _. c.emit_infix.new.code.items ≡ c.args.code.now.items ++ expr_code c.args.scope.now c.args.level.0 e)) (sym is) c.emit_infix.ensures.code
+
+pub emit-returns-in-Binary-clause-kind : goal.emit-returns-in-Binary-clause-kind
+emit-returns-in-Binary-clause-kind t c =
+    let node = c.in-Binary in
+    let is = ap term node.is ∙ ap₂ (λ (x y : Expression). Binary node.at node.operator (term x) (term y)) (sym c.deref-in-Binary.ensures) (sym c.deref-in-Binary-2.ensures) in
+    subst (λ (e : Term). IfOk c.emit_infix.result (λ (found : Known). found.kind ≡ kind_of c.args.scope.now e)) (sym is) c.emit_infix.ensures.kind
+
+pub emit-returns-in-Binary-clause-constant : goal.emit-returns-in-Binary-clause-constant
+emit-returns-in-Binary-clause-constant t c =
+    let node = c.in-Binary in
+    let is = ap term node.is ∙ ap₂ (λ (x y : Expression). Binary node.at node.operator (term x) (term y)) (sym c.deref-in-Binary.ensures) (sym c.deref-in-Binary-2.ensures) in
+    subst (λ (e : Term). IfOk c.emit_infix.result (λ (found : Known). found.constant ≡ constant_of c.args.scope.now.variables e)) (sym is) c.emit_infix.ensures.constant
+
+pub emit-returns-in-Choice-clause-code : goal.emit-returns-in-Choice-clause-code
+emit-returns-in-Choice-clause-code t c =
+    let node = c.in-Choice in
+    let e = term c.deref-in-Choice.result.now in
+    let is = ap term node.is
+    ∙ ap (λ (x : Expression). Choice node.at (term x) (term node.chosen.value) (term node.otherwise.value)) (sym c.deref-in-Choice.ensures)
+    ∙ ap₂ (λ (x y : Expression). Choice node.at e (term x) (term y)) (sym c.deref-in-Choice-2.ensures) (sym c.deref-in-Choice-3.ensures) in
+    subst (λ (e : Term). IfOk c.emit_choice.result (λ _. c.emit_choice.new.code.items ≡ c.args.code.now.items ++ expr_code c.args.scope.now c.args.level.0 e)) (sym is) c.emit_choice.ensures.code
+
+pub emit-returns-in-Choice-clause-kind : goal.emit-returns-in-Choice-clause-kind
+emit-returns-in-Choice-clause-kind t c =
+    let node = c.in-Choice in
+    let e = term c.deref-in-Choice.result.now in
+    let is = ap term node.is
+    ∙ ap (λ (x : Expression). Choice node.at (term x) (term node.chosen.value) (term node.otherwise.value)) (sym c.deref-in-Choice.ensures)
+    ∙ ap₂ (λ (x y : Expression). Choice node.at e (term x) (term y)) (sym c.deref-in-Choice-2.ensures) (sym c.deref-in-Choice-3.ensures) in
+    subst (λ (e : Term). IfOk c.emit_choice.result (λ (found : Known). found.kind ≡ kind_of c.args.scope.now e)) (sym is) c.emit_choice.ensures.kind
+
+pub emit-returns-in-Choice-clause-constant : goal.emit-returns-in-Choice-clause-constant
+emit-returns-in-Choice-clause-constant t c =
+    let node = c.in-Choice in
+    let e = term c.deref-in-Choice.result.now in
+    let is = ap term node.is
+    ∙ ap (λ (x : Expression). Choice node.at (term x) (term node.chosen.value) (term node.otherwise.value)) (sym c.deref-in-Choice.ensures)
+    ∙ ap₂ (λ (x y : Expression). Choice node.at e (term x) (term y)) (sym c.deref-in-Choice-2.ensures) (sym c.deref-in-Choice-3.ensures) in
+    subst (λ (e : Term). IfOk c.emit_choice.result (λ (found : Known). found.constant ≡ constant_of c.args.scope.now.variables e)) (sym is) c.emit_choice.ensures.constant
+
+pub emit_call-returns-clause-code : goal.emit_call-returns-clause-code
+emit_call-returns-clause-code t c =
+    let scope = c.args.scope.now in
+    let level = c.args.level.0 in
+    let old = c.args.code.now.items in
+    let name = c.args.name in
+    let es = terms c.args.arguments.now in
+    let found = c.in_ok-found in
+    let start : c.len-start.result ≡ length old = omega (arith, c.len-start.ensures, c.args.code.now.ok.0) in
+    on_value c.end_call.result (λ ended laid. laid old (terms_code scope level es) found.ensures.code start
+    ∙ call_whole scope level 0 name es (Call 0 name es) old c.built_in_named.result found.found.kind (numbers found.found.registers.items) (constants_in found.found.known.items)
+    refl c.built_in_named.ensures found.ensures.kind found.ensures.registers found.ensures.constants) c.end_call.ensures.code
+
+pub emit_call-returns-clause-kind : goal.emit_call-returns-clause-kind
+emit_call-returns-clause-kind t c =
+    on_value c.end_call.result (λ ended kind. kind ∙ ap₂ (λ (f : Option BuiltIn) (k : IntType). Integer (call_type f k)) c.built_in_named.ensures c.in_ok-found.ensures.kind) c.end_call.ensures.kind
+
+pub emit_call-returns-clause-constant : goal.emit_call-returns-clause-constant
+emit_call-returns-clause-constant t c =
+    on_value c.end_call.result (λ ended constant. constant ∙ ap₂ call_constant c.built_in_named.ensures c.in_ok-found.ensures.constants) c.end_call.ensures.constant
+
+pub emit_call-returns-clause-longer : goal.emit_call-returns-clause-longer
+emit_call-returns-clause-longer t c =
+    let old = c.args.code.now.items in
+    let start : c.len-start.result ≡ length old = omega (arith, c.len-start.ensures, c.args.code.now.ok.0) in
+    on_error c.end_call.result (λ longer. longer old (terms_code c.args.scope.now c.args.level.0 (terms c.args.arguments.now)) c.in_ok-found.ensures.code start) c.end_call.ensures.longer
+
+pub emit_infix-returns-clause-code : goal.emit_infix-returns-clause-code
+emit_infix-returns-clause-code t c =
+    let scope = c.args.scope.now in
+    let level = c.args.level.0 in
+    let old = c.args.code.now.items in
+    let operator = c.args.operator in
+    let above = c.level_at.result.0 in
+    let left = term c.args.left.now in
+    let right = term c.args.right.now in
+    let first = c.in_ok-known in
+    let second = c.in_ok-known-2 in
+    let begun = c.in_ok-start in
+    let start : c.len-start.result ≡ length old = omega (arith, c.len-start.ensures, c.args.code.now.ok.0) in
+    let one = c.emit.new.code.items in
+    let two = c.begin_infix.new.code.items in
+    let three = c.emit-2.new.code.items in
+    let register = register_at level first.known.kind in
+    let parts = infix_parts operator old one two three (expr_code scope level left) (expr_code scope above right) register first.ensures.code begun.ensures.code second.ensures.code in
+    let place = infix_place operator old one two (expr_code scope level left) register begun.start first.ensures.code begun.ensures.code begun.ensures.place in
+    on_value c.end_infix.result (λ found laid. laid old (expr_code scope level left) (expr_code scope above right) parts start place
+    ∙ infix_whole scope level 0 above operator left right (Binary 0 operator left right) old first.known second.known refl c.level_at.ensures
+    first.ensures.kind first.ensures.constant second.ensures.kind second.ensures.constant) c.end_infix.ensures.code
+
+pub emit_infix-returns-clause-kind : goal.emit_infix-returns-clause-kind
+emit_infix-returns-clause-kind t c =
+    on_value c.end_infix.result (λ found kind. kind ∙ ap₂ (infix_type c.args.operator) c.in_ok-known.ensures.kind c.in_ok-known-2.ensures.kind) c.end_infix.ensures.kind
+
+pub emit_infix-returns-clause-constant : goal.emit_infix-returns-clause-constant
+emit_infix-returns-clause-constant t c =
+    on_value c.end_infix.result (λ found constant. constant ∙ ap₂ (infix_constant c.args.operator) c.in_ok-known.ensures.constant c.in_ok-known-2.ensures.constant) c.end_infix.ensures.constant
+
+pub emit_infix-returns-clause-longer : goal.emit_infix-returns-clause-longer
+emit_infix-returns-clause-longer t c =
+    let scope = c.args.scope.now in
+    let level = c.args.level.0 in
+    let old = c.args.code.now.items in
+    let operator = c.args.operator in
+    let above = c.level_at.result.0 in
+    let left = term c.args.left.now in
+    let right = term c.args.right.now in
+    let first = c.in_ok-known in
+    let second = c.in_ok-known-2 in
+    let begun = c.in_ok-start in
+    let start : c.len-start.result ≡ length old = omega (arith, c.len-start.ensures, c.args.code.now.ok.0) in
+    let one = c.emit.new.code.items in
+    let two = c.begin_infix.new.code.items in
+    let three = c.emit-2.new.code.items in
+    let register = register_at level first.known.kind in
+    let parts = infix_parts operator old one two three (expr_code scope level left) (expr_code scope above right) register first.ensures.code begun.ensures.code second.ensures.code in
+    let place = infix_place operator old one two (expr_code scope level left) register begun.start first.ensures.code begun.ensures.code begun.ensures.place in
+    on_error c.end_infix.result (λ longer. longer old (expr_code scope level left) (expr_code scope above right) parts start place) c.end_infix.ensures.longer
+
+pub emit_choice-returns-clause-code : goal.emit_choice-returns-clause-code
+emit_choice-returns-clause-code t c =
+    let scope = c.args.scope.now in
+    let level = c.args.level.0 in
+    let old = c.args.code.now.items in
+    let e = term c.args.condition.now in
+    let d = term c.args.chosen.now in
+    let f = term c.args.otherwise.now in
+    let condition = c.in_ok-known in
+    let chosen = c.in_ok-known-2 in
+    let otherwise = c.in_ok-known-3 in
+    let first = c.in_ok-start in
+    let second = c.in_ok-start-2 in
+    let start : c.len-start.result ≡ length old = omega (arith, c.len-start.ensures, c.args.code.now.ok.0) in
+    let one = c.emit.new.code.items in
+    let two = c.begin_choice.new.code.items in
+    let three = c.emit-2.new.code.items in
+    let four = c.between_branches.new.code.items in
+    let five = c.emit-3.new.code.items in
+    let test = instruction.JumpIfZero (register_at level condition.known.kind) 0 in
+    let parts = choice_parts old one two three four five (expr_code scope level e) (expr_code scope level d) (expr_code scope level f) test
+    condition.ensures.code first.ensures.code chosen.ensures.code second.ensures.code otherwise.ensures.code in
+    let place = choice_first old one two (expr_code scope level e) test first.start condition.ensures.code first.ensures.code first.ensures.place in
+    let next = choice_second two three four (expr_code scope level d) first.start second.start first.ensures.place chosen.ensures.code second.ensures.code second.ensures.place in
+    on_value c.end_choice.result (λ found laid. laid old (expr_code scope level e) (expr_code scope level d) (expr_code scope level f) parts start place next
+    ∙ choice_whole scope level 0 e d f (Choice 0 e d f) old condition.known chosen.known otherwise.known refl
+    condition.ensures.kind condition.ensures.constant chosen.ensures.kind chosen.ensures.constant otherwise.ensures.kind otherwise.ensures.constant) c.end_choice.ensures.code
+
+pub emit_choice-returns-clause-kind : goal.emit_choice-returns-clause-kind
+emit_choice-returns-clause-kind t c =
+    on_value c.end_choice.result (λ found kind. kind ∙ ap₂ (λ (j k : VariableType). Integer (common (base_type j) (base_type k))) c.in_ok-known-2.ensures.kind c.in_ok-known-3.ensures.kind) c.end_choice.ensures.kind
+
+pub emit_choice-returns-clause-constant : goal.emit_choice-returns-clause-constant
+emit_choice-returns-clause-constant t c =
+    let condition = c.in_ok-known in
+    let chosen = c.in_ok-known-2 in
+    let otherwise = c.in_ok-known-3 in
+    on_value c.end_choice.result (λ found constant. constant
+    ∙ choice_known c.args.scope.now 0 (term c.args.condition.now) (term c.args.chosen.now) (term c.args.otherwise.now) condition.known chosen.known otherwise.known
+    condition.ensures.constant chosen.ensures.kind chosen.ensures.constant otherwise.ensures.kind otherwise.ensures.constant) c.end_choice.ensures.constant
+
+pub emit_choice-returns-clause-longer : goal.emit_choice-returns-clause-longer
+emit_choice-returns-clause-longer t c =
+    let scope = c.args.scope.now in
+    let level = c.args.level.0 in
+    let old = c.args.code.now.items in
+    let e = term c.args.condition.now in
+    let d = term c.args.chosen.now in
+    let f = term c.args.otherwise.now in
+    let condition = c.in_ok-known in
+    let chosen = c.in_ok-known-2 in
+    let otherwise = c.in_ok-known-3 in
+    let first = c.in_ok-start in
+    let second = c.in_ok-start-2 in
+    let start : c.len-start.result ≡ length old = omega (arith, c.len-start.ensures, c.args.code.now.ok.0) in
+    let one = c.emit.new.code.items in
+    let two = c.begin_choice.new.code.items in
+    let three = c.emit-2.new.code.items in
+    let four = c.between_branches.new.code.items in
+    let five = c.emit-3.new.code.items in
+    let test = instruction.JumpIfZero (register_at level condition.known.kind) 0 in
+    let parts = choice_parts old one two three four five (expr_code scope level e) (expr_code scope level d) (expr_code scope level f) test
+    condition.ensures.code first.ensures.code chosen.ensures.code second.ensures.code otherwise.ensures.code in
+    let place = choice_first old one two (expr_code scope level e) test first.start condition.ensures.code first.ensures.code first.ensures.place in
+    let next = choice_second two three four (expr_code scope level d) first.start second.start first.ensures.place chosen.ensures.code second.ensures.code second.ensures.place in
+    on_error c.end_choice.result (λ longer. longer old (expr_code scope level e) (expr_code scope level d) (expr_code scope level f) parts start place next) c.end_choice.ensures.longer
+
+pub emit_infix-end_infix-requires-clause-near : goal.emit_infix-end_infix-requires-clause-near
+emit_infix-end_infix-requires-clause-near t c =
+    let scope = c.args.scope.now in
+    let level = c.level_at.result.0 in
+    let right = term c.args.right.now in
+    let before = c.begin_infix.new.code.items in
+    let size = ap length c.in_ok-known-2.ensures.code ∙ length-append before (expr_code scope level right) in
+    let short = (expr_short [] scope level right).most in
+    let place = c.in_ok-start.ensures.place in
+    let low = c.requires.low in
+    omega (arith, size, short, place, low)
+
+pub emit_choice-end_choice-requires-clause-near : goal.emit_choice-end_choice-requires-clause-near
+emit_choice-end_choice-requires-clause-near t c =
+    let scope = c.args.scope.now in
+    let level = c.args.level.0 in
+    let begun = c.begin_choice.new.code.items in
+    let one = c.emit-2.new.code.items in
+    let two = c.between_branches.new.code.items in
+    let chosen = term c.args.chosen.now in
+    let otherwise = term c.args.otherwise.now in
+    let size_one = ap length c.in_ok-known-2.ensures.code ∙ length-append begun (expr_code scope level chosen) in
+    let size_two : length two ≡ length one + 2 = ap length c.in_ok-start-2.ensures.code ∙ length-append one _ in
+    let size_all = ap length c.in_ok-known-3.ensures.code ∙ length-append two (expr_code scope level otherwise) in
+    let short_one = (expr_short [] scope level chosen).most in
+    let short_two = (expr_short [] scope level otherwise).most in
+    let first = c.in_ok-start.ensures.place in
+    let low = c.requires.low in
+    omega (arith, size_one, size_two, size_all, short_one, short_two, first, low)
