@@ -21,7 +21,6 @@ typedef struct {
     function *function;
     statement *loop;      // the innermost loop
     statement *breakable; // the innermost loop or switch
-    symbol *variables;
     unsigned nesting;
 } parser;
 
@@ -232,8 +231,13 @@ static symbol *declare(parser *p, symbol_kind kind, const char *name, size_t tok
     for (symbol *y = p->scope->symbols; y; y = y->next)
         if (!strcmp(y->name, name)) complain_at(p, token, "this name is declared twice");
     symbol *y = take(p->unit->arena, sizeof *y);
-    *y = (symbol){.next = p->scope->symbols, .kind = kind, .name = name, .written = name};
-    p->scope->symbols = y;
+    *y = (symbol){.next = p->scope->symbols,
+                  .other = p->unit->symbols,
+                  .token = token,
+                  .kind = kind,
+                  .name = name,
+                  .written = name};
+    p->scope->symbols = p->unit->symbols = y;
     return y;
 }
 static void open_scope(parser *p) {
@@ -252,6 +256,20 @@ static void rename_if_taken(parser *p, symbol *y) {
     text t = {.arena = p->unit->arena};
     addf(&t, "%smy_%s", p->unit->mark, y->name);
     y->written = t.at;
+}
+
+// ---- constants ----
+
+static void note_constant(parser *p, const expression *e, uint64_t value) {
+    constant *c = take(p->unit->arena, sizeof *c);
+    *c = (constant){p->unit->constants, e->first, e->last, value};
+    p->unit->constants = c;
+}
+// The value of an expression that has to be known when the source is built.
+static bool known_value(parser *p, const expression *e, uint64_t *value) {
+    bool known = constant_value(e, value);
+    if (known) note_constant(p, e, *value);
+    return known;
 }
 
 // ---- declaration specifiers ----
@@ -275,7 +293,7 @@ static void read_attribute(parser *p, specifiers *s) {
             depth++;
             for (int d = 0; d < 3; d++) {
                 if (d) expect(p, ",");
-                if (!constant_value(read_assignment(p), &s->group[d]) || !s->group[d])
+                if (!known_value(p, read_assignment(p), &s->group[d]) || !s->group[d])
                     complain_at(p, p->at, "a size of a group is a number above 0");
             }
         }
@@ -402,7 +420,7 @@ static void read_lengths(parser *p, type *t) {
         if (t->dimensions == 8) complain_at(p, p->at, "Clsim has no arrays of more than eight dimensions");
         size_t at = p->at;
         uint64_t n = 0;
-        if (!sees(p, "]") && (!constant_value(read_assignment(p), &n) || !n || n > 1u << 20))
+        if (!sees(p, "]") && (!known_value(p, read_assignment(p), &n) || !n || n > 1u << 20))
             complain_at(p, at, "the length of an array is a number from 1 on");
         lengths[t->dimensions++] = n; // 0: told by the initialiser
         expect(p, "]");
@@ -420,6 +438,15 @@ static expression *make(parser *p, expression_kind kind, size_t first, size_t to
     e->kind = kind;
     e->first = first;
     e->token = token;
+    return e;
+}
+// An expression that ends in front of what is read next.
+static expression *ended(parser *p, expression *e) {
+    e->last = p->at - 1;
+    return e;
+}
+static expression *ended_number(parser *p, expression *e) {
+    note_constant(p, ended(p, e), e->value);
     return e;
 }
 static type number_type(base_type b) { return (type){.base = b}; }
@@ -525,13 +552,13 @@ static expression *read_primary(parser *p) {
         e = make(p, NUMBER, p->at, p->at);
         read_number(p, e);
         p->at++;
-        return e;
+        return ended_number(p, e);
     }
     if (t->kind == CHARACTER_TOKEN) {
         e = make(p, NUMBER, p->at, p->at);
         read_character(p, e);
         p->at++;
-        return e;
+        return ended_number(p, e);
     }
     if (sees(p, "(")) {
         e = make(p, BRACKETS, p->at, p->at);
@@ -540,7 +567,7 @@ static expression *read_primary(parser *p) {
         expect(p, ")");
         e->type = e->a->type;
         e->hard = e->a->hard;
-        return e;
+        return ended(p, e);
     }
     if (t->kind != NAME_TOKEN) complain(p);
     symbol *y = find(p, t->text);
@@ -548,14 +575,14 @@ static expression *read_primary(parser *p) {
     if (is(ahead(p, 1), "(") && (!y || y->kind == FUNCTION)) {
         e = make(p, CALL, p->at, p->at);
         read_call(p, e, y);
-        return e;
+        return ended(p, e);
     }
     if (!y && (sees(p, "true") || sees(p, "false"))) {
         e = make(p, NUMBER, p->at, p->at);
         e->type = number_type(INT_TYPE);
         e->value = sees(p, "true");
         p->at++;
-        return e;
+        return ended_number(p, e);
     }
     if (y && y->kind == FUNCTION) complain_at(p, p->at, "a function's name can only be called");
     if (!y && !is_one_of(t->text, builtins))
@@ -565,7 +592,7 @@ static expression *read_primary(parser *p) {
     e->type = y ? y->type : number_type(UINT_TYPE);
     if (y && y->kind == TABLE) use_table(p, y);
     p->at++;
-    return e;
+    return ended(p, e);
 }
 
 // What an index gives: an element, or of an array of several dimensions an array of fewer.
@@ -603,7 +630,7 @@ static expression *read_postfix(parser *p) {
         } else if (sees(p, ".") || sees(p, "->")) {
             complain(p);
         } else return e;
-        e = whole;
+        e = ended(p, whole);
     }
 }
 
@@ -663,7 +690,7 @@ static expression *read_sizeof(parser *p) {
     }
     e->type = number_type(ULONG_TYPE);
     e->value = bytes_of(t);
-    return e;
+    return ended_number(p, e);
 }
 
 static expression *read_unary(parser *p) {
@@ -710,7 +737,7 @@ static expression *read_unary(parser *p) {
         e->hard = e->a->hard;
     } else e = read_postfix(p);
     p->nesting--;
-    return e;
+    return ended(p, e);
 }
 
 static const char *const levels[][5] = {{"||", NULL},
@@ -752,7 +779,7 @@ static expression *read_binary(parser *p, unsigned level) {
         whole->b = read_binary(p, level + 1);
         whole->type = binary_type(whole->a, whole->b, level);
         whole->hard = whole->a->hard || whole->b->hard;
-        e = whole;
+        e = ended(p, whole);
     }
     p->nesting -= opened;
     return e;
@@ -774,7 +801,7 @@ static expression *read_conditional(parser *p) {
                           ? whole->b->type
                           : number_type(is_void ? VOID_TYPE : common(whole->b->type.base, whole->c->type.base));
         whole->hard = e->hard || whole->b->hard || whole->c->hard;
-        e = whole;
+        e = ended(p, whole);
     }
     p->nesting--;
     return e;
@@ -800,7 +827,7 @@ static expression *read_assignment(parser *p) {
     whole->type = e->type;
     whole->hard = true;
     p->nesting--;
-    return whole;
+    return ended(p, whole);
 }
 
 static expression *read_expression(parser *p) {
@@ -813,7 +840,7 @@ static expression *read_expression(parser *p) {
         whole->b = read_assignment(p);
         whole->type = whole->b->type;
         whole->hard = true;
-        e = whole;
+        e = ended(p, whole);
     }
     return e;
 }
@@ -873,7 +900,8 @@ static void read_constant(parser *p, declaration *d) {
     if (!y->type.dimensions) {
         uint64_t value;
         size_t at = p->at;
-        if (!constant_value(read_assignment(p), &value))
+        d->value = read_assignment(p);
+        if (!known_value(p, d->value, &value))
             complain_at(p, at, "the value of a constant is one that is known when the source is built");
         y->kind = NUMBER_CONSTANT;
         y->value = converted(value, y->type.base);
@@ -886,7 +914,7 @@ static void read_constant(parser *p, declaration *d) {
     y->bytes = take(p->unit->arena, y->size);
     for (size_t i = 0; i < d->length; i++) {
         uint64_t value = 0;
-        if (d->elements[i] && !constant_value(d->elements[i], &value))
+        if (d->elements[i] && !known_value(p, d->elements[i], &value))
             complain_at(p, d->elements[i]->first,
                         "the value of a constant is one that is known when the source is built");
         value = converted(value, y->type.base);
@@ -913,8 +941,7 @@ static declaration *read_declarator(parser *p, const specifiers *s) {
     const char *name = read_name(p);
     d->token = p->at++;
     symbol *y = d->symbol = declare(p, VARIABLE, name, d->token);
-    y->other = p->variables;
-    p->variables = y;
+    y->declaration = d;
     read_lengths(p, &t);
     y->type = t;
     if (!t.pointer && t.base == VOID_TYPE) complain_at(p, d->token, "a variable has a type");
@@ -973,7 +1000,7 @@ static void read_enumeration(parser *p) {
     while (!sees(p, "}")) {
         symbol *y = declare(p, NUMBER_CONSTANT, read_name(p), p->at);
         p->at++;
-        if (accept(p, "=") && !constant_value(read_assignment(p), &value))
+        if (accept(p, "=") && !known_value(p, read_assignment(p), &value))
             complain_at(p, p->at - 1, "the value of a constant is one that is known when the source is built");
         y->type = number_type(INT_TYPE);
         y->value = value = converted(value, INT_TYPE);
@@ -1102,7 +1129,8 @@ static statement *read_label(parser *p) {
     p->at++;
     if (s->kind == CASE) {
         size_t at = p->at;
-        if (!constant_value(read_conditional(p), &s->value))
+        s->test = read_conditional(p);
+        if (!known_value(p, s->test, &s->value))
             complain_at(p, at, "the value of a case is one that is known when the source is built");
     }
     expect(p, ":");
@@ -1184,8 +1212,6 @@ static declaration *read_parameter(parser *p, bool of_kernel) {
     y->name = y->written = name;
     y->type = t;
     y->settled = y->is_parameter = true;
-    y->other = p->variables;
-    p->variables = y;
     d->symbol = y;
     return d;
 }
@@ -1306,7 +1332,7 @@ void parse(unit *u, complaint *wrong) {
     open_scope(&p);
     p.top = p.scope;
     while (now(&p)->kind != END_TOKEN) read_top(&p);
-    for (symbol *y = p.variables; y; y = y->other)
+    for (symbol *y = u->symbols; y; y = y->other)
         if (y->kind == VARIABLE) rename_if_taken(&p, y);
     spread_tables(u);
 }
