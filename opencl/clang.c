@@ -285,6 +285,7 @@ static bool own_type(clang_type t, arena *a, type *to) {
     if (!space_of(t, &to->space)) return false;
     uint64_t lengths[8];
     while (!to->pointer && t.kind == ARRAY_KIND && to->dimensions < 8) {
+        to->is_const = to->is_const || clang.isConstQualifiedType(t); // that of an array may stand at the whole
         lengths[to->dimensions++] = (uint64_t)clang.getArraySize(t);
         t = clang.getCanonicalType(clang.getArrayElementType(t));
     }
@@ -292,7 +293,7 @@ static bool own_type(clang_type t, arena *a, type *to) {
         to->lengths = take(a, to->dimensions * sizeof *lengths);
         memcpy(to->lengths, lengths, to->dimensions * sizeof *lengths);
     }
-    to->is_const = clang.isConstQualifiedType(t);
+    to->is_const = to->is_const || clang.isConstQualifiedType(t);
     return base_of(t, &to->base);
 }
 

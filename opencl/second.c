@@ -202,6 +202,23 @@ static void agree_on_parts(judge *j, const expression *e, cursor c) {
     j->part_count = begin;
 }
 
+// The operator of an expression of a kind that has one.
+static bool is_operator_of(const expression *e, const char *text) {
+    static const char *const of_two = "|| && | ^ & == != < > <= >= << >> + - * / %";
+    size_t n = strlen(text);
+    bool assigns = text[n - 1] == '=' && (n == 1 || n == 3 || (n == 2 && !strchr("=!<>", *text)));
+    switch (e->kind) {
+    case ADDRESS: return !strcmp(text, "&");
+    case CONTENT: return !strcmp(text, "*");
+    case COMMA: return !strcmp(text, ",");
+    case UNARY: return n == 1 && strchr("+-~!", *text) && !strcmp(text, e->operator);
+    case STEP_BEFORE:
+    case STEP_BEHIND: return (!strcmp(text, "++") || !strcmp(text, "--")) && !strcmp(text, e->operator);
+    case ASSIGNMENT: return assigns && !strcmp(text, e->operator);
+    default: return !assigns && n < 3 && strstr(of_two, text) && !strcmp(text, e->operator);
+    }
+}
+
 // Where an operator stands is told by the extents of what it stands between.
 static void agree_on_operator(judge *j, const expression *e) {
     size_t t = e->token;
@@ -210,8 +227,7 @@ static void agree_on_operator(judge *j, const expression *e) {
     bool same = behind  ? t == e->last && e->a->last + 1 == t
                 : right ? e->a->last + 1 == t && t + 1 == right->first
                         : t == e->first && t + 1 == e->a->first;
-    const char *text = j->unit->tokens.at[t].text;
-    if (!same || (e->operator&& strcmp(e->operator, text)))
+    if (!same || !is_operator_of(e, j->unit->tokens.at[t].text))
         differ(j, t, "this operator stands elsewhere to the driver than to clang");
 }
 

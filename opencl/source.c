@@ -234,26 +234,23 @@ static bool make_ready(prepared *p, const char *options) {
     unit *u = take(&p->arena, sizeof *u);
     *u = (unit){.arena = &p->arena, .tokens = read_tokens(&p->arena, read, marked)};
     p->tokens = u->tokens;
-    volatile bool is_read = false;
     if (setjmp(wrong.stop)) {
         add_message(p, &log, &p->tokens.at[wrong.token], wrong.message);
-        if (!is_read) add_remarks(p, &log, second_reading_up_to(u, read, marked, wrong.token));
+        add_remarks(p, &log, second_reading_up_to(u, read, marked, wrong.token));
         p->log = log.at;
         return false;
     }
     parse(u, &wrong);
-    is_read = true;
-    const remark *remarks = second_reading(u, read, marked);
-    if (remarks) {
-        add_remarks(p, &log, remarks);
-        p->log = log.at;
-        return false;
-    }
     // CLSIM_REWRITE=0 sends the source as it is, 1 what is written of its tree; without it, what is written where that
     // has other words
     bool never = rewriting && !strcmp(rewriting, "0"), always = rewriting && !strcmp(rewriting, "1");
     judged_text j = {NULL, 0, NULL, 0};
     if (!never) j = rewrite(u, &wrong);
+    add_remarks(p, &log, second_reading(u, read, marked));
+    if (log.length) {
+        p->log = log.at;
+        return false;
+    }
     if (never || (!always && is_as_written(&p->arena, &u->tokens, j.text)))
         keep_text(p, without_markers(&p->arena, read, marked));
     else {

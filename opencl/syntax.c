@@ -221,6 +221,11 @@ static const char *const builtins[] = {"get_work_dim",
                                        "CLK_GLOBAL_MEM_FENCE",
                                        NULL};
 
+// Functions that are written as others (OpenCL 1.2, 6.12.3; OpenCL 1.2 extensions, 9.5).
+static const char *const written_as_others[] = {"clamp",    "atom_add",     "atom_sub", "atom_xchg", "atom_inc",
+                                                "atom_dec", "atom_cmpxchg", "atom_min", "atom_max",  "atom_and",
+                                                "atom_or",  "atom_xor",     NULL};
+
 static symbol *find(parser *p, const char *name) {
     for (scope *s = p->scope; s; s = s->outer)
         for (symbol *y = s->symbols; y; y = y->next)
@@ -521,6 +526,8 @@ static void read_call(parser *p, expression *e, symbol *callee) {
     }
     p->at++;
     if (!callee) {
+        if (!is_one_of(name, builtins) && !is_one_of(name, written_as_others))
+            complain_at(p, e->token, "this name stands for nothing that Clsim has");
         e->type = number_type(builtin_type(name, e->a));
         return;
     }
@@ -592,7 +599,9 @@ static expression *read_primary(parser *p) {
     e->type = y ? y->type : number_type(UINT_TYPE);
     if (y && y->kind == TABLE) use_table(p, y);
     p->at++;
-    return ended(p, e);
+    ended(p, e);
+    if (y && y->kind == NUMBER_CONSTANT) note_constant(p, e, y->value);
+    return e;
 }
 
 // What an index gives: an element, or of an array of several dimensions an array of fewer.
@@ -752,10 +761,12 @@ static const char *const levels[][5] = {{"||", NULL},
                                         {"*", "/", "%", NULL}};
 enum { LEVELS = sizeof levels / sizeof *levels, SHIFTS = 7, SUMS = 8 };
 
-static type binary_type(const expression *l, const expression *r, unsigned level) {
+static type binary_type(parser *p, size_t token, const expression *l, const expression *r, unsigned level) {
     if (level < 2 || level == 5 || level == 6) return number_type(INT_TYPE);
     if (level == SHIFTS) return number_type(promoted(l->type.base));
     type pointer = l->type.pointer || l->type.dimensions ? l->type : r->type;
+    bool both = (l->type.pointer || l->type.dimensions) && (r->type.pointer || r->type.dimensions);
+    if (both) complain_at(p, token, "Clsim has no differences of pointers");
     if (level == SUMS && (pointer.pointer || pointer.dimensions)) {
         pointer.pointer = true;
         pointer.dimensions = 0;
@@ -777,7 +788,7 @@ static expression *read_binary(parser *p, unsigned level) {
         p->at++;
         whole->a = e;
         whole->b = read_binary(p, level + 1);
-        whole->type = binary_type(whole->a, whole->b, level);
+        whole->type = binary_type(p, whole->token, whole->a, whole->b, level);
         whole->hard = whole->a->hard || whole->b->hard;
         e = ended(p, whole);
     }
