@@ -98,9 +98,9 @@ static const char *const words[] = {"-x", "cl", "-cl-std=CL1.2", "-cl-no-stdinc"
                                     "-undef", "-Xclang", "-fdeclare-opencl-builtins",
                                     // C only warns of these; the driver refuses them, and takes nothing for them
                                     "-Werror=excess-initializers", "-Werror=braced-scalar-init",
-                                    "-Dcl_khr_global_int32_base_atomics=1", "-Dcl_khr_global_int32_extended_atomics=1",
-                                    "-Dcl_khr_local_int32_base_atomics=1", "-Dcl_khr_local_int32_extended_atomics=1",
-                                    "-Dcl_khr_byte_addressable_store=1"};
+                                    "-Werror=incompatible-pointer-types", "-Dcl_khr_global_int32_base_atomics=1",
+                                    "-Dcl_khr_global_int32_extended_atomics=1", "-Dcl_khr_local_int32_base_atomics=1",
+                                    "-Dcl_khr_local_int32_extended_atomics=1", "-Dcl_khr_byte_addressable_store=1"};
 
 static void *library_of(const char *given) {
     char name[64];
@@ -277,14 +277,14 @@ static bool space_of(clang_type t, space *to) {
 }
 
 static bool own_type(clang_type t, arena *a, type *to) {
-    enum { POINTER_KIND = 101, ARRAY_KIND = 112 };
+    enum { POINTER_KIND = 101, ARRAY_KIND = 112, OPEN_ARRAY_KIND = 114 };
     *to = (type){.base = VOID_TYPE};
     t = clang.getCanonicalType(t);
     to->pointer = t.kind == POINTER_KIND;
     if (to->pointer) t = clang.getCanonicalType(clang.getPointeeType(t));
     if (!space_of(t, &to->space)) return false;
     uint64_t lengths[8];
-    while (!to->pointer && t.kind == ARRAY_KIND && to->dimensions < 8) {
+    while (!to->pointer && (t.kind == ARRAY_KIND || t.kind == OPEN_ARRAY_KIND) && to->dimensions < 8) {
         to->is_const = to->is_const || clang.isConstQualifiedType(t); // that of an array may stand at the whole
         lengths[to->dimensions++] = (uint64_t)clang.getArraySize(t);
         t = clang.getCanonicalType(clang.getArrayElementType(t));

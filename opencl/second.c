@@ -14,9 +14,10 @@ typedef struct {
     const char *source; // as clang gets it, with the tokens at their offsets
     clang_text text;
     bool is_open, no_memory;
-    symbol **declared; // by token: what is declared there
-    bool *met;         // by token: clang has that declaration
-    cursor *parts;     // a stack of nodes whose parts are looked at
+    bool array_parameters; // a parameter is written as an array
+    symbol **declared;     // by token: what is declared there
+    bool *met;             // by token: clang has that declaration
+    cursor *parts;         // a stack of nodes whose parts are looked at
     size_t part_count, part_room;
     const function *function; // the next one that is defined
     remark *first, **last;
@@ -132,6 +133,16 @@ static const char *words_of(judge *j, const type *t) {
     return s.at;
 }
 
+// Clang's type of a node. A parameter that is written as an array is a pointer (C99 6.7.5.3), which clang doesn't tell.
+static bool clang_type(judge *j, const type *own, cursor c, type *to) {
+    bool known = type_in_clang(c, j->arena, to);
+    if (j->array_parameters && own->pointer && !to->pointer && to->dimensions == 1) {
+        to->pointer = true;
+        to->dimensions = 0;
+    }
+    return known;
+}
+
 static void agree_on_type(judge *j, size_t token, const type *own, bool known, const type *other, cursor c) {
     if (!known || !same_type(own, other))
         differ(j, token, "the type is %s to the driver, and '%s' to clang", words_of(j, own), type_words(c, j->arena));
@@ -236,7 +247,7 @@ static void agree(judge *j, const expression *e, cursor c) {
     if (!is_kind(e, c.kind)) differ(j, e->token, "the driver reads this otherwise than clang does");
     agree_on_extent(j, e->first, e->last, c);
     type other;
-    bool known = type_in_clang(c, j->arena, &other);
+    bool known = clang_type(j, &e->type, c, &other);
     if (c.kind == TRUTH_CURSOR && other.base == BOOL_TYPE) other.base = INT_TYPE; // 1 and 0 (OpenCL 1.2, 6.12)
     agree_on_type(j, e->token, &e->type, known, &other, c);
     switch (e->kind) {
@@ -271,7 +282,7 @@ static symbol *agree_on_declaration(judge *j, cursor c, const char *what) {
 static void agree_on_object(judge *j, cursor c, const char *what) {
     symbol *y = agree_on_declaration(j, c, what);
     type other;
-    bool known = type_in_clang(c, j->arena, &other), is_constant = y->kind == TABLE || y->kind == NUMBER_CONSTANT;
+    bool known = clang_type(j, &y->type, c, &other), is_constant = y->kind == TABLE || y->kind == NUMBER_CONSTANT;
     if (y->kind != VARIABLE && !is_constant) differ(j, y->token, "the driver doesn't read %s here", what);
     agree_on_type(j, y->token, &y->type, known, &other, c);
     bool apart = y->type.space != CONSTANT_SPACE && y->type.is_const != other.is_const;
@@ -475,7 +486,8 @@ static void agree_on_parameters(judge *j, const function *f, cursor c) {
         cursor p = parameter_at(c, i);
         size_t offset = 0;
         type other;
-        bool known = type_in_clang(p, j->arena, &other);
+        j->array_parameters |= type_in_clang(p, j->arena, &other) && other.dimensions;
+        bool known = clang_type(j, &d->symbol->type, p, &other);
         agree_on_type(j, d->token, &d->symbol->type, known, &other, p);
         if (*name_in_clang(p, j->arena)) agree_on_object(j, p, "a parameter");
         if (defined && *d->symbol->name && (!declared_at(&j->text, p, &offset) || symbol_at(j, offset) != d->symbol))

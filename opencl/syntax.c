@@ -281,7 +281,7 @@ static bool known_value(parser *p, const expression *e, uint64_t *value) {
 
 typedef struct {
     type type;
-    bool is_typedef, is_kernel, has_space, has_type;
+    bool is_typedef, is_kernel, is_static, has_space, has_type;
     uint64_t group[3];
 } specifiers;
 
@@ -367,6 +367,7 @@ static bool read_specifier(parser *p, specifiers *s, unsigned *words) {
         s->is_typedef = true;
         return true;
     }
+    if (!strcmp(w, "static") || !strcmp(w, "extern")) s->is_static = true;
     if (is_one_of(w, dropped)) return true;
     symbol *y = s->has_type ? NULL : find(p, w);
     if (!y || y->kind != TYPE_NAME) return false;
@@ -697,6 +698,7 @@ static expression *read_sizeof(parser *p) {
         t = read_unary(p)->type;
         if (p->function) p->function->calls = calls;
     }
+    if (t.base == VOID_TYPE && !t.pointer) complain_at(p, e->token, "void has no size");
     e->type = number_type(ULONG_TYPE);
     e->value = bytes_of(t);
     return ended_number(p, e);
@@ -876,13 +878,14 @@ enum { MAX_ELEMENTS = 32768 };
 // A list in braces, from a place of the array on (C99 6.7.8). Gives how far it goes.
 static size_t read_list(parser *p, declaration *d, unsigned dimension, size_t place) {
     type t = d->symbol->type;
-    size_t part = (size_t)elements_from(t, dimension + 1),
+    size_t part = (size_t)elements_from(t, dimension + 1), begin = place,
            end = t.lengths[dimension] ? place + part * (size_t)t.lengths[dimension] : MAX_ELEMENTS;
     expect(p, "{");
     while (!sees(p, "}")) {
         if (place >= end) complain_at(p, p->at, "these are more elements than the array has");
         if (sees(p, "{")) {
             if (dimension + 1 == t.dimensions) complain(p);
+            if ((place - begin) % part) complain_at(p, p->at, "Clsim has no braces in a row that began without them");
             read_list(p, d, dimension + 1, place);
             place += part;
         } else d->elements[place++] = read_assignment(p);
@@ -1004,6 +1007,7 @@ static void read_typedef(parser *p, const specifiers *s) {
 // Enumeration constants are ints (C99 6.4.4.3).
 static void read_enumeration(parser *p) {
     uint64_t value = 0;
+    bool is_unsigned = false;
     size_t begin = p->at++;
     if (now(p)->kind == NAME_TOKEN) p->at++;
     if (!sees(p, "{")) complain_at(p, begin, "Clsim has no structs and unions, and no types of enumerations");
@@ -1011,11 +1015,17 @@ static void read_enumeration(parser *p) {
     while (!sees(p, "}")) {
         symbol *y = declare(p, NUMBER_CONSTANT, read_name(p), p->at);
         p->at++;
-        if (accept(p, "=") && !known_value(p, read_assignment(p), &value))
-            complain_at(p, p->at - 1, "the value of a constant is one that is known when the source is built");
+        if (accept(p, "=")) {
+            const expression *e = read_assignment(p);
+            if (!known_value(p, e, &value))
+                complain_at(p, p->at - 1, "the value of a constant is one that is known when the source is built");
+            is_unsigned = promoted(e->type.base) == ULONG_TYPE;
+        }
+        if (value != converted(value, INT_TYPE) || (is_unsigned && value > INT32_MAX))
+            complain_at(p, y->token, "the value of an enumeration constant is an int");
         y->type = number_type(INT_TYPE);
-        y->value = value = converted(value, INT_TYPE);
-        value++;
+        y->value = value++;
+        is_unsigned = false;
         if (!accept(p, ",")) break;
     }
     expect(p, "}");
@@ -1044,6 +1054,7 @@ static statement *read_declaration(parser *p) {
         return s;
     }
     if (spec.is_kernel) complain_at(p, s->token, hint(now(p)));
+    if (spec.is_static) complain_at(p, s->token, "a variable in a function is neither static nor extern");
     if (sees(p, ";")) complain(p);
     s->declarations = read_declarators(p, &spec);
     expect(p, ";");
@@ -1242,6 +1253,16 @@ static void read_parameters(parser *p, function *f) {
     p->at++;
 }
 
+// Whether the parameters of two declarations of a function have the same types.
+static bool are_alike(const declaration *a, const declaration *b) {
+    for (; a && b; a = a->next, b = b->next) {
+        type s = a->symbol->type, t = b->symbol->type;
+        if (s.base != t.base || s.pointer != t.pointer) return false;
+        if (s.pointer && (s.space != t.space || s.is_const != t.is_const)) return false;
+    }
+    return !a && !b;
+}
+
 // A function behind its specifiers and its type: a definition, or a prototype.
 static void read_function(parser *p, const specifiers *s, type result) {
     unit *u = p->unit;
@@ -1259,6 +1280,9 @@ static void read_function(parser *p, const specifiers *s, type result) {
     function *f = y->function;
     if (f->defined) complain_at(p, name, "this name is declared twice");
     p->at++;
+    bool again = y->token != name;
+    const declaration *parameters = f->parameters;
+    if (again && (f->result.base != result.base)) complain_at(p, name, "this function has another type in front");
     f->result = result;
     f->result.is_const = false;
     f->is_kernel |= s->is_kernel;
@@ -1267,6 +1291,7 @@ static void read_function(parser *p, const specifiers *s, type result) {
     if (f->is_kernel && (result.base != VOID_TYPE)) complain_at(p, name, "a kernel gives no value");
     open_scope(p);
     read_parameters(p, f);
+    if (again && !are_alike(parameters, f->parameters)) complain_at(p, name, "this function has another type in front");
     while (sees(p, "__attribute__")) {
         specifiers behind = {0};
         p->at++;
