@@ -98,7 +98,10 @@ bool constant_value(const expression *e, uint64_t *value) {
     if (!e || e->type.pointer || e->type.dimensions) return false;
     switch (e->kind) {
     case NUMBER: *value = e->value; return true;
-    case NAME: *value = e->symbol->value; return e->symbol->kind == NUMBER_CONSTANT;
+    case NAME:
+        if (!e->symbol || e->symbol->kind != NUMBER_CONSTANT) return false;
+        *value = e->symbol->value;
+        return true;
     case BRACKETS: return constant_value(e->a, value);
     case CAST:
         if (!constant_value(e->a, &l)) return false;
@@ -331,9 +334,11 @@ static bool read_specifier(parser *p, specifiers *s, unsigned *words) {
     if (now(p)->kind != NAME_TOKEN) return false;
     for (size_t i = 0; i < sizeof parts / sizeof *parts; i++)
         if (!strcmp(w, parts[i].name)) {
-            if (*words & parts[i].word || (s->has_type && !*words))
-                complain_at(p, p->at, parts[i].word == LONG ? "Clsim has no long long" : hint(now(p)));
-            *words |= parts[i].word;
+            unsigned before = *words, all = before | parts[i].word, size = all & (CHAR | SHORT | LONG);
+            bool wrong = (size & (size - 1)) || (all & CHAR && all & INT) || (all & UNSIGNED && all & SIGNED);
+            if (wrong || before & parts[i].word || (s->has_type && !before))
+                complain_at(p, p->at, before & all & LONG ? "Clsim has no long long" : hint(now(p)));
+            *words = all;
             s->has_type = true;
             base_type base = *words & CHAR    ? CHAR_TYPE
                              : *words & SHORT ? SHORT_TYPE
@@ -397,6 +402,12 @@ static bool read_specifiers(parser *p, specifiers *s) {
     return true;
 }
 
+// What is said of a parameter, or of the type of a cast, is its type alone.
+static void want_type_only(parser *p, size_t begin, const specifiers *s, type t) {
+    if (s->is_kernel || s->is_typedef || s->is_static) complain_at(p, begin, hint(&p->unit->tokens.at[begin]));
+    if (!t.pointer && t.space != PRIVATE_SPACE) complain_at(p, begin, "this value stands in no address space");
+}
+
 static bool begins_declaration(parser *p) {
     size_t begin = p->at;
     unsigned words = 0;
@@ -426,7 +437,7 @@ static void read_lengths(parser *p, type *t) {
         if (t->dimensions == 8) complain_at(p, p->at, "Clsim has no arrays of more than eight dimensions");
         size_t at = p->at;
         uint64_t n = 0;
-        if (!sees(p, "]") && (!known_value(p, read_assignment(p), &n) || !n || n > 1u << 20))
+        if (sees(p, "]") ? t->dimensions != 0 : (!known_value(p, read_assignment(p), &n) || !n || n > 1u << 20))
             complain_at(p, at, "the length of an array is a number from 1 on");
         lengths[t->dimensions++] = n; // 0: told by the initialiser
         expect(p, "]");
@@ -592,7 +603,8 @@ static expression *read_primary(parser *p) {
         p->at++;
         return ended_number(p, e);
     }
-    if (y && y->kind == FUNCTION) complain_at(p, p->at, "a function's name can only be called");
+    bool calls = y ? y->kind == FUNCTION : is_one_of(t->text, builtins) && strncmp(t->text, "CLK_", 4);
+    if (calls) complain_at(p, p->at, "a function's name can only be called");
     if (!y && !is_one_of(t->text, builtins))
         complain_at(p, p->at, strcmp(hint(t), "this can't stand here") ? hint(t) : "this name is unknown");
     e = make(p, NAME, p->at, p->at);
@@ -603,6 +615,16 @@ static expression *read_primary(parser *p) {
     ended(p, e);
     if (y && y->kind == NUMBER_CONSTANT) note_constant(p, e, y->value);
     return e;
+}
+
+// What is assigned to, or changed by a step: a name, an element or the content of a pointer.
+static void want_target(parser *p, const expression *e) {
+    const expression *target = inner(e);
+    if (target->kind != NAME && target->kind != INDEX && target->kind != CONTENT)
+        complain_at(p, e->first, "this can't be assigned to");
+    if (target->kind == NAME && !target->symbol) complain_at(p, e->first, "this can't be assigned to");
+    if (target->type.dimensions && !(target->kind == NAME && target->symbol->is_scalar))
+        complain_at(p, e->first, "an array can't be assigned to");
 }
 
 // What an index gives: an element, or of an array of several dimensions an array of fewer.
@@ -633,6 +655,7 @@ static expression *read_postfix(parser *p) {
         } else if (sees(p, "++") || sees(p, "--")) {
             whole = make(p, STEP_BEHIND, first, p->at);
             whole->operator= now(p)->text;
+            want_target(p, e);
             p->at++;
             whole->a = e;
             whole->type = e->type;
@@ -661,6 +684,7 @@ static expression *read_cast(parser *p) {
     read_specifiers(p, &s);
     e->type = read_pointer(p, &s);
     e->type.is_const = e->type.pointer && e->type.is_const;
+    want_type_only(p, e->first + 1, &s, e->type);
     expect(p, ")");
     e->a = read_unary(p);
     e->hard = e->a->hard;
@@ -715,6 +739,7 @@ static expression *read_unary(parser *p) {
         e->operator= now(p)->text;
         p->at++;
         e->a = read_unary(p);
+        want_target(p, e->a);
         e->type = e->a->type;
         e->hard = true;
     } else if (sees(p, "&")) {
@@ -827,12 +852,8 @@ static expression *read_assignment(parser *p) {
     expression *e = read_conditional(p);
     if (now(p)->kind != SYMBOL_TOKEN || !is_one_of(now(p)->text, signs)) return e;
     expression *whole = make(p, ASSIGNMENT, first, p->at);
-    const expression *target = inner(e);
     whole->operator= now(p)->text;
-    if (target->kind != NAME && target->kind != INDEX && target->kind != CONTENT)
-        complain_at(p, first, "this can't be assigned to");
-    if (target->kind == NAME && target->type.dimensions && !(target->symbol && target->symbol->is_scalar))
-        complain_at(p, first, "an array can't be assigned to");
+    want_target(p, e);
     deeper(p);
     p->at++;
     whole->a = e;
@@ -861,6 +882,10 @@ static expression *read_expression(parser *p) {
 // ---- declarations ----
 
 static const char *read_name(parser *p) {
+    static const char *const kept[] = {"if",     "else",   "while", "do",      "for",  "break",  "continue",
+                                       "return", "switch", "case",  "default", "goto", "sizeof", "struct",
+                                       "union",  "enum",   "float", "double",  "half", NULL};
+    if (is_one_of(now(p)->text, kept)) complain(p);
     const symbol *y = find(p, now(p)->text); // a typedef's name may be declared anew
     if (now(p)->kind != NAME_TOKEN || (begins_declaration(p) && !(y && y->kind == TYPE_NAME))) complain(p);
     return now(p)->text;
@@ -948,6 +973,11 @@ static void read_constant(parser *p, declaration *d) {
     y->written = t.at;
 }
 
+static void want_lengths(parser *p, const declaration *d) {
+    for (unsigned i = 0; i < d->symbol->type.dimensions; i++)
+        if (!d->symbol->type.lengths[i]) complain_at(p, d->token, "the length of an array is a number from 1 on");
+}
+
 // One declarator of a variable, behind its specifiers.
 static declaration *read_declarator(parser *p, const specifiers *s) {
     declaration *d = take(p->unit->arena, sizeof *d);
@@ -966,6 +996,7 @@ static declaration *read_declarator(parser *p, const specifiers *s) {
         read_constant(p, d);
         return d;
     }
+    if (!has_value) want_lengths(p, d);
     if (!t.pointer && t.space == LOCAL_SPACE) {
         if (has_value) complain_at(p, d->token, "a variable in local memory has no initialiser");
         y->is_scalar = !t.dimensions;
@@ -977,8 +1008,7 @@ static declaration *read_declarator(parser *p, const specifiers *s) {
         else d->value = read_assignment(p);
         y->settled = true;
     }
-    for (unsigned i = 0; i < t.dimensions; i++)
-        if (!y->type.lengths[i]) complain_at(p, d->token, "the length of an array is a number from 1 on");
+    want_lengths(p, d);
     return d;
 }
 
@@ -1230,6 +1260,7 @@ static declaration *read_parameter(parser *p, bool of_kernel) {
         t.pointer = true;
     }
     if (!t.pointer && t.base == VOID_TYPE) complain_at(p, d->token, "a parameter has a type");
+    want_type_only(p, begin, &s, t);
     symbol *y = *name ? declare(p, VARIABLE, name, d->token) : take(p->unit->arena, sizeof *y);
     y->name = y->written = name;
     y->type = t;
@@ -1271,6 +1302,7 @@ static void read_function(parser *p, const specifiers *s, type result) {
     symbol *y = find(p, word);
     if (y && y->kind != FUNCTION) complain_at(p, name, "this name is declared twice");
     if (result.pointer) complain_at(p, name, "Clsim has no functions that give pointers");
+    if (s->has_space) complain_at(p, name, "what a function gives stands in no address space");
     if (is_one_of(word, builtins)) complain_at(p, name, "a function of the language has this name");
     if (!y) {
         y = declare(p, FUNCTION, word, name);
