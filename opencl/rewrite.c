@@ -930,11 +930,20 @@ static void write_case(writer *w, const statement *s, const statement *end) {
     }
 }
 
+// No two labels of a switch are the same (C99 6.8.4.2).
+static void refuse_same_labels(writer *w, const statement *first, base_type t) {
+    for (const statement *x = first; x; x = x->next)
+        for (const statement *y = first; is_label(x) && y != x; y = y->next)
+            if (y->kind == x->kind && converted(y->value, t) == converted(x->value, t))
+                refuse(w, x->token, "this label stands in front already");
+}
+
 // A switch whose cases don't fall through is a chain of ifs.
 static void write_switch(writer *w, const statement *s) {
     const statement *first = s->first->kind == BLOCK ? s->first->first : NULL, *otherwise = NULL;
     if (!first || !is_label(first)) refuse(w, s->token, "Clsim has no such switch");
     base_type t = promoted(s->test->type.base);
+    refuse_same_labels(w, first, t);
     part block;
     begin_part(w, &block);
     type of_test = {.base = t};

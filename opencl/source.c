@@ -1,4 +1,5 @@
 #include "source.h"
+#include "second.h"
 #include "session.h"
 #include <stdio.h>
 #include <stdlib.h>
@@ -61,14 +62,22 @@ static const char *line_of(prepared *p, const token *t) {
     return at ? copy_text(&p->arena, at, strcspn(at, "\n")) : NULL;
 }
 
-static void add_message(prepared *p, text *log, const token *t, const char *message) {
+// A message at a token, or with `behind` at its end.
+static void add_message_at(prepared *p, text *log, const token *t, bool behind, const char *message) {
     const char *line = line_of(p, t);
     size_t column = line ? column_in(p, line, t) : t->column - 1;
+    if (behind && line && column + strlen(t->text) <= strlen(line)) column += strlen(t->text);
     addf(log, "%s:%u:%zu: error: %s\n", t->file ? t->file : "source", t->line, column + 1, message);
     if (!line) return;
     addf(log, "%s\n", line);
     for (size_t i = 0; i < column; i++) add(log, line[i] == '\t' ? "\t" : " ");
     add(log, "^\n");
+}
+static void add_message(prepared *p, text *log, const token *t, const char *message) {
+    add_message_at(p, log, t, false, message);
+}
+static void add_remarks(prepared *p, text *log, const remark *r) {
+    for (; r; r = r->next) add_message_at(p, log, &p->tokens.at[r->token], r->behind, r->message);
 }
 
 // The token that an offset of the judged text stands for.
@@ -227,6 +236,7 @@ static bool make_ready(prepared *p, const char *options) {
     p->tokens = u->tokens;
     if (setjmp(wrong.stop)) {
         add_message(p, &log, &p->tokens.at[wrong.token], wrong.message);
+        add_remarks(p, &log, second_reading_up_to(u, read, marked, wrong.token));
         p->log = log.at;
         return false;
     }
@@ -236,6 +246,11 @@ static bool make_ready(prepared *p, const char *options) {
     bool never = rewriting && !strcmp(rewriting, "0"), always = rewriting && !strcmp(rewriting, "1");
     judged_text j = {NULL, 0, NULL, 0};
     if (!never) j = rewrite(u, &wrong);
+    add_remarks(p, &log, second_reading(u, read, marked));
+    if (log.length) {
+        p->log = log.at;
+        return false;
+    }
     if (never || (!always && is_as_written(&p->arena, &u->tokens, j.text)))
         keep_text(p, without_markers(&p->arena, read, marked));
     else {

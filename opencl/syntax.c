@@ -21,7 +21,6 @@ typedef struct {
     function *function;
     statement *loop;      // the innermost loop
     statement *breakable; // the innermost loop or switch
-    symbol *variables;
     unsigned nesting;
 } parser;
 
@@ -99,7 +98,10 @@ bool constant_value(const expression *e, uint64_t *value) {
     if (!e || e->type.pointer || e->type.dimensions) return false;
     switch (e->kind) {
     case NUMBER: *value = e->value; return true;
-    case NAME: *value = e->symbol->value; return e->symbol->kind == NUMBER_CONSTANT;
+    case NAME:
+        if (!e->symbol || e->symbol->kind != NUMBER_CONSTANT) return false;
+        *value = e->symbol->value;
+        return true;
     case BRACKETS: return constant_value(e->a, value);
     case CAST:
         if (!constant_value(e->a, &l)) return false;
@@ -222,6 +224,11 @@ static const char *const builtins[] = {"get_work_dim",
                                        "CLK_GLOBAL_MEM_FENCE",
                                        NULL};
 
+// Functions that are written as others (OpenCL 1.2, 6.12.3; OpenCL 1.2 extensions, 9.5).
+static const char *const written_as_others[] = {"clamp",    "atom_add",     "atom_sub", "atom_xchg", "atom_inc",
+                                                "atom_dec", "atom_cmpxchg", "atom_min", "atom_max",  "atom_and",
+                                                "atom_or",  "atom_xor",     NULL};
+
 static symbol *find(parser *p, const char *name) {
     for (scope *s = p->scope; s; s = s->outer)
         for (symbol *y = s->symbols; y; y = y->next)
@@ -232,8 +239,13 @@ static symbol *declare(parser *p, symbol_kind kind, const char *name, size_t tok
     for (symbol *y = p->scope->symbols; y; y = y->next)
         if (!strcmp(y->name, name)) complain_at(p, token, "this name is declared twice");
     symbol *y = take(p->unit->arena, sizeof *y);
-    *y = (symbol){.next = p->scope->symbols, .kind = kind, .name = name, .written = name};
-    p->scope->symbols = y;
+    *y = (symbol){.next = p->scope->symbols,
+                  .other = p->unit->symbols,
+                  .token = token,
+                  .kind = kind,
+                  .name = name,
+                  .written = name};
+    p->scope->symbols = p->unit->symbols = y;
     return y;
 }
 static void open_scope(parser *p) {
@@ -254,11 +266,25 @@ static void rename_if_taken(parser *p, symbol *y) {
     y->written = t.at;
 }
 
+// ---- constants ----
+
+static void note_constant(parser *p, const expression *e, uint64_t value) {
+    constant *c = take(p->unit->arena, sizeof *c);
+    *c = (constant){p->unit->constants, e->first, e->last, value};
+    p->unit->constants = c;
+}
+// The value of an expression that has to be known when the source is built.
+static bool known_value(parser *p, const expression *e, uint64_t *value) {
+    bool known = constant_value(e, value);
+    if (known) note_constant(p, e, *value);
+    return known;
+}
+
 // ---- declaration specifiers ----
 
 typedef struct {
     type type;
-    bool is_typedef, is_kernel, has_space, has_type;
+    bool is_typedef, is_kernel, is_static, has_space, has_type;
     uint64_t group[3];
 } specifiers;
 
@@ -275,7 +301,7 @@ static void read_attribute(parser *p, specifiers *s) {
             depth++;
             for (int d = 0; d < 3; d++) {
                 if (d) expect(p, ",");
-                if (!constant_value(read_assignment(p), &s->group[d]) || !s->group[d])
+                if (!known_value(p, read_assignment(p), &s->group[d]) || !s->group[d])
                     complain_at(p, p->at, "a size of a group is a number above 0");
             }
         }
@@ -308,9 +334,11 @@ static bool read_specifier(parser *p, specifiers *s, unsigned *words) {
     if (now(p)->kind != NAME_TOKEN) return false;
     for (size_t i = 0; i < sizeof parts / sizeof *parts; i++)
         if (!strcmp(w, parts[i].name)) {
-            if (*words & parts[i].word || (s->has_type && !*words))
-                complain_at(p, p->at, parts[i].word == LONG ? "Clsim has no long long" : hint(now(p)));
-            *words |= parts[i].word;
+            unsigned before = *words, all = before | parts[i].word, size = all & (CHAR | SHORT | LONG);
+            bool wrong = (size & (size - 1)) || (all & CHAR && all & INT) || (all & UNSIGNED && all & SIGNED);
+            if (wrong || before & parts[i].word || (s->has_type && !before))
+                complain_at(p, p->at, before & all & LONG ? "Clsim has no long long" : hint(now(p)));
+            *words = all;
             s->has_type = true;
             base_type base = *words & CHAR    ? CHAR_TYPE
                              : *words & SHORT ? SHORT_TYPE
@@ -344,6 +372,7 @@ static bool read_specifier(parser *p, specifiers *s, unsigned *words) {
         s->is_typedef = true;
         return true;
     }
+    if (!strcmp(w, "static") || !strcmp(w, "extern")) s->is_static = true;
     if (is_one_of(w, dropped)) return true;
     symbol *y = s->has_type ? NULL : find(p, w);
     if (!y || y->kind != TYPE_NAME) return false;
@@ -371,6 +400,12 @@ static bool read_specifiers(parser *p, specifiers *s) {
     if (p->at == begin) return false;
     if (!s->has_type) complain(p);
     return true;
+}
+
+// What is said of a parameter, or of the type of a cast, is its type alone.
+static void want_type_only(parser *p, size_t begin, const specifiers *s, type t) {
+    if (s->is_kernel || s->is_typedef || s->is_static) complain_at(p, begin, hint(&p->unit->tokens.at[begin]));
+    if (!t.pointer && t.space != PRIVATE_SPACE) complain_at(p, begin, "this value stands in no address space");
 }
 
 static bool begins_declaration(parser *p) {
@@ -402,7 +437,7 @@ static void read_lengths(parser *p, type *t) {
         if (t->dimensions == 8) complain_at(p, p->at, "Clsim has no arrays of more than eight dimensions");
         size_t at = p->at;
         uint64_t n = 0;
-        if (!sees(p, "]") && (!constant_value(read_assignment(p), &n) || !n || n > 1u << 20))
+        if (sees(p, "]") ? t->dimensions != 0 : (!known_value(p, read_assignment(p), &n) || !n || n > 1u << 20))
             complain_at(p, at, "the length of an array is a number from 1 on");
         lengths[t->dimensions++] = n; // 0: told by the initialiser
         expect(p, "]");
@@ -420,6 +455,15 @@ static expression *make(parser *p, expression_kind kind, size_t first, size_t to
     e->kind = kind;
     e->first = first;
     e->token = token;
+    return e;
+}
+// An expression that ends in front of what is read next.
+static expression *ended(parser *p, expression *e) {
+    e->last = p->at - 1;
+    return e;
+}
+static expression *ended_number(parser *p, expression *e) {
+    note_constant(p, ended(p, e), e->value);
     return e;
 }
 static type number_type(base_type b) { return (type){.base = b}; }
@@ -494,6 +538,8 @@ static void read_call(parser *p, expression *e, symbol *callee) {
     }
     p->at++;
     if (!callee) {
+        if (!is_one_of(name, builtins) && !is_one_of(name, written_as_others))
+            complain_at(p, e->token, "this name stands for nothing that Clsim has");
         e->type = number_type(builtin_type(name, e->a));
         return;
     }
@@ -525,13 +571,13 @@ static expression *read_primary(parser *p) {
         e = make(p, NUMBER, p->at, p->at);
         read_number(p, e);
         p->at++;
-        return e;
+        return ended_number(p, e);
     }
     if (t->kind == CHARACTER_TOKEN) {
         e = make(p, NUMBER, p->at, p->at);
         read_character(p, e);
         p->at++;
-        return e;
+        return ended_number(p, e);
     }
     if (sees(p, "(")) {
         e = make(p, BRACKETS, p->at, p->at);
@@ -540,7 +586,7 @@ static expression *read_primary(parser *p) {
         expect(p, ")");
         e->type = e->a->type;
         e->hard = e->a->hard;
-        return e;
+        return ended(p, e);
     }
     if (t->kind != NAME_TOKEN) complain(p);
     symbol *y = find(p, t->text);
@@ -548,16 +594,17 @@ static expression *read_primary(parser *p) {
     if (is(ahead(p, 1), "(") && (!y || y->kind == FUNCTION)) {
         e = make(p, CALL, p->at, p->at);
         read_call(p, e, y);
-        return e;
+        return ended(p, e);
     }
     if (!y && (sees(p, "true") || sees(p, "false"))) {
         e = make(p, NUMBER, p->at, p->at);
         e->type = number_type(INT_TYPE);
         e->value = sees(p, "true");
         p->at++;
-        return e;
+        return ended_number(p, e);
     }
-    if (y && y->kind == FUNCTION) complain_at(p, p->at, "a function's name can only be called");
+    bool calls = y ? y->kind == FUNCTION : is_one_of(t->text, builtins) && strncmp(t->text, "CLK_", 4);
+    if (calls) complain_at(p, p->at, "a function's name can only be called");
     if (!y && !is_one_of(t->text, builtins))
         complain_at(p, p->at, strcmp(hint(t), "this can't stand here") ? hint(t) : "this name is unknown");
     e = make(p, NAME, p->at, p->at);
@@ -565,7 +612,19 @@ static expression *read_primary(parser *p) {
     e->type = y ? y->type : number_type(UINT_TYPE);
     if (y && y->kind == TABLE) use_table(p, y);
     p->at++;
+    ended(p, e);
+    if (y && y->kind == NUMBER_CONSTANT) note_constant(p, e, y->value);
     return e;
+}
+
+// What is assigned to, or changed by a step: a name, an element or the content of a pointer.
+static void want_target(parser *p, const expression *e) {
+    const expression *target = inner(e);
+    if (target->kind != NAME && target->kind != INDEX && target->kind != CONTENT)
+        complain_at(p, e->first, "this can't be assigned to");
+    if (target->kind == NAME && !target->symbol) complain_at(p, e->first, "this can't be assigned to");
+    if (target->type.dimensions && !(target->kind == NAME && target->symbol->is_scalar))
+        complain_at(p, e->first, "an array can't be assigned to");
 }
 
 // What an index gives: an element, or of an array of several dimensions an array of fewer.
@@ -596,6 +655,7 @@ static expression *read_postfix(parser *p) {
         } else if (sees(p, "++") || sees(p, "--")) {
             whole = make(p, STEP_BEHIND, first, p->at);
             whole->operator= now(p)->text;
+            want_target(p, e);
             p->at++;
             whole->a = e;
             whole->type = e->type;
@@ -603,7 +663,7 @@ static expression *read_postfix(parser *p) {
         } else if (sees(p, ".") || sees(p, "->")) {
             complain(p);
         } else return e;
-        e = whole;
+        e = ended(p, whole);
     }
 }
 
@@ -624,6 +684,7 @@ static expression *read_cast(parser *p) {
     read_specifiers(p, &s);
     e->type = read_pointer(p, &s);
     e->type.is_const = e->type.pointer && e->type.is_const;
+    want_type_only(p, e->first + 1, &s, e->type);
     expect(p, ")");
     e->a = read_unary(p);
     e->hard = e->a->hard;
@@ -661,9 +722,10 @@ static expression *read_sizeof(parser *p) {
         t = read_unary(p)->type;
         if (p->function) p->function->calls = calls;
     }
+    if (t.base == VOID_TYPE && !t.pointer) complain_at(p, e->token, "void has no size");
     e->type = number_type(ULONG_TYPE);
     e->value = bytes_of(t);
-    return e;
+    return ended_number(p, e);
 }
 
 static expression *read_unary(parser *p) {
@@ -677,6 +739,7 @@ static expression *read_unary(parser *p) {
         e->operator= now(p)->text;
         p->at++;
         e->a = read_unary(p);
+        want_target(p, e->a);
         e->type = e->a->type;
         e->hard = true;
     } else if (sees(p, "&")) {
@@ -710,7 +773,7 @@ static expression *read_unary(parser *p) {
         e->hard = e->a->hard;
     } else e = read_postfix(p);
     p->nesting--;
-    return e;
+    return ended(p, e);
 }
 
 static const char *const levels[][5] = {{"||", NULL},
@@ -725,10 +788,12 @@ static const char *const levels[][5] = {{"||", NULL},
                                         {"*", "/", "%", NULL}};
 enum { LEVELS = sizeof levels / sizeof *levels, SHIFTS = 7, SUMS = 8 };
 
-static type binary_type(const expression *l, const expression *r, unsigned level) {
+static type binary_type(parser *p, size_t token, const expression *l, const expression *r, unsigned level) {
     if (level < 2 || level == 5 || level == 6) return number_type(INT_TYPE);
     if (level == SHIFTS) return number_type(promoted(l->type.base));
     type pointer = l->type.pointer || l->type.dimensions ? l->type : r->type;
+    bool both = (l->type.pointer || l->type.dimensions) && (r->type.pointer || r->type.dimensions);
+    if (both) complain_at(p, token, "Clsim has no differences of pointers");
     if (level == SUMS && (pointer.pointer || pointer.dimensions)) {
         pointer.pointer = true;
         pointer.dimensions = 0;
@@ -750,9 +815,9 @@ static expression *read_binary(parser *p, unsigned level) {
         p->at++;
         whole->a = e;
         whole->b = read_binary(p, level + 1);
-        whole->type = binary_type(whole->a, whole->b, level);
+        whole->type = binary_type(p, whole->token, whole->a, whole->b, level);
         whole->hard = whole->a->hard || whole->b->hard;
-        e = whole;
+        e = ended(p, whole);
     }
     p->nesting -= opened;
     return e;
@@ -774,7 +839,7 @@ static expression *read_conditional(parser *p) {
                           ? whole->b->type
                           : number_type(is_void ? VOID_TYPE : common(whole->b->type.base, whole->c->type.base));
         whole->hard = e->hard || whole->b->hard || whole->c->hard;
-        e = whole;
+        e = ended(p, whole);
     }
     p->nesting--;
     return e;
@@ -787,12 +852,8 @@ static expression *read_assignment(parser *p) {
     expression *e = read_conditional(p);
     if (now(p)->kind != SYMBOL_TOKEN || !is_one_of(now(p)->text, signs)) return e;
     expression *whole = make(p, ASSIGNMENT, first, p->at);
-    const expression *target = inner(e);
     whole->operator= now(p)->text;
-    if (target->kind != NAME && target->kind != INDEX && target->kind != CONTENT)
-        complain_at(p, first, "this can't be assigned to");
-    if (target->kind == NAME && target->type.dimensions && !(target->symbol && target->symbol->is_scalar))
-        complain_at(p, first, "an array can't be assigned to");
+    want_target(p, e);
     deeper(p);
     p->at++;
     whole->a = e;
@@ -800,7 +861,7 @@ static expression *read_assignment(parser *p) {
     whole->type = e->type;
     whole->hard = true;
     p->nesting--;
-    return whole;
+    return ended(p, whole);
 }
 
 static expression *read_expression(parser *p) {
@@ -813,7 +874,7 @@ static expression *read_expression(parser *p) {
         whole->b = read_assignment(p);
         whole->type = whole->b->type;
         whole->hard = true;
-        e = whole;
+        e = ended(p, whole);
     }
     return e;
 }
@@ -821,6 +882,10 @@ static expression *read_expression(parser *p) {
 // ---- declarations ----
 
 static const char *read_name(parser *p) {
+    static const char *const kept[] = {"if",     "else",   "while", "do",      "for",  "break",  "continue",
+                                       "return", "switch", "case",  "default", "goto", "sizeof", "struct",
+                                       "union",  "enum",   "float", "double",  "half", NULL};
+    if (is_one_of(now(p)->text, kept)) complain(p);
     const symbol *y = find(p, now(p)->text); // a typedef's name may be declared anew
     if (now(p)->kind != NAME_TOKEN || (begins_declaration(p) && !(y && y->kind == TYPE_NAME))) complain(p);
     return now(p)->text;
@@ -838,13 +903,14 @@ enum { MAX_ELEMENTS = 32768 };
 // A list in braces, from a place of the array on (C99 6.7.8). Gives how far it goes.
 static size_t read_list(parser *p, declaration *d, unsigned dimension, size_t place) {
     type t = d->symbol->type;
-    size_t part = (size_t)elements_from(t, dimension + 1),
+    size_t part = (size_t)elements_from(t, dimension + 1), begin = place,
            end = t.lengths[dimension] ? place + part * (size_t)t.lengths[dimension] : MAX_ELEMENTS;
     expect(p, "{");
     while (!sees(p, "}")) {
         if (place >= end) complain_at(p, p->at, "these are more elements than the array has");
         if (sees(p, "{")) {
             if (dimension + 1 == t.dimensions) complain(p);
+            if ((place - begin) % part) complain_at(p, p->at, "Clsim has no braces in a row that began without them");
             read_list(p, d, dimension + 1, place);
             place += part;
         } else d->elements[place++] = read_assignment(p);
@@ -873,7 +939,8 @@ static void read_constant(parser *p, declaration *d) {
     if (!y->type.dimensions) {
         uint64_t value;
         size_t at = p->at;
-        if (!constant_value(read_assignment(p), &value))
+        d->value = read_assignment(p);
+        if (!known_value(p, d->value, &value))
             complain_at(p, at, "the value of a constant is one that is known when the source is built");
         y->kind = NUMBER_CONSTANT;
         y->value = converted(value, y->type.base);
@@ -886,7 +953,7 @@ static void read_constant(parser *p, declaration *d) {
     y->bytes = take(p->unit->arena, y->size);
     for (size_t i = 0; i < d->length; i++) {
         uint64_t value = 0;
-        if (d->elements[i] && !constant_value(d->elements[i], &value))
+        if (d->elements[i] && !known_value(p, d->elements[i], &value))
             complain_at(p, d->elements[i]->first,
                         "the value of a constant is one that is known when the source is built");
         value = converted(value, y->type.base);
@@ -906,6 +973,11 @@ static void read_constant(parser *p, declaration *d) {
     y->written = t.at;
 }
 
+static void want_lengths(parser *p, const declaration *d) {
+    for (unsigned i = 0; i < d->symbol->type.dimensions; i++)
+        if (!d->symbol->type.lengths[i]) complain_at(p, d->token, "the length of an array is a number from 1 on");
+}
+
 // One declarator of a variable, behind its specifiers.
 static declaration *read_declarator(parser *p, const specifiers *s) {
     declaration *d = take(p->unit->arena, sizeof *d);
@@ -913,8 +985,7 @@ static declaration *read_declarator(parser *p, const specifiers *s) {
     const char *name = read_name(p);
     d->token = p->at++;
     symbol *y = d->symbol = declare(p, VARIABLE, name, d->token);
-    y->other = p->variables;
-    p->variables = y;
+    y->declaration = d;
     read_lengths(p, &t);
     y->type = t;
     if (!t.pointer && t.base == VOID_TYPE) complain_at(p, d->token, "a variable has a type");
@@ -925,6 +996,7 @@ static declaration *read_declarator(parser *p, const specifiers *s) {
         read_constant(p, d);
         return d;
     }
+    if (!has_value) want_lengths(p, d);
     if (!t.pointer && t.space == LOCAL_SPACE) {
         if (has_value) complain_at(p, d->token, "a variable in local memory has no initialiser");
         y->is_scalar = !t.dimensions;
@@ -936,8 +1008,7 @@ static declaration *read_declarator(parser *p, const specifiers *s) {
         else d->value = read_assignment(p);
         y->settled = true;
     }
-    for (unsigned i = 0; i < t.dimensions; i++)
-        if (!y->type.lengths[i]) complain_at(p, d->token, "the length of an array is a number from 1 on");
+    want_lengths(p, d);
     return d;
 }
 
@@ -966,6 +1037,7 @@ static void read_typedef(parser *p, const specifiers *s) {
 // Enumeration constants are ints (C99 6.4.4.3).
 static void read_enumeration(parser *p) {
     uint64_t value = 0;
+    bool is_unsigned = false;
     size_t begin = p->at++;
     if (now(p)->kind == NAME_TOKEN) p->at++;
     if (!sees(p, "{")) complain_at(p, begin, "Clsim has no structs and unions, and no types of enumerations");
@@ -973,11 +1045,17 @@ static void read_enumeration(parser *p) {
     while (!sees(p, "}")) {
         symbol *y = declare(p, NUMBER_CONSTANT, read_name(p), p->at);
         p->at++;
-        if (accept(p, "=") && !constant_value(read_assignment(p), &value))
-            complain_at(p, p->at - 1, "the value of a constant is one that is known when the source is built");
+        if (accept(p, "=")) {
+            const expression *e = read_assignment(p);
+            if (!known_value(p, e, &value))
+                complain_at(p, p->at - 1, "the value of a constant is one that is known when the source is built");
+            is_unsigned = promoted(e->type.base) == ULONG_TYPE;
+        }
+        if (value != converted(value, INT_TYPE) || (is_unsigned && value > INT32_MAX))
+            complain_at(p, y->token, "the value of an enumeration constant is an int");
         y->type = number_type(INT_TYPE);
-        y->value = value = converted(value, INT_TYPE);
-        value++;
+        y->value = value++;
+        is_unsigned = false;
         if (!accept(p, ",")) break;
     }
     expect(p, "}");
@@ -1006,6 +1084,7 @@ static statement *read_declaration(parser *p) {
         return s;
     }
     if (spec.is_kernel) complain_at(p, s->token, hint(now(p)));
+    if (spec.is_static) complain_at(p, s->token, "a variable in a function is neither static nor extern");
     if (sees(p, ";")) complain(p);
     s->declarations = read_declarators(p, &spec);
     expect(p, ";");
@@ -1102,7 +1181,8 @@ static statement *read_label(parser *p) {
     p->at++;
     if (s->kind == CASE) {
         size_t at = p->at;
-        if (!constant_value(read_conditional(p), &s->value))
+        s->test = read_conditional(p);
+        if (!known_value(p, s->test, &s->value))
             complain_at(p, at, "the value of a case is one that is known when the source is built");
     }
     expect(p, ":");
@@ -1180,12 +1260,11 @@ static declaration *read_parameter(parser *p, bool of_kernel) {
         t.pointer = true;
     }
     if (!t.pointer && t.base == VOID_TYPE) complain_at(p, d->token, "a parameter has a type");
+    want_type_only(p, begin, &s, t);
     symbol *y = *name ? declare(p, VARIABLE, name, d->token) : take(p->unit->arena, sizeof *y);
     y->name = y->written = name;
     y->type = t;
     y->settled = y->is_parameter = true;
-    y->other = p->variables;
-    p->variables = y;
     d->symbol = y;
     return d;
 }
@@ -1205,6 +1284,16 @@ static void read_parameters(parser *p, function *f) {
     p->at++;
 }
 
+// Whether the parameters of two declarations of a function have the same types.
+static bool are_alike(const declaration *a, const declaration *b) {
+    for (; a && b; a = a->next, b = b->next) {
+        type s = a->symbol->type, t = b->symbol->type;
+        if (s.base != t.base || s.pointer != t.pointer) return false;
+        if (s.pointer && (s.space != t.space || s.is_const != t.is_const)) return false;
+    }
+    return !a && !b;
+}
+
 // A function behind its specifiers and its type: a definition, or a prototype.
 static void read_function(parser *p, const specifiers *s, type result) {
     unit *u = p->unit;
@@ -1213,6 +1302,7 @@ static void read_function(parser *p, const specifiers *s, type result) {
     symbol *y = find(p, word);
     if (y && y->kind != FUNCTION) complain_at(p, name, "this name is declared twice");
     if (result.pointer) complain_at(p, name, "Clsim has no functions that give pointers");
+    if (s->has_space) complain_at(p, name, "what a function gives stands in no address space");
     if (is_one_of(word, builtins)) complain_at(p, name, "a function of the language has this name");
     if (!y) {
         y = declare(p, FUNCTION, word, name);
@@ -1222,6 +1312,9 @@ static void read_function(parser *p, const specifiers *s, type result) {
     function *f = y->function;
     if (f->defined) complain_at(p, name, "this name is declared twice");
     p->at++;
+    bool again = y->token != name;
+    const declaration *parameters = f->parameters;
+    if (again && (f->result.base != result.base)) complain_at(p, name, "this function has another type in front");
     f->result = result;
     f->result.is_const = false;
     f->is_kernel |= s->is_kernel;
@@ -1230,6 +1323,7 @@ static void read_function(parser *p, const specifiers *s, type result) {
     if (f->is_kernel && (result.base != VOID_TYPE)) complain_at(p, name, "a kernel gives no value");
     open_scope(p);
     read_parameters(p, f);
+    if (again && !are_alike(parameters, f->parameters)) complain_at(p, name, "this function has another type in front");
     while (sees(p, "__attribute__")) {
         specifiers behind = {0};
         p->at++;
@@ -1306,7 +1400,7 @@ void parse(unit *u, complaint *wrong) {
     open_scope(&p);
     p.top = p.scope;
     while (now(&p)->kind != END_TOKEN) read_top(&p);
-    for (symbol *y = p.variables; y; y = y->other)
+    for (symbol *y = u->symbols; y; y = y->other)
         if (y->kind == VARIABLE) rename_if_taken(&p, y);
     spread_tables(u);
 }

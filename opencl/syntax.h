@@ -38,7 +38,8 @@ typedef enum { VARIABLE, NUMBER_CONSTANT, TABLE, TYPE_NAME, FUNCTION } symbol_ki
 
 struct symbol {
     symbol *next;  // in its scope
-    symbol *other; // in the list of all variables
+    symbol *other; // in the list of all symbols
+    size_t token;  // where it is declared
     symbol_kind kind;
     const char *name;
     const char *written; // its name in the text that is judged
@@ -48,7 +49,8 @@ struct symbol {
     bool is_parameter;
     bool is_scalar; // one variable in local memory: an array of one element in the text that is judged
     function *function;
-    unsigned char *bytes; // of a table
+    const struct declaration *declaration; // of a variable, a table and a constant in constant memory
+    unsigned char *bytes;                  // of a table
     size_t size;
     unsigned number; // of a table, from 0
 };
@@ -76,6 +78,7 @@ struct expression {
     expression *next; // the next argument
     size_t token;     // its operator, name or number
     size_t first;     // its first token
+    size_t last;      // its last token
     type type;
     expression *a, *b, *c; // its parts, in the order of the text; of a call its first argument in `a`
     symbol *symbol;        // of a name; of a call of a function of the source
@@ -114,7 +117,7 @@ struct statement {
     statement_kind kind;
     statement *next; // in its block
     size_t token;
-    expression *test, *step;           // the condition or value, the third part of a `for`
+    expression *test, *step;           // the condition or value, that of a case too; the third part of a `for`
     statement *first, *second, *begin; // parts; `begin` is the first part of a `for`
     declaration *declarations;
     uint64_t value;    // of a case
@@ -144,10 +147,19 @@ struct function {
     bool *tables;       // which tables it uses, itself or by a call
 };
 
+// An expression whose value was worked out when the source was read.
+typedef struct constant {
+    struct constant *next;
+    size_t first, last; // its tokens
+    uint64_t value;     // as 64 bits, with the sign of its type
+} constant;
+
 typedef struct {
     arena *arena;
     tokens tokens;
     function *functions; // in the order of their definitions
+    symbol *symbols;     // all that have names, the last one first
+    constant *constants; // the last one first
     symbol **tables;     // arrays of numbers in constant memory, at program scope or in a function
     unsigned table_count;
     const char *mark; // with which no name of the source begins
