@@ -70,7 +70,7 @@ static bool change_name(const unit *u, expression *e) {
     unsigned n = 0;
     for (symbol *y = u->symbols; y; y = y->other) n++;
     symbol *y = u->symbols;
-    for (unsigned i = chance(n); i; i--) y = y->other;
+    for (unsigned i = chance(n); i && y; i--) y = y->other;
     if (e->symbol && chance(4) == 0) y = NULL;
     if (e->symbol == y) return false;
     e->symbol = y;
@@ -229,13 +229,15 @@ static int test_source(const char *path, unsigned changes) {
     arena a = {.blocks = NULL};
     complaint wrong = {.message = NULL};
     const char *source = content_of(path);
-    unit *u = calloc(1, sizeof *u);
+    static unit whole;
+    unit *u = &whole;
     char what[200];
     volatile int count = 0;
-    if (!u || setjmp(a.failed)) exit(2);
+    if (setjmp(a.failed)) exit(2);
     *u = (unit){.arena = &a, .tokens = read_tokens(&a, source, false)};
     if (setjmp(wrong.stop)) {
         printf("%s: %s\n", path, wrong.message);
+        free_arena(&a);
         return -1;
     }
     parse(u, &wrong);
@@ -255,7 +257,6 @@ static int test_source(const char *path, unsigned changes) {
         count = found < 0 ? -1 : count + found;
     }
     free_arena(&a);
-    free(u);
     return count;
 }
 
