@@ -81,17 +81,18 @@ static struct {
 
 // What the header of OpenCL C declares and clang itself doesn't know, on one line: the vectors, so that what is wrong
 // with a source that uses them is told by the driver's own reading.
-#define VECTORS(t) \
-    "typedef " #t " " #t "2 __attribute__((ext_vector_type(2)));typedef " #t " " #t \
-    "3 __attribute__((ext_vector_type(3)));typedef " #t " " #t "4 __attribute__((ext_vector_type(4)));typedef " #t \
-    " " #t "8 __attribute__((ext_vector_type(8)));typedef " #t " " #t "16 __attribute__((ext_vector_type(16)));"
+#define VECTOR(t, n) "typedef " #t " " #t #n " __attribute__((ext_vector_type(" #n ")));"
+#define VECTORS(t) VECTOR(t, 2) VECTOR(t, 3) VECTOR(t, 4) VECTOR(t, 8) VECTOR(t, 16)
+// clang-format off
 static const char declarations[] =
     "typedef unsigned char uchar;typedef unsigned short ushort;typedef unsigned int uint;typedef unsigned long ulong;"
-    "typedef unsigned long size_t;typedef long ptrdiff_t;typedef long intptr_t;typedef unsigned long uintptr_t;" VECTORS(
-        char) VECTORS(uchar) VECTORS(short) VECTORS(ushort) VECTORS(int) VECTORS(uint) VECTORS(long) VECTORS(ulong)
-        VECTORS(
-            float) "typedef uint cl_mem_fence_flags;__constant const cl_mem_fence_flags CLK_LOCAL_MEM_FENCE=1,CLK_GLOBAL_MEM_FENCE=2;"
-                   "int printf(__constant const char*,...);\n";
+    "typedef unsigned long size_t;typedef long ptrdiff_t;typedef long intptr_t;typedef unsigned long uintptr_t;"
+    VECTORS(char) VECTORS(uchar) VECTORS(short) VECTORS(ushort) VECTORS(int) VECTORS(uint) VECTORS(long) VECTORS(ulong)
+    VECTORS(float)
+    "typedef uint cl_mem_fence_flags;"
+    "__constant const cl_mem_fence_flags CLK_LOCAL_MEM_FENCE=1,CLK_GLOBAL_MEM_FENCE=2;"
+    "int printf(__constant const char*,...);\n";
+// clang-format on
 enum { AHEAD = sizeof declarations - 1 };
 static const char file_name[] = "source.cl";
 static const char *const words[] = {"-x", "cl", "-cl-std=CL1.2", "-cl-no-stdinc", "-nostdinc", "-target", "spir64",

@@ -242,13 +242,21 @@ static void agree_on_operator(judge *j, const expression *e) {
         differ(j, t, "this operator stands elsewhere to the driver than to clang");
 }
 
+// `true` and `false` are ints (OpenCL 1.2, 6.1.1), and of type bool to clang.
+static bool is_truth(const judge *j, const expression *e) {
+    e = inner(e);
+    if (e->kind == COMMA) return is_truth(j, e->b);
+    const char *text = j->unit->tokens.at[e->token].text;
+    return e->kind == NUMBER && (!strcmp(text, "true") || !strcmp(text, "false"));
+}
+
 static void agree(judge *j, const expression *e, cursor c) {
     c = bare(j, c);
     if (!is_kind(e, c.kind)) differ(j, e->token, "the driver reads this otherwise than clang does");
     agree_on_extent(j, e->first, e->last, c);
     type other;
     bool known = clang_type(j, &e->type, c, &other);
-    if (c.kind == TRUTH_CURSOR && other.base == BOOL_TYPE) other.base = INT_TYPE; // 1 and 0 (OpenCL 1.2, 6.12)
+    if (is_truth(j, e) && other.base == BOOL_TYPE) other.base = INT_TYPE;
     agree_on_type(j, e->token, &e->type, known, &other, c);
     switch (e->kind) {
     case NUMBER: return; // its value is asked for apart
