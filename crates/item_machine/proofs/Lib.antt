@@ -1,7 +1,3 @@
-pub mod Turns
-pub mod ArrayLaws
-pub mod StateLaws
-pub mod Sources
-pub mod Three
+pub mod AnswerLaws
 pub mod AskingLaws
 pub mod AccessLaws

@@ -7,12 +7,8 @@
 
 mod accessing;
 mod asking;
-mod counters;
 mod item;
-mod machine;
-mod prepared_steps;
 mod rest;
 mod run;
-mod stepping;
 
 pub use item::Item;

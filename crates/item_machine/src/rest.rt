@@ -1,18 +1,11 @@
-//! Where an item rests, and what it asks there.
+//! What an item asks where it rests.
 #![tactic(auto)]
 
 use clmodel::access::Operation;
 use clmodel::action::{Action, Fences};
 use clmodel::operand::Pointer;
 use clnum::IntType;
-use register_values::termination::Termination;
-
-/// Why an item rests: it doesn't go on, or it stands at an instruction that asks, or at the end.
-#[derive(Clone, Copy)]
-pub(crate) enum Rest {
-    Terminated(Termination),
-    Asks,
-}
+use item_state::Rest;
 
 /// What an instruction asks.
 #[derive(Clone, Copy)]
@@ -43,6 +36,13 @@ pub(crate) struct FoundAccess {
     pub(crate) pointer: Pointer,
     pub(crate) operation: Operation,
     pub(crate) pending: Pending,
+}
+
+/// Why an item doesn't go on by steps: it makes an access, or it rests.
+#[derive(Clone, Copy)]
+pub(crate) enum Stop {
+    Access(FoundAccess),
+    Rests(Rest),
 }
 
 /// The action that an item makes, and how it goes on with the answer, if it takes one.
