@@ -1,3 +1,0 @@
-pub mod AnswerLaws
-pub mod AskingLaws
-pub mod AccessLaws
