@@ -525,6 +525,15 @@ static base_type builtin_type(const char *name, const expression *first) {
     return t;
 }
 
+// A function of the language whose type is that of its arguments has no form for a bool, which is a uchar in the judged
+// text.
+static void want_no_bool(parser *p, const char *name, const expression *arguments) {
+    static const char *const generic[] = {"min", "max", "abs", "clz", "popcount", "rotate", "clamp", NULL};
+    for (const expression *x = is_one_of(name, generic) ? arguments : NULL; x; x = x->next)
+        if (x->type.base == BOOL_TYPE && !x->type.pointer)
+            complain_at(p, x->first, "Clsim has this function of no bool: write (int) in front");
+}
+
 static void read_call(parser *p, expression *e, symbol *callee) {
     const char *name = now(p)->text;
     p->at += 2;
@@ -540,6 +549,7 @@ static void read_call(parser *p, expression *e, symbol *callee) {
     if (!callee) {
         if (!is_one_of(name, builtins) && !is_one_of(name, written_as_others))
             complain_at(p, e->token, "this name stands for nothing that Clsim has");
+        want_no_bool(p, name, e->a);
         e->type = number_type(builtin_type(name, e->a));
         return;
     }
