@@ -525,6 +525,15 @@ static base_type builtin_type(const char *name, const expression *first) {
     return t;
 }
 
+// A function of the language whose type is that of its arguments has no form for a bool, which is a uchar in the judged
+// text.
+static void want_no_bool(parser *p, const char *name, const expression *arguments) {
+    static const char *const generic[] = {"min", "max", "abs", "clz", "popcount", "rotate", "clamp", NULL};
+    for (const expression *x = is_one_of(name, generic) ? arguments : NULL; x; x = x->next)
+        if (x->type.base == BOOL_TYPE && !x->type.pointer)
+            complain_at(p, x->first, "Clsim has this function of no bool: write (int) in front");
+}
+
 static void read_call(parser *p, expression *e, symbol *callee) {
     const char *name = now(p)->text;
     p->at += 2;
@@ -540,6 +549,7 @@ static void read_call(parser *p, expression *e, symbol *callee) {
     if (!callee) {
         if (!is_one_of(name, builtins) && !is_one_of(name, written_as_others))
             complain_at(p, e->token, "this name stands for nothing that Clsim has");
+        want_no_bool(p, name, e->a);
         e->type = number_type(builtin_type(name, e->a));
         return;
     }
@@ -1034,28 +1044,33 @@ static void read_typedef(parser *p, const specifiers *s) {
     expect(p, ";");
 }
 
-// Enumeration constants are ints (C99 6.4.4.3).
+// An enumeration constant is an int (C99 6.4.4.3), and known behind its own value (C99 6.2.1). Gives the next value.
+static uint64_t read_enumerator(parser *p, uint64_t value) {
+    const char *name = read_name(p);
+    size_t token = p->at++;
+    bool is_unsigned = false;
+    if (accept(p, "=")) {
+        const expression *e = read_assignment(p);
+        if (!known_value(p, e, &value))
+            complain_at(p, e->first, "the value of a constant is one that is known when the source is built");
+        is_unsigned = promoted(e->type.base) == ULONG_TYPE;
+    }
+    if (value != converted(value, INT_TYPE) || (is_unsigned && value > INT32_MAX))
+        complain_at(p, token, "the value of an enumeration constant is an int");
+    symbol *y = declare(p, NUMBER_CONSTANT, name, token);
+    y->type = number_type(INT_TYPE);
+    y->value = value;
+    return value + 1;
+}
+
 static void read_enumeration(parser *p) {
     uint64_t value = 0;
-    bool is_unsigned = false;
     size_t begin = p->at++;
     if (now(p)->kind == NAME_TOKEN) p->at++;
     if (!sees(p, "{")) complain_at(p, begin, "Clsim has no structs and unions, and no types of enumerations");
     p->at++;
     while (!sees(p, "}")) {
-        symbol *y = declare(p, NUMBER_CONSTANT, read_name(p), p->at);
-        p->at++;
-        if (accept(p, "=")) {
-            const expression *e = read_assignment(p);
-            if (!known_value(p, e, &value))
-                complain_at(p, p->at - 1, "the value of a constant is one that is known when the source is built");
-            is_unsigned = promoted(e->type.base) == ULONG_TYPE;
-        }
-        if (value != converted(value, INT_TYPE) || (is_unsigned && value > INT32_MAX))
-            complain_at(p, y->token, "the value of an enumeration constant is an int");
-        y->type = number_type(INT_TYPE);
-        y->value = value++;
-        is_unsigned = false;
+        value = read_enumerator(p, value);
         if (!accept(p, ",")) break;
     }
     expect(p, "}");

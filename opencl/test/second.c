@@ -1,8 +1,9 @@
 // second SEED CHANGES FILE..: the driver's own reading of each source has to agree with that of libclang, and has to
 // disagree once anything in it is changed: CHANGES times each source, one at a time, by chance. Without a FILE the
-// status is 0 where there is a libclang, else 3.
+// status is 0 where there is a libclang, else 3. No signal gets another handler.
 #include "../clang.h"
 #include "../second.h"
+#include <signal.h>
 #include <stdio.h>
 #include <stdlib.h>
 #include <string.h>
@@ -260,7 +261,17 @@ static int test_source(const char *path, unsigned changes) {
     return count;
 }
 
+// The signals that have a handler, as bits.
+static unsigned long handled(void) {
+    unsigned long bits = 0;
+    struct sigaction now;
+    for (int s = 1; s < 32; s++)
+        if (!sigaction(s, NULL, &now) && now.sa_handler != SIG_DFL) bits |= 1ul << s;
+    return bits;
+}
+
 int main(int count, char **words) {
+    unsigned long before = handled();
     if (!has_clang()) return 3;
     if (count < 4) return 0;
     seed = strtoul(words[1], NULL, 10);
@@ -271,5 +282,6 @@ int main(int count, char **words) {
         else found += n;
     }
     printf("%d changes are found in %d sources\n", found, count - 3);
-    return failed ? 1 : 0;
+    if (handled() != before) printf("signals are handled otherwise: %lx, before %lx\n", handled(), before);
+    return failed || handled() != before ? 1 : 0;
 }
