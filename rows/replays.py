@@ -278,11 +278,20 @@ CUT = [
 ]
 
 
+def whole_files():
+    """Schedule files with a title and the script that is replayed: those above, and those of the rows of worked.txt whose script is one."""
+    yield from ((f"schedule file {number}", "buffer a 4\n", text) for number, text in enumerate(CUT))
+    tools = runpy.run_path(os.path.join(HERE, "..", "tools", "rows"))
+    for row in tools["read_text"](os.path.join(HERE, "worked.txt")):
+        if row.schedule is not None and b"bad line" not in row.error:
+            yield row.title, row.text, row.schedule
+
+
 def cut():
     """Schedule files cut at each byte: without its last line feed none says anything."""
-    for number, text in enumerate(CUT):
+    for title, script, text in whole_files():
         for length in range(len(text)):
-            yield dict(title=f"schedule file {number} cut at byte {length}", text="buffer a 4\n", schedule=text[:length], output="",
+            yield dict(title=f"{title} cut at byte {length}", text=script, schedule=text[:length], output="",
                        error="clsim: bad schedule file\n", status=2, command="clsim replay FILE SCHEDULE")
 
 

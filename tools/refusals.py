@@ -9,6 +9,7 @@ request refused is one of these:
     program was starting;
   - `refused 16 OutOfMemory` for one command whose row in docs/use/script.md lists it, and for all others what comes of the script without that
     command: so it has changed nothing, and given again it is answered as if for the first time.
+`clsim serve` reads the same commands from standard input. There, `clsim: out of memory` may also end a talk, behind whole replies.
 A script's first launch and the commands before it have to be answered as its row says. No run may leave more blocks of memory than the run
 with none refused."""
 
@@ -34,7 +35,8 @@ SHOWN = 3
 
 REFUSED = b"refused 16 OutOfMemory"
 # what is told where the script is read, or the program starts, and where its command line is read
-EARLY = [(b"", text, 2) for text in (b"clsim: out of memory\n", b"error: out of memory\n")]
+OUT_OF_MEMORY = b"clsim: out of memory\n"
+EARLY = [(b"", text, 2) for text in (OUT_OF_MEMORY, b"error: out of memory\n")]
 # commands that may be answered so (docs/use/script.md, "Replies")
 GROWING = {b"buffer", b"copy", b"program", b"kernel", b"arg", b"launch", b"read"}
 
@@ -103,11 +105,13 @@ def runs_of(report):
 
 
 def each(library, command, folder, what="memory"):
-    """The runs of a command: none refused first, then each request in turn. The last refuses none, since it makes fewer."""
+    """The runs of a command: none refused first, then each request in turn. The last refuses none, since it makes fewer. A command of `clsim serve`
+    reads FILE."""
     report = os.path.join(folder, "REPORT")
     environment = {**os.environ, "LD_PRELOAD": library, "WHAT": what, "REFUSE": "each", "REPORT": report, "MOST": str(MOST), "SECONDS": str(LIMIT)}
     try:
-        came = subprocess.run(command, cwd=folder, env=environment, stdin=subprocess.DEVNULL, capture_output=True, timeout=LIMIT_OF_ALL)
+        with input_of(command, folder) as read:
+            came = subprocess.run(command, cwd=folder, env=environment, stdin=read, capture_output=True, timeout=LIMIT_OF_ALL)
     except subprocess.TimeoutExpired:
         raise BadReport(f"still running after {LIMIT_OF_ALL} s") from None
     if came.returncode != 0 or not os.path.exists(report):
@@ -120,6 +124,16 @@ def each(library, command, folder, what="memory"):
     if len(runs) < 2 or runs[0].refused or runs[-1].refused or any(run.refused != 1 for run in runs[1:-1]):
         raise BadReport(f"{len(runs)} runs, of which not each but the first and the last refused one request")
     return runs
+
+
+def input_of(command, folder):
+    """What a command reads from standard input: FILE, where it serves, else nothing."""
+    return open(os.path.join(folder, "FILE") if command[1:2] == ["serve"] else os.devnull, "rb")
+
+
+def is_told(run, whole, error):
+    """Whether a run ended with this line behind whole replies, with which the whole one begins."""
+    return (run.error, run.status) == (error, 2) and whole.output.startswith(run.output) and run.output[-1:] in (b"", b"\n")
 
 
 def left(whole, run, workers=1):
@@ -174,11 +188,11 @@ def status_of(replies):
 
 
 class Script:
-    """A row's script with each command twice, tried with some number of workers."""
+    """A row's script with each command twice, run or served with some number of workers."""
 
-    def __init__(self, row, workers, program, library, folder):
+    def __init__(self, row, workers, command, library, folder):
         self.head, self.pieces, self.workers = *twice(row), workers
-        self.command = [program, *row.command.split()[1:], "--workers", str(workers)]
+        self.command = [*command, "--workers", str(workers)]
         self.library, self.folder = library, folder
         self.without = {}
 
@@ -191,7 +205,8 @@ class Script:
         """The replies of a run with memory, of the script without one command."""
         if number not in self.without:
             self.written(number)
-            came = subprocess.run(self.command, cwd=self.folder, stdin=subprocess.DEVNULL, capture_output=True, timeout=LIMIT)
+            with input_of(self.command, self.folder) as read:
+                came = subprocess.run(self.command, cwd=self.folder, stdin=read, capture_output=True, timeout=LIMIT)
             self.without[number] = came.stdout.splitlines()
         return self.without[number]
 
@@ -218,6 +233,10 @@ class Script:
             return f"{piece.text!r} is refused, and behind it come {replies[number + 1:]!r}"
         return None
 
+    def ends(self, run, whole):
+        """Whether a run ends where it should for want of memory: at its start, or, where the script is served, behind any reply."""
+        return run.came() in EARLY or self.command[1] == "serve" and is_told(run, whole, OUT_OF_MEMORY)
+
     def judged(self):
         """What came of each run, counted, and what is wrong."""
         self.written()
@@ -227,9 +246,9 @@ class Script:
             return counts, said
         said, in_commands = [], False
         for run in runs[:-1]:
-            early = run.came() in EARLY
-            counts["at the start" if early else "done without" if run.came() == whole.came() else "answered 16"] += 1
-            if early and in_commands:
+            early = self.ends(run, whole)
+            counts["told" if early else "done without" if run.came() == whole.came() else "answered 16"] += 1
+            if early and in_commands and self.command[1] != "serve":
                 said.append(f"request {run.number}: out of memory is told, where commands were answered before")
             elif not early and run.came() != whole.came():
                 in_commands = True
@@ -247,7 +266,7 @@ def judged_line(command, row, library, folder):
         return Counter(), [f"with memory: {whole.came()!r}"]
     counts, said = Counter(), []
     for run in runs[:-1]:
-        counts["at the start" if run.came() in EARLY else "done without"] += 1
+        counts["told" if run.came() in EARLY else "done without"] += 1
         if run.came() not in [*EARLY, whole.came()]:
             said.append(f"request {run.number}: {run.came()!r}")
         said += left(whole, run)
@@ -264,14 +283,17 @@ def written(row, folder):
                 file.write(text)
 
 
+UNREAD_INPUT = b"clsim: cannot read standard input\n"
+
+
 def judged_reads(command, row, library, folder):
-    """What came of the runs in which a read of a file fails: that it can't be read, with nothing written."""
+    """What came of the runs in which a read fails: that a file can't be read, with nothing written, or standard input, behind whole replies."""
     written(row, folder)
     whole, *runs = each(library, command, folder, "reads")
     wanted = [(b"", b"clsim: cannot read %b\n" % name, 2) for name in (b"FILE", b"SCHEDULE")]
     said = [] if whole.came() == (row.output, row.error, row.status) else [f"by pieces: {whole.came()!r}"]
-    said += [f"read {run.number}: {run.came()!r}" for run in runs[:-1] if run.came() not in wanted]
-    return Counter({"reads": len(runs) - 1}), said
+    wrong = [run for run in runs[:-1] if run.came() not in wanted and not is_told(run, whole, UNREAD_INPUT)]
+    return Counter({"reads": len(runs) - 1}), said + [f"read {run.number}: {run.came()!r}" for run in wrong]
 
 
 def is_cut(run, whole):
@@ -366,19 +388,32 @@ class Outcome:
 
 
 def tasks(rows, program, library):
-    """What is tried of rows: scripts with a launch with some number of workers each, texts that are checked or replayed, and all of them with reads
-    and writes that fail."""
+    """What is tried of rows: scripts with a launch with some number of workers each, run and served, texts that are checked, replayed or explained,
+    and all of them with reads and writes that fail."""
     for row in rows:
-        title, words = f"{row.place}: {row.title}", [program, *row.command.split()[1:]]
-        judges = [("a read fails", judged_reads), ("a write fails", judged_writes)]
+        words = [program, *row.command.split()[1:]]
+        yield from ends(row, words, library)
         if not row.command.startswith("clsim run FILE"):
-            judges.append(("a request is refused", judged_line))
-        for what, judge in judges:
-            yield Task(f"{title} ({what})", lambda folder, judge=judge, row=row, words=words: judge(words, row, library, folder))
-        if re.search(rb"^launch ", row.text, flags=re.M) and row.command.startswith("clsim run FILE"):
-            for workers in WORKERS:
-                yield Task(f"{title} (a request is refused, workers {workers})",
-                           lambda folder, row=row, workers=workers: Script(row, workers, program, library, folder).judged())
+            yield task(row, "a request is refused", judged_line, words, library)
+            continue
+        served = [program, "serve", *words[3:]]
+        if not row.error:
+            yield from ends(row, served, library)
+        if re.search(rb"^launch ", row.text, flags=re.M):
+            for command, workers in [*((words, number) for number in WORKERS), (served, 1)]:
+                yield Task(f"{row.place}: {row.title} (a request is refused, {command[1]}, workers {workers})",
+                           lambda folder, row=row, workers=workers, command=command: Script(row, workers, command, library, folder).judged())
+
+
+def task(row, what, judge, words, library):
+    """A command line on a row's files, judged in some way."""
+    return Task(f"{row.place}: {row.title} ({what}, {words[1]})", lambda folder: judge(words, row, library, folder))
+
+
+def ends(row, words, library):
+    """A command line on a row's files with reads and with writes that fail."""
+    yield task(row, "a read fails", judged_reads, words, library)
+    yield task(row, "a write fails", judged_writes, words, library)
 
 
 def task_of_calls(crates, name, library):

@@ -2,11 +2,12 @@
    it fails calls of read or write. What is said of requests holds of these calls then.
 
    WHAT=memory   requests for memory; so it is without WHAT
-   WHAT=reads    reads from files other than the standard streams, each of at most 4 bytes
+   WHAT=reads    reads from standard input and from files, each of at most 4 bytes
    WHAT=writes   writes to standard output, each of at most 4 bytes
    REFUSE=N      the program's Nth request is refused; with 0 none is
    REFUSE=each   the program runs once with no request refused, and then with the Nth refused, for N = 1, 2, .., until a run makes fewer
-                 requests. Each run is a process of its own, forked before `main`
+                 requests. Each run is a process of its own, forked before `main`, and reads standard input from its beginning where
+                 that is a file
    REPORT=PATH   the file at the end of which each run is told (below)
    MOST=N        with REFUSE=each, no request is refused of a program that makes more than N; without it, all are
    SECONDS=N     a run that takes longer is ended by a signal; without it, 60
@@ -144,7 +145,7 @@ static bool is_failed(size_t *length) {
 }
 
 ssize_t read(int file, void *bytes, size_t length) {
-    if (what == READS && file > STDERR_FILENO && is_failed(&length))
+    if (what == READS && file != STDOUT_FILENO && file != STDERR_FILENO && is_failed(&length))
         return -1;
     struct iovec piece = {bytes, length};
     return readv(file, &piece, 1);
@@ -279,6 +280,7 @@ static bool is_run(unsigned long number, unsigned seconds, int report, int outpu
     if (child == 0) {
         if (dup2(output, STDOUT_FILENO) < 0 || dup2(error, STDERR_FILENO) < 0)
             fail("no streams");
+        lseek(STDIN_FILENO, 0, SEEK_SET);
         *is_here = true;
         begin(number, seconds);
         return false;

@@ -8,7 +8,7 @@ and a picture of the schedule, a lane a work-item. The status is 0, or 2 where t
 import re
 from xml.sax.saxutils import escape
 
-from reading import explanations, is_refusal, item_text, lines_of, place_of, run, title_of
+from reading import argument_texts, explanations, is_refusal, item_text, lines_of, place_of, run, title_of
 
 # the picture: how far lanes and events stand from one another, and where the first ones stand, in pixels
 LANE = 132
@@ -226,6 +226,7 @@ def section(whole):
         f'<p class="dim">{quoted(whole["script"])}:{launch["script_line"]}: <code>{quoted(launch["text"])}</code>, '
         f'function {quoted(launch["function"])}</p>',
     ]
+    parts += [f'<p class="dim">{quoted(text)}</p>' for text in argument_texts(whole)]
     parts += [f"<p>{quoted(item_text(item))}</p>" for item in whole["items"]]
     parts += [f"<p><b>Why:</b> {quoted(sentence)}</p>" for sentence in whole["why"]]
     parts += ["<h2>Source</h2>", f'<div class="wide">{source_table(whole)}</div>']

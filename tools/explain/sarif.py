@@ -7,7 +7,7 @@ The status is 0, or 2 where the input is bad."""
 import json
 from urllib.parse import quote
 
-from reading import explanations, is_refusal, item_text, lines_of, place_of, run
+from reading import argument_texts, explanations, is_refusal, item_text, lines_of, place_of, run
 
 SCHEMA = "https://json.schemastore.org/sarif-2.1.0.json"
 
@@ -112,7 +112,7 @@ def result(whole):
     found = {
         "ruleId": "clsim/" + whole["fault"]["name"],
         "level": "error",
-        "message": {"text": "; ".join([whole["fault"]["line"], *whole["why"]])},
+        "message": {"text": "; ".join([whole["fault"]["line"], *argument_texts(whole), *whole["why"]])},
         "locations": places[:1],
         "partialFingerprints": {"clsim/v1": fingerprint(whole, [spot for _, spot in spots])},
     }

@@ -1,10 +1,14 @@
 -- The forms of the command line, and what a command line asks for.
-use Rattle.std.specs.Prelude.{◌≡◌, ◌⊎◌, ◌≤◌, ℕ, Bool, true, false, Option, Some, None, option_map, List, codes}
+use Rattle.std.specs.Prelude.{◌≡◌, ◌⊎◌, ◌≤◌, ℕ, Bool, true, false, Option, Some, None, option_map, List, [], ◌∷◌, codes}
+use Rattle.std.specs.Option.{MatchOption}
 use Rattle.std.specs.Str.Parse.{IsNumeral, digits_value, without_leading_plus}
+use Rattle.clap.specs.Kinds.{or_else}
 use Rattle.clap.specs.Simple.{on_top}
-use Rattle.clap.specs.Words.{App, Rule, Row, Text, new_app, new_rule, with_rule, with_subcommand, subcommand_of, first_of, one_of}
+use Rattle.clap.specs.Words.{App, Rule, Row, Text, IsAmong, new_app, new_rule, with_rule, with_subcommand, subcommand_of, first_of, one_of, kind_of, fault_of}
 use Rattle.clap.specs.declared.builder.action.ArgAction.TheVariants as action
 use Rattle.clap.specs.declared.builder.value_parser.ValueParser.TheVariants as parser
+use Rattle.clap.specs.declared.error.Error.{Error}
+use Rattle.clap.specs.declared.error.kind.ErrorKind.TheVariants as kind
 use Rattle.cli.specs.declared.command_line.Invocation.{Invocation}
 use Rattle.cli.specs.declared.command_line.Invocation.TheVariants as invocation
 
@@ -79,6 +83,10 @@ runs = with_subcommand (on_top (λ top. record top { subcommand_required = true 
 -- `clsim explain SCRIPT [SCHEDULE] [--format text|json] [--budget N] [--as-given]`
 abbrev pub program : App
 program = with_subcommand (with_subcommand (with_subcommand (with_subcommand (with_subcommand runs check_form.top) dump_form.top) replay_form.top) serve_form.top) explain_form.top
+
+-- what is read is asked for, and nothing is read only where nothing is asked for (own)
+abbrev pub Reads : {A : Type 0} → (A → Type 0) → Option A → Type 0
+Reads {A} Asks read = MatchOption read ((asked : A) → ¬ Asks asked) Asks
 
 -- the number of an option, from 1 to the most, or what it is where the option isn't there
 abbrev pub IsNumber : ℕ → ℕ → Option Text → ℕ → Type 0
@@ -180,6 +188,16 @@ Holds (Some (name, rows)) asked =
     ⊎ ((name ≡ codes "serve") × IsServe rows asked
     ⊎ (name ≡ codes "explain") × IsExplain rows asked))))
 
--- the words' matches hold what is asked for
+-- the forms take the words, whose matches hold what is asked for
 abbrev pub AsksFor : List Text → Invocation → Type 0
-AsksFor words asked = Holds (subcommand_of program words) asked
+AsksFor words asked = (fault_of program words ≡ []) × Holds (subcommand_of program words) asked
+
+-- the words ask for nothing
+abbrev pub AsksForNothing : List Text → Type 0
+AsksForNothing words = (asked : Invocation) → ¬ AsksFor words asked
+
+-- memory ran out, or the words ask for nothing: the error has a kind of the first fault that the forms find in them,
+-- or that of a value that is none where they find none (own)
+abbrev pub IsRefused : List Text → Error → Type 0
+IsRefused words error = (kind_of error ≡ kind.OutOfMemory)
+    ⊎ AsksForNothing words × IsAmong (kind_of error) (or_else (fault_of program words) (kind.InvalidValue ∷ []))

@@ -1,11 +1,11 @@
 //! The command line of the program.
 #![tactic(auto)]
 
-ghost use Rattle.std.specs.Prelude.{◌≡◌, ◌≤◌, false, map, Ok, IfOk, IfSome};
+ghost use Rattle.std.specs.Prelude.{◌≡◌, ◌≤◌, false, map, Ok, IfOk, IfErr, IfSome};
 ghost use Rattle.clap.specs.Words.{AddsSubcommand, app_of, new_app, rule_of, found_of, rows_of, subcommand_rows_of};
 ghost use Rattle.clap.specs.declared.builder.command.Command.{Command};
 ghost use Rattle.clap.specs.declared.builder.command.Command.TheViews.{out-Command};
-ghost use Rattle.cli.specs.CommandLine.{file, workers, budget, kernel, script, schedule, some_schedule, format, as_given, run_form, check_form, dump_form, replay_form, serve_form, explain_form, runs, program, GivesWorkers, GivesBudget, GivesFormat, GivesFlag, IsRun, IsCheck, IsDump, IsReplay, IsServe, IsExplain, Holds, AsksFor};
+ghost use Rattle.cli.specs.CommandLine.{file, workers, budget, kernel, script, schedule, some_schedule, format, as_given, run_form, check_form, dump_form, replay_form, serve_form, explain_form, runs, program, GivesWorkers, GivesBudget, GivesFormat, GivesFlag, IsRun, IsCheck, IsDump, IsReplay, IsServe, IsExplain, Reads, Holds, AsksFor, IsRefused};
 
 use crate::session::Options;
 use crate::wish::ExplainWish;
@@ -239,31 +239,33 @@ fn explain_form<'a>(alloc: Global) -> Result<Command<'a>, AllocError>
 
 /// The budget of a run, the default where the option isn't there, and `None` where it is no budget.
 fn budget_of(run: &ArgMatches<'_>) -> Option<u32>
-    ensures given { IfSome result (λ number. GivesBudget (rows_of (found_of run.now)) number) }
+    ensures given { Reads (GivesBudget (rows_of (found_of run.now))) result }
     ensures limited { IfSome result (λ number. number ≤ 1000000) }
 {
     match run.try_get_one::<u32>("budget") {
         Ok(None) => Some(Options::DEFAULT_BUDGET),
         Ok(Some(budget)) if budget >= 1 && budget <= MAX_BUDGET => Some(budget),
-        Ok(Some(_)) | Err(_) => None,
+        Ok(Some(_)) => None,
+        Err(_) => None,
     }
 }
 
 /// The number of workers of a run, the default where the option isn't there, and `None` where it is none.
 fn workers_of(run: &ArgMatches<'_>) -> Option<u32>
-    ensures given { IfSome result (λ number. GivesWorkers (rows_of (found_of run.now)) number) }
+    ensures given { Reads (GivesWorkers (rows_of (found_of run.now))) result }
     ensures limited { IfSome result (λ number. (1 ≤ number) × (number ≤ 16)) }
 {
     match run.try_get_one::<u32>("workers") {
         Ok(None) => Some(Options::DEFAULT_WORKERS),
         Ok(Some(workers)) if workers >= 1 && workers <= MAX_WORKERS => Some(workers),
-        Ok(Some(_)) | Err(_) => None,
+        Ok(Some(_)) => None,
+        Err(_) => None,
     }
 }
 
 /// What the matches of `run` ask for.
 fn run_of<'a>(run: &ArgMatches<'a>) -> Option<Invocation<'a>>
-    ensures { IfSome result (λ asked. IsRun (rows_of (found_of run.now)) asked) }
+    ensures { Reads (IsRun (rows_of (found_of run.now))) result }
 {
     let file = run.get_str("FILE")?;
     let workers = workers_of(run)?;
@@ -276,7 +278,7 @@ fn run_of<'a>(run: &ArgMatches<'a>) -> Option<Invocation<'a>>
 
 /// What the matches of `check` ask for.
 fn check_of<'a>(check: &ArgMatches<'a>) -> Option<Invocation<'a>>
-    ensures { IfSome result (λ asked. IsCheck (rows_of (found_of check.now)) asked) }
+    ensures { Reads (IsCheck (rows_of (found_of check.now))) result }
 {
     let file = check.get_str("FILE")?;
     Some(Invocation::Check { file })
@@ -284,7 +286,7 @@ fn check_of<'a>(check: &ArgMatches<'a>) -> Option<Invocation<'a>>
 
 /// What the matches of `dump` ask for.
 fn dump_of<'a>(dump: &ArgMatches<'a>) -> Option<Invocation<'a>>
-    ensures { IfSome result (λ asked. IsDump (rows_of (found_of dump.now)) asked) }
+    ensures { Reads (IsDump (rows_of (found_of dump.now))) result }
 {
     let file = dump.get_str("FILE")?;
     let kernel = dump.get_str("KERNEL")?;
@@ -293,7 +295,7 @@ fn dump_of<'a>(dump: &ArgMatches<'a>) -> Option<Invocation<'a>>
 
 /// What the matches of `replay` ask for.
 fn replay_of<'a>(replay: &ArgMatches<'a>) -> Option<Invocation<'a>>
-    ensures { IfSome result (λ asked. IsReplay (rows_of (found_of replay.now)) asked) }
+    ensures { Reads (IsReplay (rows_of (found_of replay.now))) result }
 {
     let script = replay.get_str("SCRIPT")?;
     let schedule = replay.get_str("SCHEDULE")?;
@@ -302,7 +304,7 @@ fn replay_of<'a>(replay: &ArgMatches<'a>) -> Option<Invocation<'a>>
 
 /// What the matches of `serve` ask for.
 fn serve_of<'a>(serve: &ArgMatches<'a>) -> Option<Invocation<'a>>
-    ensures { IfSome result (λ asked. IsServe (rows_of (found_of serve.now)) asked) }
+    ensures { Reads (IsServe (rows_of (found_of serve.now))) result }
 {
     let workers = workers_of(serve)?;
     let budget = budget_of(serve)?;
@@ -313,7 +315,7 @@ fn serve_of<'a>(serve: &ArgMatches<'a>) -> Option<Invocation<'a>>
 
 /// Whether the format of an explanation is JSON, and `None` where it is neither this nor text.
 fn format_of(explain: &ArgMatches<'_>) -> Option<bool>
-    ensures { IfSome result (λ json. GivesFormat (rows_of (found_of explain.now)) json) }
+    ensures { Reads (GivesFormat (rows_of (found_of explain.now))) result }
 {
     let Some(format) = explain.get_str("format") else {
         return Some(false);
@@ -329,7 +331,7 @@ fn format_of(explain: &ArgMatches<'_>) -> Option<bool>
 
 /// What the matches of `explain` ask for.
 fn explain_of<'a>(explain: &ArgMatches<'a>) -> Option<Invocation<'a>>
-    ensures { IfSome result (λ asked. IsExplain (rows_of (found_of explain.now)) asked) }
+    ensures { Reads (IsExplain (rows_of (found_of explain.now))) result }
 {
     let script = explain.get_str("SCRIPT")?;
     let schedule = explain.get_str("SCHEDULE");
@@ -349,7 +351,7 @@ fn explain_of<'a>(explain: &ArgMatches<'a>) -> Option<Invocation<'a>>
 
 /// What the matches of a command line ask for, by the form that they hold.
 fn asked<'a>(matches: &ArgMatches<'a>) -> Option<Invocation<'a>>
-    ensures { IfSome result (λ asked. Holds (subcommand_rows_of matches.now) asked) }
+    ensures { Reads (Holds (subcommand_rows_of matches.now)) result }
 {
     if let Some(run) = matches.subcommand_matches("run") {
         return run_of(run);
@@ -404,7 +406,8 @@ fn forms<'a>(alloc: Global) -> Result<Command<'a>, AllocError>
 /// Reads the words of a command line by its forms.
 fn command_by<'a>(forms: &mut Command<'a>, words: &'a [&'a str]) -> Result<Invocation<'a>, Error>
     requires { app_of forms.old ≡ program }
-    ensures { IfOk result (λ asked. AsksFor (map (λ word. word.now) words.entry.now) asked) }
+    ensures asked { IfOk result (AsksFor (map (λ word. word.now) words.entry.now)) }
+    ensures refused { IfErr result (IsRefused (map (λ word. word.now) words.entry.now)) }
 {
     let matches = forms.try_get_matches_from_mut(words)?;
     match asked(&matches) {
@@ -418,7 +421,8 @@ fn command_by<'a>(forms: &mut Command<'a>, words: &'a [&'a str]) -> Result<Invoc
 /// `clsim replay SCRIPT SCHEDULE`, `clsim serve [--workers N] [--budget N]` and
 /// `clsim explain SCRIPT [SCHEDULE] [--format text|json] [--budget N] [--as-given]`.
 pub fn command<'a>(alloc: Global, words: &'a [&'a str]) -> Result<Invocation<'a>, Error>
-    ensures { IfOk result (λ asked. AsksFor (map (λ word. word.now) words.entry.now) asked) }
+    ensures asked { IfOk result (AsksFor (map (λ word. word.now) words.entry.now)) }
+    ensures refused { IfErr result (IsRefused (map (λ word. word.now) words.entry.now)) }
 {
     let mut forms = forms(alloc)?;
     command_by(&mut forms, words)

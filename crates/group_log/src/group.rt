@@ -71,7 +71,7 @@ impl GroupLog {
 
     /// Forgets all accesses, in the first interval of both address spaces. The memory that told accesses of the group
     /// is used again where much of it was in use: to clear it takes time in proportion to all of it.
-    fn clear(&mut self, alloc: Global)
+    pub fn clear(&mut self, alloc: Global)
         ensures { logged (all_of self.new.whole.items) self.new.local.interval self.new.global.interval self.new.global.uniform ≡ fresh_log self.old.global.uniform }
     {
         self.local.clear(alloc);
@@ -109,6 +109,7 @@ impl GroupLog {
     }
 
     /// Notes an access of local memory, as `note` does.
+    #[inline(always)]
     fn note_local(&mut self, entry: Entry) -> Result<Option<Hit>, AllocError>
         requires placed { IsPlaced entry }
         requires space { in_buffer entry.access.region ≡ false }
@@ -124,6 +125,7 @@ impl GroupLog {
     }
 
     /// Notes an access of a buffer, as `note` does.
+    #[inline(always)]
     fn note_global(&mut self, entry: Entry) -> Result<Option<Hit>, AllocError>
         requires placed { IsPlaced entry }
         requires space { in_buffer entry.access.region ≡ true }
@@ -164,6 +166,7 @@ impl GroupAccesses for GroupLog {
 }
 
 impl AccessLog for GroupLog {
+    #[inline(always)]
     fn note(&mut self, entry: Entry) -> Result<Option<Hit>, AllocError> {
         match entry.access.region {
             Region::Buffer(_) => self.note_global(entry),

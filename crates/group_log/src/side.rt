@@ -163,6 +163,7 @@ impl Side {
     }
 
     /// The conflict of an access with those that are kept. Only where there may be one are all of them walked.
+    #[inline(always)]
     pub(crate) fn judge(&self, clear: bool, x: &Entry) -> Option<Hit>
         requires placed { IsPlaced x.now }
         requires clear { clear ≡ true → (byte : ℕ) → All (λ (y : TheEntry). conflict_between (within_group self.now.uniform) y.access x.now.access byte ≡ None) self.now.kept.items }

@@ -1,11 +1,11 @@
 //! The faults of a launch, as reports tell them.
 
 ghost use Rattle.std.specs.Prelude.{◌≡◌, IfOk};
-ghost use Rattle.clmodel.specs.Launch.{location_of, kind_of};
+ghost use Rattle.clmodel.specs.Launch.{location_of, region_of};
 ghost use Rattle.clmodel.specs.Law.{fault_of, conflict_fault};
 ghost use Rattle.clmodel.specs.declared.fault.Fault.TheVariants as fault;
 
-use clmodel::access::{Conflict, Operation, Region};
+use clmodel::access::{AccessKind, Conflict, Object};
 use clmodel::action::Cause;
 use clmodel::fault::Fault;
 use launches::{Described, location_of};
@@ -58,44 +58,46 @@ pub fn conflict_fault<D: Described>(launch: &D, conflict: &Conflict) -> Result<F
     })
 }
 
-/// An item accesses an element out of its object's range.
+/// An item of a group accesses an element out of its object's range.
 #[cold]
 pub fn bounds_fault<D: Described>(
     alloc: Global,
     launch: &D,
     item: u32,
-    region: Region,
+    object: Object,
+    group: u32,
     element: i64,
-    operation: Operation,
+    kind: AccessKind,
 ) -> Result<Box<Fault>, AllocError>
-    ensures { IfOk result (λ told. told.value ≡ fault.Bounds item (kind_of operation) (location_of (D.launch launch.now) region) element) }
+    ensures { IfOk result (λ told. told.value ≡ fault.Bounds item kind (location_of (D.launch launch.now) (region_of group object)) element) }
 {
-    let location = location_of(launch, region)?;
+    let location = location_of(launch, object.region(group))?;
     let fault = Fault::Bounds {
         item,
-        kind: operation.kind(),
+        kind,
         location,
         element,
     };
     Ok(Box::new(alloc, fault)?)
 }
 
-/// An item reads a byte that is unset.
+/// An item of a group reads a byte that is unset.
 #[cold]
 pub fn unset_fault<D: Described>(
     alloc: Global,
     launch: &D,
     item: u32,
-    region: Region,
+    object: Object,
+    group: u32,
     byte: u64,
-    operation: Operation,
+    kind: AccessKind,
 ) -> Result<Box<Fault>, AllocError>
-    ensures { IfOk result (λ told. told.value ≡ fault.Unset item (kind_of operation) (location_of (D.launch launch.now) region) byte) }
+    ensures { IfOk result (λ told. told.value ≡ fault.Unset item kind (location_of (D.launch launch.now) (region_of group object)) byte) }
 {
-    let location = location_of(launch, region)?;
+    let location = location_of(launch, object.region(group))?;
     let fault = Fault::Unset {
         item,
-        kind: operation.kind(),
+        kind,
         location,
         byte,
     };

@@ -70,10 +70,11 @@ fn conflict_of(hit: Hit) -> Conflict
 
 /// The fault of a conflict that a log finds. An error is out of memory.
 #[cold]
-fn hit_fault<D: Described>(alloc: Global, launch: &D, hit: Hit) -> Result<Box<Fault>, AllocError>
-    ensures { IfOk result (λ fault. fault.value ≡ law.conflict_fault (D.launch launch.now) (conflict_of hit)) }
+#[inline(never)]
+fn hit_fault<D: Described>(alloc: Global, launch: &D, hit: &Hit) -> Result<Box<Fault>, AllocError>
+    ensures { IfOk result (λ fault. fault.value ≡ law.conflict_fault (D.launch launch.now) (conflict_of hit.now)) }
 {
-    let fault = faults::conflict_fault(launch, &conflict_of(hit))?;
+    let fault = faults::conflict_fault(launch, &conflict_of(*hit))?;
     Ok(Box::new(alloc, fault)?)
 }
 
@@ -87,11 +88,12 @@ fn judge<D: Described, L: AccessLog>(
     requires { IsPlaced entry }
     ensures { IfOk result (λ report. IsJudged (D.launch launch.now) (L.Logged.log log.old) entry (L.Logged.log log.new) (option_map box_value report)) }
 {
-    // No `?` at `note`: it would move a hit for each access, though hardly any makes one.
-    match log.note(entry) {
+    // Looked at where it lies, and no `?`: room for a hit would be cleared for each access, though hardly any makes one.
+    let noted = log.note(entry);
+    match &noted {
         Ok(None) => Ok(None),
         Ok(Some(hit)) => Ok(Some(hit_fault(alloc, launch, hit)?)),
-        Err(error) => Err(error),
+        Err(_) => Err(AllocError),
     }
 }
 
@@ -143,6 +145,7 @@ impl<'a, D: Runnable, G: Space, L: AccessLog> Machine for Group<'a, D, G, L> {
         self.items.len() as u32
     }
 
+    #[inline(always)]
     fn next(&mut self, k: u32) -> Result<Action, AllocError> {
         self.items[k as usize].next()
     }
@@ -155,7 +158,6 @@ impl<'a, D: Runnable, G: Space, L: AccessLog> Machine for Group<'a, D, G, L> {
         operation: Operation,
     ) -> Result<Made, AllocError> {
         let item = self.first + k;
-        let region = object.region(self.number);
         let Some(first) = place(
             self.buffers.as_slice(),
             self.locals.as_slice(),
@@ -163,7 +165,16 @@ impl<'a, D: Runnable, G: Space, L: AccessLog> Machine for Group<'a, D, G, L> {
             element,
             operation,
         ) else {
-            let fault = bounds_fault(self.alloc, self.launch, item, region, element, operation)?;
+            let kind = operation.kind();
+            let fault = bounds_fault(
+                self.alloc,
+                self.launch,
+                item,
+                object,
+                self.number,
+                element,
+                kind,
+            )?;
             return Ok(Made::Refused(fault));
         };
         let answer = match perform_on(
@@ -175,13 +186,23 @@ impl<'a, D: Runnable, G: Space, L: AccessLog> Machine for Group<'a, D, G, L> {
         ) {
             Ok(answer) => answer,
             Err(SpaceFault::Unset(byte)) => {
-                let fault = unset_fault(self.alloc, self.launch, item, region, byte, operation)?;
+                let kind = operation.kind();
+                let fault = unset_fault(
+                    self.alloc,
+                    self.launch,
+                    item,
+                    object,
+                    self.number,
+                    byte,
+                    kind,
+                )?;
                 return Ok(Made::Refused(fault));
             }
             Err(SpaceFault::OutOfMemory) => return Err(AllocError),
             Err(SpaceFault::Bounds) => unreachable!(),
             Err(SpaceFault::ReadOnly) => unreachable!(),
         };
+        let region = object.region(self.number);
         let entry = Entry::of(item, region, first, operation, self.made);
         let report = judge(self.alloc, self.launch, &mut self.log, entry)?;
         self.items[k as usize].answer(answer)?;

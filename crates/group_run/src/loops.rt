@@ -3,6 +3,7 @@
 ghost use Rattle.std.specs.Prelude.{◌≡◌, ◌<◌, ◌≤◌, ◌+◌, ℕ, None, Some, IfOk, option_map};
 ghost use Rattle.std.specs.Box.{box_value};
 ghost use Rattle.clmodel.specs.Run.{State, Events, next_action, stop_of};
+ghost use Rattle.clmodel.specs.declared.action.Stop.TheVariants.{Ended};
 ghost use Rattle.joining.specs.Group.{IsGroup, Reached, IsRun};
 ghost use Rattle.group_run.specs.Loops.{Accesses, AtOneStop, Gathers, IsBrief, IsAdvanced, IsItemRun, IsGathered};
 
@@ -41,6 +42,7 @@ fn leader<M: Machine>(m: &mut M) -> Result<Stop, AllocError>
 }
 
 /// Judges an item's stop. An error is out of memory.
+#[inline(never)]
 fn stop_at<M: Machine>(m: &mut M, k: u32, stop: Stop, runs: &Runs) -> Result<ItemRun, AllocError>
     ghost origin: { State }
     requires whole { IsGroup (M.plan m.old) }
@@ -62,6 +64,24 @@ fn stop_at<M: Machine>(m: &mut M, k: u32, stop: Stop, runs: &Runs) -> Result<Ite
             other_stop: stop,
         };
         Ok(ItemRun::Reports(m.boxed(fault)?))
+    }
+}
+
+/// Judges the end of an item. An error is out of memory.
+// Mostly the first item is at its end too: then no stops are made to be compared.
+fn end_at<M: Machine>(m: &mut M, k: u32, runs: &Runs) -> Result<ItemRun, AllocError>
+    ghost origin: { State }
+    requires whole { IsGroup (M.plan m.old) }
+    requires inside { k < (M.plan m.old).count }
+    requires reached { (g : Gathers (M.plan m.old) (M.fits m.old) origin runs.now k) × (stop_of (next_action (M.plan m.old).launch g.0.state ((M.plan m.old).first + k)) ≡ Some Ended) }
+    ensures plan_same { M.plan m.new ≡ M.plan m.old }
+    ensures ticks_same { (j : ℕ) → M.ticks m.new j ≡ M.ticks m.old j }
+    ensures halted { IfOk result (IsItemRun (M.plan m.old) (M.fits m.new) origin runs.now k) }
+{
+    match m.next(0) {
+        Ok(Action::End) => Ok(ItemRun::Stops),
+        Ok(_) => stop_at(m, k, Stop::Ended, runs),
+        Err(error) => Err(error),
     }
 }
 
@@ -127,7 +147,7 @@ fn run_item<M: Machine>(m: &mut M, k: u32, runs: &mut Runs) -> Result<ItemRun, A
             Ok(Action::Barrier { instance, .. }) => {
                 return stop_at(m, k, Stop::At(instance), runs);
             }
-            Ok(Action::End) => return stop_at(m, k, Stop::Ended, runs),
+            Ok(Action::End) => return end_at(m, k, runs),
             Ok(Action::Fault(cause)) => {
                 let fault = m.fault_of(m.first() + k, cause)?;
                 return Ok(ItemRun::Reports(fault));

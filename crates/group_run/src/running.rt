@@ -33,11 +33,12 @@ fn waiting_items<'a, D: Runnable>(
 {
     let mut items = Vec::with_capacity(alloc, count as usize)?;
     for k in 0..count {
-        items.push(Slot::Waiting {
+        // There is room: `push` would move each item once more, in case that it can't be kept.
+        items.push_reserved(Slot::Waiting {
             launch,
             alloc,
             item: first + k,
-        })?;
+        });
     }
     Ok(items)
 }
@@ -75,18 +76,22 @@ pub fn run_group<D: Runnable, G: Space + Drop, L: AccessLog + Drop>(
     let mut runs = Runs::new(alloc);
     let report = run_items(&mut machine, &mut runs)?;
     let runs = runs.into_schedule();
+    // Each result is returned where it is made: joined first, it would be copied once more, with its log.
     match report {
-        None => Ok(GroupResult::Done {
-            group,
-            spaces: machine.buffers,
-            log: machine.log,
-            runs,
-        }),
-        Some(fault) => Ok(GroupResult::Stopped {
-            group,
-            fault: Box::into_inner(fault),
-            log: machine.log,
-            runs,
-        }),
+        None => {}
+        Some(fault) => {
+            return Ok(GroupResult::Stopped {
+                group,
+                fault: Box::into_inner(fault),
+                log: machine.log,
+                runs,
+            });
+        }
     }
+    Ok(GroupResult::Done {
+        group,
+        spaces: machine.buffers,
+        log: machine.log,
+        runs,
+    })
 }

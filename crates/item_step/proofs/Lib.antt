@@ -1,3 +1,6 @@
 pub mod Starts
 pub mod Objects
 pub mod Declarations
+pub mod AnswerLaws
+pub mod AskingLaws
+pub mod AccessLaws

@@ -4,7 +4,7 @@ use Rattle.clmodel.specs.Next.{next, here_of}
 use Rattle.clmodel.specs.declared.action.Answer.{Answer}
 use Rattle.item_step.specs.Launches.{setup_of}
 use Rattle.item_step.specs.declared.launch.Launch.{Launch}
-use Rattle.item_machine.specs.Running.{Running, action_of}
+use Rattle.item_step.specs.Running.{Running, action_of}
 use Rattle.regcode.specs.Machine.{ItemContext, acts, acts_from, at_start}
 use Rattle.regcode.specs.declared.tables.Register.{Register}
 

@@ -9,15 +9,15 @@ ghost use Rattle.clmodel.specs.Setup.{names_among, same_text, group_items};
 ghost use Rattle.clmodel.specs.declared.action.Answer.{Answer};
 ghost use Rattle.item_step.specs.Setups.{plain, ActsAsNext};
 ghost use Rattle.item_step.specs.Objects.{Lists, are_too_large};
-ghost use Rattle.item_machine.specs.Running.{action_of};
+ghost use Rattle.item_step.specs.Running.{action_of};
 ghost use Rattle.steps.specs.Steps.{Prepared, Prepared-prop};
 
+use crate::item::Item;
 use crate::local_objects::{LocalObjects, local_objects};
 use crate::setup::Setup;
 use clmodel::setup::{Argument, Range};
 use clmodel::text::Name;
 use clmodel::tree::Tree;
-use item_machine::Item;
 use item_value::item_context::ItemContext;
 use item_value::position::{ItemPosition, group_counts};
 use regcode::Code;

@@ -1,5 +1,5 @@
 -- Arguments as lists, and the code of a call and of an operator from what emits it.
-use Rattle.std.proofs.Common.{◌≡◌, ℕ, zero, suc, ◌+◌, ◌<◌, ◌≤◌, List, [], ◌∷◌, ◌++◌, map, length, take, drop, get_or, Option, refl, sym, ap, ap₂, ◌∙◌, Vec, arith}
+use Rattle.std.proofs.Common.{◌≡◌, ℕ, zero, suc, ◌+◌, ◌<◌, ◌≤◌, List, [], ◌∷◌, ◌++◌, map, length, take, get_or, Option, refl, sym, ap, ap₂, ◌∙◌, Vec, arith}
 use Rattle.std.proofs.lemmas.List.{append_assoc, length-append}
 use Rattle.std.specs.declared.alloc.Global.{Global}
 use mathlib.Core.Former.{Count}
@@ -11,19 +11,19 @@ use Rattle.clnum.specs.declared.int_type.IntType.TheVariants.{Int}
 use Rattle.clnum.specs.declared.operators.UnaryOperator.{UnaryOperator}
 use Rattle.clmodel.specs.BuiltIns.{built_in}
 use Rattle.clmodel.specs.Next.{Variables, type_of, base_type, argument_type, call_type, infix_type}
-use Rattle.clmodel.specs.Tree.{Term, Terms, NoTerm, ThenTerm, Unary, Cast, Binary, Call, Choice, term, terms, row_terms, then_all}
+use Rattle.clmodel.specs.Tree.{Term, Terms, NoTerm, ThenTerm, Number, Variable, Element, ElementAddress, Dereference, Unary, Cast, Binary, Call, Choice, term, terms, row_terms, then_all}
 use Rattle.clmodel.specs.declared.setup.BuiltIn.{BuiltIn}
 use Rattle.clmodel.specs.declared.tree.Expression as rust_expression
 use Rattle.clmodel.specs.declared.tree.InfixOperator.{InfixOperator}
 use Rattle.clmodel.specs.declared.tree.InfixOperator.TheVariants.{Arithmetic, LogicalAnd, LogicalOr}
-use Rattle.clmodel.specs.declared.tree.VariableType.{VariableType}
 use Rattle.clmodel.specs.declared.tree.VariableType.TheVariants.{Integer}
 use Rattle.folding.specs.Constants.{unary_constant, cast_constant, infix_constant, choice_constant, call_constant, constant_of, constants_of}
 use Rattle.folding.specs.declared.known.Known.{Known}
 use Rattle.regcode.specs.declared.instruction.Instruction.{Instruction}
 use Rattle.regcode.specs.declared.instruction.Instruction.TheVariants as instruction
 use Rattle.lower_expr.specs.Scope.{Scope, register_at}
-use Rattle.lower_expr.specs.Expressions.{kind_of, folded, expr_code, terms_code, register_for, registers_for, call_code, branch_code, choice_code, count, infix_begun, infix_code}
+use Rattle.lower_expr.specs.Forms.{known_of, form_code}
+use Rattle.lower_expr.specs.Expressions.{folded, expr_code, terms_code, registers_for, call_code, branch_code, choice_code, count, infix_begun, infix_code}
 
 row_same : (ts : Terms) (n : _) (row : rust_expression.Row_of-Expression n) → row_terms ts row ≡ then_all ts (map term (rust_expression.items-the_row-Expression n row))
 row_same ts n rust_expression.end_of-Expression = refl
@@ -82,107 +82,125 @@ begun_length (Arithmetic operator) first = refl
 begun_length LogicalAnd first = refl
 begun_length LogicalOr first = refl
 
--- the code of an operator's parts, the place where the right one begins, and the whole
-pub infix_parts : (operator : InfixOperator) (old one two three left right : List Instruction) (first : ℕ) → one ≡ old ++ left → two ≡ one ++ infix_begun operator first → three ≡ two ++ right
-    → three ≡ old ++ (left ++ (infix_begun operator first ++ right))
-infix_parts operator old one two three left right first one_is two_is three_is =
-    three_is ∙ ap (λ xs. xs ++ right) (two_is ∙ ap (λ xs. xs ++ infix_begun operator first) one_is ∙ append_assoc old left (infix_begun operator first))
-    ∙ append_assoc old (left ++ infix_begun operator first) right ∙ ap (λ xs. old ++ xs) (append_assoc left (infix_begun operator first) right)
-
-pub infix_place : (operator : InfixOperator) (old one two left : List Instruction) (first place : ℕ) → one ≡ old ++ left → two ≡ one ++ infix_begun operator first → place ≡ length two
-    → place ≡ length old + length left + length (infix_begun operator 0)
-infix_place operator old one two left first place one_is two_is place_is =
-    let size = length-append one (infix_begun operator first) in
-    let front = length-append old left in
-    omega (arith, place_is, ap length two_is, size, ap length one_is, front, begun_length operator first)
-
-pub infix_whole : (scope : Scope) (level at above : ℕ) (operator : InfixOperator) (left right x : Term) (old : List Instruction) (first second : Known) → x ≡ Binary at operator left right → above ≡ level + 1
-    → first.kind ≡ kind_of scope left → first.constant ≡ constant_of scope.variables left → second.kind ≡ kind_of scope right → second.constant ≡ constant_of scope.variables right
-    → old ++ folded (infix_constant operator first.constant second.constant) level (expr_code scope level left ++ infix_code operator
-    (register_at level (infix_type operator first.kind second.kind)) (register_at level first.kind) (register_at (level + 1) second.kind) (expr_code scope above right))
-    ≡ old ++ expr_code scope level x
-infix_whole scope level at above operator left right x old first second is above_is first_kind first_constant second_kind second_constant =
-    ap₂ (λ v w. old ++ folded (infix_constant operator v w) level (expr_code scope level left ++ infix_code operator
-    (register_at level (infix_type operator first.kind second.kind)) (register_at level first.kind) (register_at (level + 1) second.kind) (expr_code scope above right))) first_constant second_constant
-    ∙ ap₂ (λ f g. old ++ folded (constant_of scope.variables (Binary at operator left right)) level (expr_code scope level left ++ infix_code operator
-    (register_at level (infix_type operator f g)) (register_at level f) (register_at (level + 1) g) (expr_code scope above right))) first_kind second_kind
-    ∙ ap (λ n. old ++ folded (constant_of scope.variables (Binary at operator left right)) level (expr_code scope level left ++ infix_code operator
-    (register_for scope level (Binary at operator left right)) (register_for scope level left) (register_for scope (level + 1) right) (expr_code scope n right))) above_is
-    ∙ ap (λ y. old ++ expr_code scope level y) (sym is)
-
--- the same of a choice
-pub choice_parts : (old one two three four five condition chosen otherwise : List Instruction) (test : Instruction) → one ≡ old ++ condition → two ≡ one ++ test ∷ [] → three ≡ two ++ chosen
-    → four ≡ three ++ instruction.UsualConversion 0 0 Int ∷ instruction.Jump 0 ∷ [] → five ≡ four ++ otherwise
-    → five ≡ old ++ (condition ++ (test ∷ (chosen ++ (instruction.UsualConversion 0 0 Int ∷ instruction.Jump 0 ∷ otherwise))))
-choice_parts old one two three four five condition chosen otherwise test one_is two_is three_is four_is five_is =
-    let between : List Instruction = instruction.UsualConversion 0 0 Int ∷ instruction.Jump 0 ∷ [] in
-    five_is ∙ ap (λ xs. xs ++ otherwise) (four_is ∙ ap (λ xs. xs ++ between) (three_is ∙ ap (λ xs. xs ++ chosen) (two_is ∙ ap (λ xs. xs ++ test ∷ []) one_is)))
-    ∙ append_assoc (((old ++ condition) ++ test ∷ []) ++ chosen) between otherwise
-    ∙ append_assoc ((old ++ condition) ++ test ∷ []) chosen (instruction.UsualConversion 0 0 Int ∷ instruction.Jump 0 ∷ otherwise)
-    ∙ append_assoc (old ++ condition) (test ∷ []) (chosen ++ (instruction.UsualConversion 0 0 Int ∷ instruction.Jump 0 ∷ otherwise))
-    ∙ append_assoc old condition (test ∷ (chosen ++ (instruction.UsualConversion 0 0 Int ∷ instruction.Jump 0 ∷ otherwise)))
-
-pub choice_first : (old one two condition : List Instruction) (test : Instruction) (first : ℕ) → one ≡ old ++ condition → two ≡ one ++ test ∷ [] → first ≡ length two → first ≡ length old + length condition + 1
-choice_first old one two condition test first one_is two_is first_is =
-    let size = length-append one (test ∷ []) in
-    let front = length-append old condition in
-    omega (arith, first_is, ap length two_is, size, ap length one_is, front)
-
-pub choice_second : (two three four chosen : List Instruction) (first second : ℕ) → first ≡ length two → three ≡ two ++ chosen
-    → four ≡ three ++ instruction.UsualConversion 0 0 Int ∷ instruction.Jump 0 ∷ [] → second ≡ length four → second ≡ first + length chosen + 2
-choice_second two three four chosen first second first_is three_is four_is second_is =
-    let size = length-append three (instruction.UsualConversion 0 0 Int ∷ instruction.Jump 0 ∷ []) in
-    let front = length-append two chosen in
-    omega (arith, second_is, ap length four_is, size, ap length three_is, front, first_is)
-
-pub choice_known : (scope : Scope) (at : ℕ) (condition chosen otherwise : Term) (k l m : Known) → k.constant ≡ constant_of scope.variables condition
-    → l.kind ≡ kind_of scope chosen → l.constant ≡ constant_of scope.variables chosen → m.kind ≡ kind_of scope otherwise → m.constant ≡ constant_of scope.variables otherwise
-    → choice_constant k.constant l.constant (base_type l.kind) m.constant (base_type m.kind) ≡ constant_of scope.variables (Choice at condition chosen otherwise)
-choice_known scope at condition chosen otherwise k l m k_constant l_kind l_constant m_kind m_constant =
-    ap (λ u. choice_constant u l.constant (base_type l.kind) m.constant (base_type m.kind)) k_constant
-    ∙ ap₂ (λ v j. choice_constant (constant_of scope.variables condition) v (base_type j) m.constant (base_type m.kind)) l_constant l_kind
-    ∙ ap₂ (λ w n. choice_constant (constant_of scope.variables condition) (constant_of scope.variables chosen) (base_type (kind_of scope chosen)) w (base_type n)) m_constant m_kind
-
-pub choice_whole : (scope : Scope) (level at : ℕ) (condition chosen otherwise x : Term) (old : List Instruction) (k l m : Known) → x ≡ Choice at condition chosen otherwise
-    → k.kind ≡ kind_of scope condition → k.constant ≡ constant_of scope.variables condition → l.kind ≡ kind_of scope chosen → l.constant ≡ constant_of scope.variables chosen
-    → m.kind ≡ kind_of scope otherwise → m.constant ≡ constant_of scope.variables otherwise
-    → old ++ folded (choice_constant k.constant l.constant (base_type l.kind) m.constant (base_type m.kind)) level (expr_code scope level condition ++ choice_code (register_at level k.kind)
-    (branch_code (register_at level (Integer (common (base_type l.kind) (base_type m.kind)))) (expr_code scope level chosen) (register_at level l.kind) m.kind)
-    (branch_code (register_at level (Integer (common (base_type l.kind) (base_type m.kind)))) (expr_code scope level otherwise) (register_at level m.kind) l.kind))
-    ≡ old ++ expr_code scope level x
-choice_whole scope level at condition chosen otherwise x old k l m is k_kind k_constant l_kind l_constant m_kind m_constant =
-    let code : Option integers.Integer → VariableType → Option integers.Integer → VariableType → Option integers.Integer → VariableType → List Instruction = λ u i v j w n.
-    old ++ folded (choice_constant u v (base_type j) w (base_type n)) level (expr_code scope level condition ++ choice_code (register_at level i)
-    (branch_code (register_at level (Integer (common (base_type j) (base_type n)))) (expr_code scope level chosen) (register_at level j) n)
-    (branch_code (register_at level (Integer (common (base_type j) (base_type n)))) (expr_code scope level otherwise) (register_at level n) j)) in
-    ap₂ (λ u i. code u i l.constant l.kind m.constant m.kind) k_constant k_kind
-    ∙ ap₂ (λ v j. code (constant_of scope.variables condition) (kind_of scope condition) v j m.constant m.kind) l_constant l_kind
-    ∙ ap₂ (λ w n. code (constant_of scope.variables condition) (kind_of scope condition) (constant_of scope.variables chosen) (kind_of scope chosen) w n) m_constant m_kind
-    ∙ ap (λ y. old ++ expr_code scope level y) (sym is)
+-- a constant expression is its value, and another one the code of its form
+pub settled_form : (scope : Scope) (level : ℕ) (e : Term) → folded (constant_of scope.variables e) level (form_code scope level e) ≡ expr_code scope level e
+settled_form scope level (Number at value) = refl
+settled_form scope level (Variable at name) = refl
+settled_form scope level (Element at name index) = refl
+settled_form scope level (ElementAddress at name_at name index) = refl
+settled_form scope level (Dereference at pointer) = refl
+settled_form scope level (Call at name arguments) = refl
+settled_form scope level (Unary at operator operand) = refl
+settled_form scope level (Cast at target operand) = refl
+settled_form scope level (Binary at operator left right) = refl
+settled_form scope level (Choice at condition chosen otherwise) = refl
 
 -- an operator on one number, a cast and a call, behind their operands
-pub unary_whole : (scope : Scope) (level at : ℕ) (operator : UnaryOperator) (e x : Term) (old : List Instruction) (operand : Known) → x ≡ Unary at operator e
-    → operand.kind ≡ kind_of scope e → operand.constant ≡ constant_of scope.variables e
-    → old ++ folded (unary_constant operator operand.constant) level
-    (expr_code scope level e ++ instruction.Unary (register_at level (Integer (unary_kind operator (base_type operand.kind)))) operator (register_at level operand.kind) ∷ []) ≡ old ++ expr_code scope level x
-unary_whole scope level at operator e x old operand is kind constant =
-    ap₂ (λ v k. old ++ folded (unary_constant operator v) level
-    (expr_code scope level e ++ instruction.Unary (register_at level (Integer (unary_kind operator (base_type k)))) operator (register_at level k) ∷ [])) constant kind
-    ∙ ap (λ y. old ++ expr_code scope level y) (sym is)
+pub unary_laid : (scope : Scope) (level at : ℕ) (operator : UnaryOperator) (e x : Term) (old one new : List Instruction) (operand : Known) → x ≡ Unary at operator e
+    → one ≡ old ++ expr_code scope level e → operand ≡ known_of scope e
+    → new ≡ one ++ instruction.Unary (register_at level (Integer (unary_kind operator (base_type operand.kind)))) operator (register_at level operand.kind) ∷ []
+    → new ≡ old ++ form_code scope level x
+unary_laid scope level at operator e x old one new operand is one_is operand_is new_is =
+    new_is ∙ ap₂ (λ xs (k : Known). xs ++ instruction.Unary (register_at level (Integer (unary_kind operator (base_type k.kind)))) operator (register_at level k.kind) ∷ []) one_is operand_is
+    ∙ append_assoc old (expr_code scope level e) _ ∙ ap (λ y. old ++ form_code scope level y) (sym is)
 
-pub cast_whole : (scope : Scope) (level at : ℕ) (target : IntType) (e x : Term) (old : List Instruction) (operand : Known) → x ≡ Cast at target e
-    → operand.kind ≡ kind_of scope e → operand.constant ≡ constant_of scope.variables e
-    → old ++ folded (cast_constant target operand.constant) level (expr_code scope level e ++ instruction.Convert (register_at level (Integer target)) (register_at level operand.kind) target ∷ [])
-    ≡ old ++ expr_code scope level x
-cast_whole scope level at target e x old operand is kind constant =
-    ap₂ (λ v k. old ++ folded (cast_constant target v) level (expr_code scope level e ++ instruction.Convert (register_at level (Integer target)) (register_at level k) target ∷ [])) constant kind
-    ∙ ap (λ y. old ++ expr_code scope level y) (sym is)
+pub cast_laid : (scope : Scope) (level at : ℕ) (target : IntType) (e x : Term) (old one new : List Instruction) (operand : Known) → x ≡ Cast at target e
+    → one ≡ old ++ expr_code scope level e → operand ≡ known_of scope e
+    → new ≡ one ++ instruction.Convert (register_at level (Integer target)) (register_at level operand.kind) target ∷ [] → new ≡ old ++ form_code scope level x
+cast_laid scope level at target e x old one new operand is one_is operand_is new_is =
+    new_is ∙ ap₂ (λ xs (k : Known). xs ++ instruction.Convert (register_at level (Integer target)) (register_at level k.kind) target ∷ []) one_is operand_is
+    ∙ append_assoc old (expr_code scope level e) _ ∙ ap (λ y. old ++ form_code scope level y) (sym is)
 
-pub call_whole : (scope : Scope) (level at name : ℕ) (es : Terms) (x : Term) (old : List Instruction) (function : Option BuiltIn) (kind : IntType) (registers : List ℕ) (values : List (Option integers.Integer))
-    → x ≡ Call at name es → function ≡ built_in name → kind ≡ argument_type scope.variables es → registers ≡ registers_for scope level es → values ≡ constants_of scope.variables es
-    → old ++ folded (call_constant function values) level (terms_code scope level es ++ call_code function (register_at level (Integer (call_type function kind))) registers) ≡ old ++ expr_code scope level x
-call_whole scope level at name es x old function kind registers values is function_is kind_is registers_are values_are =
-    ap (λ f. old ++ folded (call_constant f values) level (terms_code scope level es ++ call_code f (register_at level (Integer (call_type f kind))) registers)) function_is
-    ∙ ap₂ (λ vs k. old ++ folded (call_constant (built_in name) vs) level (terms_code scope level es ++ call_code (built_in name) (register_at level (Integer (call_type (built_in name) k))) registers)) values_are kind_is
-    ∙ ap (λ rs. old ++ folded (constant_of scope.variables (Call at name es)) level (terms_code scope level es ++ call_code (built_in name) (register_for scope level (Call at name es)) rs)) registers_are
-    ∙ ap (λ y. old ++ expr_code scope level y) (sym is)
+pub call_laid : (scope : Scope) (level at name : ℕ) (es : Terms) (x : Term) (old one new : List Instruction) (function : Option BuiltIn) (kind : IntType) (registers : List ℕ)
+    → x ≡ Call at name es → function ≡ built_in name → one ≡ old ++ terms_code scope level es → kind ≡ argument_type scope.variables es → registers ≡ registers_for scope level es
+    → new ≡ one ++ call_code function (register_at level (Integer (call_type function kind))) registers → new ≡ old ++ form_code scope level x
+call_laid scope level at name es x old one new function kind registers is function_is one_is kind_is registers_are new_is =
+    new_is ∙ ap₂ (λ xs f. xs ++ call_code f (register_at level (Integer (call_type f kind))) registers) one_is function_is ∙ append_assoc old (terms_code scope level es) _
+    ∙ ap₂ (λ k rs. old ++ (terms_code scope level es ++ call_code (built_in name) (register_at level (Integer (call_type (built_in name) k))) rs)) kind_is registers_are
+    ∙ ap (λ y. old ++ form_code scope level y) (sym is)
+
+-- an operator on two: its left operand, what stands before the right one, that one, and the rest
+pub binary_laid : (scope : Scope) (level at : ℕ) (operator : InfixOperator) (left right x : Term) (old one two three new : List Instruction) (first second : Known) (above place : ℕ)
+    → x ≡ Binary at operator left right → one ≡ old ++ expr_code scope level left → first ≡ known_of scope left
+    → two ≡ one ++ infix_begun operator (register_at level first.kind) → place ≡ length two → above ≡ level + 1
+    → three ≡ two ++ expr_code scope above right → second ≡ known_of scope right
+    → ((before r : List Instruction) → three ≡ before ++ (infix_begun operator (register_at level first.kind) ++ r) → place ≡ length before + length (infix_begun operator 0)
+    → new ≡ before ++ infix_code operator (register_at level (infix_type operator first.kind second.kind)) (register_at level first.kind) (register_at (level + 1) second.kind) r)
+    → new ≡ old ++ form_code scope level x
+binary_laid scope level at operator left right x old one two three new first second above place is one_is first_is two_is place_is above_is three_is second_is laid =
+    let begun = infix_begun operator (register_at level first.kind) in
+    let inner = expr_code scope (level + 1) right in
+    laid one inner (three_is ∙ ap₂ (λ xs n. xs ++ expr_code scope n right) two_is above_is ∙ append_assoc one begun inner)
+    (omega (arith, place_is, ap length two_is, length-append one begun, begun_length operator (register_at level first.kind)))
+    ∙ ap (λ xs. xs ++ infix_code operator (register_at level (infix_type operator first.kind second.kind)) (register_at level first.kind) (register_at (level + 1) second.kind) inner) one_is
+    ∙ append_assoc old (expr_code scope level left) _
+    ∙ ap₂ (λ (f g : Known). old ++ (expr_code scope level left ++ infix_code operator (register_at level (infix_type operator f.kind g.kind)) (register_at level f.kind) (register_at (level + 1) g.kind) inner))
+    first_is second_is
+    ∙ ap (λ y. old ++ form_code scope level y) (sym is)
+
+-- a choice: its condition, a jump, one branch, what stands between them, the other branch, and the rest
+pub choice_laid : (scope : Scope) (level at : ℕ) (e d f x : Term) (old one two three four five new : List Instruction) (condition chosen otherwise : Known) (first second : ℕ)
+    → x ≡ Choice at e d f → one ≡ old ++ expr_code scope level e → condition ≡ known_of scope e
+    → two ≡ one ++ instruction.JumpIfZero (register_at level condition.kind) 0 ∷ [] → first ≡ length two → three ≡ two ++ expr_code scope level d → chosen ≡ known_of scope d
+    → four ≡ three ++ instruction.UsualConversion 0 0 Int ∷ instruction.Jump 0 ∷ [] → second ≡ length four → five ≡ four ++ expr_code scope level f → otherwise ≡ known_of scope f
+    → ((before own other : List Instruction)
+    → five ≡ before ++ (instruction.JumpIfZero (register_at level condition.kind) 0 ∷ (own ++ (instruction.UsualConversion 0 0 Int ∷ instruction.Jump 0 ∷ other)))
+    → first ≡ length before + 1 → second ≡ first + length own + 2 → new ≡ before ++ choice_code (register_at level condition.kind)
+    (branch_code (register_at level (Integer (common (base_type chosen.kind) (base_type otherwise.kind)))) own (register_at level chosen.kind) otherwise.kind)
+    (branch_code (register_at level (Integer (common (base_type chosen.kind) (base_type otherwise.kind)))) other (register_at level otherwise.kind) chosen.kind))
+    → new ≡ old ++ form_code scope level x
+choice_laid scope level at e d f x old one two three four five new condition chosen otherwise first second is one_is condition_is two_is first_is three_is chosen_is four_is second_is five_is otherwise_is laid =
+    let test = instruction.JumpIfZero (register_at level condition.kind) 0 in
+    let between : List Instruction = instruction.UsualConversion 0 0 Int ∷ instruction.Jump 0 ∷ [] in
+    let own = expr_code scope level d in
+    let other = expr_code scope level f in
+    let whole : Known → Known → Known → List Instruction = λ i j k. choice_code (register_at level i.kind)
+    (branch_code (register_at level (Integer (common (base_type j.kind) (base_type k.kind)))) own (register_at level j.kind) k.kind)
+    (branch_code (register_at level (Integer (common (base_type j.kind) (base_type k.kind)))) other (register_at level k.kind) j.kind) in
+    laid one own other
+    (five_is ∙ ap (λ xs. xs ++ other) (four_is ∙ ap (λ xs. xs ++ between) (three_is ∙ ap (λ xs. xs ++ own) two_is))
+    ∙ append_assoc ((one ++ test ∷ []) ++ own) between other ∙ append_assoc (one ++ test ∷ []) own (instruction.UsualConversion 0 0 Int ∷ instruction.Jump 0 ∷ other)
+    ∙ append_assoc one (test ∷ []) (own ++ (instruction.UsualConversion 0 0 Int ∷ instruction.Jump 0 ∷ other)))
+    (omega (arith, first_is, ap length two_is, length-append one (test ∷ [])))
+    (omega (arith, second_is, ap length four_is, length-append three between, ap length three_is, length-append two own, first_is))
+    ∙ ap (λ xs. xs ++ whole condition chosen otherwise) one_is
+    ∙ append_assoc old (expr_code scope level e) (whole condition chosen otherwise)
+    ∙ ap₂ (λ i j. old ++ (expr_code scope level e ++ whole i j otherwise)) condition_is chosen_is
+    ∙ ap (λ k. old ++ (expr_code scope level e ++ whole (known_of scope e) (known_of scope d) k)) otherwise_is
+    ∙ ap (λ y. old ++ form_code scope level y) (sym is)
+
+-- what is known of them
+pub unary_known : (scope : Scope) (at : ℕ) (operator : UnaryOperator) (e x : Term) (operand found : Known) → x ≡ Unary at operator e → operand ≡ known_of scope e
+    → found ≡ record { kind = Integer (unary_kind operator (base_type operand.kind)); constant = unary_constant operator operand.constant } → found ≡ known_of scope x
+unary_known scope at operator e x operand found is operand_is h =
+    let whole : Known → Known = λ k. record { kind = Integer (unary_kind operator (base_type k.kind)); constant = unary_constant operator k.constant } in
+    h ∙ ap whole operand_is ∙ ap (known_of scope) (sym is)
+
+pub cast_known : (scope : Scope) (at : ℕ) (target : IntType) (e x : Term) (operand found : Known) → x ≡ Cast at target e → operand ≡ known_of scope e
+    → found ≡ record { kind = Integer target; constant = cast_constant target operand.constant } → found ≡ known_of scope x
+cast_known scope at target e x operand found is operand_is h =
+    let whole : Known → Known = λ k. record { kind = Integer target; constant = cast_constant target k.constant } in
+    h ∙ ap whole operand_is ∙ ap (known_of scope) (sym is)
+
+pub call_known : (scope : Scope) (at name : ℕ) (es : Terms) (x : Term) (function : Option BuiltIn) (kind : IntType) (values : List (Option integers.Integer)) (found : Known)
+    → x ≡ Call at name es → function ≡ built_in name → kind ≡ argument_type scope.variables es → values ≡ constants_of scope.variables es
+    → found ≡ record { kind = Integer (call_type function kind); constant = call_constant function values } → found ≡ known_of scope x
+call_known scope at name es x function kind values found is function_is kind_is values_are h =
+    let whole : Option BuiltIn → IntType → List (Option integers.Integer) → Known = λ f k vs. record { kind = Integer (call_type f k); constant = call_constant f vs } in
+    h ∙ ap (λ f. whole f kind values) function_is ∙ ap₂ (λ k vs. whole (built_in name) k vs) kind_is values_are ∙ ap (known_of scope) (sym is)
+
+pub binary_known : (scope : Scope) (at : ℕ) (operator : InfixOperator) (left right x : Term) (first second found : Known) → x ≡ Binary at operator left right
+    → first ≡ known_of scope left → second ≡ known_of scope right
+    → found ≡ record { kind = infix_type operator first.kind second.kind; constant = infix_constant operator first.constant second.constant } → found ≡ known_of scope x
+binary_known scope at operator left right x first second found is first_is second_is h =
+    let whole : Known → Known → Known = λ j k. record { kind = infix_type operator j.kind k.kind; constant = infix_constant operator j.constant k.constant } in
+    h ∙ ap₂ whole first_is second_is ∙ ap (known_of scope) (sym is)
+
+pub choice_known : (scope : Scope) (at : ℕ) (e d f x : Term) (condition chosen otherwise found : Known) → x ≡ Choice at e d f
+    → condition ≡ known_of scope e → chosen ≡ known_of scope d → otherwise ≡ known_of scope f
+    → found ≡ record { kind = Integer (common (base_type chosen.kind) (base_type otherwise.kind)); constant = choice_constant condition.constant chosen.constant (base_type chosen.kind) otherwise.constant (base_type otherwise.kind) }
+    → found ≡ known_of scope x
+choice_known scope at e d f x condition chosen otherwise found is condition_is chosen_is otherwise_is h =
+    let whole : Known → Known → Known → Known = λ i j k.
+    record { kind = Integer (common (base_type j.kind) (base_type k.kind)); constant = choice_constant i.constant j.constant (base_type j.kind) k.constant (base_type k.kind) } in
+    h ∙ ap₂ (λ i j. whole i j otherwise) condition_is chosen_is ∙ ap (λ k. whole (known_of scope e) (known_of scope d) k) otherwise_is ∙ ap (known_of scope) (sym is)

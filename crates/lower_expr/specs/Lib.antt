@@ -1,5 +1,6 @@
 pub mod Scope
 pub mod Expressions
+pub mod Forms
 pub mod Agreement
 pub mod Index
 pub mod Targets

@@ -1,20 +1,20 @@
 //! The emission of the code of expressions.
 #![tactic(auto, using(crate::proofs::Growth::unchanged, crate::proofs::Growth::behind))]
 
-ghost use Rattle.std.specs.Prelude.{◌≡◌, ◌+◌, ◌<◌, ◌≤◌, ◌^◌, [], ◌++◌, IfOk, OnErr};
+ghost use Rattle.std.specs.Prelude.{◌≡◌, ◌+◌, ◌<◌, ◌≤◌, ◌^◌, [], ◌++◌, IfOk, OnOk, OnErr};
 ghost use Rattle.clmodel.specs.Next.{argument_type};
-ghost use Rattle.clmodel.specs.Tree.{term, terms, tree_target};
+ghost use Rattle.clmodel.specs.Tree.{Element, term, terms, tree_target};
 ghost use Rattle.clmodel.specs.Typing.Sizes.{term_size, terms_size, target_size};
-ghost use Rattle.folding.specs.Constants.{constant_of, constants_of};
+ghost use Rattle.folding.specs.Constants.{constants_of};
 ghost use Rattle.folding.specs.Known.{constants_in};
 ghost use Rattle.lower_expr.specs.Scope.{free_level};
+ghost use Rattle.lower_expr.specs.Forms.{known_of, form_code};
 ghost use Rattle.lower_expr.specs.Expressions.{kind_of, kind_named, expr_code, address_code, terms_code, registers_for, target_code, target_kind};
 ghost use Rattle.lower_expr.specs.Growth.{IsLonger};
 ghost use Rattle.lower_expr.specs.Registers.{numbers};
 
 use crate::instructions::{
-    Arguments, Part, array_element, end_call, end_cast, end_unary, load, number, offset, point,
-    variable,
+    Arguments, array_element, end_call, end_cast, end_unary, load, offset, point, settle, variable,
 };
 use crate::jumps::{begin_choice, begin_infix, between_branches, end_choice, end_infix};
 use crate::scope::{Level, Scope, level_at, register_at};
@@ -57,7 +57,8 @@ pub fn emit_expression(
     Ok(found.kind)
 }
 
-/// The same, which also gives the value of a constant expression. Each node is worked out once, from its parts, whose code it replaces.
+/// The same, which gives what is known of the expression. Each node is worked out once, from its parts; where it is constant, its value takes
+/// the place of the code of its form.
 #[cycle(emission)]
 fn emit(
     scope: &Scope,
@@ -67,35 +68,40 @@ fn emit(
 ) -> Result<Known, AllocError>
     requires free { free_level scope.now ≤ level.0 }
     requires low { level.0 + (term_size [] (term expression.now)).nodes < 2 ^ 28 }
-    ensures code { IfOk result (λ _. code.new.items ≡ code.old.items ++ expr_code scope.now level.0 (term expression.now)) }
-    ensures kind { IfOk result (λ found. found.kind ≡ kind_of scope.now (term expression.now)) }
-    ensures constant { IfOk result (λ found. found.constant ≡ constant_of scope.now.variables (term expression.now)) }
+    ensures code { OnOk result (code.new.items ≡ code.old.items ++ expr_code scope.now level.0 (term expression.now)) }
+    ensures known { IfOk result (λ found. found ≡ known_of scope.now (term expression.now)) }
     ensures longer { OnErr result (IsLonger code.old.items code.new.items) }
 {
     let start = code.len();
+    let known = emit_form(scope, level, expression, code)?;
+    settle(level, start, known.kind, known.constant, code)
+}
+
+/// Adds the code of an expression's form, whose parts are settled, and gives what is known of the expression.
+#[cycle(emission)]
+fn emit_form(
+    scope: &Scope,
+    level: Level,
+    expression: &Expression,
+    code: &mut Vec<Instruction>,
+) -> Result<Known, AllocError>
+    requires free { free_level scope.now ≤ level.0 }
+    requires low { level.0 + (term_size [] (term expression.now)).nodes < 2 ^ 28 }
+    ensures code { OnOk result (code.new.items ≡ code.old.items ++ form_code scope.now level.0 (term expression.now)) }
+    ensures known { IfOk result (λ found. found ≡ known_of scope.now (term expression.now)) }
+    ensures longer { OnErr result (IsLonger code.old.items code.new.items) }
+{
     match expression {
-        Expression::Number { value, .. } => {
-            number(level, *value, code)?;
-            Ok(Known::number(*value))
+        Expression::Number { value, .. } => Ok(Known::number(*value)),
+        Expression::Variable { name, .. } => variable(scope, level, *name, code),
+        Expression::Element { name, index, .. } => emit_element(scope, level, *name, index, code),
+        Expression::ElementAddress { name, index, .. } => {
+            let kind = emit_address(scope, level, *name, index, code)?;
+            Ok(Known::varying(kind))
         }
-        Expression::Variable { name, .. } => Ok(Known::varying(variable(
-            scope, level, *name, code,
-        )?)),
-        Expression::Element { name, index, .. } => {
-            if scope.is_private_array(*name) {
-                let index = emit(scope, level, index, code)?;
-                let kind = array_element(scope, level, *name, index.kind, code)?;
-                return Ok(Known::varying(kind));
-            }
-            let pointer = emit_address(scope, level, *name, index, code)?;
-            Ok(Known::varying(load(level, pointer, code)?))
-        }
-        Expression::ElementAddress { name, index, .. } => Ok(Known::varying(emit_address(
-            scope, level, *name, index, code,
-        )?)),
         Expression::Dereference { pointer, .. } => {
             let pointer = emit(scope, level, pointer, code)?;
-            Ok(Known::varying(load(level, pointer.kind, code)?))
+            load(level, pointer.kind, code)
         }
         Expression::Call {
             name,
@@ -105,23 +111,23 @@ fn emit(
             let given = arguments.as_slice();
             levels_suffice(level, given);
             let arguments = emit_arguments(scope, level, given, code)?;
-            end_call(level, start, built_in_named(*name), &arguments, code)
+            end_call(level, built_in_named(*name), &arguments, code)
         }
         Expression::Unary {
             operator,
             operand,
             ..
         } => {
-            let known = emit(scope, level, operand, code)?;
-            end_unary(level, *operator, Part { start, known }, code)
+            let operand = emit(scope, level, operand, code)?;
+            end_unary(level, *operator, operand, code)
         }
         Expression::Cast {
             target,
             operand,
             ..
         } => {
-            let known = emit(scope, level, operand, code)?;
-            end_cast(level, *target, Part { start, known }, code)
+            let operand = emit(scope, level, operand, code)?;
+            end_cast(level, *target, operand, code)
         }
         Expression::Binary {
             operator,
@@ -129,11 +135,10 @@ fn emit(
             right,
             ..
         } => {
-            let known = emit(scope, level, left, code)?;
-            let first = Part { start, known };
-            let start = begin_infix(level, *operator, known.kind, code)?;
-            let known = emit(scope, level_at(level, 1), right, code)?;
-            end_infix(level, *operator, first, Part { start, known }, code)
+            let first = emit(scope, level, left, code)?;
+            let place = begin_infix(level, *operator, first.kind, code)?;
+            let second = emit(scope, level_at(level, 1), right, code)?;
+            end_infix(level, *operator, first, second, place, code)
         }
         Expression::Choice {
             condition,
@@ -141,16 +146,38 @@ fn emit(
             otherwise,
             ..
         } => {
-            let known = emit(scope, level, condition, code)?;
-            let condition = Part { start, known };
-            let start = begin_choice(level, known.kind, code)?;
-            let known = emit(scope, level, chosen, code)?;
-            let chosen = Part { start, known };
-            let start = between_branches(code)?;
-            let known = emit(scope, level, otherwise, code)?;
-            end_choice(level, condition, chosen, Part { start, known }, code)
+            let condition = emit(scope, level, condition, code)?;
+            let first = begin_choice(level, condition.kind, code)?;
+            let chosen = emit(scope, level, chosen, code)?;
+            let second = between_branches(code)?;
+            let otherwise = emit(scope, level, otherwise, code)?;
+            end_choice(level, condition, chosen, otherwise, first, second, code)
         }
     }
+}
+
+/// Adds the code of an element of the private array of a name, or of one that its pointer leads to, and gives what is known of it.
+#[cycle(emission)]
+fn emit_element(
+    scope: &Scope,
+    level: Level,
+    name: u32,
+    index: &Expression,
+    code: &mut Vec<Instruction>,
+) -> Result<Known, AllocError>
+    requires free { free_level scope.now ≤ level.0 }
+    requires low { level.0 + 1 + (term_size [] (term index.now)).nodes < 2 ^ 28 }
+    ensures code { OnOk result (code.new.items ≡ code.old.items ++ expr_code scope.now level.0 (Element 0 name (term index.now))) }
+    ensures known { IfOk result (λ found. found ≡ known_of scope.now (Element 0 name (term index.now))) }
+    ensures longer { OnErr result (IsLonger code.old.items code.new.items) }
+{
+    if scope.is_private_array(name) {
+        let index = emit(scope, level, index, code)?;
+        let _constant: Option<Value> = index.constant; // tells the borrow checker of this type
+        return array_element(scope, level, name, index.kind, code);
+    }
+    let pointer = emit_address(scope, level, name, index, code)?;
+    load(level, pointer, code)
 }
 
 /// Adds the code of a pointer variable's value moved by an index, left at a level, and gives its type. Err if out of memory.
@@ -169,10 +196,10 @@ fn emit_address(
     ensures longer { OnErr result (IsLonger code.old.items code.new.items) }
 {
     let pointer = variable(scope, level, name, code)?;
-    let found = emit(scope, level_at(level, 1), index, code)?;
-    let _constant: Option<Value> = found.constant; // tells the borrow checker of this type
-    offset(level, pointer, found.kind, code)?;
-    Ok(pointer)
+    let index = emit(scope, level_at(level, 1), index, code)?;
+    let _constant: Option<Value> = index.constant; // tells the borrow checker of this type
+    offset(level, pointer.kind, index.kind, code)?;
+    Ok(pointer.kind)
 }
 
 /// Adds the code of arguments, from left to right, and gives the registers where their values are, the first at a level, and each

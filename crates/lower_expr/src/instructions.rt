@@ -1,7 +1,7 @@
 //! The instructions of an expression behind those of its operands (OpenCL 1.2, section 6.3).
 #![tactic(auto, using(crate::proofs::Growth::unchanged, crate::proofs::Growth::behind))]
 
-ghost use Rattle.std.specs.Prelude.{◌≡◌, ℕ, ◌+◌, ◌<◌, ◌≤◌, ◌^◌, [], ◌∷◌, ◌++◌, List, Some, length, take, drop, IfOk, OnOk, OnErr};
+ghost use Rattle.std.specs.Prelude.{◌≡◌, ◌+◌, ◌<◌, ◌≤◌, ◌^◌, [], ◌∷◌, ◌++◌, Some, take, drop, IfOk, OnOk, OnErr};
 ghost use Rattle.clnum.specs.Operations as operations;
 ghost use Rattle.clmodel.specs.Next as next;
 ghost use Rattle.clmodel.specs.declared.setup.BuiltIn.TheVariants as built_in_function;
@@ -12,6 +12,7 @@ ghost use Rattle.regcode.specs.declared.instruction.Instruction.{Instruction};
 ghost use Rattle.regcode.specs.declared.instruction.Instruction.TheVariants as instruction;
 ghost use Rattle.lower_expr.specs.Scope.{free_level, register_at, register_of};
 ghost use Rattle.lower_expr.specs.Expressions as expressions;
+ghost use Rattle.lower_expr.specs.Forms as forms;
 ghost use Rattle.lower_expr.specs.Growth.{IsLonger};
 ghost use Rattle.lower_expr.specs.Registers.{numbers};
 
@@ -48,13 +49,6 @@ pub(crate) fn number(
     Ok(())
 }
 
-/// A part of an expression: the place where its code begins, and what is known of it.
-#[derive(Clone, Copy)]
-pub(crate) struct Part {
-    pub(crate) start: usize,
-    pub(crate) known: Known,
-}
-
 /// Puts a constant expression's value in place of the code from a place on, which is that of its form; the code of another one stays.
 pub(crate) fn settle(
     level: Level,
@@ -64,7 +58,7 @@ pub(crate) fn settle(
     code: &mut Vec<Instruction>,
 ) -> Result<Known, AllocError>
     requires { level.0 < 2 ^ 28 }
-    ensures code { IfOk result (λ _. code.new.items ≡ take start code.old.items ++ expressions.folded constant level.0 (drop start code.old.items)) }
+    ensures code { OnOk result (code.new.items ≡ take start code.old.items ++ expressions.folded constant level.0 (drop start code.old.items)) }
     ensures known { IfOk result (λ found. found ≡ record { kind = kind; constant = constant }) }
     ensures cut { OnErr result (code.new.items ≡ take start code.old.items) }
 {
@@ -96,24 +90,25 @@ pub(crate) fn fetch_variable(
     }
 }
 
-/// Adds the code of a variable's value, and gives its type.
+/// Adds the code of a variable's value, and gives what is known of it.
 pub(crate) fn variable(
     scope: &Scope,
     level: Level,
     name: u32,
     code: &mut Vec<Instruction>,
-) -> Result<VariableType, AllocError>
+) -> Result<Known, AllocError>
     requires free { free_level scope.now ≤ level.0 }
     requires low { level.0 < 2 ^ 28 }
-    ensures code { IfOk result (λ kind. code.new.items
+    ensures code { OnOk result (code.new.items
         ≡ code.old.items ++ expressions.variable_code (register_at level.0 (expressions.kind_named scope.now name)) (register_of scope.now name) name) }
-    ensures kind { IfOk result (λ kind. kind ≡ expressions.kind_named scope.now name) }
+    ensures known { IfOk result (λ found. found ≡ forms.varying (expressions.kind_named scope.now name)) }
     ensures longer { OnErr result (IsLonger code.old.items code.new.items) }
 {
     let kind = scope.kind(name);
     let to = register_at(level, kind);
     fetch_variable(scope, name, to, code)?;
-    Ok(kind)
+    let constant = None;
+    Ok(Known { kind, constant })
 }
 
 /// Adds the move of a pointer of this type at a level by an index of that type at the level above.
@@ -140,23 +135,24 @@ pub(crate) fn offset(
     )
 }
 
-/// Adds the load of what a pointer of this type points to, and gives its type.
+/// Adds the load of what a pointer of this type points to, and gives what is known of it.
 pub(crate) fn load(
     level: Level,
     pointer: VariableType,
     code: &mut Vec<Instruction>,
-) -> Result<VariableType, AllocError>
+) -> Result<Known, AllocError>
     requires { level.0 < 2 ^ 28 }
-    ensures code { IfOk result (λ kind. code.new.items
+    ensures code { OnOk result (code.new.items
         ≡ code.old.items ++ instruction.Load (register_at level.0 (kinds.Integer (next.base_type pointer))) (register_at level.0 pointer) ∷ []) }
-    ensures kind { IfOk result (λ kind. kind ≡ kinds.Integer (next.base_type pointer)) }
+    ensures known { IfOk result (λ found. found ≡ forms.varying (kinds.Integer (next.base_type pointer))) }
     ensures longer { OnErr result (IsLonger code.old.items code.new.items) }
 {
     let kind = VariableType::Integer(base_type(pointer));
     let to = register_at(level, kind).0;
     let pointer = register_at(level, pointer).0;
     add(code, Instruction::Load { to, pointer })?;
-    Ok(kind)
+    let constant = None;
+    Ok(Known { kind, constant })
 }
 
 /// Adds the load of an element of the private array of a name, by the index that a register holds.
@@ -185,26 +181,27 @@ pub fn private_load(
     )
 }
 
-/// Adds the load of an element of the private array of a name at a level, by its index of this type there, and gives its type.
+/// Adds the load of an element of the private array of a name at a level, by its index of this type there, and gives what is known of it.
 pub(crate) fn array_element(
     scope: &Scope,
     level: Level,
     name: u32,
     index: VariableType,
     code: &mut Vec<Instruction>,
-) -> Result<VariableType, AllocError>
+) -> Result<Known, AllocError>
     requires free { free_level scope.now ≤ level.0 }
     requires low { level.0 < 2 ^ 28 }
-    ensures code { IfOk result (λ kind. code.new.items ≡ code.old.items
+    ensures code { OnOk result (code.new.items ≡ code.old.items
         ++ expressions.private_load scope.now (register_at level.0 (kinds.Integer (expressions.type_of_elements scope.now name))) name (register_at level.0 index) ∷ []) }
-    ensures kind { IfOk result (λ kind. kind ≡ kinds.Integer (expressions.type_of_elements scope.now name)) }
+    ensures known { IfOk result (λ found. found ≡ forms.varying (kinds.Integer (expressions.type_of_elements scope.now name))) }
     ensures longer { OnErr result (IsLonger code.old.items code.new.items) }
 {
     let kind = VariableType::Integer(base_type(scope.kind(name)));
     let to = register_at(level, kind);
     let index = register_at(level, index);
     private_load(scope, to, name, index, code)?;
-    Ok(kind)
+    let constant = None;
+    Ok(Known { kind, constant })
 }
 
 /// Adds the store of what a register holds in an element of the private array of a name, by the index that another holds.
@@ -248,57 +245,54 @@ pub(crate) fn point(
     add(code, Instruction::MovePointer { to: from, from })
 }
 
-/// Ends an operator behind its operand: with its instruction, or with its value in place of all of its code.
+/// Adds the instruction of an operator behind its operand, and gives what is known of the whole.
 pub(crate) fn end_unary(
     level: Level,
     operator: UnaryOperator,
-    operand: Part,
+    operand: Known,
     code: &mut Vec<Instruction>,
 ) -> Result<Known, AllocError>
     requires { level.0 < 2 ^ 28 }
-    ensures code { IfOk result (λ _. (before own : List Instruction) → code.old.items ≡ before ++ own → operand.start ≡ length before
-        → code.new.items ≡ before ++ expressions.folded (unary_constant operator operand.known.constant) level.0
-        (own ++ instruction.Unary (register_at level.0 (kinds.Integer (operations.unary_kind operator (next.base_type operand.known.kind)))) operator (register_at level.0 operand.known.kind) ∷ [])) }
-    ensures kind { IfOk result (λ found. found.kind ≡ kinds.Integer (operations.unary_kind operator (next.base_type operand.known.kind))) }
-    ensures constant { IfOk result (λ found. found.constant ≡ unary_constant operator operand.known.constant) }
-    ensures longer { OnErr result ((before own : List Instruction) → code.old.items ≡ before ++ own → operand.start ≡ length before → IsLonger before code.new.items) }
+    ensures code { OnOk result (code.new.items ≡ code.old.items
+        ++ instruction.Unary (register_at level.0 (kinds.Integer (operations.unary_kind operator (next.base_type operand.kind)))) operator (register_at level.0 operand.kind) ∷ []) }
+    ensures known { IfOk result (λ found. found
+        ≡ record { kind = kinds.Integer (operations.unary_kind operator (next.base_type operand.kind)); constant = unary_constant operator operand.constant }) }
+    ensures longer { OnErr result (IsLonger code.old.items code.new.items) }
 {
-    let kind = VariableType::Integer(unary_kind(operator, base_type(operand.known.kind)));
-    let to = register_at(level, kind);
-    let from = register_at(level, operand.known.kind);
+    let kind = VariableType::Integer(unary_kind(operator, base_type(operand.kind)));
+    let constant = constants::unary(operator, operand.constant);
+    let to = register_at(level, kind).0;
+    let operand = register_at(level, operand.kind).0;
     add(
         code,
         Instruction::Unary {
-            to: to.0,
+            to,
             operator,
-            operand: from.0,
+            operand,
         },
     )?;
-    let constant = constants::unary(operator, operand.known.constant);
-    settle(level, operand.start, kind, constant, code)
+    Ok(Known { kind, constant })
 }
 
-/// Ends a cast behind its operand: with its instruction, or with its value in place of all of its code.
+/// Adds the instruction of a cast behind its operand, and gives what is known of the whole.
 pub(crate) fn end_cast(
     level: Level,
     kind: IntType,
-    operand: Part,
+    operand: Known,
     code: &mut Vec<Instruction>,
 ) -> Result<Known, AllocError>
     requires { level.0 < 2 ^ 28 }
-    ensures code { IfOk result (λ _. (before own : List Instruction) → code.old.items ≡ before ++ own → operand.start ≡ length before
-        → code.new.items ≡ before ++ expressions.folded (cast_constant kind operand.known.constant) level.0
-        (own ++ instruction.Convert (register_at level.0 (kinds.Integer kind)) (register_at level.0 operand.known.kind) kind ∷ [])) }
-    ensures kind { IfOk result (λ found. found.kind ≡ kinds.Integer kind) }
-    ensures constant { IfOk result (λ found. found.constant ≡ cast_constant kind operand.known.constant) }
-    ensures longer { OnErr result ((before own : List Instruction) → code.old.items ≡ before ++ own → operand.start ≡ length before → IsLonger before code.new.items) }
+    ensures code { OnOk result (code.new.items
+        ≡ code.old.items ++ instruction.Convert (register_at level.0 (kinds.Integer kind)) (register_at level.0 operand.kind) kind ∷ []) }
+    ensures known { IfOk result (λ found. found ≡ record { kind = kinds.Integer kind; constant = cast_constant kind operand.constant }) }
+    ensures longer { OnErr result (IsLonger code.old.items code.new.items) }
 {
-    let whole = VariableType::Integer(kind);
-    let to = register_at(level, whole).0;
-    let from = register_at(level, operand.known.kind).0;
+    let to = register_at(level, VariableType::Integer(kind)).0;
+    let from = register_at(level, operand.kind).0;
+    let constant = constants::cast(kind, operand.constant);
     add(code, Instruction::Convert { to, from, kind })?;
-    let constant = constants::cast(kind, operand.known.constant);
-    settle(level, operand.start, whole, constant, code)
+    let kind = VariableType::Integer(kind);
+    Ok(Known { kind, constant })
 }
 
 /// The registers of arguments, what is known of each, and the integer type of the first, or of what it points to; int where there is none.
@@ -309,29 +303,27 @@ pub struct Arguments {
     pub(crate) known: SmallVec<Known, 2>,
 }
 
-/// Ends the call of a built-in function that gives a value, behind its arguments, whose code begins at a place: with its instruction, or with its
-/// value in place of all of its code. Where there is no such function with that many arguments, the item ends.
+/// Adds the instruction of the call of a built-in function that gives a value, behind its arguments, and gives what is known of the whole. Where
+/// there is no such function with that many arguments, the item ends.
 pub(crate) fn end_call(
     level: Level,
-    start: usize,
     function: Option<BuiltIn>,
     arguments: &Arguments,
     code: &mut Vec<Instruction>,
 ) -> Result<Known, AllocError>
     requires { level.0 < 2 ^ 28 }
-    ensures code { IfOk result (λ _. (before own : List Instruction) → code.old.items ≡ before ++ own → start ≡ length before
-        → code.new.items ≡ before ++ expressions.folded (call_constant function (constants_in arguments.now.known.items)) level.0
-        (own ++ expressions.call_code function (register_at level.0 (kinds.Integer (next.call_type function arguments.now.kind))) (numbers arguments.now.registers.items))) }
-    ensures kind { IfOk result (λ found. found.kind ≡ kinds.Integer (next.call_type function arguments.now.kind)) }
-    ensures constant { IfOk result (λ found. found.constant ≡ call_constant function (constants_in arguments.now.known.items)) }
-    ensures longer { OnErr result ((before own : List Instruction) → code.old.items ≡ before ++ own → start ≡ length before → IsLonger before code.new.items) }
+    ensures code { OnOk result (code.new.items
+        ≡ code.old.items ++ expressions.call_code function (register_at level.0 (kinds.Integer (next.call_type function arguments.now.kind))) (numbers arguments.now.registers.items)) }
+    ensures known { IfOk result (λ found. found
+        ≡ record { kind = kinds.Integer (next.call_type function arguments.now.kind); constant = call_constant function (constants_in arguments.now.known.items) }) }
+    ensures longer { OnErr result (IsLonger code.old.items code.new.items) }
 {
     let kind = VariableType::Integer(call_type(function, arguments.kind));
     let to = register_at(level, kind);
+    let constant = constants::call(function, arguments.known.as_slice());
     let instruction = value_call(function, to, arguments.registers.as_slice());
     add(code, instruction)?;
-    let constant = constants::call(function, arguments.known.as_slice());
-    settle(level, start, kind, constant, code)
+    Ok(Known { kind, constant })
 }
 
 /// Adds the call of a built-in function whose value, if it gives one, is left in a register that nothing reads. Where there is no such

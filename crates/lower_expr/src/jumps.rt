@@ -1,7 +1,7 @@
 //! The jumps of the operators that evaluate only what they choose (OpenCL 1.2, sections 6.3.g and 6.3.i).
 #![tactic(auto, using(crate::proofs::Growth::unchanged, crate::proofs::Growth::behind))]
 
-ghost use Rattle.std.specs.Prelude.{◌≡◌, ℕ, ◌+◌, ◌-◌, ◌<◌, ◌≤◌, ◌^◌, [], ◌∷◌, ◌++◌, List, length, IfOk, OnOk, OnErr, slice_set};
+ghost use Rattle.std.specs.Prelude.{◌≡◌, ◌+◌, ◌-◌, ◌<◌, ◌≤◌, ◌^◌, [], ◌∷◌, ◌++◌, List, length, IfOk, OnOk, OnErr};
 ghost use Rattle.clnum.specs.Conversions.{common};
 ghost use Rattle.clnum.specs.declared.int_type.IntType.TheVariants as integer;
 ghost use Rattle.clmodel.specs.Next.{infix_type, base_type};
@@ -10,10 +10,10 @@ ghost use Rattle.folding.specs.Constants.{infix_constant, choice_constant};
 ghost use Rattle.regcode.specs.declared.instruction.Instruction.{Instruction};
 ghost use Rattle.regcode.specs.declared.instruction.Instruction.TheVariants as instruction;
 ghost use Rattle.lower_expr.specs.Scope.{register_at};
-ghost use Rattle.lower_expr.specs.Expressions.{truth_code, folded, infix_begun, infix_code, branch_code, choice_code};
+ghost use Rattle.lower_expr.specs.Expressions.{truth_code, infix_begun, infix_code, branch_code, choice_code};
 ghost use Rattle.lower_expr.specs.Growth.{IsLonger};
 
-use crate::instructions::{Part, add, settle};
+use crate::instructions::add;
 use crate::scope::{Level, Register, level_at, register_at};
 use clmodel::tree::{InfixOperator, VariableType};
 use clnum::{BinaryOperator, IntType, Value};
@@ -156,37 +156,29 @@ fn infix_instructions(
     Ok(kind)
 }
 
-/// Ends an operator behind its right operand: with its instructions, or with its value in place of all of its code.
+/// The same, which gives what is known of the whole.
 pub(crate) fn end_infix(
     level: Level,
     operator: InfixOperator,
-    first: Part,
-    second: Part,
+    first: Known,
+    second: Known,
+    place: usize,
     code: &mut Vec<Instruction>,
 ) -> Result<Known, AllocError>
     requires low { level.0 + 1 < 2 ^ 28 }
-    requires begun { length (infix_begun operator 0) ≤ second.start }
-    requires inside { second.start ≤ length code.old.items }
-    requires near { length code.old.items - second.start + 3 < 2 ^ 32 }
-    ensures code { IfOk result (λ _. (before own right : List Instruction) → code.old.items ≡ before ++ (own ++ (infix_begun operator (register_at level.0 first.known.kind) ++ right))
-        → first.start ≡ length before → second.start ≡ length before + length own + length (infix_begun operator 0)
-        → code.new.items ≡ before ++ folded (infix_constant operator first.known.constant second.known.constant) level.0 (own ++ infix_code operator
-        (register_at level.0 (infix_type operator first.known.kind second.known.kind)) (register_at level.0 first.known.kind) (register_at (level.0 + 1) second.known.kind) right)) }
-    ensures kind { IfOk result (λ found. found.kind ≡ infix_type operator first.known.kind second.known.kind) }
-    ensures constant { IfOk result (λ found. found.constant ≡ infix_constant operator first.known.constant second.known.constant) }
-    ensures longer { OnErr result ((before own right : List Instruction) → code.old.items ≡ before ++ (own ++ (infix_begun operator (register_at level.0 first.known.kind) ++ right))
-        → first.start ≡ length before → second.start ≡ length before + length own + length (infix_begun operator 0) → IsLonger before code.new.items) }
+    requires begun { length (infix_begun operator 0) ≤ place }
+    requires inside { place ≤ length code.old.items }
+    requires near { length code.old.items - place + 3 < 2 ^ 32 }
+    ensures code { OnOk result ((before right : List Instruction) → code.old.items ≡ before ++ (infix_begun operator (register_at level.0 first.kind) ++ right)
+        → place ≡ length before + length (infix_begun operator 0) → code.new.items ≡ before ++ infix_code operator
+        (register_at level.0 (infix_type operator first.kind second.kind)) (register_at level.0 first.kind) (register_at (level.0 + 1) second.kind) right) }
+    ensures known { IfOk result (λ found. found
+        ≡ record { kind = infix_type operator first.kind second.kind; constant = infix_constant operator first.constant second.constant }) }
+    ensures longer { OnErr result (IsLonger code.old.items code.new.items) }
 {
-    let kind = infix_instructions(
-        level,
-        operator,
-        first.known.kind,
-        second.known.kind,
-        second.start,
-        code,
-    )?;
-    let constant = constants::infix(operator, first.known.constant, second.known.constant);
-    settle(level, first.start, kind, constant, code)
+    let kind = infix_instructions(level, operator, first.kind, second.kind, place, code)?;
+    let constant = constants::infix(operator, first.constant, second.constant);
+    Ok(Known { kind, constant })
 }
 
 /// Begins a choice behind its condition of this type, and gives the place where the chosen branch begins.
@@ -223,57 +215,57 @@ pub fn between_branches(code: &mut Vec<Instruction>) -> Result<usize, AllocError
     Ok(code.len())
 }
 
-/// Ends a choice behind both branches: with its instructions, or with its value in place of all of its code.
+/// Ends a choice behind both branches, which begin at these places, and gives what is known of the whole.
 pub(crate) fn end_choice(
     level: Level,
-    condition: Part,
-    chosen: Part,
-    otherwise: Part,
+    condition: Known,
+    chosen: Known,
+    otherwise: Known,
+    first: usize,
+    second: usize,
     code: &mut Vec<Instruction>,
 ) -> Result<Known, AllocError>
     requires low { level.0 < 2 ^ 28 }
-    requires begun { 0 < chosen.start }
-    requires between { chosen.start + 2 ≤ otherwise.start }
-    requires inside { otherwise.start ≤ length code.old.items }
-    requires near { length code.old.items - chosen.start + 1 < 2 ^ 32 }
-    ensures code { IfOk result (λ _. (before own one other : List Instruction)
-        → code.old.items ≡ before ++ (own ++ (instruction.JumpIfZero (register_at level.0 condition.known.kind) 0 ∷ (one ++ (instruction.UsualConversion 0 0 integer.Int ∷ instruction.Jump 0 ∷ other))))
-        → condition.start ≡ length before → chosen.start ≡ length before + length own + 1 → otherwise.start ≡ chosen.start + length one + 2
-        → code.new.items ≡ before ++ folded (choice_constant condition.known.constant chosen.known.constant (base_type chosen.known.kind) otherwise.known.constant (base_type otherwise.known.kind)) level.0
-        (own ++ choice_code (register_at level.0 condition.known.kind)
-        (branch_code (register_at level.0 (kinds.Integer (common (base_type chosen.known.kind) (base_type otherwise.known.kind)))) one (register_at level.0 chosen.known.kind) otherwise.known.kind)
-        (branch_code (register_at level.0 (kinds.Integer (common (base_type chosen.known.kind) (base_type otherwise.known.kind)))) other (register_at level.0 otherwise.known.kind) chosen.known.kind))) }
-    ensures kind { IfOk result (λ found. found.kind ≡ kinds.Integer (common (base_type chosen.known.kind) (base_type otherwise.known.kind))) }
-    ensures constant { IfOk result (λ found. found.constant
-        ≡ choice_constant condition.known.constant chosen.known.constant (base_type chosen.known.kind) otherwise.known.constant (base_type otherwise.known.kind)) }
-    ensures longer { OnErr result ((before own one other : List Instruction)
-        → code.old.items ≡ before ++ (own ++ (instruction.JumpIfZero (register_at level.0 condition.known.kind) 0 ∷ (one ++ (instruction.UsualConversion 0 0 integer.Int ∷ instruction.Jump 0 ∷ other))))
-        → condition.start ≡ length before → chosen.start ≡ length before + length own + 1 → otherwise.start ≡ chosen.start + length one + 2 → IsLonger before code.new.items) }
+    requires begun { 0 < first }
+    requires between { first + 2 ≤ second }
+    requires inside { second ≤ length code.old.items }
+    requires near { length code.old.items - first + 1 < 2 ^ 32 }
+    ensures code { OnOk result ((before one other : List Instruction) → code.old.items
+        ≡ before ++ (instruction.JumpIfZero (register_at level.0 condition.kind) 0 ∷ (one ++ (instruction.UsualConversion 0 0 integer.Int ∷ instruction.Jump 0 ∷ other)))
+        → first ≡ length before + 1 → second ≡ first + length one + 2
+        → code.new.items ≡ before ++ choice_code (register_at level.0 condition.kind)
+        (branch_code (register_at level.0 (kinds.Integer (common (base_type chosen.kind) (base_type otherwise.kind)))) one (register_at level.0 chosen.kind) otherwise.kind)
+        (branch_code (register_at level.0 (kinds.Integer (common (base_type chosen.kind) (base_type otherwise.kind)))) other (register_at level.0 otherwise.kind) chosen.kind)) }
+    ensures known { IfOk result (λ found. found ≡ record {
+      kind = kinds.Integer (common (base_type chosen.kind) (base_type otherwise.kind));
+      constant = choice_constant condition.constant chosen.constant (base_type chosen.kind) otherwise.constant (base_type otherwise.kind);
+    }) }
+    ensures longer { OnErr result (IsLonger code.old.items code.new.items) }
 {
-    let first = base_type(chosen.known.kind);
-    let second = base_type(otherwise.known.kind);
-    let kind = VariableType::Integer(first.common(second));
+    let one = base_type(chosen.kind);
+    let other = base_type(otherwise.kind);
+    let kind = VariableType::Integer(one.common(other));
     let to = register_at(level, kind).0;
-    let test = register_at(level, condition.known.kind).0;
-    let one = register_at(level, chosen.known.kind).0;
-    let from = register_at(level, otherwise.known.kind).0;
+    let test = register_at(level, condition.kind).0;
+    let from_one = register_at(level, chosen.kind).0;
+    let from = register_at(level, otherwise.kind).0;
+    let constant = constants::choice(condition.constant, chosen, otherwise);
     add(
         code,
         Instruction::UsualConversion {
             to,
             from,
-            other: first,
+            other: one,
         },
     )?;
-    let past = (code.len() - otherwise.start) as u32;
-    let by = (otherwise.start - chosen.start) as u32;
-    code[otherwise.start - 2] = Instruction::UsualConversion {
+    let past = (code.len() - second) as u32;
+    let by = (second - first) as u32;
+    code[second - 2] = Instruction::UsualConversion {
         to,
-        from: one,
-        other: second,
+        from: from_one,
+        other,
     };
-    code[otherwise.start - 1] = Instruction::Jump { by: past };
-    code[chosen.start - 1] = Instruction::JumpIfZero { test, by };
-    let constant = constants::choice(condition.known.constant, chosen.known, otherwise.known);
-    settle(level, condition.start, kind, constant, code)
+    code[second - 1] = Instruction::Jump { by: past };
+    code[first - 1] = Instruction::JumpIfZero { test, by };
+    Ok(Known { kind, constant })
 }

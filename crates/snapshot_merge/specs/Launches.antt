@@ -10,6 +10,7 @@ use Rattle.joining.specs.Steps.{HasGroup}
 use Rattle.shadow.specs.Lasting.{StandsWith}
 use Rattle.shadow_list.specs.Log.{Log, logged}
 use Rattle.shadow_list.specs.declared.log.Entry.{Entry}
+use Rattle.snapshot_merge.specs.declared.heap_log.HeapLog.{HeapLog}
 
 -- The results of the groups from one on, each of which is that of its canonical run on the launch's first memory (3.2): there are results
 -- of all of them, or up to and with one that stopped (own). `bytes` says what a space holds, `log_of` what a log keeps.
@@ -46,3 +47,13 @@ listed_of l = l.lasting.entries.items
 
 abbrev pub has_last_of : GroupLog → Bool
 has_last_of l = l.lasting.has_last
+
+-- the same of a log on the heap (own)
+abbrev pub heap_log : HeapLog → Log
+heap_log l = group_log l.log.value
+
+abbrev pub heap_listed : HeapLog → List Entry
+heap_listed l = listed_of l.log.value
+
+abbrev pub heap_has_last : HeapLog → Bool
+heap_has_last l = has_last_of l.log.value

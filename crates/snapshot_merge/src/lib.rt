@@ -9,6 +9,7 @@
 mod around;
 mod changes;
 mod cutting;
+mod heap_log;
 mod joined_groups;
 mod joined_numbers;
 mod laws;

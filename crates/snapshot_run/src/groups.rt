@@ -29,7 +29,7 @@ fn overlays_of<'a>(
 {
     let mut overlays = Vec::with_capacity(alloc, names.len())?;
     for name in names {
-        overlays.push(Overlay::new(alloc, buffers.bytes_in(name)))?;
+        overlays.push_reserved(Overlay::new(alloc, buffers.bytes_in(name)));
     }
     Ok(overlays)
 }

@@ -1,6 +1,7 @@
-use Rattle.std.proofs.Common.{rules, ◌≡◌, ◌∙◌, ap, sym, codes, option_map, Some}
-use Rattle.clap.specs.Words.{found_of}
+use Rattle.std.proofs.Common.{rules, ◌≡◌, ◌∙◌, ap, sym, codes, option_map, None, Some}
+use Rattle.clap.specs.Words.{found_of, first_of, rows_of}
 use Rattle.clap.proofs.WalkLemmas.{first_value-rows}
+use Rattle.cli.proofs.CommandLines.{not_there, dump_parts}
 use Rattle.cli.proofs.command_line.dump_of.Goals as goal
 
 pub returns : goal.returns
@@ -10,3 +11,17 @@ returns c =
       sym (first_value-rows (found_of c.args.dump.now) (codes "FILE")) ∙ (sym c.get_str.ensures ∙ ap (option_map (λ s. s.now)) found),
       sym (first_value-rows (found_of c.args.dump.now) (codes "KERNEL")) ∙ (sym c.get_str-2.ensures ∙ ap (option_map (λ s. s.now)) named),
     )
+
+pub returns-in_err-file : goal.returns-in_err-file
+returns-in_err-file c =
+    let missing : c.get_str.result ≡ None = search rules in
+    let none : first_of (codes "FILE") (rows_of (found_of c.args.dump.now)) ≡ None =
+    sym (first_value-rows (found_of c.args.dump.now) (codes "FILE")) ∙ (sym c.get_str.ensures ∙ ap (option_map (λ s. s.now)) missing) in
+    rw c.from_residual.ensures (λ asked is. let parts = dump_parts (rows_of (found_of c.args.dump.now)) asked is in not_there (first_of (codes "FILE") (rows_of (found_of c.args.dump.now))) parts.0 none parts.2)
+
+pub returns-in_err-kernel : goal.returns-in_err-kernel
+returns-in_err-kernel c =
+    let missing : c.get_str-2.result ≡ None = search rules in
+    let none : first_of (codes "KERNEL") (rows_of (found_of c.args.dump.now)) ≡ None =
+    sym (first_value-rows (found_of c.args.dump.now) (codes "KERNEL")) ∙ (sym c.get_str-2.ensures ∙ ap (option_map (λ s. s.now)) missing) in
+    rw c.from_residual-in_err-kernel.ensures (λ asked is. let parts = dump_parts (rows_of (found_of c.args.dump.now)) asked is in not_there (first_of (codes "KERNEL") (rows_of (found_of c.args.dump.now))) parts.1 none parts.3)

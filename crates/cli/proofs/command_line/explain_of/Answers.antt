@@ -1,6 +1,7 @@
-use Rattle.std.proofs.Common.{rules, ◌≡◌, ◌∙◌, ap, sym, codes, option_map, Some}
-use Rattle.clap.specs.Words.{found_of}
+use Rattle.std.proofs.Common.{rules, ◌≡◌, ◌∙◌, ap, sym, codes, option_map, None, Some}
+use Rattle.clap.specs.Words.{found_of, first_of, rows_of}
 use Rattle.clap.proofs.WalkLemmas.{first_value-rows, one_text-rows}
+use Rattle.cli.proofs.CommandLines.{not_there, explain_parts}
 use Rattle.cli.proofs.command_line.explain_of.Goals as goal
 
 pub returns : goal.returns
@@ -17,3 +18,16 @@ returns c =
         unknown = λ is. c.get_flag-as_given.ensures.none (flag ∙ is);
       },
     )
+
+pub returns-in_err-script : goal.returns-in_err-script
+returns-in_err-script c =
+    let missing : c.get_str.result ≡ None = search rules in
+    let none : first_of (codes "SCRIPT") (rows_of (found_of c.args.explain.now)) ≡ None =
+    sym (first_value-rows (found_of c.args.explain.now) (codes "SCRIPT")) ∙ (sym c.get_str.ensures ∙ ap (option_map (λ s. s.now)) missing) in
+    rw c.from_residual.ensures (λ asked is. let parts = explain_parts (rows_of (found_of c.args.explain.now)) asked is in not_there (first_of (codes "SCRIPT") (rows_of (found_of c.args.explain.now))) parts.0 none parts.3)
+
+pub returns-in_err-budget : goal.returns-in_err-budget
+returns-in_err-budget c = rw c.from_residual-in_err-budget.ensures (λ asked is. let parts = explain_parts (rows_of (found_of c.args.explain.now)) asked is in c.in_err-budget.ensures.given parts.1 parts.4)
+
+pub returns-in_err-json : goal.returns-in_err-json
+returns-in_err-json c = rw c.from_residual-in_err-json.ensures (λ asked is. let parts = explain_parts (rows_of (found_of c.args.explain.now)) asked is in c.in_err-json.ensures parts.2 parts.5)

@@ -2,6 +2,7 @@ use Rattle.std.proofs.Common.{rules, ◌≡◌, ◌∙◌, ap, sym, subst, refl,
 use Rattle.clap.specs.Words.{Text, Row, found_of, rows_of, first_of}
 use Rattle.clap.proofs.WalkLemmas.{first_value-rows}
 use Rattle.cli.specs.CommandLine.{IsFormat}
+use Rattle.cli.proofs.CommandLines.{no_format}
 use Rattle.cli.proofs.command_line.format_of.Goals as goal
 
 pub returns-in_default : goal.returns-in_default
@@ -26,3 +27,10 @@ returns-then-eq-2 c =
     let some : first_of (codes "format") (rows_of (found_of c.args.explain.now)) ≡ Some c.in-Some.format.now =
     sym (first_value-rows (found_of c.args.explain.now) (codes "format")) ∙ (sym c.get_str.ensures ∙ ap (option_map (λ s. s.now)) found) in
     subst (λ (o : Option Text). IsFormat o true) (sym some) (inr (json, refl))
+
+pub returns : goal.returns
+returns c = λ json is.
+    let found : c.get_str.result ≡ Some c.in-Some.format = search rules in
+    let some : first_of (codes "format") (rows_of (found_of c.args.explain.now)) ≡ Some c.in-Some.format.now =
+    sym (first_value-rows (found_of c.args.explain.now) (codes "format")) ∙ (sym c.get_str.ensures ∙ ap (option_map (λ s. s.now)) found) in
+    no_format c.in-Some.format.now (sym c.eq.ensures ∙ c.if-eq.false) (sym c.eq-2.ensures ∙ c.if-eq-2.false) json (subst (λ (o : Option Text). IsFormat o json) some is)

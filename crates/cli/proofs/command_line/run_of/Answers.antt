@@ -1,9 +1,23 @@
-use Rattle.std.proofs.Common.{rules, ◌≡◌, ◌∙◌, ap, sym, codes, option_map, Some}
-use Rattle.clap.specs.Words.{found_of}
+use Rattle.std.proofs.Common.{rules, ◌≡◌, ◌∙◌, ap, sym, codes, option_map, None, Some}
+use Rattle.clap.specs.Words.{found_of, first_of, rows_of}
 use Rattle.clap.proofs.WalkLemmas.{first_value-rows}
+use Rattle.cli.proofs.CommandLines.{not_there, run_parts}
 use Rattle.cli.proofs.command_line.run_of.Goals as goal
 
 pub returns : goal.returns
 returns c =
     let found : c.get_str.result ≡ Some c.in_ok-file.file = search rules in
     (sym (first_value-rows (found_of c.args.run.now) (codes "FILE")) ∙ (sym c.get_str.ensures ∙ ap (option_map (λ s. s.now)) found), c.in_ok-workers.ensures.given, c.in_ok-budget.ensures.given)
+
+pub returns-in_err-file : goal.returns-in_err-file
+returns-in_err-file c =
+    let missing : c.get_str.result ≡ None = search rules in
+    let none : first_of (codes "FILE") (rows_of (found_of c.args.run.now)) ≡ None =
+    sym (first_value-rows (found_of c.args.run.now) (codes "FILE")) ∙ (sym c.get_str.ensures ∙ ap (option_map (λ s. s.now)) missing) in
+    rw c.from_residual.ensures (λ asked is. let parts = run_parts (rows_of (found_of c.args.run.now)) asked is in not_there (first_of (codes "FILE") (rows_of (found_of c.args.run.now))) parts.0 none parts.3)
+
+pub returns-in_err-workers : goal.returns-in_err-workers
+returns-in_err-workers c = rw c.from_residual-in_err-workers.ensures (λ asked is. let parts = run_parts (rows_of (found_of c.args.run.now)) asked is in c.in_err-workers.ensures.given parts.1 parts.4)
+
+pub returns-in_err-budget : goal.returns-in_err-budget
+returns-in_err-budget c = rw c.from_residual-in_err-budget.ensures (λ asked is. let parts = run_parts (rows_of (found_of c.args.run.now)) asked is in c.in_err-budget.ensures.given parts.2 parts.5)

@@ -33,8 +33,8 @@ stop_at-requires g c κs within =
           (c.next.ensures.plan_same ∙ c.steps.invariant.plan_same) c.requires.1.0 c.requires.1.1.0 r c.next.ensures.fits_same (ap stop_of acts),
     )
 
-pub stop_at-requires-in-Ok-End : goal.stop_at-requires-in-Ok-End
-stop_at-requires-in-Ok-End g c κs within =
+pub end_at-requires : goal.end_at-requires
+end_at-requires g c κs within =
     let p = g.M.Machine.plan c.args.m.now in
     let r = c.steps.invariant.gathers in
     let acts =

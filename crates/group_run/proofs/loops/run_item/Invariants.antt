@@ -8,6 +8,9 @@ ghost-advance g a = g.origin
 abbrev pub ghost-stop_at : goal.ghost-stop_at
 ghost-stop_at g a = g.origin
 
+abbrev pub ghost-end_at : goal.ghost-end_at
+ghost-end_at g a = g.origin
+
 abbrev pub invariant-steps : goal.invariant-steps
 invariant-steps g l =
     record {

@@ -23,8 +23,8 @@ run_items-requires g c κs within =
       (b.whole, (b.brief, subst (Reached p fits (start l)) (sym c.new-runs.ensures) b.reached)),
     )
 
-pub returns-in-None : goal.returns-in-None
-returns-in-None g c = let m = c.run_items.new.m in (
+pub returns : goal.returns
+returns g c = let m = c.run_items.new.m in (
   refl,
   c.into_schedule-runs.ensures.merged,
   done_result (acts_of g.D.Described.launch) g.G.Space.bytes g.G.Space.read_only (g.D.Described.launch c.args.launch.now) c.args.group c.group_size-count.result

@@ -1,28 +1,22 @@
-use Rattle.std.proofs.Common.{◌≡◌, ℕ, ◌+◌, ◌++◌, ◌∷◌, [], List, length, take, sym, ap, ap₂, refl, ◌∙◌, arith, Option}
+use Rattle.std.proofs.Common.{◌≡◌, ℕ, ◌+◌, ◌++◌, ◌∷◌, [], List, length, take, sym, ap, ap₂, ◌∙◌, arith, Option}
 use Rattle.std.proofs.lemmas.List.{append_assoc, length-append, map-append}
-use Rattle.clnum.specs.Conversions.{common}
 use Rattle.clnum.specs.Integer as integers
-use Rattle.clnum.specs.Operations.{unary_kind}
-use Rattle.clmodel.specs.BuiltIns.{built_in}
-use Rattle.clmodel.specs.Next.{argument_type, call_type, base_type, infix_type}
-use Rattle.clmodel.specs.Tree.{Term, Terms, Call, Unary, Cast, Binary, Choice, term, terms}
+use Rattle.clmodel.specs.Next.{argument_type, base_type}
+use Rattle.clmodel.specs.Tree.{Terms, Call, Unary, Cast, Binary, Choice, term, terms}
 use Rattle.clmodel.specs.Typing.Sizes.{term_size, terms_size}
-use Rattle.clmodel.specs.declared.setup.BuiltIn.{BuiltIn}
-use Rattle.clnum.specs.declared.int_type.IntType.{IntType}
 use Rattle.clmodel.specs.declared.tree.Expression.{Expression}
 use Rattle.clmodel.specs.declared.tree.VariableType.{VariableType}
-use Rattle.clmodel.specs.declared.tree.VariableType.TheVariants.{Integer}
 use Rattle.folding.specs.Known.{constants_in}
 use Rattle.folding.specs.declared.known.Known.{Known}
-use Rattle.folding.specs.Constants.{unary_constant, cast_constant, infix_constant, call_constant, constant_of, constants_of}
+use Rattle.folding.specs.Constants.{constants_of}
 use Rattle.regcode.specs.declared.instruction.Instruction.{Instruction}
-use Rattle.regcode.specs.declared.instruction.Instruction.TheVariants as instruction
 use Rattle.lower_expr.specs.Scope.{register_at}
-use Rattle.lower_expr.specs.Expressions.{kind_of, expr_code, terms_code, registers_for, count}
+use Rattle.lower_expr.specs.Forms.{form_code}
+use Rattle.lower_expr.specs.Expressions.{expr_code, terms_code, registers_for, count}
 use Rattle.lower_expr.specs.Registers.{numbers}
 use Rattle.lower_expr.specs.declared.scope.Register.{Register}
-use Rattle.lower_expr.proofs.Arguments.{calls, terms_more, terms_count, type_here, type_stays, infix_parts, infix_place, infix_whole, choice_parts, choice_first, choice_second, choice_known, choice_whole, unary_whole, cast_whole, call_whole}
-use Rattle.lower_expr.proofs.Growth.{on_value, on_error}
+use Rattle.lower_expr.proofs.Arguments.{calls, terms_more, terms_count, type_here, type_stays, settled_form, unary_laid, cast_laid, call_laid, binary_laid, choice_laid, unary_known, cast_known, call_known, binary_known, choice_known}
+use Rattle.lower_expr.proofs.Growth.{behind, on_value, on_ok, on_err, on_error, none_ok, none_value, settled, cut_back}
 use Rattle.lower_expr.proofs.Room.{argument_room}
 use Rattle.lower_expr.proofs.Short.{expr_short}
 use Rattle.lower_expr.proofs.emission.+emission.Goals as goal
@@ -39,7 +33,8 @@ emit_arguments-loop-i-preserved t c =
     let more = sym (terms_more es i e c.loop-i-test.true c.index-arguments-i.is) in
     let counted = terms_count es i (omega (arith, c.loop-i-test.true)) in
     let above : c.level_at-above.result.0 ≡ level + count before = omega (arith, c.level_at-above.ensures, counted) in
-    let kind = c.in_ok-found.ensures.kind in (
+    let known = c.in_ok-found.ensures.known in
+    let kind = ap (λ (k : Known). k.kind) known in (
       c.in_ok-found.ensures.code
           ∙ ap₂ (λ (code : List Instruction) (n : ℕ). code ++ expr_code scope n (term e)) c.loop-i.invariant.0 above
           ∙ append_assoc c.args.code.now.items (terms_code scope level before) (expr_code scope (level + count before) (term e))
@@ -55,136 +50,101 @@ emit_arguments-loop-i-preserved t c =
           ∙ ap (λ (ts : Terms). argument_type scope.variables ts) more,
       ap constants_in c.in_ok-push.ensures.ok
           ∙ map-append (λ (known : Known). known.constant) c.loop-i.known.items (c.in_ok-found.found ∷ [])
-          ∙ ap₂ (λ (xs : List (Option integers.Integer)) (x : Option integers.Integer). xs ++ x ∷ []) c.loop-i.invariant.3 c.in_ok-found.ensures.constant
+          ∙ ap₂ (λ (xs : List (Option integers.Integer)) (x : Option integers.Integer). xs ++ x ∷ []) c.loop-i.invariant.3 (ap (λ (k : Known). k.constant) known)
           ∙ ap (λ (ts : Terms). constants_of scope.variables ts) more,
     )
 
-pub emit-returns-in_ok-known-in-Unary-clause-code : goal.emit-returns-in_ok-known-in-Unary-clause-code
-emit-returns-in_ok-known-in-Unary-clause-code t c =
-    let scope = c.args.scope.now in
-    let level = c.args.level.0 in
+pub emit-returns-clause-code : goal.emit-returns-clause-code
+emit-returns-clause-code t c =
     let old = c.args.code.now.items in
+    let start : c.len-start.result ≡ length old = omega (arith, c.len-start.ensures, c.args.code.now.ok.0) in
+    let form = form_code c.args.scope.now c.args.level.0 (term c.args.expression.now) in
+    let laid = c.in_ok-known.ensures.code in
+    on_ok c.settle.result (λ is. settled old c.emit_form.new.code.items c.settle.new.code.items form c.len-start.result c.args.level.0 _ _ start laid (ap (λ (k : Known). k.constant) c.in_ok-known.ensures.known) is
+    ∙ ap (λ xs. old ++ xs) (settled_form c.args.scope.now c.args.level.0 (term c.args.expression.now))) c.settle.ensures.code
+
+pub emit-returns-clause-known : goal.emit-returns-clause-known
+emit-returns-clause-known t c =
+    on_value c.settle.result (λ found is. is ∙ c.in_ok-known.ensures.known) c.settle.ensures.known
+
+pub emit-returns-clause-longer : goal.emit-returns-clause-longer
+emit-returns-clause-longer t c =
+    let old = c.args.code.now.items in
+    let start : c.len-start.result ≡ length old = omega (arith, c.len-start.ensures, c.args.code.now.ok.0) in
+    let form = form_code c.args.scope.now c.args.level.0 (term c.args.expression.now) in
+    let laid = c.in_ok-known.ensures.code in
+    on_error c.settle.result (λ is. cut_back old c.emit_form.new.code.items c.settle.new.code.items form c.len-start.result start laid is) c.settle.ensures.cut
+
+pub emit_form-returns-in_ok-operand-in-Unary-clause-code : goal.emit_form-returns-in_ok-operand-in-Unary-clause-code
+emit_form-returns-in_ok-operand-in-Unary-clause-code t c =
+    let scope = c.args.scope.now in
     let node = c.in-Unary in
     let e = term c.deref-in-Unary.result.now in
-    let operand = c.in_ok-known-in-Unary in
-    let start : c.len-start.result ≡ length old = omega (arith, c.len-start.ensures, c.args.code.now.ok.0) in
+    let operand = c.in_ok-operand-in-Unary in
     let is : term c.args.expression.now ≡ Unary node.at node.operator e = ap term node.is ∙ ap (λ (x : Expression). Unary node.at node.operator (term x)) (sym c.deref-in-Unary.ensures) in
-    on_value c.end_unary.result (λ found laid. laid old (expr_code scope level e) operand.ensures.code start
-    ∙ unary_whole scope level node.at node.operator e (term c.args.expression.now) old operand.known is operand.ensures.kind operand.ensures.constant) c.end_unary.ensures.code
+    on_ok c.end_unary.result (unary_laid scope c.args.level.0 node.at node.operator e (term c.args.expression.now) c.args.code.now.items c.emit-in-Unary.new.code.items c.end_unary.new.code.items operand.operand is operand.ensures.code operand.ensures.known) c.end_unary.ensures.code
 
-pub emit-returns-in_ok-known-in-Unary-clause-kind : goal.emit-returns-in_ok-known-in-Unary-clause-kind
-emit-returns-in_ok-known-in-Unary-clause-kind t c =
+pub emit_form-returns-in_ok-operand-in-Unary-clause-known : goal.emit_form-returns-in_ok-operand-in-Unary-clause-known
+emit_form-returns-in_ok-operand-in-Unary-clause-known t c =
     let scope = c.args.scope.now in
     let node = c.in-Unary in
     let e = term c.deref-in-Unary.result.now in
-    let operand = c.in_ok-known-in-Unary in
+    let operand = c.in_ok-operand-in-Unary in
     let is : term c.args.expression.now ≡ Unary node.at node.operator e = ap term node.is ∙ ap (λ (x : Expression). Unary node.at node.operator (term x)) (sym c.deref-in-Unary.ensures) in
-    on_value c.end_unary.result (λ found kind. kind ∙ ap (λ k. Integer (unary_kind node.operator (base_type k))) operand.ensures.kind ∙ ap (kind_of scope) (sym is)) c.end_unary.ensures.kind
+    on_value c.end_unary.result (λ found. unary_known scope node.at node.operator e (term c.args.expression.now) operand.operand found is operand.ensures.known) c.end_unary.ensures.known
 
-pub emit-returns-in_ok-known-in-Unary-clause-constant : goal.emit-returns-in_ok-known-in-Unary-clause-constant
-emit-returns-in_ok-known-in-Unary-clause-constant t c =
-    let scope = c.args.scope.now in
-    let node = c.in-Unary in
-    let e = term c.deref-in-Unary.result.now in
-    let operand = c.in_ok-known-in-Unary in
-    let is : term c.args.expression.now ≡ Unary node.at node.operator e = ap term node.is ∙ ap (λ (x : Expression). Unary node.at node.operator (term x)) (sym c.deref-in-Unary.ensures) in
-    on_value c.end_unary.result (λ found constant. constant ∙ ap (unary_constant node.operator) operand.ensures.constant ∙ ap (constant_of scope.variables) (sym is)) c.end_unary.ensures.constant
+pub emit_form-returns-in_ok-operand-in-Unary-clause-longer : goal.emit_form-returns-in_ok-operand-in-Unary-clause-longer
+emit_form-returns-in_ok-operand-in-Unary-clause-longer t c =
+    on_error c.end_unary.result (behind c.args.code.now.items c.emit-in-Unary.new.code.items c.end_unary.new.code.items _ c.in_ok-operand-in-Unary.ensures.code) c.end_unary.ensures.longer
 
-pub emit-returns-in_ok-known-in-Unary-clause-longer : goal.emit-returns-in_ok-known-in-Unary-clause-longer
-emit-returns-in_ok-known-in-Unary-clause-longer t c =
-    let scope = c.args.scope.now in
-    let level = c.args.level.0 in
-    let old = c.args.code.now.items in
-    let e = term c.deref-in-Unary.result.now in
-    let operand = c.in_ok-known-in-Unary in
-    let start : c.len-start.result ≡ length old = omega (arith, c.len-start.ensures, c.args.code.now.ok.0) in
-    on_error c.end_unary.result (λ longer. longer old (expr_code scope level e) operand.ensures.code start) c.end_unary.ensures.longer
-
-pub emit-returns-in_ok-known-in-Cast-clause-code : goal.emit-returns-in_ok-known-in-Cast-clause-code
-emit-returns-in_ok-known-in-Cast-clause-code t c =
-    let scope = c.args.scope.now in
-    let level = c.args.level.0 in
-    let old = c.args.code.now.items in
-    let node = c.in-Cast in
-    let e = term c.deref-in-Cast.result.now in
-    let operand = c.in_ok-known-in-Cast in
-    let start : c.len-start.result ≡ length old = omega (arith, c.len-start.ensures, c.args.code.now.ok.0) in
-    let is : term c.args.expression.now ≡ Cast node.at node.target e = ap term node.is ∙ ap (λ (x : Expression). Cast node.at node.target (term x)) (sym c.deref-in-Cast.ensures) in
-    on_value c.end_cast.result (λ found laid. laid old (expr_code scope level e) operand.ensures.code start
-    ∙ cast_whole scope level node.at node.target e (term c.args.expression.now) old operand.known is operand.ensures.kind operand.ensures.constant) c.end_cast.ensures.code
-
-pub emit-returns-in_ok-known-in-Cast-clause-kind : goal.emit-returns-in_ok-known-in-Cast-clause-kind
-emit-returns-in_ok-known-in-Cast-clause-kind t c =
+pub emit_form-returns-in_ok-operand-in-Cast-clause-code : goal.emit_form-returns-in_ok-operand-in-Cast-clause-code
+emit_form-returns-in_ok-operand-in-Cast-clause-code t c =
     let scope = c.args.scope.now in
     let node = c.in-Cast in
     let e = term c.deref-in-Cast.result.now in
-    let operand = c.in_ok-known-in-Cast in
+    let operand = c.in_ok-operand-in-Cast in
     let is : term c.args.expression.now ≡ Cast node.at node.target e = ap term node.is ∙ ap (λ (x : Expression). Cast node.at node.target (term x)) (sym c.deref-in-Cast.ensures) in
-    on_value c.end_cast.result (λ found kind. kind ∙ ap (kind_of scope) (sym is)) c.end_cast.ensures.kind
+    on_ok c.end_cast.result (cast_laid scope c.args.level.0 node.at node.target e (term c.args.expression.now) c.args.code.now.items c.emit-in-Cast.new.code.items c.end_cast.new.code.items operand.operand is operand.ensures.code operand.ensures.known) c.end_cast.ensures.code
 
-pub emit-returns-in_ok-known-in-Cast-clause-constant : goal.emit-returns-in_ok-known-in-Cast-clause-constant
-emit-returns-in_ok-known-in-Cast-clause-constant t c =
+pub emit_form-returns-in_ok-operand-in-Cast-clause-known : goal.emit_form-returns-in_ok-operand-in-Cast-clause-known
+emit_form-returns-in_ok-operand-in-Cast-clause-known t c =
     let scope = c.args.scope.now in
     let node = c.in-Cast in
     let e = term c.deref-in-Cast.result.now in
-    let operand = c.in_ok-known-in-Cast in
+    let operand = c.in_ok-operand-in-Cast in
     let is : term c.args.expression.now ≡ Cast node.at node.target e = ap term node.is ∙ ap (λ (x : Expression). Cast node.at node.target (term x)) (sym c.deref-in-Cast.ensures) in
-    on_value c.end_cast.result (λ found constant. constant ∙ ap (cast_constant node.target) operand.ensures.constant ∙ ap (constant_of scope.variables) (sym is)) c.end_cast.ensures.constant
+    on_value c.end_cast.result (λ found. cast_known scope node.at node.target e (term c.args.expression.now) operand.operand found is operand.ensures.known) c.end_cast.ensures.known
 
-pub emit-returns-in_ok-known-in-Cast-clause-longer : goal.emit-returns-in_ok-known-in-Cast-clause-longer
-emit-returns-in_ok-known-in-Cast-clause-longer t c =
-    let scope = c.args.scope.now in
-    let level = c.args.level.0 in
-    let old = c.args.code.now.items in
-    let e = term c.deref-in-Cast.result.now in
-    let operand = c.in_ok-known-in-Cast in
-    let start : c.len-start.result ≡ length old = omega (arith, c.len-start.ensures, c.args.code.now.ok.0) in
-    on_error c.end_cast.result (λ longer. longer old (expr_code scope level e) operand.ensures.code start) c.end_cast.ensures.longer
+pub emit_form-returns-in_ok-operand-in-Cast-clause-longer : goal.emit_form-returns-in_ok-operand-in-Cast-clause-longer
+emit_form-returns-in_ok-operand-in-Cast-clause-longer t c =
+    on_error c.end_cast.result (behind c.args.code.now.items c.emit-in-Cast.new.code.items c.end_cast.new.code.items _ c.in_ok-operand-in-Cast.ensures.code) c.end_cast.ensures.longer
 
-pub emit-returns-in_ok-arguments-in-Call-clause-code : goal.emit-returns-in_ok-arguments-in-Call-clause-code
-emit-returns-in_ok-arguments-in-Call-clause-code t c =
-    let scope = c.args.scope.now in
-    let level = c.args.level.0 in
-    let old = c.args.code.now.items in
-    let node = c.in-Call in
-    let es = terms c.as_slice-given.result.now in
-    let found = c.in_ok-arguments-in-Call in
-    let start : c.len-start.result ≡ length old = omega (arith, c.len-start.ensures, c.args.code.now.ok.0) in
-    let is : term c.args.expression.now ≡ Call node.at node.name es = ap term node.is ∙ calls node.at node.name node.arguments ∙ ap (λ (xs : List Expression). Call node.at node.name (terms xs)) (sym c.as_slice-given.ensures.value) in
-    on_value c.end_call.result (λ ended laid. laid old (terms_code scope level es) found.ensures.code start
-    ∙ call_whole scope level node.at node.name es (term c.args.expression.now) old c.built_in_named.result found.arguments.kind (numbers found.arguments.registers.items) (constants_in found.arguments.known.items)
-    is c.built_in_named.ensures found.ensures.kind found.ensures.registers found.ensures.constants) c.end_call.ensures.code
-
-pub emit-returns-in_ok-arguments-in-Call-clause-kind : goal.emit-returns-in_ok-arguments-in-Call-clause-kind
-emit-returns-in_ok-arguments-in-Call-clause-kind t c =
+pub emit_form-returns-in_ok-arguments-in-Call-clause-code : goal.emit_form-returns-in_ok-arguments-in-Call-clause-code
+emit_form-returns-in_ok-arguments-in-Call-clause-code t c =
     let scope = c.args.scope.now in
     let node = c.in-Call in
     let es = terms c.as_slice-given.result.now in
     let found = c.in_ok-arguments-in-Call in
     let is : term c.args.expression.now ≡ Call node.at node.name es = ap term node.is ∙ calls node.at node.name node.arguments ∙ ap (λ (xs : List Expression). Call node.at node.name (terms xs)) (sym c.as_slice-given.ensures.value) in
-    on_value c.end_call.result (λ ended kind. kind ∙ ap₂ (λ (f : Option BuiltIn) (k : IntType). Integer (call_type f k)) c.built_in_named.ensures found.ensures.kind ∙ ap (kind_of scope) (sym is)) c.end_call.ensures.kind
+    on_ok c.end_call.result (call_laid scope c.args.level.0 node.at node.name es (term c.args.expression.now) c.args.code.now.items c.emit_arguments.new.code.items c.end_call.new.code.items c.built_in_named.result found.arguments.kind (numbers found.arguments.registers.items)
+    is c.built_in_named.ensures found.ensures.code found.ensures.kind found.ensures.registers) c.end_call.ensures.code
 
-pub emit-returns-in_ok-arguments-in-Call-clause-constant : goal.emit-returns-in_ok-arguments-in-Call-clause-constant
-emit-returns-in_ok-arguments-in-Call-clause-constant t c =
+pub emit_form-returns-in_ok-arguments-in-Call-clause-known : goal.emit_form-returns-in_ok-arguments-in-Call-clause-known
+emit_form-returns-in_ok-arguments-in-Call-clause-known t c =
     let scope = c.args.scope.now in
     let node = c.in-Call in
     let es = terms c.as_slice-given.result.now in
     let found = c.in_ok-arguments-in-Call in
     let is : term c.args.expression.now ≡ Call node.at node.name es = ap term node.is ∙ calls node.at node.name node.arguments ∙ ap (λ (xs : List Expression). Call node.at node.name (terms xs)) (sym c.as_slice-given.ensures.value) in
-    on_value c.end_call.result (λ ended constant. constant ∙ ap₂ call_constant c.built_in_named.ensures found.ensures.constants ∙ ap (constant_of scope.variables) (sym is)) c.end_call.ensures.constant
+    on_value c.end_call.result (λ ended. call_known scope node.at node.name es (term c.args.expression.now) c.built_in_named.result found.arguments.kind (constants_in found.arguments.known.items) ended
+    is c.built_in_named.ensures found.ensures.kind found.ensures.constants) c.end_call.ensures.known
 
-pub emit-returns-in_ok-arguments-in-Call-clause-longer : goal.emit-returns-in_ok-arguments-in-Call-clause-longer
-emit-returns-in_ok-arguments-in-Call-clause-longer t c =
-    let scope = c.args.scope.now in
-    let level = c.args.level.0 in
-    let old = c.args.code.now.items in
-    let es = terms c.as_slice-given.result.now in
-    let found = c.in_ok-arguments-in-Call in
-    let start : c.len-start.result ≡ length old = omega (arith, c.len-start.ensures, c.args.code.now.ok.0) in
-    on_error c.end_call.result (λ longer. longer old (terms_code scope level es) found.ensures.code start) c.end_call.ensures.longer
+pub emit_form-returns-in_ok-arguments-in-Call-clause-longer : goal.emit_form-returns-in_ok-arguments-in-Call-clause-longer
+emit_form-returns-in_ok-arguments-in-Call-clause-longer t c =
+    on_error c.end_call.result (behind c.args.code.now.items c.emit_arguments.new.code.items c.end_call.new.code.items _ c.in_ok-arguments-in-Call.ensures.code) c.end_call.ensures.longer
 
-pub emit-returns-in_ok-known-in-Binary-2-clause-code : goal.emit-returns-in_ok-known-in-Binary-2-clause-code
-emit-returns-in_ok-known-in-Binary-2-clause-code t c =
+pub emit_form-returns-in_ok-second-in-Binary-clause-code : goal.emit_form-returns-in_ok-second-in-Binary-clause-code
+emit_form-returns-in_ok-second-in-Binary-clause-code t c =
     let scope = c.args.scope.now in
     let level = c.args.level.0 in
     let old = c.args.code.now.items in
@@ -192,73 +152,55 @@ emit-returns-in_ok-known-in-Binary-2-clause-code t c =
     let above = c.level_at.result.0 in
     let left = term c.deref-in-Binary.result.now in
     let right = term c.deref-in-Binary-2.result.now in
-    let first = c.in_ok-known-in-Binary in
-    let second = c.in_ok-known-in-Binary-2 in
-    let begun = c.in_ok-start-in-Binary in
-    let start : c.len-start.result ≡ length old = omega (arith, c.len-start.ensures, c.args.code.now.ok.0) in
+    let first = c.in_ok-first-in-Binary in
+    let second = c.in_ok-second-in-Binary in
+    let begun = c.in_ok-place-in-Binary in
     let is : term c.args.expression.now ≡ Binary node.at node.operator left right = ap term node.is
     ∙ ap₂ (λ (x y : Expression). Binary node.at node.operator (term x) (term y)) (sym c.deref-in-Binary.ensures) (sym c.deref-in-Binary-2.ensures) in
+    on_ok c.end_infix.result (binary_laid scope level node.at node.operator left right (term c.args.expression.now) old c.emit-in-Binary.new.code.items c.begin_infix.new.code.items c.emit-in-Binary-2.new.code.items c.end_infix.new.code.items
+    first.first second.second above begun.place is first.ensures.code first.ensures.known begun.ensures.code begun.ensures.place c.level_at.ensures second.ensures.code second.ensures.known) c.end_infix.ensures.code
+
+pub emit_form-returns-in_ok-second-in-Binary-clause-known : goal.emit_form-returns-in_ok-second-in-Binary-clause-known
+emit_form-returns-in_ok-second-in-Binary-clause-known t c =
+    let scope = c.args.scope.now in
+    let level = c.args.level.0 in
+    let old = c.args.code.now.items in
+    let node = c.in-Binary in
+    let above = c.level_at.result.0 in
+    let left = term c.deref-in-Binary.result.now in
+    let right = term c.deref-in-Binary-2.result.now in
+    let first = c.in_ok-first-in-Binary in
+    let second = c.in_ok-second-in-Binary in
+    let begun = c.in_ok-place-in-Binary in
+    let is : term c.args.expression.now ≡ Binary node.at node.operator left right = ap term node.is
+    ∙ ap₂ (λ (x y : Expression). Binary node.at node.operator (term x) (term y)) (sym c.deref-in-Binary.ensures) (sym c.deref-in-Binary-2.ensures) in
+    on_value c.end_infix.result (λ found. binary_known scope node.at node.operator left right (term c.args.expression.now) first.first second.second found is first.ensures.known second.ensures.known) c.end_infix.ensures.known
+
+pub emit_form-returns-in_ok-second-in-Binary-clause-longer : goal.emit_form-returns-in_ok-second-in-Binary-clause-longer
+emit_form-returns-in_ok-second-in-Binary-clause-longer t c =
+    let old = c.args.code.now.items in
     let one = c.emit-in-Binary.new.code.items in
     let two = c.begin_infix.new.code.items in
     let three = c.emit-in-Binary-2.new.code.items in
-    let register = register_at level first.known.kind in
-    let parts = infix_parts node.operator old one two three (expr_code scope level left) (expr_code scope above right) register first.ensures.code begun.ensures.code second.ensures.code in
-    let place = infix_place node.operator old one two (expr_code scope level left) register begun.start first.ensures.code begun.ensures.code begun.ensures.place in
-    on_value c.end_infix.result (λ found laid. laid old (expr_code scope level left) (expr_code scope above right) parts start place
-    ∙ infix_whole scope level node.at above node.operator left right (term c.args.expression.now) old first.known second.known is c.level_at.ensures
-    first.ensures.kind first.ensures.constant second.ensures.kind second.ensures.constant) c.end_infix.ensures.code
+    let new = c.end_infix.new.code.items in
+    on_error c.end_infix.result (λ longer. behind old one new _ c.in_ok-first-in-Binary.ensures.code (behind one two new _ c.in_ok-place-in-Binary.ensures.code (behind two three new _ c.in_ok-second-in-Binary.ensures.code longer))) c.end_infix.ensures.longer
 
-pub emit-returns-in_ok-known-in-Binary-2-clause-kind : goal.emit-returns-in_ok-known-in-Binary-2-clause-kind
-emit-returns-in_ok-known-in-Binary-2-clause-kind t c =
+pub emit_form-end_infix-requires-clause-near : goal.emit_form-end_infix-requires-clause-near
+emit_form-end_infix-requires-clause-near t c =
     let scope = c.args.scope.now in
-    let node = c.in-Binary in
-    let above = c.level_at.result.0 in
-    let left = term c.deref-in-Binary.result.now in
+    let level = c.level_at.result.0 in
     let right = term c.deref-in-Binary-2.result.now in
-    let first = c.in_ok-known-in-Binary in
-    let second = c.in_ok-known-in-Binary-2 in
-    let begun = c.in_ok-start-in-Binary in
-    let is : term c.args.expression.now ≡ Binary node.at node.operator left right = ap term node.is
-    ∙ ap₂ (λ (x y : Expression). Binary node.at node.operator (term x) (term y)) (sym c.deref-in-Binary.ensures) (sym c.deref-in-Binary-2.ensures) in
-    on_value c.end_infix.result (λ found kind. kind ∙ ap₂ (infix_type node.operator) first.ensures.kind second.ensures.kind ∙ ap (kind_of scope) (sym is)) c.end_infix.ensures.kind
+    let before = c.begin_infix.new.code.items in
+    let size = ap length c.in_ok-second-in-Binary.ensures.code ∙ length-append before (expr_code scope level right) in
+    let short = (expr_short [] scope level right).most in
+    let place = c.in_ok-place-in-Binary.ensures.place in
+    let whole = ap (λ x. (term_size [] (term x)).nodes) c.in-Binary.is in
+    let inner = ap (λ x. (term_size [] (term x)).nodes) c.deref-in-Binary-2.ensures in
+    let low = c.requires.low in
+    omega (arith, size, short, place, whole, inner, low)
 
-pub emit-returns-in_ok-known-in-Binary-2-clause-constant : goal.emit-returns-in_ok-known-in-Binary-2-clause-constant
-emit-returns-in_ok-known-in-Binary-2-clause-constant t c =
-    let scope = c.args.scope.now in
-    let node = c.in-Binary in
-    let above = c.level_at.result.0 in
-    let left = term c.deref-in-Binary.result.now in
-    let right = term c.deref-in-Binary-2.result.now in
-    let first = c.in_ok-known-in-Binary in
-    let second = c.in_ok-known-in-Binary-2 in
-    let begun = c.in_ok-start-in-Binary in
-    let is : term c.args.expression.now ≡ Binary node.at node.operator left right = ap term node.is
-    ∙ ap₂ (λ (x y : Expression). Binary node.at node.operator (term x) (term y)) (sym c.deref-in-Binary.ensures) (sym c.deref-in-Binary-2.ensures) in
-    on_value c.end_infix.result (λ found constant. constant ∙ ap₂ (infix_constant node.operator) first.ensures.constant second.ensures.constant ∙ ap (constant_of scope.variables) (sym is)) c.end_infix.ensures.constant
-
-pub emit-returns-in_ok-known-in-Binary-2-clause-longer : goal.emit-returns-in_ok-known-in-Binary-2-clause-longer
-emit-returns-in_ok-known-in-Binary-2-clause-longer t c =
-    let scope = c.args.scope.now in
-    let level = c.args.level.0 in
-    let old = c.args.code.now.items in
-    let node = c.in-Binary in
-    let above = c.level_at.result.0 in
-    let left = term c.deref-in-Binary.result.now in
-    let right = term c.deref-in-Binary-2.result.now in
-    let first = c.in_ok-known-in-Binary in
-    let second = c.in_ok-known-in-Binary-2 in
-    let begun = c.in_ok-start-in-Binary in
-    let start : c.len-start.result ≡ length old = omega (arith, c.len-start.ensures, c.args.code.now.ok.0) in
-    let one = c.emit-in-Binary.new.code.items in
-    let two = c.begin_infix.new.code.items in
-    let three = c.emit-in-Binary-2.new.code.items in
-    let register = register_at level first.known.kind in
-    let parts = infix_parts node.operator old one two three (expr_code scope level left) (expr_code scope above right) register first.ensures.code begun.ensures.code second.ensures.code in
-    let place = infix_place node.operator old one two (expr_code scope level left) register begun.start first.ensures.code begun.ensures.code begun.ensures.place in
-    on_error c.end_infix.result (λ longer. longer old (expr_code scope level left) (expr_code scope above right) parts start place) c.end_infix.ensures.longer
-
-pub emit-returns-in_ok-known-in-Choice-3-clause-code : goal.emit-returns-in_ok-known-in-Choice-3-clause-code
-emit-returns-in_ok-known-in-Choice-3-clause-code t c =
+pub emit_form-returns-in_ok-otherwise-in-Choice-clause-code : goal.emit_form-returns-in_ok-otherwise-in-Choice-clause-code
+emit_form-returns-in_ok-otherwise-in-Choice-clause-code t c =
     let scope = c.args.scope.now in
     let level = c.args.level.0 in
     let old = c.args.code.now.items in
@@ -266,12 +208,11 @@ emit-returns-in_ok-known-in-Choice-3-clause-code t c =
     let e = term c.deref-in-Choice.result.now in
     let d = term c.deref-in-Choice-2.result.now in
     let f = term c.deref-in-Choice-3.result.now in
-    let condition = c.in_ok-known-in-Choice in
-    let chosen = c.in_ok-known-in-Choice-2 in
-    let otherwise = c.in_ok-known-in-Choice-3 in
-    let first = c.in_ok-start-in-Choice in
-    let second = c.in_ok-start-in-Choice-2 in
-    let start : c.len-start.result ≡ length old = omega (arith, c.len-start.ensures, c.args.code.now.ok.0) in
+    let condition = c.in_ok-condition-in-Choice in
+    let chosen = c.in_ok-chosen-in-Choice in
+    let otherwise = c.in_ok-otherwise-in-Choice in
+    let first = c.in_ok-first-in-Choice in
+    let second = c.in_ok-second-in-Choice in
     let is : term c.args.expression.now ≡ Choice node.at e d f = ap term node.is
     ∙ ap (λ (x : Expression). Choice node.at (term x) (term node.chosen.value) (term node.otherwise.value)) (sym c.deref-in-Choice.ensures)
     ∙ ap₂ (λ (x y : Expression). Choice node.at e (term x) (term y)) (sym c.deref-in-Choice-2.ensures) (sym c.deref-in-Choice-3.ensures) in
@@ -280,53 +221,11 @@ emit-returns-in_ok-known-in-Choice-3-clause-code t c =
     let three = c.emit-in-Choice-2.new.code.items in
     let four = c.between_branches.new.code.items in
     let five = c.emit-in-Choice-3.new.code.items in
-    let test = instruction.JumpIfZero (register_at level condition.known.kind) 0 in
-    let parts = choice_parts old one two three four five (expr_code scope level e) (expr_code scope level d) (expr_code scope level f) test
-    condition.ensures.code first.ensures.code chosen.ensures.code second.ensures.code otherwise.ensures.code in
-    let place = choice_first old one two (expr_code scope level e) test first.start condition.ensures.code first.ensures.code first.ensures.place in
-    let next = choice_second two three four (expr_code scope level d) first.start second.start first.ensures.place chosen.ensures.code second.ensures.code second.ensures.place in
-    on_value c.end_choice.result (λ found laid. laid old (expr_code scope level e) (expr_code scope level d) (expr_code scope level f) parts start place next
-    ∙ choice_whole scope level node.at e d f (term c.args.expression.now) old condition.known chosen.known otherwise.known is
-    condition.ensures.kind condition.ensures.constant chosen.ensures.kind chosen.ensures.constant otherwise.ensures.kind otherwise.ensures.constant) c.end_choice.ensures.code
+    on_ok c.end_choice.result (choice_laid scope level node.at e d f (term c.args.expression.now) old one two three four five c.end_choice.new.code.items condition.condition chosen.chosen otherwise.otherwise first.first second.second
+    is condition.ensures.code condition.ensures.known first.ensures.code first.ensures.place chosen.ensures.code chosen.ensures.known second.ensures.code second.ensures.place otherwise.ensures.code otherwise.ensures.known) c.end_choice.ensures.code
 
-pub emit-returns-in_ok-known-in-Choice-3-clause-kind : goal.emit-returns-in_ok-known-in-Choice-3-clause-kind
-emit-returns-in_ok-known-in-Choice-3-clause-kind t c =
-    let scope = c.args.scope.now in
-    let node = c.in-Choice in
-    let e = term c.deref-in-Choice.result.now in
-    let d = term c.deref-in-Choice-2.result.now in
-    let f = term c.deref-in-Choice-3.result.now in
-    let condition = c.in_ok-known-in-Choice in
-    let chosen = c.in_ok-known-in-Choice-2 in
-    let otherwise = c.in_ok-known-in-Choice-3 in
-    let first = c.in_ok-start-in-Choice in
-    let second = c.in_ok-start-in-Choice-2 in
-    let is : term c.args.expression.now ≡ Choice node.at e d f = ap term node.is
-    ∙ ap (λ (x : Expression). Choice node.at (term x) (term node.chosen.value) (term node.otherwise.value)) (sym c.deref-in-Choice.ensures)
-    ∙ ap₂ (λ (x y : Expression). Choice node.at e (term x) (term y)) (sym c.deref-in-Choice-2.ensures) (sym c.deref-in-Choice-3.ensures) in
-    on_value c.end_choice.result (λ found kind. kind ∙ ap₂ (λ (j k : VariableType). Integer (common (base_type j) (base_type k))) chosen.ensures.kind otherwise.ensures.kind ∙ ap (kind_of scope) (sym is)) c.end_choice.ensures.kind
-
-pub emit-returns-in_ok-known-in-Choice-3-clause-constant : goal.emit-returns-in_ok-known-in-Choice-3-clause-constant
-emit-returns-in_ok-known-in-Choice-3-clause-constant t c =
-    let scope = c.args.scope.now in
-    let node = c.in-Choice in
-    let e = term c.deref-in-Choice.result.now in
-    let d = term c.deref-in-Choice-2.result.now in
-    let f = term c.deref-in-Choice-3.result.now in
-    let condition = c.in_ok-known-in-Choice in
-    let chosen = c.in_ok-known-in-Choice-2 in
-    let otherwise = c.in_ok-known-in-Choice-3 in
-    let first = c.in_ok-start-in-Choice in
-    let second = c.in_ok-start-in-Choice-2 in
-    let is : term c.args.expression.now ≡ Choice node.at e d f = ap term node.is
-    ∙ ap (λ (x : Expression). Choice node.at (term x) (term node.chosen.value) (term node.otherwise.value)) (sym c.deref-in-Choice.ensures)
-    ∙ ap₂ (λ (x y : Expression). Choice node.at e (term x) (term y)) (sym c.deref-in-Choice-2.ensures) (sym c.deref-in-Choice-3.ensures) in
-    on_value c.end_choice.result (λ found constant. constant
-    ∙ choice_known scope node.at e d f condition.known chosen.known otherwise.known condition.ensures.constant chosen.ensures.kind chosen.ensures.constant otherwise.ensures.kind otherwise.ensures.constant
-    ∙ ap (constant_of scope.variables) (sym is)) c.end_choice.ensures.constant
-
-pub emit-returns-in_ok-known-in-Choice-3-clause-longer : goal.emit-returns-in_ok-known-in-Choice-3-clause-longer
-emit-returns-in_ok-known-in-Choice-3-clause-longer t c =
+pub emit_form-returns-in_ok-otherwise-in-Choice-clause-known : goal.emit_form-returns-in_ok-otherwise-in-Choice-clause-known
+emit_form-returns-in_ok-otherwise-in-Choice-clause-known t c =
     let scope = c.args.scope.now in
     let level = c.args.level.0 in
     let old = c.args.code.now.items in
@@ -334,45 +233,56 @@ emit-returns-in_ok-known-in-Choice-3-clause-longer t c =
     let e = term c.deref-in-Choice.result.now in
     let d = term c.deref-in-Choice-2.result.now in
     let f = term c.deref-in-Choice-3.result.now in
-    let condition = c.in_ok-known-in-Choice in
-    let chosen = c.in_ok-known-in-Choice-2 in
-    let otherwise = c.in_ok-known-in-Choice-3 in
-    let first = c.in_ok-start-in-Choice in
-    let second = c.in_ok-start-in-Choice-2 in
-    let start : c.len-start.result ≡ length old = omega (arith, c.len-start.ensures, c.args.code.now.ok.0) in
+    let condition = c.in_ok-condition-in-Choice in
+    let chosen = c.in_ok-chosen-in-Choice in
+    let otherwise = c.in_ok-otherwise-in-Choice in
+    let first = c.in_ok-first-in-Choice in
+    let second = c.in_ok-second-in-Choice in
+    let is : term c.args.expression.now ≡ Choice node.at e d f = ap term node.is
+    ∙ ap (λ (x : Expression). Choice node.at (term x) (term node.chosen.value) (term node.otherwise.value)) (sym c.deref-in-Choice.ensures)
+    ∙ ap₂ (λ (x y : Expression). Choice node.at e (term x) (term y)) (sym c.deref-in-Choice-2.ensures) (sym c.deref-in-Choice-3.ensures) in
+    on_value c.end_choice.result (λ found. choice_known scope node.at e d f (term c.args.expression.now) condition.condition chosen.chosen otherwise.otherwise found is condition.ensures.known chosen.ensures.known otherwise.ensures.known) c.end_choice.ensures.known
+
+pub emit_form-returns-in_ok-otherwise-in-Choice-clause-longer : goal.emit_form-returns-in_ok-otherwise-in-Choice-clause-longer
+emit_form-returns-in_ok-otherwise-in-Choice-clause-longer t c =
+    let old = c.args.code.now.items in
     let one = c.emit-in-Choice.new.code.items in
     let two = c.begin_choice.new.code.items in
     let three = c.emit-in-Choice-2.new.code.items in
     let four = c.between_branches.new.code.items in
     let five = c.emit-in-Choice-3.new.code.items in
-    let test = instruction.JumpIfZero (register_at level condition.known.kind) 0 in
-    let parts = choice_parts old one two three four five (expr_code scope level e) (expr_code scope level d) (expr_code scope level f) test
-    condition.ensures.code first.ensures.code chosen.ensures.code second.ensures.code otherwise.ensures.code in
-    let place = choice_first old one two (expr_code scope level e) test first.start condition.ensures.code first.ensures.code first.ensures.place in
-    let next = choice_second two three four (expr_code scope level d) first.start second.start first.ensures.place chosen.ensures.code second.ensures.code second.ensures.place in
-    on_error c.end_choice.result (λ longer. longer old (expr_code scope level e) (expr_code scope level d) (expr_code scope level f) parts start place next) c.end_choice.ensures.longer
+    let new = c.end_choice.new.code.items in
+    on_error c.end_choice.result (λ longer. behind old one new _ c.in_ok-condition-in-Choice.ensures.code (behind one two new _ c.in_ok-first-in-Choice.ensures.code (behind two three new _ c.in_ok-chosen-in-Choice.ensures.code
+    (behind three four new _ c.in_ok-second-in-Choice.ensures.code (behind four five new _ c.in_ok-otherwise-in-Choice.ensures.code longer))))) c.end_choice.ensures.longer
 
-pub emit-levels_suffice-requires : goal.emit-levels_suffice-requires
-emit-levels_suffice-requires t c =
+pub emit_form-end_choice-requires-clause-near : goal.emit_form-end_choice-requires-clause-near
+emit_form-end_choice-requires-clause-near t c =
+    let scope = c.args.scope.now in
+    let level = c.args.level.0 in
+    let begun = c.begin_choice.new.code.items in
+    let one = c.emit-in-Choice-2.new.code.items in
+    let two = c.between_branches.new.code.items in
+    let chosen = term c.deref-in-Choice-2.result.now in
+    let otherwise = term c.deref-in-Choice-3.result.now in
+    let size_one = ap length c.in_ok-chosen-in-Choice.ensures.code ∙ length-append begun (expr_code scope level chosen) in
+    let size_two : length two ≡ length one + 2 = ap length c.in_ok-second-in-Choice.ensures.code ∙ length-append one _ in
+    let size_all = ap length c.in_ok-otherwise-in-Choice.ensures.code ∙ length-append two (expr_code scope level otherwise) in
+    let short_one = (expr_short [] scope level chosen).most in
+    let short_two = (expr_short [] scope level otherwise).most in
+    let first = c.in_ok-first-in-Choice.ensures.place in
+    let whole = ap (λ x. (term_size [] (term x)).nodes) c.in-Choice.is in
+    let inner_one = ap (λ x. (term_size [] (term x)).nodes) c.deref-in-Choice-2.ensures in
+    let inner_two = ap (λ x. (term_size [] (term x)).nodes) c.deref-in-Choice-3.ensures in
+    let low = c.requires.low in
+    omega (arith, size_one, size_two, size_all, short_one, short_two, first, whole, inner_one, inner_two, low)
+
+pub emit_form-levels_suffice-requires : goal.emit_form-levels_suffice-requires
+emit_form-levels_suffice-requires t c =
     let called = c.in-Call in
     let whole = ap (λ x. (term_size [] x).nodes) (ap term called.is ∙ calls called.at called.name called.arguments) in
     let inner = ap (λ (xs : List Expression). (terms_size [] (terms xs)).nodes) c.as_slice-given.ensures.value in
     let low = c.requires.low in
     omega (arith, whole, inner, low)
-
-pub emit-end_infix-requires-clause-near : goal.emit-end_infix-requires-clause-near
-emit-end_infix-requires-clause-near t c =
-    let scope = c.args.scope.now in
-    let level = c.level_at.result.0 in
-    let right = term c.deref-in-Binary-2.result.now in
-    let before = c.begin_infix.new.code.items in
-    let size = ap length c.in_ok-known-in-Binary-2.ensures.code ∙ length-append before (expr_code scope level right) in
-    let short = (expr_short [] scope level right).most in
-    let place = c.in_ok-start-in-Binary.ensures.place in
-    let whole = ap (λ x. (term_size [] (term x)).nodes) c.in-Binary.is in
-    let inner = ap (λ x. (term_size [] (term x)).nodes) c.deref-in-Binary-2.ensures in
-    let low = c.requires.low in
-    omega (arith, size, short, place, whole, inner, low)
 
 pub emit_arguments-level_at-above-requires : goal.emit_arguments-level_at-above-requires
 emit_arguments-level_at-above-requires t c =
@@ -387,30 +297,237 @@ emit_arguments-register_at-requires t c =
     let low = c.requires.low in
     omega (arith, room, above, low)
 
-pub emit-end_choice-requires-clause-near : goal.emit-end_choice-requires-clause-near
-emit-end_choice-requires-clause-near t c =
-    let scope = c.args.scope.now in
-    let level = c.args.level.0 in
-    let begun = c.begin_choice.new.code.items in
-    let one = c.emit-in-Choice-2.new.code.items in
-    let two = c.between_branches.new.code.items in
-    let chosen = term c.deref-in-Choice-2.result.now in
-    let otherwise = term c.deref-in-Choice-3.result.now in
-    let size_one = ap length c.in_ok-known-in-Choice-2.ensures.code ∙ length-append begun (expr_code scope level chosen) in
-    let size_two : length two ≡ length one + 2 = ap length c.in_ok-start-in-Choice-2.ensures.code ∙ length-append one _ in
-    let size_all = ap length c.in_ok-known-in-Choice-3.ensures.code ∙ length-append two (expr_code scope level otherwise) in
-    let short_one = (expr_short [] scope level chosen).most in
-    let short_two = (expr_short [] scope level otherwise).most in
-    let first = c.in_ok-start-in-Choice.ensures.place in
-    let whole = ap (λ x. (term_size [] (term x)).nodes) c.in-Choice.is in
-    let inner_one = ap (λ x. (term_size [] (term x)).nodes) c.deref-in-Choice-2.ensures in
-    let inner_two = ap (λ x. (term_size [] (term x)).nodes) c.deref-in-Choice-3.ensures in
-    let low = c.requires.low in
-    omega (arith, size_one, size_two, size_all, short_one, short_two, first, whole, inner_one, inner_two, low)
-
 pub emit_arguments-level_suffices-requires : goal.emit_arguments-level_suffices-requires
 emit_arguments-level_suffices-requires t c =
     let room = argument_room [] c.args.arguments.now c.loop-i.i c.index-arguments-i.result c.loop-i-test.true c.index-arguments-i.is in
     let above = c.level_at-above.ensures in
     let low = c.requires.low in
     omega (arith, room, above, low)
+
+pub emit-returns-in_err-known-clause-code : goal.emit-returns-in_err-known-clause-code
+emit-returns-in_err-known-clause-code t c =
+    none_ok _ _ c.from_residual.result c.from_residual.ensures.1
+
+pub emit-returns-in_err-known-clause-known : goal.emit-returns-in_err-known-clause-known
+emit-returns-in_err-known-clause-known t c =
+    none_value _ _ c.from_residual.result c.from_residual.ensures.1
+
+pub emit-returns-in_err-known-clause-longer : goal.emit-returns-in_err-known-clause-longer
+emit-returns-in_err-known-clause-longer t c =
+    on_err c.from_residual.result c.in_err-known.ensures.longer
+
+pub emit_form-returns-in_err-kind-in-ElementAddress-clause-code : goal.emit_form-returns-in_err-kind-in-ElementAddress-clause-code
+emit_form-returns-in_err-kind-in-ElementAddress-clause-code t c =
+    none_ok _ _ c.from_residual.result c.from_residual.ensures.1
+
+pub emit_form-returns-in_err-kind-in-ElementAddress-clause-known : goal.emit_form-returns-in_err-kind-in-ElementAddress-clause-known
+emit_form-returns-in_err-kind-in-ElementAddress-clause-known t c =
+    none_value _ _ c.from_residual.result c.from_residual.ensures.1
+
+pub emit_form-returns-in_err-kind-in-ElementAddress-clause-longer : goal.emit_form-returns-in_err-kind-in-ElementAddress-clause-longer
+emit_form-returns-in_err-kind-in-ElementAddress-clause-longer t c =
+    on_err c.from_residual.result c.in_err-kind-in-ElementAddress.ensures.longer
+
+pub emit_form-returns-in_err-pointer-in-Dereference-clause-code : goal.emit_form-returns-in_err-pointer-in-Dereference-clause-code
+emit_form-returns-in_err-pointer-in-Dereference-clause-code t c =
+    none_ok _ _ c.from_residual-in_err-pointer-in-Dereference.result c.from_residual-in_err-pointer-in-Dereference.ensures.1
+
+pub emit_form-returns-in_err-pointer-in-Dereference-clause-known : goal.emit_form-returns-in_err-pointer-in-Dereference-clause-known
+emit_form-returns-in_err-pointer-in-Dereference-clause-known t c =
+    none_value _ _ c.from_residual-in_err-pointer-in-Dereference.result c.from_residual-in_err-pointer-in-Dereference.ensures.1
+
+pub emit_form-returns-in_err-pointer-in-Dereference-clause-longer : goal.emit_form-returns-in_err-pointer-in-Dereference-clause-longer
+emit_form-returns-in_err-pointer-in-Dereference-clause-longer t c =
+    on_err c.from_residual-in_err-pointer-in-Dereference.result c.in_err-pointer-in-Dereference.ensures.longer
+
+pub emit_form-returns-in_err-arguments-in-Call-clause-code : goal.emit_form-returns-in_err-arguments-in-Call-clause-code
+emit_form-returns-in_err-arguments-in-Call-clause-code t c =
+    none_ok _ _ c.from_residual-in_err-arguments-in-Call.result c.from_residual-in_err-arguments-in-Call.ensures.1
+
+pub emit_form-returns-in_err-arguments-in-Call-clause-known : goal.emit_form-returns-in_err-arguments-in-Call-clause-known
+emit_form-returns-in_err-arguments-in-Call-clause-known t c =
+    none_value _ _ c.from_residual-in_err-arguments-in-Call.result c.from_residual-in_err-arguments-in-Call.ensures.1
+
+pub emit_form-returns-in_err-arguments-in-Call-clause-longer : goal.emit_form-returns-in_err-arguments-in-Call-clause-longer
+emit_form-returns-in_err-arguments-in-Call-clause-longer t c =
+    on_err c.from_residual-in_err-arguments-in-Call.result c.in_err-arguments-in-Call.ensures.longer
+
+pub emit_form-returns-in_err-operand-in-Unary-clause-code : goal.emit_form-returns-in_err-operand-in-Unary-clause-code
+emit_form-returns-in_err-operand-in-Unary-clause-code t c =
+    none_ok _ _ c.from_residual-in_err-operand-in-Unary.result c.from_residual-in_err-operand-in-Unary.ensures.1
+
+pub emit_form-returns-in_err-operand-in-Unary-clause-known : goal.emit_form-returns-in_err-operand-in-Unary-clause-known
+emit_form-returns-in_err-operand-in-Unary-clause-known t c =
+    none_value _ _ c.from_residual-in_err-operand-in-Unary.result c.from_residual-in_err-operand-in-Unary.ensures.1
+
+pub emit_form-returns-in_err-operand-in-Unary-clause-longer : goal.emit_form-returns-in_err-operand-in-Unary-clause-longer
+emit_form-returns-in_err-operand-in-Unary-clause-longer t c =
+    on_err c.from_residual-in_err-operand-in-Unary.result c.in_err-operand-in-Unary.ensures.longer
+
+pub emit_form-returns-in_err-operand-in-Cast-clause-code : goal.emit_form-returns-in_err-operand-in-Cast-clause-code
+emit_form-returns-in_err-operand-in-Cast-clause-code t c =
+    none_ok _ _ c.from_residual-in_err-operand-in-Cast.result c.from_residual-in_err-operand-in-Cast.ensures.1
+
+pub emit_form-returns-in_err-operand-in-Cast-clause-known : goal.emit_form-returns-in_err-operand-in-Cast-clause-known
+emit_form-returns-in_err-operand-in-Cast-clause-known t c =
+    none_value _ _ c.from_residual-in_err-operand-in-Cast.result c.from_residual-in_err-operand-in-Cast.ensures.1
+
+pub emit_form-returns-in_err-operand-in-Cast-clause-longer : goal.emit_form-returns-in_err-operand-in-Cast-clause-longer
+emit_form-returns-in_err-operand-in-Cast-clause-longer t c =
+    on_err c.from_residual-in_err-operand-in-Cast.result c.in_err-operand-in-Cast.ensures.longer
+
+pub emit_form-returns-in_err-first-in-Binary-clause-code : goal.emit_form-returns-in_err-first-in-Binary-clause-code
+emit_form-returns-in_err-first-in-Binary-clause-code t c =
+    none_ok _ _ c.from_residual-in_err-first-in-Binary.result c.from_residual-in_err-first-in-Binary.ensures.1
+
+pub emit_form-returns-in_err-first-in-Binary-clause-known : goal.emit_form-returns-in_err-first-in-Binary-clause-known
+emit_form-returns-in_err-first-in-Binary-clause-known t c =
+    none_value _ _ c.from_residual-in_err-first-in-Binary.result c.from_residual-in_err-first-in-Binary.ensures.1
+
+pub emit_form-returns-in_err-first-in-Binary-clause-longer : goal.emit_form-returns-in_err-first-in-Binary-clause-longer
+emit_form-returns-in_err-first-in-Binary-clause-longer t c =
+    on_err c.from_residual-in_err-first-in-Binary.result c.in_err-first-in-Binary.ensures.longer
+
+pub emit_form-returns-in_err-place-in-Binary-clause-code : goal.emit_form-returns-in_err-place-in-Binary-clause-code
+emit_form-returns-in_err-place-in-Binary-clause-code t c =
+    none_ok _ _ c.from_residual-in_err-place-in-Binary.result c.from_residual-in_err-place-in-Binary.ensures.1
+
+pub emit_form-returns-in_err-place-in-Binary-clause-known : goal.emit_form-returns-in_err-place-in-Binary-clause-known
+emit_form-returns-in_err-place-in-Binary-clause-known t c =
+    none_value _ _ c.from_residual-in_err-place-in-Binary.result c.from_residual-in_err-place-in-Binary.ensures.1
+
+pub emit_form-returns-in_err-place-in-Binary-clause-longer : goal.emit_form-returns-in_err-place-in-Binary-clause-longer
+emit_form-returns-in_err-place-in-Binary-clause-longer t c =
+    on_err c.from_residual-in_err-place-in-Binary.result (behind c.args.code.now.items c.emit-in-Binary.new.code.items c.begin_infix.new.code.items _ c.in_ok-first-in-Binary.ensures.code c.in_err-place-in-Binary.ensures.longer)
+
+pub emit_form-returns-in_err-second-in-Binary-clause-code : goal.emit_form-returns-in_err-second-in-Binary-clause-code
+emit_form-returns-in_err-second-in-Binary-clause-code t c =
+    none_ok _ _ c.from_residual-in_err-second-in-Binary.result c.from_residual-in_err-second-in-Binary.ensures.1
+
+pub emit_form-returns-in_err-second-in-Binary-clause-known : goal.emit_form-returns-in_err-second-in-Binary-clause-known
+emit_form-returns-in_err-second-in-Binary-clause-known t c =
+    none_value _ _ c.from_residual-in_err-second-in-Binary.result c.from_residual-in_err-second-in-Binary.ensures.1
+
+pub emit_form-returns-in_err-second-in-Binary-clause-longer : goal.emit_form-returns-in_err-second-in-Binary-clause-longer
+emit_form-returns-in_err-second-in-Binary-clause-longer t c =
+    on_err c.from_residual-in_err-second-in-Binary.result (behind c.args.code.now.items c.emit-in-Binary.new.code.items c.emit-in-Binary-2.new.code.items _ c.in_ok-first-in-Binary.ensures.code (behind c.emit-in-Binary.new.code.items c.begin_infix.new.code.items c.emit-in-Binary-2.new.code.items _ c.in_ok-place-in-Binary.ensures.code c.in_err-second-in-Binary.ensures.longer))
+
+pub emit_form-returns-in_err-condition-in-Choice-clause-code : goal.emit_form-returns-in_err-condition-in-Choice-clause-code
+emit_form-returns-in_err-condition-in-Choice-clause-code t c =
+    none_ok _ _ c.from_residual-in_err-condition-in-Choice.result c.from_residual-in_err-condition-in-Choice.ensures.1
+
+pub emit_form-returns-in_err-condition-in-Choice-clause-known : goal.emit_form-returns-in_err-condition-in-Choice-clause-known
+emit_form-returns-in_err-condition-in-Choice-clause-known t c =
+    none_value _ _ c.from_residual-in_err-condition-in-Choice.result c.from_residual-in_err-condition-in-Choice.ensures.1
+
+pub emit_form-returns-in_err-condition-in-Choice-clause-longer : goal.emit_form-returns-in_err-condition-in-Choice-clause-longer
+emit_form-returns-in_err-condition-in-Choice-clause-longer t c =
+    on_err c.from_residual-in_err-condition-in-Choice.result c.in_err-condition-in-Choice.ensures.longer
+
+pub emit_form-returns-in_err-first-in-Choice-clause-code : goal.emit_form-returns-in_err-first-in-Choice-clause-code
+emit_form-returns-in_err-first-in-Choice-clause-code t c =
+    none_ok _ _ c.from_residual-in_err-first-in-Choice.result c.from_residual-in_err-first-in-Choice.ensures.1
+
+pub emit_form-returns-in_err-first-in-Choice-clause-known : goal.emit_form-returns-in_err-first-in-Choice-clause-known
+emit_form-returns-in_err-first-in-Choice-clause-known t c =
+    none_value _ _ c.from_residual-in_err-first-in-Choice.result c.from_residual-in_err-first-in-Choice.ensures.1
+
+pub emit_form-returns-in_err-first-in-Choice-clause-longer : goal.emit_form-returns-in_err-first-in-Choice-clause-longer
+emit_form-returns-in_err-first-in-Choice-clause-longer t c =
+    on_err c.from_residual-in_err-first-in-Choice.result (behind c.args.code.now.items c.emit-in-Choice.new.code.items c.begin_choice.new.code.items _ c.in_ok-condition-in-Choice.ensures.code c.in_err-first-in-Choice.ensures.longer)
+
+pub emit_form-returns-in_err-chosen-in-Choice-clause-code : goal.emit_form-returns-in_err-chosen-in-Choice-clause-code
+emit_form-returns-in_err-chosen-in-Choice-clause-code t c =
+    none_ok _ _ c.from_residual-in_err-chosen-in-Choice.result c.from_residual-in_err-chosen-in-Choice.ensures.1
+
+pub emit_form-returns-in_err-chosen-in-Choice-clause-known : goal.emit_form-returns-in_err-chosen-in-Choice-clause-known
+emit_form-returns-in_err-chosen-in-Choice-clause-known t c =
+    none_value _ _ c.from_residual-in_err-chosen-in-Choice.result c.from_residual-in_err-chosen-in-Choice.ensures.1
+
+pub emit_form-returns-in_err-chosen-in-Choice-clause-longer : goal.emit_form-returns-in_err-chosen-in-Choice-clause-longer
+emit_form-returns-in_err-chosen-in-Choice-clause-longer t c =
+    on_err c.from_residual-in_err-chosen-in-Choice.result (behind c.args.code.now.items c.emit-in-Choice.new.code.items c.emit-in-Choice-2.new.code.items _ c.in_ok-condition-in-Choice.ensures.code (behind c.emit-in-Choice.new.code.items c.begin_choice.new.code.items c.emit-in-Choice-2.new.code.items _ c.in_ok-first-in-Choice.ensures.code c.in_err-chosen-in-Choice.ensures.longer))
+
+pub emit_form-returns-in_err-second-in-Choice-clause-code : goal.emit_form-returns-in_err-second-in-Choice-clause-code
+emit_form-returns-in_err-second-in-Choice-clause-code t c =
+    none_ok _ _ c.from_residual-in_err-second-in-Choice.result c.from_residual-in_err-second-in-Choice.ensures.1
+
+pub emit_form-returns-in_err-second-in-Choice-clause-known : goal.emit_form-returns-in_err-second-in-Choice-clause-known
+emit_form-returns-in_err-second-in-Choice-clause-known t c =
+    none_value _ _ c.from_residual-in_err-second-in-Choice.result c.from_residual-in_err-second-in-Choice.ensures.1
+
+pub emit_form-returns-in_err-second-in-Choice-clause-longer : goal.emit_form-returns-in_err-second-in-Choice-clause-longer
+emit_form-returns-in_err-second-in-Choice-clause-longer t c =
+    on_err c.from_residual-in_err-second-in-Choice.result (behind c.args.code.now.items c.emit-in-Choice.new.code.items c.between_branches.new.code.items _ c.in_ok-condition-in-Choice.ensures.code (behind c.emit-in-Choice.new.code.items c.begin_choice.new.code.items c.between_branches.new.code.items _ c.in_ok-first-in-Choice.ensures.code (behind c.begin_choice.new.code.items c.emit-in-Choice-2.new.code.items c.between_branches.new.code.items _ c.in_ok-chosen-in-Choice.ensures.code c.in_err-second-in-Choice.ensures.longer)))
+
+pub emit_form-returns-in_err-otherwise-in-Choice-clause-code : goal.emit_form-returns-in_err-otherwise-in-Choice-clause-code
+emit_form-returns-in_err-otherwise-in-Choice-clause-code t c =
+    none_ok _ _ c.from_residual-in_err-otherwise-in-Choice.result c.from_residual-in_err-otherwise-in-Choice.ensures.1
+
+pub emit_form-returns-in_err-otherwise-in-Choice-clause-known : goal.emit_form-returns-in_err-otherwise-in-Choice-clause-known
+emit_form-returns-in_err-otherwise-in-Choice-clause-known t c =
+    none_value _ _ c.from_residual-in_err-otherwise-in-Choice.result c.from_residual-in_err-otherwise-in-Choice.ensures.1
+
+pub emit_form-returns-in_err-otherwise-in-Choice-clause-longer : goal.emit_form-returns-in_err-otherwise-in-Choice-clause-longer
+emit_form-returns-in_err-otherwise-in-Choice-clause-longer t c =
+    on_err c.from_residual-in_err-otherwise-in-Choice.result (behind c.args.code.now.items c.emit-in-Choice.new.code.items c.emit-in-Choice-3.new.code.items _ c.in_ok-condition-in-Choice.ensures.code (behind c.emit-in-Choice.new.code.items c.begin_choice.new.code.items c.emit-in-Choice-3.new.code.items _ c.in_ok-first-in-Choice.ensures.code (behind c.begin_choice.new.code.items c.emit-in-Choice-2.new.code.items c.emit-in-Choice-3.new.code.items _ c.in_ok-chosen-in-Choice.ensures.code (behind c.emit-in-Choice-2.new.code.items c.between_branches.new.code.items c.emit-in-Choice-3.new.code.items _ c.in_ok-second-in-Choice.ensures.code c.in_err-otherwise-in-Choice.ensures.longer))))
+
+pub emit_element-returns-in_err-index-clause-code : goal.emit_element-returns-in_err-index-clause-code
+emit_element-returns-in_err-index-clause-code t c =
+    none_ok _ _ c.from_residual.result c.from_residual.ensures.1
+
+pub emit_element-returns-in_err-index-clause-known : goal.emit_element-returns-in_err-index-clause-known
+emit_element-returns-in_err-index-clause-known t c =
+    none_value _ _ c.from_residual.result c.from_residual.ensures.1
+
+pub emit_element-returns-in_err-index-clause-longer : goal.emit_element-returns-in_err-index-clause-longer
+emit_element-returns-in_err-index-clause-longer t c =
+    on_err c.from_residual.result c.in_err-index.ensures.longer
+
+pub emit_element-returns-in_err-pointer-clause-code : goal.emit_element-returns-in_err-pointer-clause-code
+emit_element-returns-in_err-pointer-clause-code t c =
+    none_ok _ _ c.from_residual-in_err-pointer.result c.from_residual-in_err-pointer.ensures.1
+
+pub emit_element-returns-in_err-pointer-clause-known : goal.emit_element-returns-in_err-pointer-clause-known
+emit_element-returns-in_err-pointer-clause-known t c =
+    none_value _ _ c.from_residual-in_err-pointer.result c.from_residual-in_err-pointer.ensures.1
+
+pub emit_element-returns-in_err-pointer-clause-longer : goal.emit_element-returns-in_err-pointer-clause-longer
+emit_element-returns-in_err-pointer-clause-longer t c =
+    on_err c.from_residual-in_err-pointer.result c.in_err-pointer.ensures.longer
+
+pub emit_address-returns-in_err-pointer-clause-code : goal.emit_address-returns-in_err-pointer-clause-code
+emit_address-returns-in_err-pointer-clause-code t c =
+    none_value _ _ c.from_residual.result c.from_residual.ensures.1
+
+pub emit_address-returns-in_err-pointer-clause-kind : goal.emit_address-returns-in_err-pointer-clause-kind
+emit_address-returns-in_err-pointer-clause-kind t c =
+    none_value _ _ c.from_residual.result c.from_residual.ensures.1
+
+pub emit_address-returns-in_err-pointer-clause-longer : goal.emit_address-returns-in_err-pointer-clause-longer
+emit_address-returns-in_err-pointer-clause-longer t c =
+    on_err c.from_residual.result c.in_err-pointer.ensures.longer
+
+pub emit_address-returns-in_err-index-clause-code : goal.emit_address-returns-in_err-index-clause-code
+emit_address-returns-in_err-index-clause-code t c =
+    none_value _ _ c.from_residual-in_err-index.result c.from_residual-in_err-index.ensures.1
+
+pub emit_address-returns-in_err-index-clause-kind : goal.emit_address-returns-in_err-index-clause-kind
+emit_address-returns-in_err-index-clause-kind t c =
+    none_value _ _ c.from_residual-in_err-index.result c.from_residual-in_err-index.ensures.1
+
+pub emit_address-returns-in_err-index-clause-longer : goal.emit_address-returns-in_err-index-clause-longer
+emit_address-returns-in_err-index-clause-longer t c =
+    on_err c.from_residual-in_err-index.result (behind c.args.code.now.items c.variable.new.code.items c.emit.new.code.items _ c.in_ok-pointer.ensures.code c.in_err-index.ensures.longer)
+
+pub emit_address-returns-in_err-offset-clause-code : goal.emit_address-returns-in_err-offset-clause-code
+emit_address-returns-in_err-offset-clause-code t c =
+    none_value _ _ c.from_residual-in_err-offset.result c.from_residual-in_err-offset.ensures.1
+
+pub emit_address-returns-in_err-offset-clause-kind : goal.emit_address-returns-in_err-offset-clause-kind
+emit_address-returns-in_err-offset-clause-kind t c =
+    none_value _ _ c.from_residual-in_err-offset.result c.from_residual-in_err-offset.ensures.1
+
+pub emit_address-returns-in_err-offset-clause-longer : goal.emit_address-returns-in_err-offset-clause-longer
+emit_address-returns-in_err-offset-clause-longer t c =
+    on_err c.from_residual-in_err-offset.result (behind c.args.code.now.items c.variable.new.code.items c.offset.new.code.items _ c.in_ok-pointer.ensures.code (behind c.variable.new.code.items c.emit.new.code.items c.offset.new.code.items _ c.in_ok-index.ensures.code c.in_err-offset.ensures.longer))

@@ -3,7 +3,7 @@ use Rattle.clmodel.specs.Next.{launch_of}
 use Rattle.item_step.specs.Launches.{setup_of}
 use Rattle.spaces_base.specs.Buffers.{bytes_in}
 use Rattle.snapshot_merge.specs.JoinedGroups.{HoldsGroups}
-use Rattle.snapshot_merge.specs.Launches.{group_log}
+use Rattle.snapshot_merge.specs.Launches.{heap_log}
 use Rattle.shadow_list.specs.Log.{fresh_log}
 use Rattle.snapshot_merge.proofs.run.run_launch_around.Given as goal
 
@@ -11,5 +11,5 @@ abbrev pub invariant-loop-group : goal.invariant-loop-group
 invariant-loop-group g l =
     record {
       held : HoldsGroups (launch_of (setup_of l.launch) (bytes_in l.buffers)) l.group l.so_far;
-      fresh : group_log l.log ≡ fresh_log (setup_of l.launch).range.uniform;
+      fresh : heap_log l.log ≡ fresh_log (setup_of l.launch).range.uniform;
     }

@@ -33,7 +33,7 @@ returns-in-Err-Unset-clause-made g c =
     let back : to_z w64 (of_z w64 c.args.element) ≡ c.args.element = search rules in
     let place = place_read g.G.Space.bytes c.args.object c.args.operation c.in-Some.ensures.value back c.as_slice.ensures.value c.as_slice-2.ensures.value in
     let told : c.in_ok-fault-in-Err-Unset.fault.value ≡ fault.Unset (t.first + c.args.k) (kind_of c.args.operation) (location_of p.launch (region_of t.number c.args.object)) c.in-Err-Unset.byte
-    = cc (c.in_ok-fault-in-Err-Unset.ensures, c.in-Err-Unset.byte-is, c.region-region.ensures) in
+    = cc (c.in_ok-fault-in-Err-Unset.ensures, c.in-Err-Unset.byte-is, c.kind-kind-in-Err-Unset.ensures) in
     unset_made (acts_of g.D.Described.launch) g.G.Space.bytes g.G.Space.read_only p t.items.items t.made t.buffers.items t.locals.items (g.L.Logged.log t.log) c.args.k c.args.object c.args.element c.args.operation c.requires.inside
     c.perform_on.new.buffers.items c.perform_on.new.locals.items c.in-Some.first c.in-Err-Unset.byte c.in_ok-fault-in-Err-Unset.fault place
     (c.in-Err-Unset.is ∙ ap Err c.in-Err-Unset.field-0-is) (c.perform_on.ensures p.launch p.group) told

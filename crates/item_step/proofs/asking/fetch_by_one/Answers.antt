@@ -1,0 +1,20 @@
+use Rattle.std.proofs.Common.{Some, pos, ◌∙◌}
+use Rattle.clnum.specs.Operations.{wrapped}
+use Rattle.clmodel.specs.Next as next
+use Rattle.clmodel.specs.declared.operand.Operand.{Operand}
+use Rattle.regcode.specs.Machine.{with_put}
+use Rattle.regcode.specs.declared.instruction.FetchOperands.TheVariants as operands
+use Rattle.register_values.proofs.LeadingLaws.{leads_ok, leads_passed}
+use Rattle.item_step.proofs.AskingLaws.{fetch_asks}
+use Rattle.item_step.proofs.asking.fetch_by_one.Goals as goal
+
+pub returns : goal.returns
+returns c to on after =
+    let s = c.args.machine.now.state in
+    leads_ok _ _ _ _ c.in_ok-pointer.was (c.pointer_in.ensures (λ q. next.fetch_number c.args.function q (wrapped q.element (pos 0)) (wrapped q.element (pos 1)) (λ (v : Operand). after (with_put s to (Some v)))))
+    ∙ fetch_asks s to c.args.function c.args.pointer operands.Alone c.in_ok-pointer.pointer _ _ _ _ _ after c.fetch_of-operation.ensures c.wrapped-none.ensures c.wrapped-one.ensures
+
+pub returns-in_err-pointer : goal.returns-in_err-pointer
+returns-in_err-pointer c to on after =
+    let s = c.args.machine.now.state in
+    leads_passed _ _ _ _ _ _ c.in_err-pointer.was c.from_residual.ensures.1 (c.pointer_in.ensures (λ q. next.fetch_number c.args.function q (wrapped q.element (pos 0)) (wrapped q.element (pos 1)) (λ (v : Operand). after (with_put s to (Some v)))))

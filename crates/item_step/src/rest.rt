@@ -1,0 +1,53 @@
+//! What an item asks where it rests.
+#![tactic(auto)]
+
+use clmodel::access::Operation;
+use clmodel::action::{Action, Fences};
+use clmodel::operand::Pointer;
+use clnum::IntType;
+use item_state::Rest;
+
+/// What an instruction asks.
+#[derive(Clone, Copy)]
+pub(crate) enum Wanted {
+    Access {
+        pointer: Pointer,
+        operation: Operation,
+    },
+    Barrier {
+        site: u32,
+        depth: u32,
+        fences: Fences,
+    },
+}
+
+/// How an item goes on with an answer.
+#[derive(Clone, Copy)]
+pub(crate) enum Pending {
+    /// A register gets the number that was answered, as one of a type
+    Put { to: u32, element: IntType },
+    /// The next instruction follows
+    Pass,
+}
+
+/// The access that a load or a store makes, and how the item goes on with the answer.
+#[derive(Clone, Copy)]
+pub(crate) struct FoundAccess {
+    pub(crate) pointer: Pointer,
+    pub(crate) operation: Operation,
+    pub(crate) pending: Pending,
+}
+
+/// Why an item doesn't go on by steps: it makes an access, or it rests.
+#[derive(Clone, Copy)]
+pub(crate) enum Stop {
+    Access(FoundAccess),
+    Rests(Rest),
+}
+
+/// The action that an item makes, and how it goes on with the answer, if it takes one.
+#[derive(Drop)]
+pub(crate) struct Found {
+    pub(crate) action: Action,
+    pub(crate) pending: Option<Pending>,
+}

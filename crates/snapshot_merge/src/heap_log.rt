@@ -1,0 +1,82 @@
+//! A log of a group that lies on the heap.
+
+ghost use Rattle.std.specs.Prelude.{◌≡◌, IfOk};
+ghost use Rattle.shadow.specs.Lasting.{StandsWith};
+ghost use Rattle.shadow_list.specs.Log.{fresh_log};
+ghost use Rattle.group_log.specs.Lasting.{all_of};
+ghost use Rattle.snapshot_merge.specs.Launches.{heap_log, heap_listed, heap_has_last};
+
+use group_log::GroupLog;
+use shadow::GroupAccesses;
+use shadow_list::{AccessLog, Entry, Fenced, Hit, Logged};
+use std::alloc::{AllocError, Global};
+
+/// The log of a group that is running, on the heap. What runs a group and joins it hands its log on some ten times; so
+/// no more than a pointer is moved for it.
+#[derive(Drop)]
+pub(crate) struct HeapLog {
+    pub(crate) log: Box<GroupLog>,
+}
+
+impl HeapLog {
+    /// A log without accesses, of a launch that is uniform or not. An error is out of memory.
+    pub(crate) fn new(alloc: Global, uniform: bool) -> Result<Self, AllocError>
+        ensures { IfOk result (λ log. heap_log log ≡ fresh_log uniform) }
+    {
+        let log = Box::new(alloc, GroupLog::new(alloc, uniform))?;
+        Ok(HeapLog { log })
+    }
+
+    /// A log without accesses, of the same launch: this one, cleared where it lies.
+    pub(crate) fn cleared(self, alloc: Global) -> Self
+        ensures { heap_log result ≡ fresh_log (heap_log self).uniform }
+    {
+        let mut log = self;
+        log.log.clear(alloc);
+        log
+    }
+
+    /// The accesses that are there for other groups stand for all of them. It does nothing when it runs.
+    pub(crate) fn stands(&self)
+        ensures { StandsWith (heap_has_last self.now) (heap_listed self.now) (all_of self.now.log.value.whole.items) }
+    {
+        self.log.stands();
+    }
+}
+
+impl Logged for HeapLog {
+    ghost use Rattle.snapshot_merge.specs.Launches.{heap_log};
+
+    ghost log = { heap_log };
+}
+
+impl GroupAccesses for HeapLog {
+    ghost use Rattle.snapshot_merge.specs.Launches.{heap_listed, heap_has_last};
+
+    ghost listed = { heap_listed };
+
+    ghost has_last = { heap_has_last };
+
+    fn len(&self) -> usize {
+        self.log.len()
+    }
+
+    fn get(&self, i: usize) -> Entry {
+        self.log.get(i)
+    }
+
+    fn has_last(&self) -> bool {
+        self.log.has_last()
+    }
+}
+
+impl AccessLog for HeapLog {
+    #[inline(always)]
+    fn note(&mut self, entry: Entry) -> Result<Option<Hit>, AllocError> {
+        self.log.note(entry)
+    }
+
+    fn fence(&mut self, space: Fenced) {
+        self.log.fence(space);
+    }
+}
