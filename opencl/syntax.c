@@ -627,6 +627,8 @@ static expression *read_primary(parser *p) {
     return e;
 }
 
+static bool is_place(type t) { return t.pointer || t.dimensions; }
+
 // What is assigned to, or changed by a step: a name, an element or the content of a pointer.
 static void want_target(parser *p, const expression *e) {
     const expression *target = inner(e);
@@ -779,6 +781,7 @@ static expression *read_unary(parser *p) {
         e->operator= now(p)->text;
         p->at++;
         e->a = read_unary(p);
+        if (*e->operator!= '!' && is_place(e->a->type)) complain_at(p, e->token, "this isn't done with pointers");
         e->type = number_type(*e->operator== '!' ? INT_TYPE : promoted(e->a->type.base));
         e->hard = e->a->hard;
     } else e = read_postfix(p);
@@ -800,16 +803,27 @@ enum { LEVELS = sizeof levels / sizeof *levels, SHIFTS = 7, SUMS = 8 };
 
 static type binary_type(parser *p, size_t token, const expression *l, const expression *r, unsigned level) {
     if (level < 2 || level == 5 || level == 6) return number_type(INT_TYPE);
-    if (level == SHIFTS) return number_type(promoted(l->type.base));
-    type pointer = l->type.pointer || l->type.dimensions ? l->type : r->type;
-    bool both = (l->type.pointer || l->type.dimensions) && (r->type.pointer || r->type.dimensions);
-    if (both) complain_at(p, token, "Clsim has no differences of pointers");
-    if (level == SUMS && (pointer.pointer || pointer.dimensions)) {
-        pointer.pointer = true;
-        pointer.dimensions = 0;
-        return pointer;
-    }
-    return number_type(common(l->type.base, r->type.base));
+    bool left = is_place(l->type), right = is_place(r->type);
+    if (left && right && level == SUMS) complain_at(p, token, "Clsim has no differences of pointers");
+    if ((left || right) && level != SUMS) complain_at(p, token, "this isn't done with pointers");
+    if (!left && !right && level == SHIFTS) return number_type(promoted(l->type.base));
+    if (!left && !right) return number_type(common(l->type.base, r->type.base));
+    if (right && *p->unit->tokens.at[token].text == '-') complain_at(p, token, "this isn't done with pointers");
+    type pointer = left ? l->type : r->type;
+    if (pointer.dimensions > 1) complain_at(p, token, "Clsim has no pointers to arrays");
+    pointer.pointer = true;
+    pointer.dimensions = 0;
+    return pointer;
+}
+
+// The type of `c ? l : r`: their common type, or that of two pointers of one type.
+static type choice_type(parser *p, size_t token, type l, type r) {
+    bool same = l.base == r.base && l.pointer == r.pointer && l.space == r.space;
+    bool none = l.base == VOID_TYPE && r.base == VOID_TYPE;
+    if (l.dimensions || r.dimensions || ((l.pointer || r.pointer) && !same))
+        complain_at(p, token, "Clsim has no such choice of pointers");
+    if (l.pointer) l.is_const = l.is_const || r.is_const;
+    return l.pointer ? l : number_type(none ? VOID_TYPE : common(l.base, r.base));
 }
 
 static expression *read_binary(parser *p, unsigned level) {
@@ -844,10 +858,7 @@ static expression *read_conditional(parser *p) {
         whole->b = read_expression(p);
         expect(p, ":");
         whole->c = read_conditional(p);
-        bool is_void = whole->b->type.base == VOID_TYPE && !whole->b->type.pointer;
-        whole->type = whole->b->type.pointer
-                          ? whole->b->type
-                          : number_type(is_void ? VOID_TYPE : common(whole->b->type.base, whole->c->type.base));
+        whole->type = choice_type(p, whole->token, whole->b->type, whole->c->type);
         whole->hard = e->hard || whole->b->hard || whole->c->hard;
         e = ended(p, whole);
     }
@@ -994,9 +1005,9 @@ static declaration *read_declarator(parser *p, const specifiers *s) {
     type t = read_pointer(p, s);
     const char *name = read_name(p);
     d->token = p->at++;
+    read_lengths(p, &t); // in which the name isn't known yet (C99 6.2.1)
     symbol *y = d->symbol = declare(p, VARIABLE, name, d->token);
     y->declaration = d;
-    read_lengths(p, &t);
     y->type = t;
     if (!t.pointer && t.base == VOID_TYPE) complain_at(p, d->token, "a variable has a type");
     if (!t.pointer && t.space == GLOBAL_SPACE) complain_at(p, d->token, "a variable can't stand in global memory");
