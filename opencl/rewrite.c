@@ -682,6 +682,15 @@ static pieces body_of(writer *w, const statement *s) {
     return end_part(w, &p, false);
 }
 
+// The length of an array, as it is written where it is one number.
+static const char *length_text(writer *w, const declaration *d, uint64_t n) {
+    const token *t = &w->unit->tokens.at[d->token];
+    bool is_array = d->symbol->type.dimensions == 1;
+    bool is_one = is_array && !strcmp(t[1].text, "[") && t[2].kind == NUMBER_TOKEN && !strcmp(t[3].text, "]");
+    expression e = {.kind = NUMBER, .token = d->token + 2, .value = n, .type = {.base = ULONG_TYPE}};
+    return is_one ? as_written(w, &e) : made(w, "%" PRIu64, n);
+}
+
 static void write_declaration(writer *w, const declaration *d) {
     const symbol *y = d->symbol;
     if (y->kind != VARIABLE) return; // constants are put in place of their names
@@ -693,7 +702,9 @@ static void write_declaration(writer *w, const declaration *d) {
         if (t.space == LOCAL_SPACE) put_apart(w, w->out, "__local");
         put_apart(w, w->out, name_of(t.base));
         put_piece(w, w->out, y->written, " ", d->token);
-        put(w, w->out, made(w, "[%" PRIu64 "]", n));
+        put(w, w->out, "[");
+        put(w, w->out, length_text(w, d, n));
+        put(w, w->out, "]");
         end_statement(w);
         for (size_t i = 0; i < d->length; i++) { // what the list leaves out is 0 (C99 6.7.8)
             const expression *e = d->elements[i];
@@ -817,7 +828,7 @@ static void write_for(writer *w, const statement *s) {
     if (!stepping && s->has_continue) {
         if (begin) {
             begin_part(w, &block);
-            write_statement(w, s->begin);
+            if (s->begin->kind != EMPTY) write_statement(w, s->begin);
         }
         turned = save_as(w, word(w, "0"), (type){.base = INT_TYPE});
     }
@@ -855,7 +866,8 @@ static void write_for(writer *w, const statement *s) {
 
 // Whether what is written of a statement is no `if` without an `else`, and doesn't end with one.
 static bool ends_without_if(const statement *s) {
-    if (s->kind == BLOCK || s->kind == RETURN || s->kind == BREAK || s->kind == CONTINUE) return true;
+    if (s->kind == BLOCK || s->kind == RETURN || s->kind == BREAK || s->kind == CONTINUE || s->kind == EMPTY)
+        return true;
     if (s->kind != EXPRESSION) return false;
     expression_kind k = inner(s->test)->kind;
     return k == ASSIGNMENT || k == STEP_BEFORE || k == STEP_BEHIND || k == CALL;
@@ -1028,7 +1040,11 @@ static void write_statement(writer *w, const statement *s) {
         put_token(w, w->out, s->token);
         end_statement(w);
         return;
-    case EMPTY: return;
+    case EMPTY:
+        if (strcmp(w->unit->tokens.at[s->token].text, ";")) return; // a typedef
+        put_token(w, w->out, s->token);
+        w->statements++;
+        return;
     default: refuse(w, s->token, "a case stands straight in the block of its switch");
     }
 }

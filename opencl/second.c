@@ -165,7 +165,7 @@ static void agree_on_meaning(judge *j, size_t token, const symbol *own, cursor c
     bool inside = declared_at(&j->text, c, &offset);
     const symbol *other = inside ? symbol_at(j, offset) : NULL;
     const char *name = name_in_clang(c, j->arena), *text = j->unit->tokens.at[token].text;
-    if (other != own || (inside && !other && own) || strcmp(name, text))
+    if (other != own || strcmp(name, text))
         differ(j, token, "'%s' is another declaration to the driver than to clang", text);
 }
 
