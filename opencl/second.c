@@ -355,6 +355,7 @@ static void agree_on_typedef(judge *j, cursor c) {
 }
 
 static void agree_on_enumeration(judge *j, cursor c) {
+    static const type int_type = {.base = INT_TYPE};
     size_t begin = push_parts(j, c), end = j->part_count;
     for (size_t i = begin; i < end; i++) {
         if (j->parts[i].kind != ENUMERATOR_CURSOR) continue;
@@ -363,6 +364,8 @@ static void agree_on_enumeration(judge *j, cursor c) {
         if (y->kind != NUMBER_CONSTANT || (int64_t)y->value != value)
             differ(j, y->token, "the value is %" PRId64 " to the driver, and %" PRId64 " to clang", (int64_t)y->value,
                    value);
+        if (!same_type(&y->type, &int_type)) // C99 6.4.4.3
+            differ(j, y->token, "the type is %s to the driver, and 'int' to clang", words_of(j, &y->type));
     }
     j->part_count = begin;
 }
