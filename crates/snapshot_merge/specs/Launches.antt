@@ -9,6 +9,7 @@ use Rattle.group_run.specs.declared.result.GroupResult.TheVariants.{Done, Stoppe
 use Rattle.joining.specs.Steps.{HasGroup}
 use Rattle.shadow.specs.Lasting.{StandsWith}
 use Rattle.shadow_list.specs.Log.{Log, logged}
+use Rattle.shadow_list.specs.declared.list.ListLog.{ListLog}
 use Rattle.shadow_list.specs.declared.log.Entry.{Entry}
 use Rattle.snapshot_merge.specs.declared.heap_log.HeapLog.{HeapLog}
 
@@ -36,6 +37,10 @@ AreResultsTo bytes listed has_last launch last group (Done number spaces log run
     HasGroup launch group × IsShortResult bytes listed has_last launch group (Done number spaces log runs) × AreResultsTo bytes listed has_last launch last (suc group) results
 AreResultsTo bytes listed has_last launch last group (Stopped number fault log runs ∷ results) =
     HasGroup launch group × IsShortResult bytes listed has_last launch group (Stopped number fault log runs) × (results ≡ [])
+
+-- a list log, as the accesses that it keeps with the running intervals (own)
+abbrev pub list_log : ListLog → Log
+list_log l = logged l.entries.items l.local_interval l.global_interval l.uniform
 
 -- the log of a group that is running, as all accesses with the running intervals (own)
 abbrev pub group_log : GroupLog → Log

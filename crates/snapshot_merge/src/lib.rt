@@ -1,5 +1,8 @@
 //! The work-groups of a launch, run apart and joined.
 //!
+//! `one_group` runs one work-group on overlays of the launch's buffers: it answers what `run_group` answers on their bytes,
+//! and the buffers stay, so that each group begins with the same bytes, in whatever order the groups run.
+//!
 //! `run_launch` answers what the launch's canonical run on one memory comes to: clean with the bytes that it leaves, or
 //! its report and its schedule. `merge` answers the same from the groups' results, of all groups or of those up to one
 //! that stopped. `join_round` joins results whose logs are short lists that stand for them. All ask for whole groups
@@ -9,6 +12,7 @@
 mod around;
 mod changes;
 mod cutting;
+mod groups;
 mod heap_log;
 mod joined_groups;
 mod joined_numbers;
@@ -19,6 +23,7 @@ mod rounds;
 mod run;
 
 pub use around::Around;
+pub use groups::one_group;
 pub use joined_groups::JoinedGroups;
 pub use launches::group_count;
 pub use merging::merge;

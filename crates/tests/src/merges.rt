@@ -18,8 +18,7 @@ use host_commands::ranges::{group_items, is_bad_dimension, is_bad_group, is_too_
 use item_step::{Launch, Setup, is_local_too_large};
 use lower::lower_kernel;
 use shadow_list::ListLog;
-use snapshot_merge::{merge, run_launch};
-use snapshot_run::one_group;
+use snapshot_merge::{merge, one_group, run_launch};
 use spaces_base::Buffers;
 use std::alloc::{AllocError, Global};
 use std::test::Fail;

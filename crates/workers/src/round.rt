@@ -18,7 +18,7 @@ use group_run::GroupResult;
 use item_step::Launch;
 use joining::one_part;
 use shadow::LastingList;
-use snapshot_run::one_group;
+use snapshot_merge::one_group;
 use spaces::Overlay;
 use spaces_base::Buffers;
 use std::alloc::{AllocError, Global};

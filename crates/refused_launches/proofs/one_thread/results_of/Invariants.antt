@@ -1,6 +1,6 @@
 use Rattle.clmodel.specs.Next.{launch_of}
 use Rattle.item_step.specs.Launches.{setup_of}
-use Rattle.snapshot_run.specs.Launches.{list_log}
+use Rattle.snapshot_merge.specs.Launches.{list_log}
 use Rattle.spaces_base.specs.Buffers.{bytes_in}
 use Rattle.refused_launches.proofs.Leading.{Lead}
 use Rattle.refused_launches.proofs.one_thread.results_of.Given as goal

@@ -4,7 +4,7 @@ use Rattle.clmodel.specs.Launch.{Launch}
 use Rattle.clmodel.specs.Next.{launch_of}
 use Rattle.item_step.specs.Launches.{setup_of}
 use Rattle.joining.specs.Steps.{HasGroup}
-use Rattle.snapshot_run.specs.Launches.{list_log}
+use Rattle.snapshot_merge.specs.Launches.{list_log}
 use Rattle.snapshot_merge.specs.Launches.{AreResults}
 use Rattle.snapshot_merge.proofs.Ending.{below_there}
 use Rattle.spaces_base.specs.Buffers.{bytes_in}

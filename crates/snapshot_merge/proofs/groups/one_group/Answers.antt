@@ -3,7 +3,7 @@ use Rattle.std.proofs.lemmas.Simd.{map-map}
 use Rattle.clmodel.specs.Setup.{buffer_names}
 use Rattle.item_step.specs.Launches.{setup_of}
 use Rattle.spaces_base.specs.Buffers.{bytes_in}
-use Rattle.snapshot_run.proofs.groups.one_group.Goals as goal
+use Rattle.snapshot_merge.proofs.groups.one_group.Goals as goal
 
 pub run_group-requires-clause-runnable : goal.run_group-requires-clause-runnable
 run_group-requires-clause-runnable g c =

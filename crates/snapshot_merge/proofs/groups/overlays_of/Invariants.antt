@@ -1,7 +1,7 @@
 use Rattle.std.proofs.Common.{◌≡◌, ◌≤◌, Some, length, map, take}
 use Rattle.std.specs.Prelude.{vec_len, vec_capacity}
 use Rattle.spaces_base.specs.Buffers.{bytes_in}
-use Rattle.snapshot_run.proofs.groups.overlays_of.Given as goal
+use Rattle.snapshot_merge.proofs.groups.overlays_of.Given as goal
 
 abbrev pub invariant-loop-name : goal.invariant-loop-name
 invariant-loop-name l =
