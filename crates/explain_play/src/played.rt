@@ -15,7 +15,7 @@ ghost use Rattle.marked_play.specs.Marks.{ActsFrom};
 ghost use Rattle.marked_play.specs.Pairs.{IsFoundPair};
 ghost use Rattle.marked_play.specs.Replicas.{Mirrors};
 ghost use Rattle.marked_play.specs.declared.pairs.Told.{Told};
-ghost use Rattle.replay_play.specs.States.{IsAt};
+ghost use Rattle.replay.specs.States.{IsAt};
 ghost use Rattle.spaces_base.specs.Buffers.{bytes_in};
 ghost use Rattle.explain_play.specs.PlayedOut.{IsEventOf, IsPlayedOut, MadeAccess, Tells, is_access, touch_of};
 
@@ -28,7 +28,7 @@ use item_step::Launch;
 use launches::laws::setups_are_runnable;
 use launches::{Described, LoadedLaunch, Runnable, group_count};
 use marked_play::{Mark, Pair, Partner, Replica, Stand, Told, find_pair, mark_schedule, stand_of};
-use replay_play::Player;
+use replay::Player;
 use shadow_list::both_store;
 use spaces_base::{Buffers, Plain};
 use std::alloc::{AllocError, Global};

@@ -10,7 +10,7 @@ use Rattle.explanation.specs.declared.told.NamedItem.{NamedItem}
 use Rattle.marked_play.specs.declared.marks.Mark.{Mark}
 use Rattle.origins.specs.Finding.{IsOriginIn}
 use Rattle.origins.specs.declared.origin.Origin.{Origin}
-use Rattle.replay_play.specs.declared.slot.Stand.{Stand}
+use Rattle.replay.specs.declared.slot.Stand.{Stand}
 use Rattle.source_spots.specs.Spots.{HaveTurns}
 use Rattle.explain_reasons.specs.Named.{IsAccessStand, IsItemStand, stand_of}
 use Rattle.explain_reasons.specs.Spotted.{BeginsAt, IsNamed, IsSpotted}

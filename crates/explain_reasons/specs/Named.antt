@@ -12,7 +12,7 @@ use Rattle.explanation.specs.declared.told.NamedItem.{NamedItem}
 use Rattle.item_step.specs.Launches.{setup_of}
 use Rattle.marked_play.specs.declared.marks.Mark.{Mark}
 use Rattle.marked_play.specs.declared.pairs.Pair.{Pair}
-use Rattle.replay_play.specs.declared.slot.Stand.{Stand}
+use Rattle.replay.specs.declared.slot.Stand.{Stand}
 use Rattle.explain_reasons.specs.Spotted.{IsNamed}
 use Rattle.explain_reasons.specs.declared.context.Context.{Context}
 

@@ -9,7 +9,7 @@ use Rattle.item_ids.specs.Ids.{AreIds}
 use Rattle.origins.specs.Finding.{plain}
 use Rattle.origins.specs.Origins.{kernel_origins, node_at, node_of}
 use Rattle.origins.specs.declared.origin.Origin.{Origin}
-use Rattle.replay_play.specs.declared.slot.Stand.{Stand}
+use Rattle.replay.specs.declared.slot.Stand.{Stand}
 use Rattle.source_spots.specs.Spots.{HaveTurns, IsPlace, IsToldLine}
 
 -- a place in the source is where the node of an origin begins, and is told with its line

@@ -22,7 +22,7 @@ use Rattle.clmodel.proofs.CellLaws.{cells_some}
 use Rattle.launches.specs.Groups.{filled}
 use Rattle.objects.specs.Objects.{ObjectsHold, SpacesHold}
 use Rattle.objects.proofs.Lists.{get_set}
-use Rattle.replay_play.specs.States.{LocalsHold}
+use Rattle.replay.specs.States.{LocalsHold}
 use Rattle.marked_play.specs.Marks.{HasThere, IsCounted}
 use Rattle.marked_play.specs.Replicas.{Holds, IsAbout, IsEmpty, IsNext, Mirrors, region_at}
 use Rattle.marked_play.specs.declared.marks.Mark.{Mark}

@@ -12,12 +12,12 @@ use Rattle.clmodel.specs.declared.schedule.Event.{Event}
 use Rattle.clmodel.specs.declared.schedule.EventRun.{EventRun}
 use Rattle.item_step.specs.Running.{Makes}
 use Rattle.replay.proofs.Played.{after_then, after_never, replicate_more, replicate_never, events_more, events_split}
-use Rattle.replay_play.specs.Items.{Stands, StandsAt, stand_of, stand_in}
-use Rattle.replay_play.specs.States.{ActsNext, IsAt, IsPlayed}
-use Rattle.replay_play.specs.declared.player.Player.{Player}
-use Rattle.replay_play.specs.declared.slot.Slot.{Slot}
-use Rattle.replay_play.specs.declared.slot.Slot.TheVariants as slot
-use Rattle.replay_play.specs.declared.slot.Stand.{Stand}
+use Rattle.replay.specs.Items.{Stands, StandsAt, stand_of, stand_in}
+use Rattle.replay.specs.States.{ActsNext, IsAt, IsPlayed}
+use Rattle.replay.specs.declared.player.Player.{Player}
+use Rattle.replay.specs.declared.slot.Slot.{Slot}
+use Rattle.replay.specs.declared.slot.Slot.TheVariants as slot
+use Rattle.replay.specs.declared.slot.Stand.{Stand}
 use Rattle.marked_play.specs.Marks.{ActsFrom, AreMarked, IsCounted, Lead, events_in, item_of}
 use Rattle.marked_play.specs.declared.marks.Mark.{Mark}
 

@@ -9,9 +9,9 @@ use Rattle.clmodel.specs.declared.access.Access.{Access}
 use Rattle.clmodel.specs.declared.schedule.Event.{Event}
 use Rattle.clmodel.specs.declared.schedule.Event.TheVariants as event
 use Rattle.item_step.specs.Running.{Running, Makes}
-use Rattle.replay_play.specs.States.{IsAt}
-use Rattle.replay_play.specs.declared.player.Player.{Player}
-use Rattle.replay_play.specs.declared.slot.Stand.{Stand}
+use Rattle.replay.specs.States.{IsAt}
+use Rattle.replay.specs.declared.player.Player.{Player}
+use Rattle.replay.specs.declared.slot.Stand.{Stand}
 use Rattle.marked_play.specs.Replicas.{Mirrors}
 use Rattle.marked_play.specs.declared.marks.Mark.{Mark}
 use Rattle.marked_play.specs.declared.replica.Replica.{Replica}

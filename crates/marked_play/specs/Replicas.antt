@@ -8,7 +8,7 @@ use Rattle.clmodel.specs.declared.action.Action.TheVariants as action
 use Rattle.clmodel.specs.declared.schedule.Event.{Event}
 use Rattle.clmodel.specs.declared.schedule.Event.TheVariants as event
 use Rattle.objects.specs.Objects.{SpacesHold}
-use Rattle.replay_play.specs.States.{LocalsHold}
+use Rattle.replay.specs.States.{LocalsHold}
 use Rattle.marked_play.specs.declared.replica.Deed.{Deed}
 use Rattle.marked_play.specs.declared.replica.Locals.{Locals}
 use Rattle.marked_play.specs.declared.replica.Replica.{Replica}

@@ -9,5 +9,5 @@ mod replica;
 
 pub use marks::{Mark, mark_schedule, stand_of};
 pub use pairs::{Pair, Partner, Told, find_pair};
-pub use replay_play::Stand;
+pub use replay::Stand;
 pub use replica::Replica;

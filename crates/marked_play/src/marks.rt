@@ -6,7 +6,7 @@ ghost use Rattle.clmodel.specs.Launch.{Launch};
 ghost use Rattle.clmodel.specs.Outcome.{events_of};
 ghost use Rattle.clmodel.specs.Run.{State};
 ghost use Rattle.clmodel.specs.declared.schedule.Event.TheVariants as event;
-ghost use Rattle.replay_play.specs.States.{IsAt};
+ghost use Rattle.replay.specs.States.{IsAt};
 ghost use Rattle.marked_play.specs.Marks.{ActsFrom, AreMarked, Follows, item_of};
 ghost use Rattle.marked_play.specs.Replicas.{IsAbout, IsNext};
 
@@ -14,7 +14,7 @@ use crate::replica::{Deed, Replica};
 use clmodel::action::Action;
 use clmodel::schedule::{Event, EventRun};
 use launches::Runnable;
-use replay_play::{Player, Stand};
+use replay::{Player, Stand};
 use std::alloc::AllocError;
 
 /// An event with where the item stands that acts by it: of a release, the group's first item.

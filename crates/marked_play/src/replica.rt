@@ -8,7 +8,7 @@ ghost use Rattle.clmodel.specs.Run.{Memory, State, initial, step, with_cells};
 ghost use Rattle.clmodel.specs.declared.access.Region.TheVariants as region;
 ghost use Rattle.launches.specs.Groups.{filled};
 ghost use Rattle.objects.specs.Objects.{ObjectsHold, SpacesHold, space_of};
-ghost use Rattle.replay_play.specs.States.{LocalsHold};
+ghost use Rattle.replay.specs.States.{LocalsHold};
 ghost use Rattle.marked_play.specs.Replicas.{Holds, IsAbout, IsEmpty, Mirrors, region_at};
 
 use clmodel::access::{Object, Operation, Width};

@@ -1,3 +1,8 @@
+pub mod Bytes
+pub mod Playing
+pub mod Releasing
+pub mod Starting
+pub mod Walks
 pub mod Played
 pub mod Reaching
 pub mod Showing

@@ -11,7 +11,7 @@ use Rattle.clmodel.specs.declared.schedule.Event.{Event}
 use Rattle.clmodel.specs.declared.schedule.Event.TheVariants as event
 use Rattle.clmodel.specs.declared.schedule.EventRun.{EventRun}
 use Rattle.clmodel.specs.declared.schedule.EventRun.TheVariants as run
-use Rattle.replay_play.specs.States.{IsPlayed}
+use Rattle.replay.specs.States.{IsPlayed}
 use Rattle.replay.specs.Played.{ArePlayed}
 
 after_append : (l : Launch) (s : State) (xs ys : Events) → after l s (xs ++ ys) ≡ option_and_then (λ n. after l n ys) (after l s xs)

@@ -12,7 +12,7 @@ use Rattle.clmodel.proofs.Steps.{some_inj}
 use Rattle.replay.specs.Spots.{same_spot, differs, IsSpot, HasOther}
 use Rattle.replay.specs.declared.conflicts.Left.{Left}
 use Rattle.replay.specs.declared.conflicts.Spot.{Spot}
-use Rattle.replay_play.proofs.Walks.{below_next}
+use Rattle.replay.proofs.Walks.{below_next}
 
 pub same_spot-is : (a b : Spot) → same_spot a b ≡ true → a ≡ b
 same_spot-is a b h =

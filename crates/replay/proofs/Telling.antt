@@ -5,7 +5,7 @@ use Rattle.clmodel.specs.Launch.{Launch}
 use Rattle.clmodel.specs.Run.{State}
 use Rattle.clmodel.specs.declared.action.Action.{Action}
 use Rattle.clmodel.proofs.Steps.{none_some}
-use Rattle.replay_play.specs.States.{ActsNext}
+use Rattle.replay.specs.States.{ActsNext}
 use Rattle.replay.specs.Nexts.{TellsNext}
 
 -- what is found in the item's next action, if there is the item

@@ -1,3 +1,5 @@
+pub mod Items
+pub mod States
 pub mod Nexts
 pub mod Played
 pub mod Spots

@@ -5,12 +5,12 @@ ghost use Rattle.clmodel.specs.Launch.{Launch};
 ghost use Rattle.clmodel.specs.Outcome.{events_of};
 ghost use Rattle.clmodel.specs.Run.{State};
 ghost use Rattle.clmodel.specs.declared.schedule.Event.TheVariants as event;
-ghost use Rattle.replay_play.specs.States.{IsAt};
+ghost use Rattle.replay.specs.States.{IsAt};
 ghost use Rattle.replay.specs.Played.{ArePlayed};
 
 use clmodel::schedule::{Event, EventRun, Schedule};
 use launches::Runnable;
-use replay_play::Player;
+use crate::player::Player;
 use std::alloc::AllocError;
 
 /// Plays events of an item up to the first that isn't possible, and tells whether all are. An error is out of memory.

@@ -7,7 +7,7 @@ ghost use Rattle.clmodel.specs.Launch.{Launch, group_of, kind_of};
 ghost use Rattle.clmodel.specs.Law.{Fails, Shows};
 ghost use Rattle.clmodel.specs.Run.{State, byte_at, next_action, stop_of};
 ghost use Rattle.clmodel.specs.declared.fault.Fault.TheVariants as faults;
-ghost use Rattle.replay_play.specs.States.{IsAt};
+ghost use Rattle.replay.specs.States.{IsAt};
 ghost use Rattle.replay.specs.Nexts.{StopsAt, ReadsUnset};
 
 use crate::conflicts::{Partner, Place, ToldConflict, shows_conflict};
@@ -18,7 +18,7 @@ use clmodel::action::Stop;
 use clmodel::fault::{Fault, Location};
 use divergence::same_stop;
 use launches::Runnable;
-use replay_play::Player;
+use crate::player::Player;
 use std::alloc::{AllocError, Global};
 
 /// Whether an item waits at this stop. An error is out of memory.

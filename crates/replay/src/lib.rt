@@ -4,6 +4,12 @@
 //! `replay` answers true exactly where each event of the schedule is possible in its turn and the state after all of
 //! them shows the fault, with its items, places and kinds (out of memory aside). It asks for whole groups with items
 //! and answers below 2^32.
+//!
+//! A `Player` plays single events: one item's access or one group's release at a time, over one memory that all items
+//! share. `play` answers true exactly where the event is possible in the state that the player is at, and then the player
+//! is at the state that the event leads to; else it stays. The other calls tell of that state: what an item does next, the
+//! accesses so far, where an element begins, the lowest byte that is unset. An event costs the same however many items
+//! there are, and no buffer is copied. The crate uses neither overlays nor the runner of groups.
 #![tactic(auto)]
 
 ghost use Rattle.std.specs.Prelude.{IfOk};
@@ -19,8 +25,12 @@ mod buffers;
 mod conflicts;
 mod events;
 mod faults;
+mod group;
+mod members;
 mod nexts;
 mod places;
+mod player;
+mod slot;
 
 use crate::buffers::copies;
 use crate::events::play_schedule;
@@ -30,8 +40,9 @@ use clmodel::schedule::Schedule;
 use item_step::Launch;
 use launches::laws::setups_are_runnable;
 use launches::{LoadedLaunch, group_count};
-use replay_play::Player;
+pub use player::Player;
 pub use replay_text::{ReadFault, read, write};
+pub use slot::Stand;
 use spaces_base::Buffers;
 use std::alloc::{AllocError, Global};
 

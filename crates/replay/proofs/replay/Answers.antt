@@ -11,7 +11,7 @@ use Rattle.item_step.specs.Launches.{setup_of}
 use Rattle.launches.specs.Groups.{IsRunnable, filled}
 use Rattle.spaces_base.specs.Buffers.{bytes_in}
 use Rattle.launches.specs.declared.loaded.LoadedLaunch.{LoadedLaunch}
-use Rattle.replay_play.specs.States.{IsAt}
+use Rattle.replay.specs.States.{IsAt}
 use Rattle.replay.proofs.Showing.{never}
 use Rattle.replay.proofs.Reaching.{never_reaches, reaches, map_map, played, unplayed}
 use Rattle.replay.proofs.replay.Goals as goal

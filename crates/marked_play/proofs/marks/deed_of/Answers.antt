@@ -1,6 +1,6 @@
 use Rattle.std.proofs.Common.{rules, to_z, of_z, w64, ◌≡◌, refl, sym, ap, ◌∙◌, subst}
 use Rattle.clmodel.specs.Run.{byte_at}
-use Rattle.replay_play.specs.States.{ActsNext}
+use Rattle.replay.specs.States.{ActsNext}
 use Rattle.marked_play.proofs.marks.deed_of.Goals as goal
 
 pub returns-clause-next : goal.returns-clause-next

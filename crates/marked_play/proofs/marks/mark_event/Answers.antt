@@ -1,4 +1,4 @@
-use Rattle.replay_play.specs.States.{IsAt}
+use Rattle.replay.specs.States.{IsAt}
 use Rattle.marked_play.specs.Marks.{Follows}
 use Rattle.marked_play.specs.declared.marks.Mark.{Mark}
 use Rattle.marked_play.proofs.Following.{counted}

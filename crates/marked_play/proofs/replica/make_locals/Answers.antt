@@ -1,5 +1,5 @@
 use Rattle.std.proofs.Common.{sym, ◌∙◌, eqb-true, vec_len, arith}
-use Rattle.replay_play.proofs.Playing.{locals_made, no_sizes}
+use Rattle.replay.proofs.Playing.{locals_made, no_sizes}
 use Rattle.marked_play.proofs.replica.make_locals.Goals as goal
 
 pub returns-in_ok-locals : goal.returns-in_ok-locals

@@ -1,7 +1,7 @@
 use Rattle.std.proofs.Common.{◌≡◌, ap, ◌∙◌, replicate, arith}
 use Rattle.clmodel.specs.Run.{after}
 use Rattle.clmodel.specs.declared.schedule.Event.TheVariants as event
-use Rattle.replay_play.specs.States.{IsAt}
+use Rattle.replay.specs.States.{IsAt}
 use Rattle.replay.proofs.Played.{item_never, item_more}
 use Rattle.replay.proofs.events.play_items.Goals as goal
 

@@ -2,7 +2,7 @@ use Rattle.std.proofs.Common.{◌≡◌, Some, replicate}
 use Rattle.clmodel.specs.Launch.{Launch}
 use Rattle.clmodel.specs.Run.{State, after}
 use Rattle.clmodel.specs.declared.schedule.Event.TheVariants as event
-use Rattle.replay_play.specs.States.{IsAt}
+use Rattle.replay.specs.States.{IsAt}
 use Rattle.replay.proofs.events.play_items.Given as goal
 
 abbrev pub invariant-loop : goal.invariant-loop

@@ -2,7 +2,7 @@ use Rattle.std.proofs.Common.{[], ◌∷◌, ap, sym, ◌∙◌, subst}
 use Rattle.std.proofs.lemmas.Result.{IfOk-weaker}
 use Rattle.clmodel.specs.Outcome.{events_of}
 use Rattle.clmodel.specs.declared.schedule.Event.TheVariants as event
-use Rattle.replay_play.specs.States.{IsAt}
+use Rattle.replay.specs.States.{IsAt}
 use Rattle.replay.specs.Played.{ArePlayed}
 use Rattle.replay.proofs.Played.{item_events, one_played}
 use Rattle.replay.proofs.events.play_run.Goals as goal

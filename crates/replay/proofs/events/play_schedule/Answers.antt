@@ -2,7 +2,7 @@ use Rattle.std.proofs.Common.{◌≤◌, length, ap, sym, ◌∙◌, arith}
 use Rattle.std.proofs.lemmas.List.{take_all}
 use Rattle.clmodel.specs.Outcome.{events_of}
 use Rattle.clmodel.specs.Run.{after}
-use Rattle.replay_play.specs.States.{IsAt}
+use Rattle.replay.specs.States.{IsAt}
 use Rattle.replay.proofs.Played.{run_never, run_more}
 use Rattle.replay.proofs.events.play_schedule.Goals as goal
 

@@ -2,7 +2,7 @@ use Rattle.std.proofs.Common.{◌≡◌, Some, take}
 use Rattle.clmodel.specs.Launch.{Launch}
 use Rattle.clmodel.specs.Outcome.{events_of}
 use Rattle.clmodel.specs.Run.{State, after}
-use Rattle.replay_play.specs.States.{IsAt}
+use Rattle.replay.specs.States.{IsAt}
 use Rattle.replay.proofs.events.play_schedule.Given as goal
 
 abbrev pub invariant-loop-run : goal.invariant-loop-run

@@ -6,7 +6,7 @@ use Rattle.clmodel.specs.Launch.{location_of, region_of}
 use Rattle.replay.specs.Nexts.{access_of, TellsNext}
 use Rattle.replay.proofs.Showing.{never, no_unset, never_unset, unset}
 use Rattle.replay.proofs.Telling.{tells}
-use Rattle.replay_play.proofs.Playing.{is_none}
+use Rattle.replay.proofs.Playing.{is_none}
 use Rattle.replay.proofs.faults.shows_unset.Goals as goal
 
 pub returns-in_default : goal.returns-in_default

@@ -1,0 +1,437 @@
+-- Events of items, in what a program keeps of a state.
+use Rattle.std.proofs.Common.{◌≡◌, ℕ, ◌*◌, ◌<◌, ◌≤◌, ◌⊎◌, ℤ, Bool, true, false, ◌&&◌, ◌==◌, nat_lt, Option, None, Some, List, [], ◌∷◌, ◌++◌, length, map, replicate, set, refl, sym, ap, ap₂, ◌∙◌, subst, inl, inr, arith, lt-ltb, ltb-true, eqb-true, eq-eqb, ne_eqb}
+use Rattle.std.specs.Prelude.{slice_get, slice_index, if◌then◌else◌, reverse, Result, Ok, Err}
+use Rattle.std.specs.Option.{option_map, option_and_then}
+use Rattle.std.proofs.Math.Path.{fun_ext}
+use Rattle.std.proofs.lemmas.List.{length-set, length-map, length-append, length-replicate, reverse-append, append_assoc, append-nil}
+use Rattle.std.proofs.lemmas.Nat.{div_below}
+use Rattle.clmodel.specs.Cells.{Cells, Outcome, cells_of, perform, size_of, found, answer_to, effect, lowest_unset, reads}
+use Rattle.clmodel.specs.Launch.{Launch, bytes_of, first_byte, group_of, region_of, access_in}
+use Rattle.clmodel.specs.Run.{State, Memory, step, item_step, next_action, changed, accessed, access_at, access_of, with_cells, by_region}
+use Rattle.clmodel.specs.declared.access.Access.{Access}
+use Rattle.clmodel.specs.declared.access.Object.{Object}
+use Rattle.clmodel.specs.declared.access.Object.TheVariants as object
+use Rattle.clmodel.specs.declared.access.Operation.{Operation}
+use Rattle.clmodel.specs.declared.access.Region.{Region}
+use Rattle.clmodel.specs.declared.access.Region.TheVariants as region
+use Rattle.clmodel.specs.declared.action.Action.{Action}
+use Rattle.clmodel.specs.declared.action.Action.TheVariants as action
+use Rattle.clmodel.specs.declared.action.Answer.{Answer}
+use Rattle.clmodel.specs.declared.schedule.Event.TheVariants.{Item}
+use Rattle.clmodel.proofs.Steps.{if_true, if_false}
+use Rattle.clmodel.proofs.CellLaws.{found_unset, cells_none}
+use Rattle.spaces_base.specs.declared.space.SpaceFault.{SpaceFault}
+use Rattle.spaces_base.specs.declared.space.SpaceFault.TheVariants as space_fault
+use Rattle.objects.specs.Objects.{SpacesHold, ObjectsHold, IsMoved, space_of}
+use Rattle.objects.proofs.Lists.{get_set}
+use Rattle.objects.proofs.Memory.{space_sized, local_at, local_past}
+use Rattle.replay.specs.Items.{acts_of}
+use Rattle.replay.specs.States.{LocalsHold, attempt, IsPerformed, IsGroupIn, Tells, IsPlayed}
+use Rattle.replay.specs.declared.group.Group.{Group}
+use Rattle.replay.specs.declared.group.Performed.{Performed}
+use Rattle.replay.specs.declared.slot.Slot.{Slot}
+
+-- ---- local objects
+
+-- unset local objects hold a memory that is unset there
+unset_hold :
+    (l : Launch) (g : ℕ) (m : Memory) → ((number byte : ℕ) → m (region.Local g number) byte ≡ None)
+    → SpacesHold (λ cells. cells) l (length l.local_sizes) (region.Local g) (map (λ size. replicate size None) l.local_sizes) m
+unset_hold l g m unset =
+    record {
+      many = length-map l.local_sizes (λ size. replicate size None);
+      sized = λ n x e. ap length (local_at l.local_sizes n x e) ∙ length-replicate (slice_index l.local_sizes n) None;
+      none = λ n e. local_past l.local_sizes n e;
+      cells = λ n x e. fun_ext (λ byte. ap (λ z. cells_of z byte) (local_at l.local_sizes n x e) ∙ cells_none (slice_index l.local_sizes n) byte ∙ sym (unset n byte));
+    }
+
+pub no_sizes : {A : Type 0} (xs : List A) → 0 ≡ length xs → xs ≡ []
+no_sizes [] h = refl
+no_sizes (x ∷ xs) h = absurd (omega (arith, h))
+
+-- local objects that weren't there are made
+pub locals_made :
+    (l : Launch) (g : ℕ) (m : Memory) (sizes : List ℕ) (old new : List (List (Option ℕ))) → new ≡ map (λ size. replicate size None) sizes → old ≡ []
+    → sizes ≡ l.local_sizes → LocalsHold l g old m → SpacesHold (λ cells. cells) l (length l.local_sizes) (region.Local g) new m
+locals_made l g m sizes old new made empty same (inl h) =
+    let none : l.local_sizes ≡ [] = no_sizes l.local_sizes (ap length (sym empty) ∙ h.many) in
+    subst (λ z. SpacesHold (λ cells. cells) l (length l.local_sizes) (region.Local g) z m) (empty ∙ sym (made ∙ ap (map (λ size. replicate size None)) (same ∙ none))) h
+locals_made l g m sizes old new made empty same (inr h) =
+    subst (λ z. SpacesHold (λ cells. cells) l (length l.local_sizes) (region.Local g) z m) (sym (made ∙ ap (map (λ size. replicate size None)) same)) (unset_hold l g m h.1)
+
+-- local objects that are there stay
+pub locals_there :
+    (l : Launch) (g : ℕ) (m : Memory) (locals : List (List (Option ℕ))) → (locals ≡ [] → ⊥) → LocalsHold l g locals m
+    → SpacesHold (λ cells. cells) l (length l.local_sizes) (region.Local g) locals m
+locals_there l g m locals some (inl h) = h
+locals_there l g m locals some (inr h) = absurd (some h.0)
+
+-- ---- an operation
+
+-- the first byte in the space of an object is that in its region
+pub placed_as :
+    (l : Launch) (g : ℕ) (m : Memory) (bs locals : List (List (Option ℕ))) (o : Object) (element : ℤ) (op : Operation) (found : Option ℕ)
+    → found ≡ first_byte (length (space_of (λ b. b) bs locals o)) element (size_of op) → ObjectsHold (λ b. b) l g bs locals m
+    → first_byte (bytes_of l (region_of g o)) element (size_of op) ≡ found
+placed_as l g m bs locals o element op found e h = ap (λ n. first_byte n element (size_of op)) (sym (space_sized (λ b. b) l g bs locals m o h)) ∙ sym e
+
+pub out_of_range :
+    (l : Launch) (g : ℕ) (m : Memory) (o : Object) (element : ℤ) (op : Operation) → first_byte (bytes_of l (region_of g o)) element (size_of op) ≡ None
+    → attempt l g m o element op ≡ None
+out_of_range l g m o element op e = ap (option_and_then (perform op (m (region_of g o)))) e
+
+pub reads_unset :
+    (l : Launch) (g : ℕ) (m : Memory) (o : Object) (element : ℤ) (op : Operation) (first byte : ℕ) → first_byte (bytes_of l (region_of g o)) element (size_of op) ≡ Some first
+    → reads op ≡ true → lowest_unset (m (region_of g o)) first (size_of op) ≡ Some byte → attempt l g m o element op ≡ None
+reads_unset l g m o element op first byte e r u =
+    ap (option_and_then (perform op (m (region_of g o)))) e
+    ∙ ap (option_map (λ x. record { answer = answer_to op x; cells = effect op x (m (region_of g o)) first })) (found_unset op (m (region_of g o)) first byte r u)
+
+pub is_done :
+    (l : Launch) (g : ℕ) (m : Memory) (new : Memory → Type 0) (o : Object) (element : ℤ) (op : Operation) (d : Performed)
+    → first_byte (bytes_of l (region_of g o)) element (size_of op) ≡ Some d.first
+    → (x : ℕ) × (found op (m (region_of g o)) d.first ≡ Some x) × (d.answer ≡ answer_to op x) × new (with_cells m (region_of g o) (effect op x (m (region_of g o)) d.first))
+    → IsPerformed l g new m o element op (Some d)
+is_done l g m new o element op d e h = (
+  record { answer = answer_to op h.0; cells = effect op h.0 (m (region_of g o)) d.first },
+  e,
+  ap (option_map (λ x. record { answer = answer_to op x; cells = effect op x (m (region_of g o)) d.first })) h.1,
+  sym h.2,
+  h.3,
+)
+
+-- ---- an event of an item
+
+-- items of which one was asked, and acts as before
+pub asked :
+    (l : Launch) (items : List Slot) (bs : List (List (Option ℕ))) (groups : List Group) (log : List Access) (s : State) (k : ℕ) (i j : Slot)
+    → slice_get items k ≡ Some i → ((answers : List Answer) → acts_of l k j answers ≡ acts_of l k i answers) → Tells l items bs groups log s
+    → Tells l (set items k j) bs groups log s
+asked l items bs groups log s k i j there same t =
+    record {
+      many = length-set items k j ∙ t.many;
+      acting = λ q z e. acting q z (get_set items k j q z e);
+      buffers_hold = t.buffers_hold;
+      grouped = t.grouped;
+      each = t.each;
+      logged = t.logged;
+      paced = t.paced;
+    }
+  where
+    acting :
+        (q : ℕ) (z : Slot) → ((q ≡ k) × (j ≡ z)) ⊎ ((q ≡ k → ⊥) × (slice_get items q ≡ Some z))
+        → (answers : List Answer) → acts_of l q z answers ≡ l.next q (s.answers q ++ answers)
+    acting q z (inl e) answers =
+        ap (λ w. acts_of l q w answers) (sym e.1) ∙ ap (λ n. acts_of l n j answers) e.0 ∙ same answers ∙ t.acting k i there answers
+        ∙ ap (λ n. l.next n (s.answers n ++ answers)) (sym e.0)
+    acting q z (inr e) answers = t.acting q z e.1 answers
+
+-- the memory of another group's local objects after an operation
+apart : (m : Memory) (g q n : ℕ) (o : Object) (c : Cells) → (q ≡ g → ⊥) → with_cells m (region_of g o) c (region.Local q n) ≡ m (region.Local q n)
+apart m g q n (object.Buffer b) c ne = refl
+apart m g q n (object.Local b) c ne = if_false ((q == g) && (n == b)) c (m (region.Local q n)) (ap (λ x. x && (n == b)) (ne_eqb q g ne))
+
+locals_apart :
+    (l : Launch) (g q : ℕ) (m : Memory) (o : Object) (c : Cells) (locals : List (List (Option ℕ))) → (q ≡ g → ⊥) → LocalsHold l q locals m
+    → LocalsHold l q locals (with_cells m (region_of g o) c)
+locals_apart l g q m o c locals ne (inl h) =
+    inl (record {
+      many = h.many;
+      sized = h.sized;
+      none = h.none;
+      cells = λ n x e. h.cells n x e ∙ sym (apart m g q n o c ne);
+    })
+locals_apart l g q m o c locals ne (inr h) = inr (h.0, λ n byte. ap (λ z. z byte) (apart m g q n o c ne) ∙ h.1 n byte)
+
+-- an access that is in range and reads set bytes is possible
+steps_to :
+    (l : Launch) (s : State) (k : ℕ) (o : Object) (element : ℤ) (op : Operation) (first : ℕ) (outcome : Outcome) → k < l.items
+    → next_action l s k ≡ action.Access o element op → first_byte (bytes_of l (region_of (group_of l k) o)) element (size_of op) ≡ Some first
+    → perform op (s.memory (region_of (group_of l k) o)) first ≡ Some outcome
+    → step l s (Item k) ≡ Some (accessed l s k (region_of (group_of l k) o) first op outcome)
+unfolding step
+steps_to l s k o element op first outcome b acts placed performs =
+    if_true (nat_lt k l.items) (item_step l s k (next_action l s k)) None (lt-ltb k l.items b)
+    ∙ ap (item_step l s k) acts
+    ∙ ap (access_at l s k (region_of (group_of l k) o) op) placed
+    ∙ ap (option_map (accessed l s k (region_of (group_of l k) o) first op)) performs
+
+refused :
+    (l : Launch) (s : State) (k : ℕ) (o : Object) (op : Operation) (b : Option ℕ) → option_and_then (perform op (s.memory (region_of (group_of l k) o))) b ≡ None
+    → access_at l s k (region_of (group_of l k) o) op b ≡ None
+refused l s k o op None e = refl
+refused l s k o op (Some first) e = ap (option_map (accessed l s k (region_of (group_of l k) o) first op)) e
+
+neither : {A : Type 0} (b : Bool) (o : Option A) → o ≡ None → (if b then o else None) ≡ None
+neither true o e = e
+neither false o e = refl
+
+-- an access that is out of range or reads an unset byte isn't
+stays :
+    (l : Launch) (s : State) (k : ℕ) (o : Object) (element : ℤ) (op : Operation) → next_action l s k ≡ action.Access o element op
+    → attempt l (group_of l k) s.memory o element op ≡ None → step l s (Item k) ≡ None
+unfolding step
+stays l s k o element op acts e =
+    neither (nat_lt k l.items) (item_step l s k (next_action l s k))
+    (ap (item_step l s k) acts ∙ refused l s k o op (first_byte (bytes_of l (region_of (group_of l k) o)) element (size_of op)) e)
+
+lt_false : (a b : ℕ) → b ≤ a → nat_lt a b ≡ false
+lt_false a b h = go (nat_lt a b) refl
+  where
+    go : (x : Bool) → nat_lt a b ≡ x → x ≡ false
+    go true e = absurd (omega (arith, h, ltb-true a b e))
+    go false e = refl
+
+-- nor is an event of an item at a barrier, at its end, or that fails
+pub no_access : (l : Launch) (s : State) (k : ℕ) (a : Action) → next_action l s k ≡ a → item_step l s k a ≡ None → step l s (Item k) ≡ None
+unfolding step
+no_access l s k a acts e = neither (nat_lt k l.items) (item_step l s k (next_action l s k)) (ap (item_step l s k) acts ∙ e)
+
+-- nor is one of an item that isn't there
+pub no_item : (l : Launch) (s : State) (k : ℕ) → l.items ≤ k → step l s (Item k) ≡ None
+unfolding step
+no_item l s k past = if_false (nat_lt k l.items) (item_step l s k (next_action l s k)) None (lt_false k l.items past)
+
+group_same :
+    (l : Launch) (q : ℕ) (x y : Group) (s : State) → y.local_interval ≡ x.local_interval → y.global_interval ≡ x.global_interval → LocalsHold l q y.locals.items s.memory
+    → IsGroupIn l q x s → IsGroupIn l q y s
+group_same l q x y s local global held h =
+    record {
+      locals = held;
+      local_interval = local ∙ h.local_interval;
+      global_interval = global ∙ h.global_interval;
+    }
+
+-- a group whose local objects may be made now, and buffers that hold the same memory
+pub group_kept :
+    (l : Launch) (items : List Slot) (bs cs : List (List (Option ℕ))) (groups : List Group) (log : List Access) (s : State) (g : ℕ) (x y : Group) → Tells l items bs groups log s
+    → slice_get groups g ≡ Some x → y.local_interval ≡ x.local_interval → y.global_interval ≡ x.global_interval → SpacesHold (λ b. b) l (length l.buffers) region.Buffer cs s.memory
+    → LocalsHold l g y.locals.items s.memory → Tells l items cs (set groups g y) log s
+group_kept l items bs cs groups log s g x y t there local global buffers locals =
+    record {
+      many = t.many;
+      acting = t.acting;
+      buffers_hold = buffers;
+      grouped = ap (λ n. n * l.group_size) (length-set groups g y) ∙ t.grouped;
+      each = λ q z e. each q z (get_set groups g y q z e);
+      logged = t.logged;
+      paced = t.paced;
+    }
+  where
+    each : (q : ℕ) (z : Group) → ((q ≡ g) × (y ≡ z)) ⊎ ((q ≡ g → ⊥) × (slice_get groups q ≡ Some z)) → IsGroupIn l q z s
+    each q z (inl e) = subst (λ w. IsGroupIn l q w s) e.1 (subst (λ n. IsGroupIn l n y s) (sym e.0) (group_same l g x y s local global locals (t.each g x there)))
+    each q z (inr e) = t.each q z e.1
+
+-- what is kept after an access that isn't possible, for which local objects may have been made
+access_refused :
+    (l : Launch) (items : List Slot) (bs cs : List (List (Option ℕ))) (groups : List Group) (log : List Access) (s : State) (k : ℕ) (x y : Group) (o : Object) (element : ℤ)
+    (op : Operation) → Tells l items bs groups log s → next_action l s k ≡ action.Access o element op → slice_get groups (group_of l k) ≡ Some x
+    → y.local_interval ≡ x.local_interval → y.global_interval ≡ x.global_interval
+    → IsPerformed l (group_of l k) (ObjectsHold (λ b. b) l (group_of l k) cs y.locals.items) s.memory o element op None
+    → IsPlayed l s (Item k) (Tells l items cs (set groups (group_of l k) y) log) false
+access_refused l items bs cs groups log s k x y o element op t acts there local global p = (
+  stays l s k o element op acts p.0,
+  group_kept l items bs cs groups log s (group_of l k) x y t there local global p.1.0 (inl p.1.1),
+)
+
+longest : (a b c : ℕ) → a ≤ b → b ≤ c → a ≤ c
+longest a b c h e = omega (arith, h, e)
+
+-- an answer more leaves no item fewer
+grown : (answers : ℕ → List Answer) (k : ℕ) (a : Answer) (f : ℕ) → length (answers f) ≤ length (changed answers k (answers k ++ a ∷ []) f)
+grown answers k a f = go (f == k) refl
+  where
+    go : (b : Bool) → (f == k) ≡ b → length (answers f) ≤ length (if b then answers k ++ a ∷ [] else answers f)
+    go true e = omega (arith, ap (λ z. length (answers z)) (eqb-true f k e), length-append (answers k) (a ∷ []))
+    go false e = omega arith
+
+-- the group of an item is there
+pub group_there : (l : Launch) (groups : List Group) (k g : ℕ) → 0 < l.group_size → length groups * l.group_size ≡ l.items → k < l.items → group_of l k ≡ g → g < length groups
+group_there l groups k g some whole below e =
+    subst (λ w. w < length groups) e (div_below k l.group_size (length groups) some (subst (λ w. k < w) (sym whole) below))
+
+-- what is kept after an access that was done
+access_done :
+    (l : Launch) (items : List Slot) (bs cs : List (List (Option ℕ))) (groups : List Group) (log : List Access) (s : State) (k : ℕ) (i j : Slot) (x y : Group) (o : Object) (element : ℤ)
+    (op : Operation) (d : Performed) (a : Access) → Tells l items bs groups log s → k < l.items → next_action l s k ≡ action.Access o element op
+    → slice_get items k ≡ Some i → ((answers : List Answer) → acts_of l k j answers ≡ acts_of l k i (d.answer ∷ answers)) → slice_get groups (group_of l k) ≡ Some x
+    → y.local_interval ≡ x.local_interval → y.global_interval ≡ x.global_interval
+    → a ≡ access_in k (region_of (group_of l k) o) d.first op (by_region (region_of (group_of l k) o) y.global_interval y.local_interval)
+    → IsPerformed l (group_of l k) (ObjectsHold (λ b. b) l (group_of l k) cs y.locals.items) s.memory o element op (Some d)
+    → IsPlayed l s (Item k) (Tells l (set items k j) cs (set groups (group_of l k) y) (log ++ a ∷ [])) true
+access_done l items bs cs groups log s k i j x y o element op d a t below acts item answered there local global noted p = (
+  n,
+  steps_to l s k o element op d.first outcome below acts p.1 p.2,
+  record {
+    many = length-set items k j ∙ t.many;
+    acting = λ q z e. acting q z (get_set items k j q z e);
+    buffers_hold = p.4.0;
+    grouped = ap (λ w. w * l.group_size) (length-set groups g y) ∙ t.grouped;
+    each = λ q z e. each q z (get_set groups g y q z e);
+    logged = logged;
+    paced = λ q. (
+      longest (s.local_interval q) _ _ (t.paced q).0 (grown s.answers k outcome.answer (q * l.group_size)),
+      longest (s.global_interval q) _ _ (t.paced q).1 (grown s.answers k outcome.answer (q * l.group_size)),
+    );
+  },
+)
+  where
+    g : ℕ
+    g = group_of l k
+
+    outcome : Outcome
+    outcome = p.0
+
+    n : State
+    n = accessed l s k (region_of (group_of l k) o) d.first op outcome
+
+    mine : IsGroupIn l (group_of l k) x s
+    mine = t.each (group_of l k) x there
+
+    longer : (answers : List Answer) → (s.answers k ++ d.answer ∷ answers) ≡ n.answers k ++ answers
+    longer answers =
+        sym (append_assoc (s.answers k) (d.answer ∷ []) answers) ∙ ap (λ w. (s.answers k ++ w ∷ []) ++ answers) (sym p.3)
+        ∙ ap (λ w. w ++ answers) (sym (if_true (k == k) (s.answers k ++ outcome.answer ∷ []) (s.answers k) (eq-eqb k k refl)))
+
+    acting :
+        (q : ℕ) (z : Slot) → ((q ≡ k) × (j ≡ z)) ⊎ ((q ≡ k → ⊥) × (slice_get items q ≡ Some z))
+        → (answers : List Answer) → acts_of l q z answers ≡ l.next q (n.answers q ++ answers)
+    acting q z (inl e) answers =
+        ap (λ w. acts_of l q w answers) (sym e.1) ∙ ap (λ w. acts_of l w j answers) e.0 ∙ answered answers ∙ t.acting k i item (d.answer ∷ answers)
+        ∙ ap (l.next k) (longer answers) ∙ ap (λ w. l.next w (n.answers w ++ answers)) (sym e.0)
+    acting q z (inr e) answers =
+        t.acting q z e.1 answers
+        ∙ ap (λ w. l.next q (w ++ answers)) (sym (if_false (q == k) (s.answers k ++ outcome.answer ∷ []) (s.answers q) (ne_eqb q k e.0)))
+
+    each : (q : ℕ) (z : Group) → ((q ≡ group_of l k) × (y ≡ z)) ⊎ ((q ≡ group_of l k → ⊥) × (slice_get groups q ≡ Some z)) → IsGroupIn l q z n
+    each q z (inl e) =
+        subst (λ w. IsGroupIn l q w n) e.1
+        (subst (λ w. IsGroupIn l w y n) (sym e.0)
+        (record {
+          locals = inl p.4.1;
+          local_interval = local ∙ mine.local_interval;
+          global_interval = global ∙ mine.global_interval;
+        }))
+    each q z (inr e) =
+        let h : IsGroupIn l q z s = t.each q z e.1 in
+        record {
+          locals = locals_apart l (group_of l k) q s.memory o outcome.cells z.locals.items e.0 h.locals;
+          local_interval = h.local_interval;
+          global_interval = h.global_interval;
+        }
+
+    stamped :
+        access_of l s k (region_of (group_of l k) o) d.first op
+        ≡ access_in k (region_of (group_of l k) o) d.first op (by_region (region_of (group_of l k) o) y.global_interval y.local_interval)
+    stamped =
+        ap (λ w. access_in k (region_of (group_of l k) o) d.first op (by_region (region_of (group_of l k) o) w (s.local_interval (group_of l k)))) (sym (global ∙ mine.global_interval))
+        ∙ ap (λ w. access_in k (region_of (group_of l k) o) d.first op (by_region (region_of (group_of l k) o) y.global_interval w)) (sym (local ∙ mine.local_interval))
+
+    logged : n.log ≡ reverse (log ++ a ∷ [])
+    logged = ap (λ w. access_of l s k (region_of (group_of l k) o) d.first op ∷ w) t.logged ∙ ap (λ w. w ∷ reverse log) (stamped ∙ sym noted) ∙ sym (reverse-append log (a ∷ []))
+
+-- the same with the group's number as the program has it
+pub refused_in :
+    (l : Launch) (items : List Slot) (bs cs : List (List (Option ℕ))) (groups : List Group) (log : List Access) (s : State) (k g : ℕ) (x y : Group) (o : Object) (element : ℤ)
+    (op : Operation) → group_of l k ≡ g → Tells l items bs groups log s → next_action l s k ≡ action.Access o element op → slice_get groups g ≡ Some x
+    → y.local_interval ≡ x.local_interval → y.global_interval ≡ x.global_interval
+    → IsPerformed l g (ObjectsHold (λ b. b) l g cs y.locals.items) s.memory o element op None
+    → IsPlayed l s (Item k) (Tells l items cs (set groups g y) log) false
+refused_in l items bs cs groups log s k g x y o element op e t acts =
+    subst
+    (λ w. slice_get groups w ≡ Some x → y.local_interval ≡ x.local_interval → y.global_interval ≡ x.global_interval
+    → IsPerformed l w (ObjectsHold (λ b. b) l w cs y.locals.items) s.memory o element op None → IsPlayed l s (Item k) (Tells l items cs (set groups w y) log) false)
+    e
+    (access_refused l items bs cs groups log s k x y o element op t acts)
+
+pub done_in :
+    (l : Launch) (items : List Slot) (bs cs : List (List (Option ℕ))) (groups : List Group) (log : List Access) (s : State) (k g : ℕ) (i j : Slot) (x y : Group) (o : Object) (element : ℤ)
+    (op : Operation) (d : Performed) (a : Access) → group_of l k ≡ g → Tells l items bs groups log s → k < l.items → next_action l s k ≡ action.Access o element op
+    → slice_get items k ≡ Some i → ((answers : List Answer) → acts_of l k j answers ≡ acts_of l k i (d.answer ∷ answers)) → slice_get groups g ≡ Some x
+    → y.local_interval ≡ x.local_interval → y.global_interval ≡ x.global_interval
+    → a ≡ access_in k (region_of g o) d.first op (by_region (region_of g o) y.global_interval y.local_interval)
+    → IsPerformed l g (ObjectsHold (λ b. b) l g cs y.locals.items) s.memory o element op (Some d)
+    → IsPlayed l s (Item k) (Tells l (set items k j) cs (set groups g y) (log ++ a ∷ [])) true
+done_in l items bs cs groups log s k g i j x y o element op d a e t below acts item answered =
+    subst
+    (λ w. slice_get groups w ≡ Some x → y.local_interval ≡ x.local_interval → y.global_interval ≡ x.global_interval
+    → a ≡ access_in k (region_of w o) d.first op (by_region (region_of w o) y.global_interval y.local_interval)
+    → IsPerformed l w (ObjectsHold (λ b. b) l w cs y.locals.items) s.memory o element op (Some d)
+    → IsPlayed l s (Item k) (Tells l (set items k j) cs (set groups w y) (log ++ a ∷ [])) true)
+    e
+    (access_done l items bs cs groups log s k i j x y o element op d a t below acts item answered)
+
+-- ---- what the program's calls say
+
+-- a launch of no items
+pub no_launch : Launch
+no_launch =
+    record {
+      items = 0;
+      group_size = 0;
+      buffers = [];
+      local_sizes = [];
+      next = λ item answers. action.End;
+      buffer_names = [];
+      local_names = [];
+      source_names = [];
+      uniform = false;
+    }
+
+pub never_out :
+    (old new : Memory → Type 0) (at : Region) (first : ℕ) (op : Operation) (r : Result Answer SpaceFault) (f : SpaceFault) → r ≡ Err f → f ≡ space_fault.Bounds → IsMoved old new at first op r → ⊥
+never_out old new at first op r f e q h = subst (IsMoved old new at first op) (e ∙ ap Err q) h
+
+pub never_read_only :
+    (old new : Memory → Type 0) (at : Region) (first : ℕ) (op : Operation) (r : Result Answer SpaceFault) (f : SpaceFault) → r ≡ Err f → f ≡ space_fault.ReadOnly → IsMoved old new at first op r → ⊥
+never_read_only old new at first op r f e q h = subst (IsMoved old new at first op) (e ∙ ap Err q) h
+
+-- where the code finds an element in `xs` and `ys`, slices of the lists
+placed :
+    (l : Launch) (g : ℕ) (m : Memory) {bs ls xs ys : List (List (Option ℕ))} (o : Object) {element told : ℤ} (op : Operation) {first : ℕ}
+    → Some first ≡ first_byte (length (space_of (λ b. b) xs ys o)) told (size_of op) → told ≡ element → xs ≡ bs → ys ≡ ls → ObjectsHold (λ b. b) l g bs ls m
+    → first_byte (bytes_of l (region_of g o)) element (size_of op) ≡ Some first
+placed l g m {bs} {ls} {xs} {ys} o {element} {told} op {first} at same here there held =
+    placed_as l g m bs ls o element op (Some first)
+    (at
+    ∙ ap (λ z. first_byte (length (space_of (λ b. b) xs ys o)) z (size_of op)) same
+    ∙ ap₂ (λ x y. first_byte (length (space_of (λ b. b) x y o)) element (size_of op)) here there) held
+
+-- an operation on the space of an object, as the code does it; the lists are `cs` and `ks` after it
+module _
+    (l : Launch) (g : ℕ) (m : Memory) {bs ls cs ks xs ys : List (List (Option ℕ))} (o : Object) {element told : ℤ} (op : Operation) {first : ℕ} {r : Result Answer SpaceFault}
+    (at : Some first ≡ first_byte (length (space_of (λ b. b) xs ys o)) told (size_of op)) (same : told ≡ element) (here : xs ≡ bs) (there : ys ≡ ls)
+    (moved : IsMoved (ObjectsHold (λ b. b) l g bs ls) (ObjectsHold (λ b. b) l g cs ks) (region_of g o) first op r) (held : ObjectsHold (λ b. b) l g bs ls m) where
+  -- it is possible
+  pub performed_ok : (answer : Answer) → r ≡ Ok answer → IsPerformed l g (ObjectsHold (λ b. b) l g cs ks) m o element op (Some (record { first = first; answer = answer }))
+  performed_ok answer e =
+      is_done l g m (ObjectsHold (λ b. b) l g cs ks) o element op (record { first = first; answer = answer }) (placed l g m o op at same here there held)
+      (subst (IsMoved (ObjectsHold (λ b. b) l g bs ls) (ObjectsHold (λ b. b) l g cs ks) (region_of g o) first op) e moved m held)
+
+  -- it reads an unset byte
+  pub performed_unset : (f : SpaceFault) (byte : ℕ) → r ≡ Err f → f ≡ space_fault.Unset byte → IsPerformed l g (ObjectsHold (λ b. b) l g cs ks) m o element op None
+  performed_unset f byte e q =
+      let h = subst (IsMoved (ObjectsHold (λ b. b) l g bs ls) (ObjectsHold (λ b. b) l g cs ks) (region_of g o) first op) (e ∙ ap Err q) moved m held in
+      (reads_unset l g m o element op first byte (placed l g m o op at same here there held) h.0 h.1, h.2)
+
+-- where memory is refused, a memory is held as before
+pub wanting_kept : (old new : Memory → Type 0) (at : Region) (first : ℕ) (op : Operation) (r : Result Answer SpaceFault) (f : SpaceFault) → r ≡ Err f → f ≡ space_fault.OutOfMemory
+    → IsMoved old new at first op r → (memory : Memory) → old memory → new memory
+wanting_kept old new at first op r f e q moved = subst (IsMoved old new at first op) (e ∙ ap Err q) moved
+
+-- an item's next action in a state
+pub action_as :
+    (l : Launch) (items : List Slot) (bs : List (List (Option ℕ))) (groups : List Group) (log : List Access) (s : State) (k : ℕ) (i : Slot) (a : Action)
+    → slice_get items k ≡ Some i → a ≡ acts_of l k i [] → Tells l items bs groups log s → next_action l s k ≡ a
+action_as l items bs groups log s k i a there e t = ap (l.next k) (sym (append-nil (s.answers k))) ∙ sym (t.acting k i there []) ∙ sym e
+
+pub is_none : {A : Type 0} (o : Option A) → ((a : A) → o ≡ Some a → ⊥) → o ≡ None
+is_none None h = refl
+is_none (Some a) h = absurd (h a refl)
+
+-- an event of an item that does no access isn't possible
+pub no_event : (l : Launch) (s : State) (k : ℕ) (a : Action) → next_action l s k ≡ a → ((o : Object) (element : ℤ) (op : Operation) → a ≡ action.Access o element op → ⊥) → step l s (Item k) ≡ None
+no_event l s k (action.Access o element op) acts never = absurd (never o element op refl)
+no_event l s k (action.Barrier instance fences) acts never = no_access l s k (action.Barrier instance fences) acts refl
+no_event l s k action.End acts never = no_access l s k action.End acts refl
+no_event l s k (action.Fault cause) acts never = no_access l s k (action.Fault cause) acts refl

@@ -1,0 +1,72 @@
+-- What a program keeps of the state in which a launch starts.
+use Rattle.std.proofs.Common.{◌≡◌, ℕ, zero, suc, ◌*◌, inr, Option, None, Some, List, [], ◌∷◌, length, map, replicate, refl, sym, ap, ◌∙◌, subst, arith}
+use Rattle.std.specs.Prelude.{slice_get, slice_index_or, All}
+use Rattle.std.proofs.Math.Path.{fun_ext}
+use Rattle.std.proofs.lemmas.List.{length-map, length-replicate}
+use Rattle.std.proofs.lemmas.Option.{slice_get_within, get_or_from_slice_get}
+use Rattle.clmodel.specs.Cells.{cells_of}
+use Rattle.clmodel.specs.Launch.{Launch}
+use Rattle.clmodel.specs.Run.{start, initial}
+use Rattle.clmodel.specs.declared.access.Region.TheVariants as region
+use Rattle.clmodel.proofs.Steps.{none_some, some_inj}
+use Rattle.clmodel.proofs.CellLaws.{cells_some}
+use Rattle.objects.specs.Objects.{SpacesHold}
+use Rattle.replay.specs.Items.{acts_of}
+use Rattle.launches.specs.Groups.{filled}
+use Rattle.replay.specs.States.{IsGroupIn, IsNew, Tells}
+use Rattle.replay.specs.declared.group.Group.{Group}
+use Rattle.replay.specs.declared.slot.Slot.{Slot}
+use Rattle.replay.specs.declared.slot.Slot.TheVariants as slot
+
+-- ---- the buffers
+
+filled_at : (bs : List (List ℕ)) (n : ℕ) (x : List (Option ℕ)) → slice_get (map (λ b. map Some b) bs) n ≡ Some x → x ≡ map Some (slice_index_or bs n [])
+filled_at [] n x e = absurd (none_some x e)
+filled_at (b ∷ bs) zero x e = sym (some_inj (map Some b) x e)
+filled_at (b ∷ bs) (suc n) x e = filled_at bs n x e
+
+past : (bs : List (List ℕ)) (n : ℕ) → ◌≡◌ {A = Option (List (Option ℕ))} (slice_get (map (λ b. map Some b) bs) n) None → slice_index_or bs n [] ≡ []
+past [] n e = refl
+past (b ∷ bs) zero e = absurd (none_some (map Some b) (sym e))
+past (b ∷ bs) (suc n) e = past bs n e
+
+buffers_hold : (l : Launch) → SpacesHold (λ b. b) l (length l.buffers) region.Buffer (filled l) (initial l)
+buffers_hold l =
+    record {
+      many = length-map l.buffers (λ b. map Some b);
+      sized = λ n x e. ap length (filled_at l.buffers n x e) ∙ length-map (slice_index_or l.buffers n []) Some;
+      none = λ n e. ap length (past l.buffers n e);
+      cells = λ n x e. fun_ext (λ byte. ap (λ z. cells_of z byte) (filled_at l.buffers n x e) ∙ cells_some (slice_index_or l.buffers n []) byte);
+    }
+
+-- ---- the items and the groups
+
+waiting_at : (n k : ℕ) (i : Slot) → slice_get (replicate n slot.Waiting) k ≡ Some i → i ≡ slot.Waiting
+waiting_at zero k i e = absurd (none_some i e)
+waiting_at (suc n) zero i e = sym (some_inj slot.Waiting i e)
+waiting_at (suc n) (suc k) i e = waiting_at n k i e
+
+new_at : (groups : List Group) (g : ℕ) (x : Group) → All IsNew groups → slice_get groups g ≡ Some x → IsNew x
+new_at groups g x fresh e = subst IsNew (get_or_from_slice_get groups g x x e) (fresh g x (slice_get_within groups g x e))
+
+new_tells : (l : Launch) (g : ℕ) (x : Group) → IsNew x → IsGroupIn l g x (start l)
+new_tells l g x h =
+    record {
+      locals = inr (h.locals, λ number byte. refl);
+      local_interval = h.local_interval;
+      global_interval = h.global_interval;
+    }
+
+pub starts :
+    (l : Launch) (count : ℕ) (groups : List Group) → count ≡ l.items → length groups * l.group_size ≡ l.items → All IsNew groups
+    → Tells l (replicate count slot.Waiting) (filled l) groups [] (start l)
+starts l count groups many counted fresh =
+    record {
+      many = length-replicate count slot.Waiting ∙ many;
+      acting = λ k i e answers. ap (λ z. acts_of l k z answers) (waiting_at count k i e);
+      buffers_hold = buffers_hold l;
+      grouped = counted;
+      each = λ g x e. new_tells l g x (new_at groups g x fresh e);
+      logged = refl;
+      paced = λ g. (omega arith, omega arith);
+    }

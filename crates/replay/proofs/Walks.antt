@@ -1,0 +1,162 @@
+-- Items that are asked or answered one after another.
+use Rattle.std.proofs.Common.{◌≡◌, ℕ, ◌+◌, ◌<◌, ◌≤◌, ◌⊎◌, Bool, true, false, Some, List, [], ◌∷◌, set, get_or, length, refl, sym, ap, subst, ◌∙◌, inl, inr, arith}
+use Rattle.std.specs.Prelude.{slice_get, Result, Ok, Err, OnErr}
+use Rattle.std.proofs.lemmas.List.{length-set}
+use Rattle.std.proofs.lemmas.Option.{slice_get_read}
+use Rattle.clmodel.specs.Launch.{Launch}
+use Rattle.clmodel.specs.Run.{stop_of, both_stop}
+use Rattle.clmodel.specs.declared.action.Answer.{Answer}
+use Rattle.clmodel.specs.declared.action.Stop.{Stop}
+use Rattle.clmodel.proofs.Steps.{some_inj}
+use Rattle.objects.proofs.Lists.{get_set}
+use Rattle.replay.specs.Items.{acts_of, is_at, AreAlike, AreAsked, AreAt, AreAnswered, IsAsked, IsAskedAt}
+use Rattle.replay.specs.declared.slot.Slot.{Slot}
+
+-- what holds anyhow holds on an error
+pub on_err : {T E P : Type 0} (r : Result T E) → P → OnErr r P
+on_err (Ok v) p = tt
+on_err (Err e) p = p
+
+-- ---- items that are asked
+
+pub alike_same : (l : Launch) (items : List Slot) → AreAlike l items items
+alike_same l items =
+    record {
+      many = refl;
+      each = λ k y e. (y, e, λ answers. refl);
+    }
+
+alike_more :
+    (l : Launch) (old new : List Slot) (k : ℕ) (x y : Slot) → slice_get new k ≡ Some x → ((answers : List Answer) → acts_of l k y answers ≡ acts_of l k x answers)
+    → AreAlike l old new → AreAlike l old (set new k y)
+alike_more l old new k x y there same h =
+    record {
+      many = length-set new k y ∙ h.many;
+      each = λ j z e. each j z (get_set new k y j z e);
+    }
+  where
+    each :
+        (j : ℕ) (z : Slot) → ((j ≡ k) × (y ≡ z)) ⊎ ((j ≡ k → ⊥) × (slice_get new j ≡ Some z))
+        → (w : Slot) × (slice_get old j ≡ Some w) × ((answers : List Answer) → acts_of l j z answers ≡ acts_of l j w answers)
+    each j z (inl e) =
+        let o : (w : Slot) × (slice_get old k ≡ Some w) × ((answers : List Answer) → acts_of l k x answers ≡ acts_of l k w answers) = h.each k x there in (
+          o.0,
+          ap (slice_get old) e.0 ∙ o.1,
+          λ answers. ap (λ n. acts_of l n z answers) e.0 ∙ ap (λ w. acts_of l k w answers) (sym e.1) ∙ same answers ∙ o.2 answers ∙ ap (λ n. acts_of l n o.0 answers) (sym e.0),
+        )
+    each j z (inr e) = h.each j z e.1
+
+-- an item below the end of a walk over items that act as before
+pub there_still :
+    (l : Launch) (old new : List Slot) (k end : ℕ) (x : Slot) → k < end → end ≤ length old → x ≡ get_or new k x → AreAlike l old new → slice_get new k ≡ Some x
+there_still l old new k end x below inside is h = let many = h.many in slice_get_read new (length new) k x refl (omega (arith, below, inside, many)) is
+
+-- the walk's next item is asked
+pub alike_next :
+    (l : Launch) (old new : List Slot) (k end : ℕ) (x y : Slot) → k < end → end ≤ length old → x ≡ get_or new k x
+    → ((answers : List Answer) → acts_of l k y answers ≡ acts_of l k x answers) → AreAlike l old new → AreAlike l old (set new k y)
+alike_next l old new k end x y below inside is same h = alike_more l old new k x y (there_still l old new k end x below inside is h) same h
+
+-- an item among others that act as before is at a stop if it was
+at_alike :
+    (l : Launch) (stop : Stop) (k : ℕ) (x w : Slot) → ((answers : List Answer) → acts_of l k x answers ≡ acts_of l k w answers) → is_at l stop k x ≡ is_at l stop k w
+at_alike l stop k x w same = ap (λ a. both_stop (Some stop) (stop_of a)) (same [])
+
+pub below_next : (j k : ℕ) → j < k + 1 → (j < k) ⊎ (j ≡ k)
+below_next j k h = grind arith
+
+pub at_more :
+    (l : Launch) (old new : List Slot) (first k : ℕ) (stop : Stop) (x : Slot) (found : Bool) → slice_get new k ≡ Some x → found ≡ is_at l stop k x → found ≡ true → AreAlike l old new
+    → AreAt l old first k stop true → AreAt l old first (k + 1) stop true
+at_more l old new first k stop x found there told here h before = λ j i from below e. go j i from e (below_next j k below)
+  where
+    o : (w : Slot) × (slice_get old k ≡ Some w) × ((answers : List Answer) → acts_of l k x answers ≡ acts_of l k w answers)
+    o = h.each k x there
+
+    go : (j : ℕ) (i : Slot) → first ≤ j → slice_get old j ≡ Some i → (j < k) ⊎ (j ≡ k) → is_at l stop j i ≡ true
+    go j i from e (inl b) = before j i from b e
+    go j i from e (inr q) =
+        let same : i ≡ o.0 = some_inj i o.0 (sym e ∙ ap (slice_get old) q ∙ o.1) in
+        ap (λ n. is_at l stop n i) q ∙ ap (is_at l stop k) same ∙ sym (at_alike l stop k x o.0 o.2) ∙ sym told ∙ here
+
+pub at_not :
+    (l : Launch) (old new : List Slot) (first end k : ℕ) (stop : Stop) (x : Slot) (found : Bool) → first ≤ k → k < end → slice_get new k ≡ Some x → found ≡ is_at l stop k x → found ≡ false
+    → AreAlike l old new → AreAt l old first end stop false
+at_not l old new first end k stop x found from below there told here h =
+    let o : (w : Slot) × (slice_get old k ≡ Some w) × ((answers : List Answer) → acts_of l k x answers ≡ acts_of l k w answers) = h.each k x there in
+    (k, o.0, from, below, o.1, sym (at_alike l stop k x o.0 o.2) ∙ sym told ∙ here)
+
+-- what is true of an item is true of that of its number once it is put there
+pub at_set : (P : Slot → Type 0) (items : List Slot) (k : ℕ) (y : Slot) → P y → (i : Slot) → slice_get (set items k y) k ≡ Some i → P i
+at_set P items k y mine i e = go (get_set items k y k i e)
+  where
+    go : ((k ≡ k) × (y ≡ i)) ⊎ ((k ≡ k → ⊥) × (slice_get items k ≡ Some i)) → P i
+    go (inl h) = subst P h.1 mine
+    go (inr h) = absurd (h.0 refl)
+
+pub asked_none : (items : List Slot) (first : ℕ) → AreAsked items first first
+asked_none items first k from below i e = absurd (omega (arith, from, below))
+
+pub asked_more : (items : List Slot) (first k : ℕ) (y : Slot) → IsAsked y → AreAsked items first k → AreAsked (set items k y) first (k + 1)
+asked_more items first k y mine h j from below i e = go (get_set items k y j i e) (below_next j k below)
+  where
+    go : ((j ≡ k) × (y ≡ i)) ⊎ ((j ≡ k → ⊥) × (slice_get items j ≡ Some i)) → (j < k) ⊎ (j ≡ k) → IsAsked i
+    go (inl p) q = subst IsAsked p.1 mine
+    go (inr p) (inl q) = h j from q i p.1
+    go (inr p) (inr q) = absurd (p.0 q)
+
+-- the walk came to its end
+pub asked_all : (items : List Slot) (first k end : ℕ) → end ≤ k → AreAsked items first k → AreAsked items first end
+asked_all items first k end past h j from below = h j from (omega (arith, past, below))
+
+-- ---- items that are answered
+
+pub answered_none : (l : Launch) (first : ℕ) (answer : Answer) (items : List Slot) → AreAnswered l first first answer items items
+answered_none l first answer items =
+    record {
+      many = refl;
+      done = λ k y from below e. absurd (omega (arith, from, below));
+      others = λ k y out e. e;
+    }
+
+-- the walk's next item was asked
+pub asked_still : (l : Launch) (first end : ℕ) (answer : Answer) (old new : List Slot) (k : ℕ) (x : Slot) → first ≤ k → k < end → slice_get new k ≡ Some x → AreAsked old first end
+    → AreAnswered l first k answer old new → IsAsked x
+asked_still l first end answer old new k x from below there asked h = asked k from below x (h.others k x (inr (omega arith)) there)
+
+pub answered_more :
+    (l : Launch) (first : ℕ) (answer : Answer) (old new : List Slot) (k : ℕ) (x y : Slot) → first ≤ k → slice_get new k ≡ Some x
+    → ((answers : List Answer) → acts_of l k y answers ≡ acts_of l k x (answer ∷ answers)) → AreAnswered l first k answer old new
+    → AreAnswered l first (k + 1) answer old (set new k y)
+answered_more l first answer old new k x y from there answered h =
+    record {
+      many = length-set new k y ∙ h.many;
+      done = λ j z f b e. done j z f b (get_set new k y j z e);
+      others = λ j z out e. others j z out (get_set new k y j z e);
+    }
+  where
+    out_of : (j : ℕ) → (j < first) ⊎ (k + 1 ≤ j) → (j < first) ⊎ (k ≤ j)
+    out_of j (inl b) = inl b
+    out_of j (inr b) = inr (omega (arith, b))
+
+    not_here : (j : ℕ) → (j < first) ⊎ (k + 1 ≤ j) → j ≡ k → ⊥
+    not_here j (inl b) e = absurd (omega (arith, b, e, from))
+    not_here j (inr b) e = absurd (omega (arith, b, e))
+
+    done :
+        (j : ℕ) (z : Slot) → first ≤ j → j < k + 1 → ((j ≡ k) × (y ≡ z)) ⊎ ((j ≡ k → ⊥) × (slice_get new j ≡ Some z))
+        → (w : Slot) × (slice_get old j ≡ Some w) × ((answers : List Answer) → acts_of l j z answers ≡ acts_of l j w (answer ∷ answers))
+    done j z f b (inl e) = (
+      x,
+      ap (slice_get old) e.0 ∙ h.others k x (inr (omega arith)) there,
+      λ answers. ap (λ n. acts_of l n z answers) e.0 ∙ ap (λ w. acts_of l k w answers) (sym e.1) ∙ answered answers ∙ ap (λ n. acts_of l n x (answer ∷ answers)) (sym e.0),
+    )
+    done j z f b (inr e) = h.done j z f (below (below_next j k b)) e.1
+      where
+        below : (j < k) ⊎ (j ≡ k) → j < k
+        below (inl q) = q
+        below (inr q) = absurd (e.0 q)
+
+    others : (j : ℕ) (z : Slot) → (j < first) ⊎ (k + 1 ≤ j) → ((j ≡ k) × (y ≡ z)) ⊎ ((j ≡ k → ⊥) × (slice_get new j ≡ Some z)) → slice_get old j ≡ Some z
+    others j z out (inl e) = absurd (not_here j out e.0)
+    others j z out (inr e) = h.others j z (out_of j out) e.1

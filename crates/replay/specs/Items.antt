@@ -1,0 +1,76 @@
+-- The items of a launch, started when they are first asked (own).
+use Rattle.std.specs.Prelude.{◌≡◌, ℕ, ◌<◌, ◌≤◌, ◌⊎◌, Bool, true, false, Option, None, Some, List, [], ◌∷◌, length, slice_get}
+use Rattle.std.specs.Option.{option_and_then}
+use Rattle.clmodel.specs.Launch.{Launch}
+use Rattle.clmodel.specs.Run.{stop_of, both_stop}
+use Rattle.clmodel.specs.declared.action.Action.{Action}
+use Rattle.clmodel.specs.declared.action.Action.TheVariants as action
+use Rattle.clmodel.specs.declared.action.Answer.{Answer}
+use Rattle.clmodel.specs.declared.action.Stop.{Stop}
+use Rattle.item_step.specs.Running.{Makes, action_of}
+use Rattle.replay.specs.declared.slot.Slot.{Slot}
+use Rattle.replay.specs.declared.slot.Slot.TheVariants as slot
+use Rattle.replay.specs.declared.slot.Stand.{Stand}
+
+-- the action that an item makes after further answers: before it is asked what its launch says, and at its end the end
+abbrev pub acts_of : Launch → ℕ → Slot → List Answer → Action
+acts_of launch item slot.Waiting answers = launch.next item answers
+acts_of launch item (slot.Running running) answers = action_of running answers
+acts_of launch item slot.Ended answers = action.End
+
+-- the item was asked
+abbrev pub IsAsked : Slot → Type 0
+IsAsked slot.Waiting = ⊥
+IsAsked (slot.Running running) = Unit {0}
+IsAsked slot.Ended = Unit {0}
+
+-- an item of this number, if there is one, was asked
+abbrev pub IsAskedAt : List Slot → ℕ → Type 0
+IsAskedAt items item = (i : Slot) → slice_get items item ≡ Some i → IsAsked i
+
+-- the items from `first` on, below `end`, were asked
+abbrev pub AreAsked : List Slot → ℕ → ℕ → Type 0
+AreAsked items first end = (k : ℕ) → first ≤ k → k < end → IsAskedAt items k
+
+-- where an item stands that is under way: the place of its machine, and the turns that loops have made there
+abbrev pub stand_of : Slot → Option Stand
+stand_of slot.Waiting = None
+stand_of (slot.Running running) = Some (record { place = running.state.place; turns = running.state.counters })
+stand_of slot.Ended = None
+
+-- that of the item of a number
+abbrev pub stand_in : List Slot → ℕ → Option Stand
+stand_in items item = option_and_then stand_of (slice_get items item)
+
+-- where an item is under way, the instruction where it stands makes this action, whatever follows it
+abbrev pub Stands : Slot → Action → Type 0
+Stands slot.Waiting action = Unit {0}
+Stands (slot.Running running) action = Makes running action
+Stands slot.Ended action = Unit {0}
+
+-- so does the item of a number
+abbrev pub StandsAt : List Slot → ℕ → Action → Type 0
+StandsAt items item action = (i : Slot) → slice_get items item ≡ Some i → Stands i action
+
+-- items that act as before
+pub record AreAlike (launch : Launch) (old new : List Slot) : Type 0 where
+  pub many : length new ≡ length old
+  pub each : (k : ℕ) (y : Slot) → slice_get new k ≡ Some y
+      → (x : Slot) × (slice_get old k ≡ Some x) × ((answers : List Answer) → acts_of launch k y answers ≡ acts_of launch k x answers)
+
+-- an item is at this stop (6.12.8)
+abbrev pub is_at : Launch → Stop → ℕ → Slot → Bool
+is_at launch stop item slot = both_stop (Some stop) (stop_of (acts_of launch item slot []))
+
+-- the items from `first` on, below `end`, are at this stop; or one of them isn't (6.12.8)
+abbrev pub AreAt : Launch → List Slot → ℕ → ℕ → Stop → Bool → Type 0
+AreAt launch items first end stop true = (k : ℕ) (i : Slot) → first ≤ k → k < end → slice_get items k ≡ Some i → is_at launch stop k i ≡ true
+AreAt launch items first end stop false =
+    (k : ℕ) × (i : Slot) × (first ≤ k) × (k < end) × (slice_get items k ≡ Some i) × (is_at launch stop k i ≡ false)
+
+-- the items from `first` on, below `end`, were each answered alike, and the others are as before
+pub record AreAnswered (launch : Launch) (first end : ℕ) (answer : Answer) (old new : List Slot) : Type 0 where
+  pub many : length new ≡ length old
+  pub done : (k : ℕ) (y : Slot) → first ≤ k → k < end → slice_get new k ≡ Some y
+      → (x : Slot) × (slice_get old k ≡ Some x) × ((answers : List Answer) → acts_of launch k y answers ≡ acts_of launch k x (answer ∷ answers))
+  pub others : (k : ℕ) (y : Slot) → (k < first) ⊎ (end ≤ k) → slice_get new k ≡ Some y → slice_get old k ≡ Some y

@@ -1,0 +1,102 @@
+-- What a program keeps of a state of a launch while it plays events (own).
+use Rattle.std.specs.Prelude.{◌≡◌, ℕ, ◌+◌, ◌*◌, ◌<◌, ◌≤◌, ℤ, ◌⊎◌, Bool, true, false, Option, None, Some, List, [], length, slice_get, reverse, ◌++◌, if◌then◌else◌}
+use Rattle.std.specs.Option.{option_and_then}
+use Rattle.clmodel.specs.Cells.{Outcome, perform, size_of}
+use Rattle.clmodel.specs.Launch.{Launch, bytes_of, first_byte, group_of, region_of}
+use Rattle.clmodel.specs.Run.{State, Memory, step, next_action, stop_of, both_stop, with_cells}
+use Rattle.clmodel.specs.declared.access.Access.{Access}
+use Rattle.clmodel.specs.declared.access.Object.{Object}
+use Rattle.clmodel.specs.declared.access.Operation.{Operation}
+use Rattle.clmodel.specs.declared.access.Region.TheVariants as region
+use Rattle.clmodel.specs.declared.action.Action.{Action}
+use Rattle.clmodel.specs.declared.action.Answer.{Answer}
+use Rattle.clmodel.specs.declared.action.Fences.{Fences}
+use Rattle.clmodel.specs.declared.action.Stop.{Stop}
+use Rattle.clmodel.specs.declared.schedule.Event.{Event}
+use Rattle.objects.specs.Objects.{SpacesHold}
+use Rattle.replay.specs.Items.{acts_of}
+use Rattle.launches.specs.Groups.{IsRunnable}
+use Rattle.replay.specs.declared.group.Group.{Group}
+use Rattle.replay.specs.declared.group.Performed.{Performed}
+use Rattle.replay.specs.declared.player.Player.{Player}
+use Rattle.replay.specs.declared.slot.Slot.{Slot}
+
+-- a group's local objects hold a memory: before the first access of an item of the group they aren't made, and all their bytes are unset (6.5.2)
+abbrev pub LocalsHold : Launch → ℕ → List (List (Option ℕ)) → Memory → Type 0
+LocalsHold launch group locals memory =
+    SpacesHold (λ cells. cells) launch (length launch.local_sizes) (region.Local group) locals memory
+    ⊎ ((locals ≡ []) × ((number byte : ℕ) → memory (region.Local group number) byte ≡ None))
+
+-- what an operation of an item of a group does to a memory, or None where it is out of range or reads an unset byte (3.3)
+abbrev pub attempt : Launch → ℕ → Memory → Object → ℤ → Operation → Option Outcome
+attempt launch group memory object element operation =
+    option_and_then (perform operation (memory (region_of group object))) (first_byte (bytes_of launch (region_of group object)) element (size_of operation))
+
+-- an operation was done, and what is kept holds the memory that it leaves; or it isn't possible, and the memory is as before
+abbrev pub IsPerformed : Launch → ℕ → (Memory → Type 0) → Memory → Object → ℤ → Operation → Option Performed → Type 0
+IsPerformed launch group new memory object element operation None = (attempt launch group memory object element operation ≡ None) × new memory
+IsPerformed launch group new memory object element operation (Some done) =
+    (outcome : Outcome) × (first_byte (bytes_of launch (region_of group object)) element (size_of operation) ≡ Some done.first)
+    × (perform operation (memory (region_of group object)) done.first ≡ Some outcome) × (outcome.answer ≡ done.answer)
+    × new (with_cells memory (region_of group object) outcome.cells)
+
+-- what is kept of a group that has made no access and passed no barrier
+pub record IsNew (kept : Group) : Type 0 where
+  pub locals : kept.locals.items ≡ []
+  pub local_interval : kept.local_interval ≡ 0
+  pub global_interval : kept.global_interval ≡ 0
+
+-- what is kept of a group tells of a state
+pub record IsGroupIn (launch : Launch) (group : ℕ) (kept : Group) (state : State) : Type 0 where
+  pub locals : LocalsHold launch group kept.locals.items state.memory
+  pub local_interval : kept.local_interval ≡ state.local_interval group
+  pub global_interval : kept.global_interval ≡ state.global_interval group
+
+-- A group's intervals are at most the answers of its first item: a release answers it once, and raises each interval by one at most (6.12.8).
+abbrev pub IsPaced : Launch → State → Type 0
+IsPaced launch state =
+    (group : ℕ)
+    → (state.local_interval group ≤ length (state.answers (group * launch.group_size))) × (state.global_interval group ≤ length (state.answers (group * launch.group_size)))
+
+-- Items, buffers, groups and a log, the oldest access first, tell of a state: each item acts as the launch says after the answers of the
+-- state, and the rest is what the state has.
+pub record Tells (launch : Launch) (items : List Slot) (buffers : List (List (Option ℕ))) (groups : List Group) (log : List Access) (state : State) : Type 0 where
+  pub many : length items ≡ launch.items
+  pub acting : (k : ℕ) (i : Slot) → slice_get items k ≡ Some i → (answers : List Answer) → acts_of launch k i answers ≡ launch.next k (state.answers k ++ answers)
+  pub buffers_hold : SpacesHold (λ b. b) launch (length launch.buffers) region.Buffer buffers state.memory
+  pub grouped : length groups * launch.group_size ≡ launch.items
+  pub each : (g : ℕ) (x : Group) → slice_get groups g ≡ Some x → IsGroupIn launch g x state
+  pub logged : state.log ≡ reverse log
+  pub paced : IsPaced launch state
+
+-- a player, which plays this launch, is at a state of it; `launch_of` says which launch its own one is
+pub record IsAt {D : Type 0} (launch_of : D → Launch) (launch : Launch) (player : Player D) (state : State) : Type 0 where
+  pub plays : launch_of player.launch.now ≡ launch
+  pub runnable : IsRunnable launch
+  pub tells : Tells launch player.items.items player.buffers.items player.groups.items player.log.items state
+
+-- an item's next action in a state, or None where there is no such item (3.2)
+abbrev pub ActsNext : Launch → State → ℕ → Option Action → Type 0
+ActsNext launch state item None = launch.items ≤ item
+ActsNext launch state item (Some action) = (item < launch.items) × (next_action launch state item ≡ action)
+
+-- the items of a group are at this stop, or one of them isn't (6.12.8)
+abbrev pub Gathers : Launch → State → ℕ → Stop → Bool → Type 0
+Gathers launch state group stop true =
+    (item : ℕ) → item < launch.items → group_of launch item ≡ group → both_stop (Some stop) (stop_of (next_action launch state item)) ≡ true
+Gathers launch state group stop false =
+    (item : ℕ) × (item < launch.items) × (group_of launch item ≡ group) × (both_stop (Some stop) (stop_of (next_action launch state item)) ≡ false)
+
+-- what is kept of a group once a barrier with these fences is passed (6.12.8)
+abbrev pub passed : Group → Fences → Group
+passed kept fences =
+    record {
+      locals = kept.locals;
+      local_interval = if fences.local then kept.local_interval + 1 else kept.local_interval;
+      global_interval = if fences.global then kept.global_interval + 1 else kept.global_interval;
+    }
+
+-- an event was played, and what is kept tells of the state that it leads to; or it isn't possible, and what is kept tells of the state as before
+abbrev pub IsPlayed : Launch → State → Event → (State → Type 0) → Bool → Type 0
+IsPlayed launch state event new true = (next : State) × (step launch state event ≡ Some next) × new next
+IsPlayed launch state event new false = (step launch state event ≡ None) × new state

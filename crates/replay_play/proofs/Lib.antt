@@ -1,5 +1,0 @@
-pub mod Bytes
-pub mod Playing
-pub mod Releasing
-pub mod Starting
-pub mod Walks

@@ -1,7 +1,0 @@
-use Rattle.clmodel.specs.Launch.{Launch}
-use Rattle.clmodel.specs.declared.action.Answer.TheVariants.{Done}
-use Rattle.replay_play.specs.Items.{AreAnswered}
-use Rattle.replay_play.proofs.members.answer_all.Given as goal
-
-abbrev pub invariant-loop-item : goal.invariant-loop-item
-invariant-loop-item l = (launch : Launch) → AreAnswered launch l.fn.first l.item Done l.fn.items.items l.items.items
