@@ -13,7 +13,7 @@ use Rattle.clmodel.specs.Typing.Faults.{target_faults, faults, row_faults}
 use Rattle.cltypes_scope.specs.Names.{left, without_innermost}
 use Rattle.cltypes_scope.specs.declared.faults.TypedOperand.{TypedOperand}
 use Rattle.cltypes_scope.specs.Answers.{Checks}
-use Rattle.cltypes_limits.specs.Limits.{statements}
+use Rattle.cltypes.specs.Limits.{statements}
 use Rattle.clmodel.proofs.Trees.{next_statement, then_rest}
 use Rattle.cltypes.specs.Views.{target_of}
 use Rattle.cltypes_scope.proofs.Follows.{inside_first, inside_second, neither_of}

@@ -10,3 +10,5 @@ pub mod Bodies
 pub mod Control
 pub mod Headings
 pub mod Texts
+pub mod Sums
+pub mod SizeTables

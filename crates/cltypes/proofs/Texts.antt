@@ -11,7 +11,7 @@ use Rattle.clmodel.specs.Tree.{Funcs, NoFunc, ThenFunc, then_funcs, func, Progra
 use Rattle.clmodel.specs.Typing.{IsTypedProgram, IsTypeFault}
 use Rattle.clmodel.specs.Typing.Context.{Context, Signature}
 use Rattle.clmodel.specs.Typing.Sizes.{Sizes}
-use Rattle.cltypes_limits.specs.Limits.{IsSummary}
+use Rattle.cltypes.specs.Limits.{IsSummary}
 use Rattle.clmodel.specs.Typing.Least.{first}
 use Rattle.clmodel.specs.Typing.Functions.{names, signature, signatures, function_faults, functions_faults, program_faults}
 use Rattle.clmodel.proofs.Kernels.{then_last}

@@ -1,3 +1,4 @@
 pub mod Answers
 pub mod Samples
 pub mod Views
+pub mod Limits

@@ -7,14 +7,15 @@ ghost use Rattle.clmodel.specs.Typing.Context as typing;
 ghost use Rattle.clmodel.specs.Typing.Functions.{signature, signatures, with_params, size_of, params_faults, end_faults, function_faults};
 ghost use Rattle.clmodel.specs.Typing.Least.{first};
 ghost use Rattle.cltypes_scope.specs.Names.{signature_of, ended};
-ghost use Rattle.cltypes_limits.specs.Limits.{IsSummary};
+ghost use Rattle.cltypes.specs.Limits.{IsSummary};
 ghost use Rattle.cltypes.specs.Answers.{Ends};
 
+use crate::ends::end_fault;
 use crate::statements::{check_statements, ended};
+use crate::summaries::Summaries;
 use clmodel::declaration::Declaration;
 use clmodel::tree::{Function, Parameter};
 use clmodel::type_fault::TypeFault;
-use cltypes_limits::{Summaries, end_fault};
 use cltypes_scope::{Context, Signature};
 use std::alloc::{AllocError, Global};
 

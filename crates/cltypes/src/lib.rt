@@ -2,6 +2,9 @@
 //!
 //! `check` succeeds only on typed programs, and then hands back the same tree inside `Checked`. It answers a fault only
 //! where that is the least fault of the program. On a typed program its only error is out of memory.
+//!
+//! What the bodies of functions hold, with the bodies of the functions that they call in place of the calls, is counted up
+//! to one above the limits (this project's own): the depth of loops, the bytes of private arrays, the number of nodes.
 #![tactic(auto)]
 
 ghost use Rattle.std.specs.Prelude.{◌≡◌, IfOk, IfErr};
@@ -14,17 +17,23 @@ ghost use Rattle.cltypes.specs.Views.{functions_of, known};
 
 mod assignments;
 pub mod checked;
+mod ends;
+mod expression_sizes;
 mod functions;
 pub mod laws;
+mod returns;
+mod size;
+mod statement_sizes;
 mod statements;
+mod summaries;
 
 pub use checked::Checked;
 use clmodel::tree::{Function, Tree};
 pub use clmodel::type_fault::TypeFault;
-use cltypes_limits::Summaries;
 use cltypes_scope::Context;
 use functions::check_function;
 use std::alloc::{AllocError, Global};
+pub use summaries::Summaries;
 
 /// What is known before the first function: the names of all functions.
 fn context_before(alloc: Global, functions: &[Function]) -> Result<Context, AllocError>

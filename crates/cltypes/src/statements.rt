@@ -8,16 +8,16 @@ ghost use Rattle.clmodel.specs.Typing.Context.{array, is_free, bind, enter, turn
 ghost use Rattle.clmodel.specs.Typing.Least.{least, first, node};
 ghost use Rattle.clmodel.specs.Typing.Faults.{term_faults, condition_parts, condition_faults, return_faults, array_faults, faults, part_faults, row_faults};
 ghost use Rattle.cltypes_scope.specs.Answers.{Checks};
-ghost use Rattle.cltypes_limits.specs.Limits.{statements};
+ghost use Rattle.cltypes.specs.Limits.{statements};
 ghost use Rattle.cltypes.specs.Answers.{Ends};
 ghost use Rattle.cltypes.specs.Views.{held, turns_faults};
 
 use crate::assignments::{assignment_fault, check_target, initial_fault};
+use crate::size::array_length;
 use clmodel::declaration::Declaration;
 use clmodel::tree::{Expression, Statement, VariableType};
 use clmodel::type_fault::TypeFault;
 use clnum::{IntType, Value};
-use cltypes_limits::array_length;
 use cltypes_scope::{
     Context, Identifier, Spot, check_call, check_expression, integer_fault, lesser,
 };

@@ -16,7 +16,7 @@ ghost use Rattle.lower_code.specs.Helpers.{inside, sizes_in, body_of, BarriersKn
 use crate::sites::sites_in_all;
 use crate::statements::emit_body;
 use clmodel::tree::Function;
-use cltypes_limits::Summaries;
+use cltypes::Summaries;
 use lower_code::draft::Draft;
 use lower_code::holes::Helpers;
 use lower_code::known::Known;

@@ -1,7 +1,7 @@
 use Rattle.std.proofs.Common.{◌≡◌, None, take}
 use Rattle.clmodel.specs.Typing.Functions.{names, signatures, functions_faults}
 use Rattle.clmodel.specs.Typing.Least.{first}
-use Rattle.cltypes_limits.specs.Limits.{IsSummary}
+use Rattle.cltypes.specs.Limits.{IsSummary}
 use Rattle.cltypes.specs.Views.{functions_of}
 use Rattle.cltypes.proofs.check_functions.Given as goal
 

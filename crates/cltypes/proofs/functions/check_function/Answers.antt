@@ -5,7 +5,7 @@ use Rattle.clmodel.specs.Typing.Faults.{row_faults}
 use Rattle.clmodel.specs.Typing.Functions.{with_params, size_of, params_faults, end_faults, function_faults}
 use Rattle.clmodel.specs.Typing.Least.{first}
 use Rattle.cltypes_scope.specs.Names.{signature_of, begun}
-use Rattle.cltypes_limits.specs.Limits.{statements}
+use Rattle.cltypes.specs.Limits.{statements}
 use Rattle.cltypes.proofs.Control.{through, handed_on}
 use Rattle.cltypes.proofs.Headings.{function_fixed, not_before, begun_context, heading_of, in_parameters, in_body, in_end, ends_along, if_ok_by}
 use Rattle.cltypes.proofs.functions.check_function.Goals as goal

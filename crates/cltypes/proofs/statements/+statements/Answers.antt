@@ -9,7 +9,7 @@ use Rattle.cltypes_scope.proofs.Follows.{inside, inside_first, inside_second, ne
 use Rattle.cltypes.specs.Answers.{Ends}
 use Rattle.cltypes.specs.Views.{held, turns_faults}
 use Rattle.cltypes.proofs.Control.{through, handed_on, ends_as, for_view, for_first, in_first, in_rest}
-use Rattle.cltypes_limits.specs.Limits.{statements}
+use Rattle.cltypes.specs.Limits.{statements}
 use Rattle.clmodel.proofs.Trees.{block_view}
 use Rattle.cltypes.proofs.Bodies.{left_part, left_block, statement_inside, statement_more, statement_after}
 use Rattle.cltypes.proofs.statements.+statements.Goals as goal

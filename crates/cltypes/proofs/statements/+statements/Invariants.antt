@@ -3,7 +3,7 @@ use Rattle.clmodel.specs.declared.tree.Statement.{size-Statement}
 use Rattle.clmodel.specs.Typing.Context.{after_all}
 use Rattle.clmodel.specs.Typing.Least.{first}
 use Rattle.clmodel.specs.Typing.Faults.{row_faults}
-use Rattle.cltypes_limits.specs.Limits.{statements}
+use Rattle.cltypes.specs.Limits.{statements}
 use Rattle.cltypes.proofs.Control.{held_depth}
 use Rattle.cltypes.proofs.statements.+statements.Given as goal
 

@@ -4,8 +4,8 @@ use Rattle.clmodel.specs.Next.{all_sites}
 use Rattle.clmodel.specs.Tree.{func}
 use Rattle.clmodel.specs.Typing.Functions.{size_of}
 use Rattle.clmodel.specs.Typing.Sizes.{node_limit}
-use Rattle.cltypes_limits.specs.Limits.{IsSummary}
-use Rattle.cltypes_limits.specs.declared.size.Size.{Size}
+use Rattle.cltypes.specs.Limits.{IsSummary}
+use Rattle.cltypes.specs.declared.size.Size.{Size}
 use Rattle.lower_code.specs.Trees.{all_of}
 use Rattle.lower_code.specs.Helpers.{functions_of, inside, body_of, BarriersKnown, BarriersCounted, LengthsKnown, LengthsCounted}
 use Rattle.lower_code.proofs.Tables.{barriers_before, barriers_more, counted_before, counted_more, ends_before, lengths_before, lengths_more, measured_before, measured_more, nodes_before, parameters_before, elements_before}

@@ -1,5 +1,5 @@
 use Rattle.std.proofs.Common.{◌≡◌, length, take}
-use Rattle.cltypes_limits.specs.Limits.{IsSummary}
+use Rattle.cltypes.specs.Limits.{IsSummary}
 use Rattle.lower_code.specs.Helpers.{functions_of, BarriersKnown, BarriersCounted, LengthsKnown, LengthsCounted}
 use Rattle.lower.proofs.table.known_of_all.Given as goal
 

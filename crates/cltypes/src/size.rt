@@ -1,0 +1,132 @@
+//! Sizes, counted up to one more than a kernel may have.
+#![tactic(auto)]
+
+ghost use Rattle.std.specs.Prelude.{◌≡◌, suc, min};
+ghost use Rattle.clmodel.specs.Tree.{array_length, array_bytes};
+ghost use Rattle.clmodel.specs.Typing.Sizes as counted;
+ghost use Rattle.clmodel.specs.Typing.Sizes.{nothing, leaf, array_size, byte_limit, beside, one_node, one_loop};
+ghost use Rattle.cltypes.specs.Limits.{capped, plain};
+
+use clnum::{IntType, Value};
+use std::cmp::max;
+
+/// How deep the loops of a kernel may be nested.
+pub(crate) const LOOP_LIMIT: u32 = 8;
+
+/// How many bytes the private arrays of a kernel may have (OpenCL 1.2, section 6.5.4; the limit is this project's own).
+pub(crate) const BYTE_LIMIT: u32 = 4096;
+
+/// How many nodes the body of a kernel may have.
+pub(crate) const NODE_LIMIT: u32 = 20_000;
+
+/// How many parameters a function may have (OpenCL 1.2, table 4.3, bounds their bytes; the limit is this project's own).
+pub(crate) const PARAMETER_LIMIT: usize = 13_000;
+
+/// How deep the loops of a body are nested, how many bytes its private arrays have, and how many nodes it has; a count above its
+/// limit is one more than the limit.
+#[derive(Clone, Copy)]
+pub struct Size {
+    pub loops: u32,
+    pub bytes: u32,
+    pub nodes: u32,
+}
+
+/// How many elements an array has, by the number in its brackets (C99 6.7.5.2).
+pub fn array_length(length: Value) -> u64
+    ensures { result ≡ array_length length }
+{
+    let number = length.number();
+    if number < 0 { 0 } else { number as u64 }
+}
+
+/// How many bytes an array has (OpenCL 1.2, section 6.1.1), up to one more than a kernel's private arrays may have.
+#[tactic(auto, using(crate::proofs::Sums::capped_bytes))]
+fn array_bytes(element: IntType, length: Value) -> u32
+    ensures { result ≡ min (array_bytes element length) (suc byte_limit) }
+{
+    let count = array_length(length).min(u64::from(BYTE_LIMIT + 1)) as u32;
+    (element.bits() / 8 * count).min(BYTE_LIMIT + 1)
+}
+
+impl Size {
+    /// The size of what holds no node.
+    pub(crate) fn nothing() -> Size
+        ensures { result ≡ capped nothing }
+    {
+        Size {
+            loops: 0,
+            bytes: 0,
+            nodes: 0,
+        }
+    }
+
+    /// The size of a single node.
+    pub(crate) fn leaf() -> Size
+        ensures { result ≡ capped leaf }
+    {
+        Size {
+            loops: 0,
+            bytes: 0,
+            nodes: 1,
+        }
+    }
+
+    /// The size of the declaration of an array: a private one has its bytes (OpenCL 1.2, sections 6.5.2 and 6.5.4).
+    pub(crate) fn array(is_local: bool, element: IntType, length: Value) -> Size
+        ensures { result ≡ capped (array_size is_local (array_bytes element length)) }
+    {
+        if is_local {
+            Size::leaf()
+        } else {
+            Size {
+                loops: 0,
+                bytes: array_bytes(element, length),
+                nodes: 1,
+            }
+        }
+    }
+
+    /// This size, with numbers above the limits one more than these.
+    pub(crate) fn capped(self) -> Size
+        ensures { result ≡ capped (plain self) }
+    {
+        Size {
+            loops: self.loops.min(LOOP_LIMIT + 1),
+            bytes: self.bytes.min(BYTE_LIMIT + 1),
+            nodes: self.nodes.min(NODE_LIMIT + 1),
+        }
+    }
+
+    /// The size of one thing beside another.
+    pub(crate) fn beside(self, other: Size) -> Size
+        ensures { (s t : counted.Size) → self ≡ capped s → other ≡ capped t → result ≡ capped (beside s t) }
+    {
+        Size {
+            loops: max(self.loops, other.loops),
+            bytes: self.bytes.saturating_add(other.bytes).min(BYTE_LIMIT + 1),
+            nodes: self.nodes.saturating_add(other.nodes).min(NODE_LIMIT + 1),
+        }
+    }
+
+    /// The size of a node that holds this.
+    pub(crate) fn in_node(self) -> Size
+        ensures { (s : counted.Size) → self ≡ capped s → result ≡ capped (one_node s) }
+    {
+        Size {
+            loops: self.loops,
+            bytes: self.bytes,
+            nodes: self.nodes.saturating_add(1).min(NODE_LIMIT + 1),
+        }
+    }
+
+    /// The size of a loop round this.
+    pub(crate) fn in_loop(self) -> Size
+        ensures { (s : counted.Size) → self ≡ capped s → result ≡ capped (one_loop s) }
+    {
+        Size {
+            loops: self.loops.saturating_add(1).min(LOOP_LIMIT + 1),
+            bytes: self.bytes,
+            nodes: self.nodes.saturating_add(1).min(NODE_LIMIT + 1),
+        }
+    }
+}
