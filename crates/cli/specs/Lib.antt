@@ -9,6 +9,6 @@ pub mod Serving
 pub mod Serves
 pub use Rattle.counted_io.specs.Sink
 pub use Rattle.counted_io.specs.Source
-pub use Rattle.replay_text.specs.ScheduleFile
+pub use Rattle.fault_lines.specs.ScheduleFile
 pub use Rattle.simfile.specs.Script
 pub use Rattle.simfile.specs.Lines

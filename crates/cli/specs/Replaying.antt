@@ -16,7 +16,7 @@ use Rattle.host_commands.specs.declared.command.Reply.{Reply}
 use Rattle.host_commands.specs.declared.command.Reply.TheVariants as reply
 use Rattle.counted_io.specs.Sink.{Sink, Wrote, Stopped, CountsUp}
 use Rattle.counted_io.specs.Source.{Are}
-use Rattle.replay_text.specs.ScheduleFile.{IsScheduleFile, NoScheduleFile}
+use Rattle.fault_lines.specs.ScheduleFile.{IsScheduleFile, NoScheduleFile}
 use Rattle.cli.specs.Reading.{ReadsScript, Misread}
 use Rattle.cli.specs.Session.{Plays}
 use Rattle.cli.specs.declared.session.Reader.TheVariants as reader

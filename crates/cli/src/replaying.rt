@@ -15,8 +15,8 @@ use clmodel::setup::Range;
 use clmodel::text::Name;
 use counted_io::{Read, Write, WriteFailed};
 use device::{Command, Device, Refusal, Reply};
+use fault_lines::read;
 use replay::replay;
-use replay_text::read;
 use std::alloc::{AllocError, Global};
 
 /// What a schedule file tells: the number of a launch among a script's commands, from 0, a fault, and events that lead there.

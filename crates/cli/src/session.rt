@@ -12,11 +12,11 @@ ghost use Rattle.cli.specs.Session.{one_end, Answered, Broken, Unanswered, Ran, 
 use crate::desk::Desk;
 use crate::reading::commands_of;
 use counted_io::{Read, Write, WriteFailed};
+use fault_lines::ReadFault as FileFault;
 use host_commands::command::{Command, Reply};
 use host_queue::Request;
 use lower::LowerFault;
 use regcode::DumpFault;
-use replay_text::ReadFault as FileFault;
 use serving::ServeFault;
 use simfile::replies::write_reply;
 use simfile::script::ScriptFault;

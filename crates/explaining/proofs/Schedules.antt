@@ -7,7 +7,7 @@ use Rattle.clmodel.specs.declared.fault.Fault.{Fault}
 use Rattle.clmodel.specs.declared.schedule.EventRun.{EventRun}
 use Rattle.device.specs.Machine.{Machine, opening}
 use Rattle.host_commands.specs.declared.command.Command.{Command}
-use Rattle.replay_text.specs.ScheduleFile.{IsScheduleFile}
+use Rattle.fault_lines.specs.ScheduleFile.{IsScheduleFile}
 use Rattle.simfile.specs.Script.{IsScript}
 use Rattle.explaining.specs.Explaining.{Explained, IsTold, NoLaunch, Tells, Unexplained, Unled, Unread, Untold}
 use Rattle.explaining.specs.Leading.{Leads}

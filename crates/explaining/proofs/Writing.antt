@@ -24,7 +24,7 @@ use Rattle.host_commands.specs.declared.command.Command.TheVariants as command
 use Rattle.host_commands.specs.declared.command.Refusal.TheVariants as refusal
 use Rattle.host_commands.specs.declared.command.Reply.TheVariants as reply
 use Rattle.item_step.specs.Launches as launches
-use Rattle.replay_text.specs.ScheduleFile.{IsScheduleFile}
+use Rattle.fault_lines.specs.ScheduleFile.{IsScheduleFile}
 use Rattle.simfile.specs.Script.{IsScript}
 use Rattle.spaces_base.specs.Buffers.{bytes_in}
 use Rattle.spaces_base.specs.Tables.{Table}

@@ -18,7 +18,7 @@ use Rattle.host_commands.specs.declared.command.Command.TheVariants as command
 use Rattle.host_commands.specs.declared.command.Refusal.{Refusal}
 use Rattle.host_commands.specs.declared.command.Refusal.TheVariants as refusal
 use Rattle.host_commands.specs.declared.command.Reply.TheVariants as reply
-use Rattle.replay_text.specs.ScheduleFile.{IsScheduleFile, NoScheduleFile}
+use Rattle.fault_lines.specs.ScheduleFile.{IsScheduleFile, NoScheduleFile}
 use Rattle.simfile.specs.Script.{IsScript, IsBadLine}
 use Rattle.explaining.specs.Leading.{IsFirst, Leads, LeadsCleanly}
 use Rattle.explaining.specs.declared.facts.Given.{Given}

@@ -1,6 +1,6 @@
 -- Why nothing was explained, by why a text wasn't read (own).
-use Rattle.replay_text.specs.declared.reading.ReadFault.{ReadFault}
-use Rattle.replay_text.specs.declared.reading.ReadFault.TheVariants as read_fault
+use Rattle.fault_lines.specs.declared.reading.ReadFault.{ReadFault}
+use Rattle.fault_lines.specs.declared.reading.ReadFault.TheVariants as read_fault
 use Rattle.simfile.specs.declared.script.ScriptFault.{ScriptFault}
 use Rattle.simfile.specs.declared.script.ScriptFault.TheVariants as script
 use Rattle.explaining.specs.declared.faults.ExplainFault.{ExplainFault}

@@ -28,8 +28,8 @@ use Rattle.host_commands.specs.declared.command.Reply.TheVariants as reply
 use Rattle.item_step.specs.Launches as launches
 use Rattle.launch_facts.specs.Commands.{IsSource}
 use Rattle.launch_facts.specs.declared.commands.ProgramSource.{ProgramSource}
-use Rattle.replay_text.specs.ScheduleFile.{IsScheduleFile}
-use Rattle.replay_text.specs.Text.{fault_text, schedule_text}
+use Rattle.fault_lines.specs.ScheduleFile.{IsScheduleFile}
+use Rattle.fault_lines.specs.Text.{fault_text, schedule_text}
 use Rattle.simfile.specs.Script.{IsScript}
 use Rattle.explaining.specs.Explaining.{IsShort, is_source}
 use Rattle.explaining.specs.Leading.{IsFirst, Leads}

@@ -20,8 +20,8 @@ use clmodel::fault::Fault;
 use clmodel::schedule::Schedule;
 use counted_io::Write;
 use device::{Command, Device};
+use fault_lines::read;
 use launch_facts::line_of;
-use replay_text::read;
 use simfile::script::read_script;
 use std::alloc::{AllocError, Global};
 

@@ -2,7 +2,7 @@
 #![tactic(auto)]
 
 use counted_io::WriteFailed;
-use replay_text::ReadFault;
+use fault_lines::ReadFault;
 use simfile::script::ScriptFault;
 use std::alloc::{AllocError, AllocFailed};
 use thiserror::Error;

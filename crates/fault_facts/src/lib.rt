@@ -1,5 +1,5 @@
 //! What a fault tells without looking at its launch: its number and name, its line, the items that it names, and its
-//! place in memory. It knows the text of a fault's line by `replay_text`, and no launch.
+//! place in memory. It knows the text of a fault's line by `fault_lines`, and no launch.
 #![tactic(auto)]
 
 mod gathered;

@@ -3,12 +3,12 @@
 
 ghost use Rattle.std.specs.Prelude.{◌≡◌, ℕ, ◌-◌, ◌++◌, List, take, drop, length, codes, string_bytes, IfOk};
 ghost use Rattle.std.specs.Str.Lossy.{utf8_lossy};
-ghost use Rattle.replay_text.specs.Text.{fault_text, fault_line, schedule_text};
+ghost use Rattle.fault_lines.specs.Text.{fault_text, fault_line, schedule_text};
 
 use crate::gathered::Gathered;
 use clmodel::fault::Fault;
 use clmodel::schedule::Schedule;
-use replay_text::write;
+use fault_lines::write;
 use std::alloc::{AllocError, Global};
 
 /// How many bytes stand behind a fault in the line of an empty schedule: " schedule -" and a line feed.

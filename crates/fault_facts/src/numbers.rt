@@ -3,7 +3,7 @@
 
 ghost use Rattle.std.specs.Prelude.{◌≡◌, ◌∷◌, None, IfOk};
 ghost use Rattle.std.specs.Option.{option_to_list, IsSomeAnd};
-ghost use Rattle.replay_text.specs.Text.{fault_words, fault_item};
+ghost use Rattle.fault_lines.specs.Text.{fault_words, fault_item};
 ghost use Rattle.fault_facts.specs.Facts.{fault_number, number_name, words_of_number, named_items, kind_at, name_at, IsMemory, TellsMemory};
 
 use clmodel::access::Clash;

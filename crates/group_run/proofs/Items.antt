@@ -8,7 +8,7 @@ use Rattle.clmodel.specs.declared.action.Answer.{Answer}
 use Rattle.clmodel.specs.Launch.{Launch}
 use Rattle.clmodel.proofs.Steps.{none_some, some_inj}
 use Rattle.group_run.specs.Fits.{AreAnswered, AreStarted}
-use Rattle.objects.proofs.Lists.{get_set}
+use Rattle.launches.proofs.Lists.{get_set}
 
 -- the first k items were answered, and the others are as before
 pub record Answers {I : Type 0} (acts : I → List Answer → Action) (answer : Answer) (old new : List I) (k : ℕ) : Type 0 where

@@ -15,8 +15,8 @@ use Rattle.clmodel.specs.declared.fault.Fault.{Fault}
 use Rattle.clmodel.proofs.Steps.{none_some, some_inj}
 use Rattle.clmodel.proofs.CellLaws.{cells_some, cells_none}
 use Rattle.shadow_list.specs.Log.{Log, fresh_log}
-use Rattle.objects.specs.Objects.{SpacesHold}
-use Rattle.objects.proofs.Memory.{local_at, local_past}
+use Rattle.launches.specs.Objects.{SpacesHold}
+use Rattle.launches.proofs.Memory.{local_at, local_past}
 use Rattle.group_run.specs.Fits.{Fits, AreStarted}
 use Rattle.joining.specs.Parts.{IsGrouped}
 use Rattle.joining.specs.Group.{Plan, IsGroup, Reached, Reported, IsRun, plan_of}

@@ -31,7 +31,7 @@ use Rattle.clmodel.proofs.Steps.{none_some, if_true, if_false, made, region_for,
 use Rattle.shadow_list.specs.Log.{Log, stamped, entry_of, hit, IsKept, IsNoted}
 use Rattle.shadow_list.specs.declared.log.Entry.{Entry}
 use Rattle.shadow_list.specs.declared.log.Hit.{Hit}
-use Rattle.objects.specs.Objects.{ObjectsHold, IsMoved, space_of}
+use Rattle.launches.specs.Objects.{ObjectsHold, IsMoved, space_of}
 use Rattle.group_run.specs.Fits.{Fits, Counts, AreAnswered, group_left}
 use Rattle.joining.specs.Group.{Plan, IsGroup}
 use Rattle.group_run.specs.Logs.{conflict_of, numbered, Notes, IsLogged, IsJudged, after_fences}
@@ -40,8 +40,8 @@ use Rattle.group_run.specs.declared.machine.Made.{Made}
 use Rattle.group_run.specs.declared.machine.Made.TheVariants as made_as
 use Rattle.spaces_base.specs.declared.space.SpaceFault.{SpaceFault}
 use Rattle.spaces_base.specs.declared.space.SpaceFault.TheVariants as space_fault
-use Rattle.objects.proofs.Lists.{get_set}
-use Rattle.objects.proofs.Memory.{space_sized}
+use Rattle.launches.proofs.Lists.{get_set}
+use Rattle.launches.proofs.Memory.{space_sized}
 use Rattle.group_run.proofs.Logs.{newest_is_hit, keeps_noted, mine_noted}
 use Rattle.group_run.proofs.Turns.{IsWaiting}
 

@@ -6,7 +6,7 @@ use Rattle.clmodel.specs.Run.{State, Events}
 use Rattle.clmodel.specs.declared.action.Action.{Action}
 use Rattle.clmodel.specs.declared.action.Answer.{Answer}
 use Rattle.shadow_list.specs.Log.{Log}
-use Rattle.objects.specs.Objects.{ObjectsHold}
+use Rattle.launches.specs.Objects.{ObjectsHold}
 use Rattle.joining.specs.Group.{Plan, IsGroup}
 use Rattle.group_run.specs.Logs.{IsLogged}
 

@@ -5,4 +5,4 @@ pub mod Fits
 pub mod Logs
 pub mod Results
 pub use Rattle.launches.specs.Groups
-pub use Rattle.objects.specs.Objects
+pub use Rattle.launches.specs.Objects

@@ -15,7 +15,7 @@ use crate::runs::Runs;
 use clmodel::fault::Fault;
 use clmodel::schedule::Schedule;
 use launches::Runnable;
-use objects::local_objects;
+use launches::objects::local_objects;
 use shadow_list::AccessLog;
 use spaces_base::Space;
 use std::alloc::{AllocError, Global};

@@ -1,4 +1,5 @@
 pub mod Groups
+pub mod Objects
 pub use Rattle.clmodel.specs.Launch
 pub use Rattle.clmodel.specs.Next
 pub use Rattle.item_step.specs.Launches

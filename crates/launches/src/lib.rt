@@ -11,6 +11,7 @@ mod described;
 mod groups;
 pub mod laws;
 mod loaded;
+pub mod objects;
 mod runnable;
 
 pub use described::{Described, location_of};

@@ -20,8 +20,8 @@ use Rattle.clmodel.specs.declared.schedule.Event.TheVariants as event
 use Rattle.clmodel.proofs.Steps.{if_false, none_some, some_inj}
 use Rattle.clmodel.proofs.CellLaws.{cells_some}
 use Rattle.launches.specs.Groups.{filled}
-use Rattle.objects.specs.Objects.{ObjectsHold, SpacesHold}
-use Rattle.objects.proofs.Lists.{get_set}
+use Rattle.launches.specs.Objects.{ObjectsHold, SpacesHold}
+use Rattle.launches.proofs.Lists.{get_set}
 use Rattle.replay.specs.States.{LocalsHold}
 use Rattle.marked_play.specs.Marks.{HasThere, IsCounted}
 use Rattle.marked_play.specs.Replicas.{Holds, IsAbout, IsEmpty, IsNext, Mirrors, region_at}

@@ -7,7 +7,7 @@ use Rattle.clmodel.specs.declared.access.Region.TheVariants as region
 use Rattle.clmodel.specs.declared.action.Action.TheVariants as action
 use Rattle.clmodel.specs.declared.schedule.Event.{Event}
 use Rattle.clmodel.specs.declared.schedule.Event.TheVariants as event
-use Rattle.objects.specs.Objects.{SpacesHold}
+use Rattle.launches.specs.Objects.{SpacesHold}
 use Rattle.replay.specs.States.{LocalsHold}
 use Rattle.marked_play.specs.declared.replica.Deed.{Deed}
 use Rattle.marked_play.specs.declared.replica.Locals.{Locals}

@@ -7,13 +7,13 @@ ghost use Rattle.clmodel.specs.Launch.{Launch, region_of};
 ghost use Rattle.clmodel.specs.Run.{Memory, State, initial, step, with_cells};
 ghost use Rattle.clmodel.specs.declared.access.Region.TheVariants as region;
 ghost use Rattle.launches.specs.Groups.{filled};
-ghost use Rattle.objects.specs.Objects.{ObjectsHold, SpacesHold, space_of};
+ghost use Rattle.launches.specs.Objects.{ObjectsHold, SpacesHold, space_of};
 ghost use Rattle.replay.specs.States.{LocalsHold};
 ghost use Rattle.marked_play.specs.Replicas.{Holds, IsAbout, IsEmpty, Mirrors, region_at};
 
 use clmodel::access::{Object, Operation, Width};
 use clmodel::schedule::Event;
-use objects::{local_objects, perform_on};
+use launches::objects::{local_objects, perform_on};
 use spaces_base::{LocalMem, Plain, Space};
 use std::alloc::{AllocError, Global};
 
@@ -82,7 +82,7 @@ fn make_locals(alloc: Global, sizes: &[u64], locals: &mut Locals) -> Result<(), 
 fn is_inside(buffers: &[Plain], locals: &[LocalMem], deed: Deed) -> bool
     ensures { result ≡ true → deed.first + size_of deed.operation ≤ length (space_of (λ b. b) buffers.now locals.now deed.object) }
 {
-    let size = objects::size_of(buffers, locals, deed.object);
+    let size = launches::objects::size_of(buffers, locals, deed.object);
     let count = deed.operation.width().bytes();
     count <= size && deed.first <= size - count
 }

@@ -14,8 +14,8 @@ use Rattle.clmodel.specs.declared.access.Region.TheVariants as region
 use Rattle.clmodel.specs.declared.access.Width.{Width}
 use Rattle.clmodel.proofs.Steps.{none_some}
 use Rattle.clmodel.proofs.CellLaws.{found_unset}
-use Rattle.objects.specs.Objects.{SpacesHold}
-use Rattle.objects.proofs.Memory.{size_some}
+use Rattle.launches.specs.Objects.{SpacesHold}
+use Rattle.launches.proofs.Memory.{size_some}
 use Rattle.replay.specs.States.{LocalsHold}
 use Rattle.spaces_base.proofs.Rows.{unset_here}
 

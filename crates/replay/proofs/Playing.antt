@@ -22,9 +22,9 @@ use Rattle.clmodel.proofs.Steps.{if_true, if_false}
 use Rattle.clmodel.proofs.CellLaws.{found_unset, cells_none}
 use Rattle.spaces_base.specs.declared.space.SpaceFault.{SpaceFault}
 use Rattle.spaces_base.specs.declared.space.SpaceFault.TheVariants as space_fault
-use Rattle.objects.specs.Objects.{SpacesHold, ObjectsHold, IsMoved, space_of}
-use Rattle.objects.proofs.Lists.{get_set}
-use Rattle.objects.proofs.Memory.{space_sized, local_at, local_past}
+use Rattle.launches.specs.Objects.{SpacesHold, ObjectsHold, IsMoved, space_of}
+use Rattle.launches.proofs.Lists.{get_set}
+use Rattle.launches.proofs.Memory.{space_sized, local_at, local_past}
 use Rattle.replay.specs.Items.{acts_of}
 use Rattle.replay.specs.States.{LocalsHold, attempt, IsPerformed, IsGroupIn, Tells, IsPlayed}
 use Rattle.replay.specs.declared.group.Group.{Group}

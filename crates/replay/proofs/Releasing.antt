@@ -18,7 +18,7 @@ use Rattle.clmodel.specs.declared.action.Instance.{Instance}
 use Rattle.clmodel.specs.declared.action.Stop.{Stop}
 use Rattle.clmodel.specs.declared.schedule.Event.TheVariants.{Release}
 use Rattle.clmodel.proofs.Steps.{if_true, if_false, lowest_finds, lowest_is_none, found_first}
-use Rattle.objects.proofs.Lists.{get_set}
+use Rattle.launches.proofs.Lists.{get_set}
 use Rattle.replay.specs.Items.{acts_of, AreAlike, AreAt, AreAnswered}
 use Rattle.launches.specs.Groups.{IsRunnable}
 use Rattle.replay.specs.States.{ActsNext, IsGroupIn, IsPaced, Tells, Gathers, passed}

@@ -10,7 +10,7 @@ use Rattle.clmodel.specs.Run.{start, initial}
 use Rattle.clmodel.specs.declared.access.Region.TheVariants as region
 use Rattle.clmodel.proofs.Steps.{none_some, some_inj}
 use Rattle.clmodel.proofs.CellLaws.{cells_some}
-use Rattle.objects.specs.Objects.{SpacesHold}
+use Rattle.launches.specs.Objects.{SpacesHold}
 use Rattle.replay.specs.Items.{acts_of}
 use Rattle.launches.specs.Groups.{filled}
 use Rattle.replay.specs.States.{IsGroupIn, IsNew, Tells}

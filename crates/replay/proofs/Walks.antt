@@ -8,7 +8,7 @@ use Rattle.clmodel.specs.Run.{stop_of, both_stop}
 use Rattle.clmodel.specs.declared.action.Answer.{Answer}
 use Rattle.clmodel.specs.declared.action.Stop.{Stop}
 use Rattle.clmodel.proofs.Steps.{some_inj}
-use Rattle.objects.proofs.Lists.{get_set}
+use Rattle.launches.proofs.Lists.{get_set}
 use Rattle.replay.specs.Items.{acts_of, is_at, AreAlike, AreAsked, AreAt, AreAnswered, IsAsked, IsAskedAt}
 use Rattle.replay.specs.declared.slot.Slot.{Slot}
 

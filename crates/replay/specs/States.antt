@@ -13,7 +13,7 @@ use Rattle.clmodel.specs.declared.action.Answer.{Answer}
 use Rattle.clmodel.specs.declared.action.Fences.{Fences}
 use Rattle.clmodel.specs.declared.action.Stop.{Stop}
 use Rattle.clmodel.specs.declared.schedule.Event.{Event}
-use Rattle.objects.specs.Objects.{SpacesHold}
+use Rattle.launches.specs.Objects.{SpacesHold}
 use Rattle.replay.specs.Items.{acts_of}
 use Rattle.launches.specs.Groups.{IsRunnable}
 use Rattle.replay.specs.declared.group.Group.{Group}

@@ -8,9 +8,9 @@ ghost use Rattle.clmodel.specs.declared.schedule.Event.TheVariants as event;
 ghost use Rattle.replay.specs.States.{IsAt};
 ghost use Rattle.replay.specs.Played.{ArePlayed};
 
+use crate::player::Player;
 use clmodel::schedule::{Event, EventRun, Schedule};
 use launches::Runnable;
-use crate::player::Player;
 use std::alloc::AllocError;
 
 /// Plays events of an item up to the first that isn't possible, and tells whether all are. An error is out of memory.

@@ -13,12 +13,12 @@ ghost use Rattle.replay.specs.Nexts.{StopsAt, ReadsUnset};
 use crate::conflicts::{Partner, Place, ToldConflict, shows_conflict};
 use crate::nexts::{NextAccess, access_of, cause_of, stop_of};
 use crate::places::{is_at, is_fault_of};
+use crate::player::Player;
 use clmodel::access::{AccessKind, Operation};
 use clmodel::action::Stop;
 use clmodel::fault::{Fault, Location};
 use divergence::same_stop;
 use launches::Runnable;
-use crate::player::Player;
 use std::alloc::{AllocError, Global};
 
 /// Whether an item waits at this stop. An error is out of memory.

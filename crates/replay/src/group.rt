@@ -5,12 +5,12 @@ ghost use Rattle.clmodel.specs.Cells.{cells_of, lowest_unset, size_of};
 ghost use Rattle.clmodel.specs.Launch.{Launch, access_in, bytes_of, first_byte, region_of};
 ghost use Rattle.clmodel.specs.Run.{Memory, by_region};
 ghost use Rattle.clmodel.specs.declared.access.Region.TheVariants as region;
-ghost use Rattle.objects.specs.Objects.{SpacesHold, ObjectsHold, space_of};
+ghost use Rattle.launches.specs.Objects.{SpacesHold, ObjectsHold, space_of};
 ghost use Rattle.replay.specs.States.{LocalsHold, IsNew, IsPerformed, passed};
 
 use clmodel::access::{Access, Object, Operation};
 use clmodel::action::{Answer, Fences};
-use objects::{local_objects, perform_on, size_of};
+use launches::objects::{local_objects, perform_on, size_of};
 use spaces_base::{LocalMem, Plain, Space, SpaceFault, first_byte};
 use std::alloc::{AllocError, Global};
 

@@ -81,7 +81,7 @@ fn tell_result<L>(
             ..
         } => {
             write_pieces(&[Piece::Number32(*group), Piece::Text(" ")], text)?;
-            replay_text::write(fault, runs, text)
+            fault_lines::write(fault, runs, text)
         }
     }
 }
@@ -122,6 +122,6 @@ fn tell_contents(contents: &[Bytes], text: &mut Gathered) -> Result<(), WriteFai
 pub fn tell_outcome(outcome: &Outcome, text: &mut Gathered) -> Result<(), WriteFailed> {
     match outcome {
         Outcome::Clean(contents) => tell_contents(contents.as_slice(), text),
-        Outcome::Faulted(fault, schedule) => replay_text::write(fault, schedule, text),
+        Outcome::Faulted(fault, schedule) => fault_lines::write(fault, schedule, text),
     }
 }

@@ -9,7 +9,7 @@ use Rattle.std.proofs.lemmas.List.Sums.{sum_by-append}
 use Rattle.std.specs.List.{count_by, flat_map, list_all}
 use Rattle.counted_io.specs.Sink.{Sink, Wrote, Stopped}
 use Rattle.counted_io.proofs.Puts.{wrote_then, stopped_then, stopped_more}
-use Rattle.simfile_fields.specs.Fronts.{front_length}
+use Rattle.line_fields.specs.Fronts.{front_length}
 use Rattle.simfile.specs.Fields.{bytes_of, hex_value}
 use Rattle.simfile.specs.Reading.{lines_end}
 

@@ -7,6 +7,6 @@ pub mod Laws
 pub mod Faults
 pub mod Stepwise
 pub use Rattle.counted_io.specs.Pieces
-pub use Rattle.replay_text.specs.Text
-pub use Rattle.simfile_fields.specs.Texts
-pub use Rattle.simfile_fields.specs.Fronts
+pub use Rattle.fault_lines.specs.Text
+pub use Rattle.line_fields.specs.Texts
+pub use Rattle.line_fields.specs.Fronts

@@ -8,7 +8,7 @@ use Rattle.host_commands.specs.declared.command.Command.TheVariants as command
 use Rattle.counted_io.specs.Pieces.{joined}
 use Rattle.simfile.specs.declared.lines.Version.{Version}
 use Rattle.simfile.specs.declared.lines.Version.TheVariants as version
-use Rattle.simfile_fields.specs.Texts.{list_text, IsValue}
+use Rattle.line_fields.specs.Texts.{list_text, IsValue}
 use Rattle.simfile.specs.Fields.{is_name, IsList, AreBytes, hex}
 
 abbrev pub line_feeds : List ℕ → ℕ

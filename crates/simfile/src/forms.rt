@@ -11,7 +11,7 @@ use crate::lines::{
     ArgLine, CopyLine, FillLine, KernelLine, LaunchLine, Line, ReadLine, Setting, Version,
     WriteLine,
 };
-use simfile_fields::{after, number_at, number_before, value_at};
+use line_fields::{after, number_at, number_before, value_at};
 
 #[tactic(auto, unfolding(crate::specs::Reading::buffer_at))]
 fn buffer_at(bytes: &[u8]) -> Option<(Line<'_>, &[u8])>
@@ -219,7 +219,7 @@ fn uniform_at(version: Version, bytes: &[u8]) -> (bool, &[u8])
     }
 }
 
-#[tactic(auto, unfolding(crate::specs::Reading::launch_at, simfile_fields::specs::Fronts::before))]
+#[tactic(auto, unfolding(crate::specs::Reading::launch_at, line_fields::specs::Fronts::before))]
 fn launch_at(version: Version, bytes: &[u8]) -> Option<(Line<'_>, &[u8])>
     ensures { option_map (λ read. (command_of read.0, read.1.now)) result ≡ launch_at version bytes.now }
 {

@@ -14,7 +14,7 @@ use crate::forms::line_at;
 use crate::lines::Version;
 use crate::script::line_feeds;
 use host_commands::command::Command;
-use simfile_fields::{after, number_before};
+use line_fields::{after, number_before};
 use std::alloc::{AllocError, Global};
 
 /// The most lines of a source.

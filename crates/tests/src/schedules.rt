@@ -1,6 +1,6 @@
 //! Schedule files.
 
-use replay_text::{ReadFault, read, write};
+use fault_lines::{ReadFault, read, write};
 use std::alloc::Global;
 use std::io::BufWriter;
 use std::test::Fail;

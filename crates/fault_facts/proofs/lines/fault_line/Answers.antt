@@ -1,6 +1,6 @@
 use Rattle.std.proofs.Common.{length, sym, ap, ◌∙◌}
 use Rattle.std.specs.Str.Lossy.{utf8_lossy}
-use Rattle.replay_text.specs.Text.{fault_text, schedule_text}
+use Rattle.fault_lines.specs.Text.{fault_text, schedule_text}
 use Rattle.fault_facts.proofs.lines.fault_line.Goals as goal
 
 pub returns-clause-fault : goal.returns-clause-fault

@@ -1,6 +1,6 @@
 use Rattle.std.proofs.Common.{rules, to_z, of_z, w64, ◌≡◌}
 use Rattle.clmodel.specs.Launch.{region_of}
-use Rattle.objects.specs.Objects.{ObjectsHold}
+use Rattle.launches.specs.Objects.{ObjectsHold}
 use Rattle.replay.proofs.Playing.{no_launch, never_out, never_read_only, performed_ok, performed_unset, wanting_kept}
 use Rattle.replay.proofs.group.perform.Goals as goal
 

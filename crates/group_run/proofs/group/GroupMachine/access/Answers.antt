@@ -6,7 +6,7 @@ use Rattle.std.proofs.lemmas.List.{length-set}
 use Rattle.std.proofs.lemmas.Option.{slice_get_read}
 use Rattle.clmodel.specs.Launch.{region_of, location_of, kind_of}
 use Rattle.clmodel.specs.declared.fault.Fault.TheVariants as fault
-use Rattle.objects.specs.Objects.{ObjectsHold, IsMoved}
+use Rattle.launches.specs.Objects.{ObjectsHold, IsMoved}
 use Rattle.joining.specs.Group.{Plan}
 use Rattle.shadow_list.specs.Log.{entry_of}
 use Rattle.group_run.specs.Logs.{IsJudged}

@@ -1,6 +1,6 @@
 use Rattle.std.proofs.Common.{rules, to_z, of_z, w64, ◌≡◌, inl, sym, subst}
 use Rattle.std.proofs.lemmas.Result.{IfOk-weaker, on_err_weaker}
-use Rattle.objects.specs.Objects.{ObjectsHold}
+use Rattle.launches.specs.Objects.{ObjectsHold}
 use Rattle.replay.specs.States.{IsPerformed, LocalsHold}
 use Rattle.replay.proofs.Walks.{on_err}
 use Rattle.replay.proofs.group.Group.perform.Goals as goal

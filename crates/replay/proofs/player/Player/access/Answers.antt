@@ -4,7 +4,7 @@ use Rattle.clmodel.specs.Launch.{group_of}
 use Rattle.clmodel.specs.declared.access.Access.{Access}
 use Rattle.clmodel.specs.declared.action.Answer.{Answer}
 use Rattle.clmodel.specs.declared.schedule.Event.TheVariants.{Item}
-use Rattle.objects.specs.Objects.{ObjectsHold}
+use Rattle.launches.specs.Objects.{ObjectsHold}
 use Rattle.replay.specs.Items.{acts_of}
 use Rattle.replay.specs.States.{IsPerformed, IsPlayed, Tells}
 use Rattle.replay.proofs.Playing.{refused_in, done_in, group_kept, is_none, group_there}

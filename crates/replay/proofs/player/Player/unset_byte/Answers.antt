@@ -3,7 +3,7 @@ use Rattle.std.proofs.lemmas.Option.{slice_get_read}
 use Rattle.clmodel.specs.Cells.{lowest_unset, size_of}
 use Rattle.clmodel.specs.Launch.{bytes_of, group_of, region_of}
 use Rattle.clmodel.specs.declared.access.Region.TheVariants as region
-use Rattle.objects.specs.Objects.{SpacesHold}
+use Rattle.launches.specs.Objects.{SpacesHold}
 use Rattle.replay.proofs.Playing.{group_there}
 use Rattle.replay.proofs.player.Player.unset_byte.Goals as goal
 

@@ -1,0 +1,4 @@
+use Rattle.fault_lines.proofs.writing.write_conflict.Goals as goal
+
+pub returns : goal.returns
+returns g c = c.write_parts.ensures

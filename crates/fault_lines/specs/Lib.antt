@@ -1,0 +1,9 @@
+pub mod Text
+pub mod Parts
+pub mod Fields
+pub mod ScheduleFile
+pub mod Reading
+pub mod Views
+pub mod Faults
+pub use Rattle.line_fields.specs.Texts
+pub use Rattle.line_fields.specs.Fronts

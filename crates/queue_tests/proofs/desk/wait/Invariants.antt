@@ -1,0 +1,9 @@
+use Rattle.std.proofs.Common.{◌≡◌}
+use Rattle.host_queue.specs.Clients.{IsOpen}
+use Rattle.queue_tests.proofs.desk.wait.Given as goal
+
+abbrev pub invariant-loop : goal.invariant-loop
+invariant-loop g l = record {
+  one : l.client.seat.table_id ≡ l.fn.client.seat.table_id;
+  own : IsOpen l.client.seat.me.0 l.ticket.number;
+}

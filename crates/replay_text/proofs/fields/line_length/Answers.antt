@@ -1,6 +1,0 @@
-use Rattle.replay_text.specs.Reading.{is_inner}
-use Rattle.simfile_fields.proofs.FieldLemmas.{front_of_position}
-use Rattle.replay_text.proofs.fields.line_length.Goals as goal
-
-pub returns-clause-value : goal.returns-clause-value
-returns-clause-value c = rw (c.unwrap_or.ensures, c.line_end.ensures.value) (front_of_position is_inner c.args.bytes.now)

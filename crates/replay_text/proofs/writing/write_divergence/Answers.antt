@@ -1,4 +1,0 @@
-use Rattle.replay_text.proofs.writing.write_divergence.Goals as goal
-
-pub returns : goal.returns
-returns g c = c.write_parts.ensures

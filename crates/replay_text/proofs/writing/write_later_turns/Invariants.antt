@@ -1,8 +1,0 @@
-use Rattle.std.proofs.Common.{take}
-use Rattle.std.specs.List.{flat_map}
-use Rattle.counted_io.specs.Sink.{Wrote}
-use Rattle.replay_text.specs.Text.{later_turn_text}
-use Rattle.replay_text.proofs.writing.write_later_turns.Given as goal
-
-abbrev pub invariant-loop-turn : goal.invariant-loop-turn
-invariant-loop-turn g l = Wrote (g.W.Write.sink l.initial.writer) (g.W.Write.sink l.writer) (flat_map later_turn_text (take l.turn-index l.turns))

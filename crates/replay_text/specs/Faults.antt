@@ -1,9 +1,0 @@
--- Why bytes were not read.
-use Rattle.std.specs.Prelude.{List, ℕ}
-use Rattle.replay_text.specs.ScheduleFile.{NoScheduleFile}
-use Rattle.replay_text.specs.declared.reading.ReadFault.{ReadFault}
-use Rattle.replay_text.specs.declared.reading.ReadFault.TheVariants as read
-
-abbrev pub IsRefused : List ℕ → ReadFault → Type 0
-IsRefused bytes read.BadText = NoScheduleFile bytes
-IsRefused bytes read.OutOfMemory = Unit {0}

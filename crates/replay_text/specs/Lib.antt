@@ -1,9 +1,0 @@
-pub mod Text
-pub mod Parts
-pub mod Fields
-pub mod ScheduleFile
-pub mod Reading
-pub mod Views
-pub mod Faults
-pub use Rattle.simfile_fields.specs.Texts
-pub use Rattle.simfile_fields.specs.Fronts
