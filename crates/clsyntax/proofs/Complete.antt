@@ -6,7 +6,7 @@ use Rattle.clmodel.specs.Tree.{Term, Call, Terms, NoTerm, ThenTerm, TargetDerefe
 use Rattle.clsyntax_lex.specs.declared.token.TokenKind.TheVariants as kinds
 use Rattle.clsyntax_terms.specs.Grammar as grammar
 use Rattle.clsyntax_terms.specs.Grammar.{Placed, put, start, level, tight, prefixed_by, head, Goal, Expr, Arguments, Assignee, Simple, Statement, Initial, Condition, Final, Typing, Declaration, Items, OneParameter, Parameters, Returning, Heading, Program, Reads, number, variable, element, address, bare_call, call, round, operator, cast, prefixed, binary, choice, one_argument, next_argument, variable_target, element_target, dereference_target, assign, step_before, step_behind, bare_call_only, call_only, simple, empty, block, if_only, if_else, while_loop, do_loop, for_loop, no_initial, simple_initial, declared_initial, no_condition, condition, no_final, simple_final, break_only, continue_only, return_only, return_value, integer, pointer, const_pointer, declare, declare_as, array, local_array, no_items, statement, declaration, parameter, first_parameter, next_parameter, kernel, void, typed, bare_heading, heading, no_functions, function}
-use Rattle.clsyntax_terms.specs.Machine.{Frame, After, Before, Asked, Chosen, InRound, InElement, InAddress, InCall, InPart, InBehind, InStep, InAssign, InDeclare, InReturn, InIf, InWhile, InDo, InInitial, InCondition, InFinal, Then, Otherwise, Turns, DoTurns, ForTurns, InItems, InBlock, InBody, InHead, InProgram, Purpose, ForParameter, ForDeclaration, Mode, Operand, Have, Named, CallOpen, Optional, Item, Begin, Aim, BeginName, Aimed, Ended, Did, AfterTyping, Top, AfterReturning, HeadOpen, WantParameter, AfterParameter, HeadDone, State, in_mode, go, add_parameter, begun}
+use Rattle.clsyntax_terms.specs.Machine.{Frame, After, Before, Conditional, Chosen, InRound, InElement, InAddress, InCall, InPart, InBehind, InStep, InAssign, InDeclare, InReturn, InIf, InWhile, InDo, InInitial, InCondition, InFinal, Then, Otherwise, Turns, DoTurns, ForTurns, InItems, InBlock, InBody, InHead, InProgram, Purpose, ForParameter, ForDeclaration, Mode, Operand, ExpressionRead, Named, CallOpen, Optional, Item, Begin, Aim, BeginName, TargetRead, Ended, StatementRead, AfterTyping, Top, AfterReturning, HeadOpen, WantParameter, AfterParameter, HeadDone, State, in_mode, go, add_parameter, begun}
 use Rattle.clsyntax.proofs.Moves.{Runs, stop, onward, joined, Alike, Meets, meets, meets_then, further, alike_then}
 use Rattle.clsyntax.proofs.Levels.{reach, Follows, infix_follows, question_follows, looser_follows, looser_tight, ends, no_less, operator_step, question_step}
 use Rattle.clsyntax_terms.specs.Machine as machine
@@ -19,15 +19,15 @@ pub record ArgumentsRead (u : Bool) (a x n : ℕ) (fs : List Frame) (es : Terms)
   pub m : ℕ
   pub from : ℕ
   pub same : es ≡ ThenTerm before last
-  pub meets_ : Meets (in_mode (CallOpen (suc n)) (InCall u a x n NoTerm ∷ fs)) ps (in_mode (Have m from last) (InCall u a x n before ∷ fs)) qs
+  pub meets_ : Meets (in_mode (CallOpen (suc n)) (InCall u a x n NoTerm ∷ fs)) ps (in_mode (ExpressionRead m from last) (InCall u a x n before ∷ fs)) qs
 
 abbrev pub Claim : Goal → List Placed → List Placed → Type 0
 Claim (grammar.Before n p) ps qs = (s : State) (fs : List Frame) → TakesOperand s n fs → Runs s ps (in_mode (Operand (suc n)) (Before (start ps) p ∷ fs)) qs
-Claim (Expr l n e m) ps qs = (s : State) (fs : List Frame) → TakesOperand s n fs → reach fs ≤ l → Follows l qs → Meets s ps (in_mode (Have m (start ps) e) fs) qs
+Claim (Expr l n e m) ps qs = (s : State) (fs : List Frame) → TakesOperand s n fs → reach fs ≤ l → Follows l qs → Meets s ps (in_mode (ExpressionRead m (start ps) e) fs) qs
 Claim (Arguments n es) ps qs = (u : Bool) (a x : ℕ) (fs : List Frame) → Follows 0 qs → ArgumentsRead u a x n fs es ps qs
-Claim (Assignee n t) ps qs = (u : Bool) (s : State) (fs : List Frame) → TargetFrom u s n fs → AfterTarget u t qs → Meets s ps (in_mode (Aimed u n (start ps) t) fs) qs
+Claim (Assignee n t) ps qs = (u : Bool) (s : State) (fs : List Frame) → TargetFrom u s n fs → AfterTarget u t qs → Meets s ps (in_mode (TargetRead u n (start ps) t) fs) qs
 Claim (Simple n x) ps qs = (s : State) (fs : List Frame) → TakesSimple s n fs → AtEnd qs → Meets s ps (in_mode (Ended n x) fs) qs
-Claim (Statement n x) ps qs = (s : State) (fs : List Frame) → TakesStatement s n fs → Meets s ps (in_mode (Did x) fs) qs
+Claim (Statement n x) ps qs = (s : State) (fs : List Frame) → TakesStatement s n fs → Meets s ps (in_mode (StatementRead x) fs) qs
 Claim (Initial n i) ps qs = (a : ℕ) (fs : List Frame) → Runs (in_mode (machine.Initial n) (InInitial a ∷ fs)) ps (in_mode (Optional n) (InCondition a n i ∷ fs)) qs
 Claim (Condition n c) ps qs = (a : ℕ) (i : MaybeStmt) (fs : List Frame) → Runs (in_mode (Optional n) (InCondition a n i ∷ fs)) ps (in_mode (machine.Final n) (InFinal a i c ∷ fs)) qs
 Claim (Final n f) ps qs = (a : ℕ) (i : MaybeStmt) (c : MaybeTerm) (fs : List Frame) → Runs (in_mode (machine.Final n) (InFinal a i c ∷ fs)) ps (in_mode (Begin n) (ForTurns a i c f ∷ fs)) qs
@@ -58,7 +58,7 @@ complete (bare_call {x = x} {a = a}) = λ s fs h g f. meets (onward (h.takes (re
 complete (call {n = n} {x = x} {a = a} r) = λ s fs h g f.
     let read = complete r false a x fs (ends kinds.CloseRound refl tt) in
     meets (onward (h.takes (record { kind = kinds.Name x; at = a }) _ refl) (onward refl
-    (further read.meets_ (ap (λ z. go (suc n) (Have n a (Call a x z)) fs) (sym read.same)))))
+    (further read.meets_ (ap (λ z. go (suc n) (ExpressionRead n a (Call a x z)) fs) (sym read.same)))))
 complete (round {n = n} {a = a} r) = λ s fs h g f.
     meets (onward (h.takes (record { kind = kinds.OpenRound; at = a }) _ refl)
     (further (complete r _ (InRound a n ∷ fs) (at_opened n a fs) (no_less 0) (ends kinds.CloseRound refl tt)) refl))
@@ -77,7 +77,7 @@ complete (binary {l = l} {n = n} {m = m} {o = o} {k = k} {op = op} {d = d} {e = 
     meets_then (meets (further left (operator_step k op m (start ps) d fs i reached))) (likewise right (taken_alike l o (start ps) (start qs) op d e fs rs f h))
 complete (choice {n = n} {m = m} {o = o} {z = z} {d = d} {e = e} {f = other} {ps = ps} {qs = qs} {rs = rs} {us = us} r q t) = λ s fs h g f.
     let reached : reach fs ≤ 1 = omega arith in
-    let asked : List Frame = Asked (start ps) d ∷ fs in
+    let asked : List Frame = Conditional (start ps) d ∷ fs in
     let chosen : List Frame = Chosen (start ps) d e ∷ fs in
     let condition = further (complete r s fs h reached question_follows) (question_step m (start ps) d fs reached) in
     let middle = further (complete q (in_mode (Operand (suc m)) asked) asked (at_operand (suc m) asked) (no_less 0) (ends kinds.Colon refl tt)) refl in

@@ -12,7 +12,7 @@ use Rattle.clsyntax_lex.specs.declared.token.TokenKind.{TokenKind}
 use Rattle.clsyntax_lex.specs.declared.token.TokenKind.TheVariants as kinds
 use Rattle.clsyntax_terms.specs.Grammar.{Placed, put, Head, Prefix, Convert, prefixed_by, infix_of}
 use Rattle.clsyntax_terms.specs.Machine as machine
-use Rattle.clsyntax_terms.specs.Machine.{Frame, Before, Chosen, InAssign, InBehind, InStep, InCondition, InFinal, Then, Otherwise, Turns, ForTurns, InHead, InProgram, Purpose, ForParameter, ForDeclaration, nesting_of, Mode, Operand, Have, Named, Opened, CastType, AfterAnd, AndName, CallOpen, Optional, Item, Begin, Aim, BeginName, Aimed, Ended, Closing, Did, AfterIf, AfterWhile, AfterFor, AfterDo, AfterSpace, AfterConst, AfterElement, AfterTyping, Declared, ArrayNamed, ArrayOpened, ArraySized, ArrayClosed, Top, AfterKernel, AfterReturning, AfterName, HeadOpen, WantParameter, AfterParameter, HeadDone, State, in_mode, Folded, close, asked_level, after_folded, end_expression, end_simple, ends_simple, end_step, end_items, go, Settled, settle, is_else, on_settled, step}
+use Rattle.clsyntax_terms.specs.Machine.{Frame, Before, Chosen, InAssign, InBehind, InStep, InCondition, InFinal, Then, Otherwise, Turns, ForTurns, InHead, InProgram, Purpose, ForParameter, ForDeclaration, nesting_of, Mode, Operand, ExpressionRead, Named, Opened, CastType, AfterAnd, AndName, CallOpen, Optional, Item, Begin, Aim, BeginName, TargetRead, Ended, Closing, StatementRead, AfterIf, AfterWhile, AfterFor, AfterDo, AfterSpace, AfterConst, AfterElement, AfterTyping, Declared, ArrayNamed, ArrayOpened, ArraySized, ArrayClosed, Top, AfterKernel, AfterReturning, AfterName, HeadOpen, WantParameter, AfterParameter, HeadDone, State, in_mode, Folded, close, asked_level, after_folded, end_expression, end_simple, ends_simple, end_step, end_items, go, Settled, settle, is_else, on_settled, step}
 use Rattle.clsyntax.proofs.Moves.{Runs, stop, onward}
 use Rattle.clsyntax.proofs.Levels.{close_takes, close_chooses}
 use Rattle.clsyntax.proofs.Takes.{IsPlain}
@@ -82,7 +82,7 @@ record EndsWith (fs : List Frame) : Type 0 where
   pub no_level : asked_level None kind ≡ 0
   pub closes : (m from : ℕ) (e : Term) → Closes kind m (close 0 from e fs)
 
-done_have : {fs : List Frame} (m from : ℕ) (e : Term) → EndsWith fs → Done (in_mode (Have m from e) fs)
+done_have : {fs : List Frame} (m from : ℕ) (e : Term) → EndsWith fs → Done (in_mode (ExpressionRead m from e) fs)
 done_have {fs = fs} m from e h =
     let c = h.closes m from e in
     let by_kind = ap (λ o. after_folded o h.kind m (close (asked_level o h.kind) from e fs)) h.no_infix in
@@ -124,7 +124,7 @@ record EndsStatement (fs : List Frame) : Type 0 where
   pub no_else : is_else kind ≡ false
   pub closes : (s : Stmt) → Follows kind nesting (settle false s fs)
 
-done_did : {fs : List Frame} (s : Stmt) → EndsStatement fs → Done (in_mode (Did s) fs)
+done_did : {fs : List Frame} (s : Stmt) → EndsStatement fs → Done (in_mode (StatementRead s) fs)
 done_did {fs = fs} s h =
     let c = h.closes s in
     let to : Settled → machine.Moved = λ x. on_settled x.statement x.rest (record { kind = h.kind; at = 0 }) in
@@ -243,11 +243,11 @@ step_ends_by n a b k up false c =
 step_ends_by n a b k up true c =
     record { kind = kinds.CloseRound; no_infix = refl; no_level = refl; closes = λ m from e. let x = c (Step a (TargetDereference b e) up) in record { nesting = n; state = x.state; moves = x.moves; done = x.done } }
 
-done_stepped_by : {fs : List Frame} (n a b k : ℕ) (p : Target) (up : Bool) (u : Bool) → Ends u n (Step a p up) fs → Done (in_mode (Aimed true k b p) (InStep a n up ∷ fs))
+done_stepped_by : {fs : List Frame} (n a b k : ℕ) (p : Target) (up : Bool) (u : Bool) → Ends u n (Step a p up) fs → Done (in_mode (TargetRead true k b p) (InStep a n up ∷ fs))
 done_stepped_by n a b k p up false c = earlier (put n kinds.Semicolon 0) c.moves c.done
 done_stepped_by n a b k p up true c = earlier (put n kinds.CloseRound 0) c.moves c.done
 
-done_aimed : {w qs : List Placed} {fs : List Frame} {n : ℕ} (u : Bool) (a : ℕ) (p : Target) → Stands w (target_need u n) fs qs → Done (in_mode (Aimed u n a p) fs)
+done_aimed : {w qs : List Placed} {fs : List Frame} {n : ℕ} (u : Bool) (a : ℕ) (p : Target) → Stands w (target_need u n) fs qs → Done (in_mode (TargetRead u n a p) fs)
 done_aimed {n = n} false a p s = earlier (put n kinds.Assign 0) refl (done_operand n (assign_ends a p None s))
 done_aimed {n = k} true b p (in_step {n = n} {a = a} {up = up} s i) = let x = ends_simply s in done_stepped_by n a b k p up x.is_bracket (x.closes (Step a p up))
 
@@ -374,10 +374,10 @@ done_call_open : {w qs : List Placed} {fs : List Frame} {k : ℕ} → Stands w (
 done_call_open (call_open {u = false} {n = n} s) = earlier (put (suc n) kinds.CloseRound 0) refl (done_have n _ _ (ends_with s))
 done_call_open (call_open {u = true} {n = n} s) = earlier (put (suc n) kinds.CloseRound 0) refl (done_ended _ s)
 
-done_has_expr : {w qs : List Placed} {fs : List Frame} {m from : ℕ} {e : Term} → HasExpr w m from e fs qs → Done (in_mode (Have m from e) fs)
+done_has_expr : {w qs : List Placed} {fs : List Frame} {m from : ℕ} {e : Term} → HasExpr w m from e fs qs → Done (in_mode (ExpressionRead m from e) fs)
 done_has_expr {m = m} {from = from} {e = e} (has_expr s r) = done_have m from e (ends_with s)
 
-done_has_target : {w qs : List Placed} {fs : List Frame} {u : Bool} {n from : ℕ} {p : Target} → HasTarget w u n from p fs qs → Done (in_mode (Aimed u n from p) fs)
+done_has_target : {w qs : List Placed} {fs : List Frame} {u : Bool} {n from : ℕ} {p : Target} → HasTarget w u n from p fs qs → Done (in_mode (TargetRead u n from p) fs)
 done_has_target {u = u} {from = from} {p = p} (has_target s g r) = done_aimed u from p s
 
 done_optional : {fs : List Frame} (n : ℕ) → EndsWith fs → Done (in_mode (Optional n) fs)
@@ -404,12 +404,12 @@ finishes_in w qs (AfterIf n a) fs = λ g. earlier (put n kinds.OpenRound 0) refl
 finishes_in w qs (AfterWhile n a) fs = λ g. earlier (put n kinds.OpenRound 0) refl (done_operand (suc n) (asked_ends n a (ending g)))
 finishes_in w qs (AfterFor n a) fs = λ g. earlier (put n kinds.OpenRound 0) refl (earlier (put (suc n) kinds.Semicolon 0) refl (done_condition (suc n) a _ (ending g)))
 finishes_in w qs (AfterDo n a s) fs = λ g. done_after_do n a s (ending g.stands)
-finishes_in w qs (Have n from e) fs = done_has_expr
+finishes_in w qs (ExpressionRead n from e) fs = done_has_expr
 finishes_in w qs (Item n) fs = done_item
 finishes_in w qs (Aim n) fs = done_aim
 finishes_in w qs (BeginName u n a x) fs = done_begin_name u a x
-finishes_in w qs (Aimed u n a p) fs = done_has_target
-finishes_in w qs (Did s) fs = λ g. done_did s (ending g.stands)
+finishes_in w qs (TargetRead u n a p) fs = done_has_target
+finishes_in w qs (StatementRead s) fs = λ g. done_did s (ending g.stands)
 finishes_in w qs (AfterSpace p space) fs = λ g. done_space p space g.stands
 finishes_in w qs (AfterConst p space) fs = λ g. done_const p space g.stands
 finishes_in w qs (AfterElement p space c type) fs = λ g. done_element p space c type g.before.stands

@@ -11,7 +11,7 @@ use Rattle.clsyntax_lex.specs.declared.token.TokenKind.{TokenKind}
 use Rattle.clsyntax_lex.specs.declared.token.TokenKind.TheVariants as kinds
 use Rattle.clmodel.specs.Tree.{arithmetic_level}
 use Rattle.clsyntax_terms.specs.Grammar.{Placed, infix_of, level, tight}
-use Rattle.clsyntax_terms.specs.Machine.{Frame, After, Before, Asked, Chosen, InBehind, Operand, Moved, go, folded, close, asked_level, after_folded, on_have, unless_behind, wait, ask}
+use Rattle.clsyntax_terms.specs.Machine.{Frame, After, Before, Conditional, Chosen, InBehind, Operand, Moved, go, folded, close, asked_level, after_folded, on_expression_read, unless_behind, wait, ask}
 
 -- An operand behind these frames is of this level at least.
 abbrev pub reach : List Frame → ℕ
@@ -133,10 +133,10 @@ pub close_chooses : (k b from : ℕ) (c d e : Term) (fs : List Frame) → k ≤ 
 close_chooses k b from c d e fs h = ap (λ t. cond t (folded from e (Chosen b c d ∷ fs)) (close k b (Choice b c d e) fs)) (le-ltb 0 k h)
 
 -- so at each token that may end the operator's expression
-pub taken : (m b from : ℕ) (op : InfixOperator) (d e : Term) (fs : List Frame) (t : Token) → asks t.kind ≤ level op → on_have m from e (After b op d ∷ fs) t ≡ on_have m b (Binary b op d e) fs t
+pub taken : (m b from : ℕ) (op : InfixOperator) (d e : Term) (fs : List Frame) (t : Token) → asks t.kind ≤ level op → on_expression_read m from e (After b op d ∷ fs) t ≡ on_expression_read m b (Binary b op d e) fs t
 taken m b from op d e fs t h = ap (λ x. after_folded (infix_of t.kind) t.kind m x) (close_takes (asks t.kind) b from op d e fs h)
 
-pub chosen_taken : (m b from : ℕ) (c d e : Term) (fs : List Frame) (t : Token) → asks t.kind ≤ 0 → on_have m from e (Chosen b c d ∷ fs) t ≡ on_have m b (Choice b c d e) fs t
+pub chosen_taken : (m b from : ℕ) (c d e : Term) (fs : List Frame) (t : Token) → asks t.kind ≤ 0 → on_expression_read m from e (Chosen b c d ∷ fs) t ≡ on_expression_read m b (Choice b c d e) fs t
 chosen_taken m b from c d e fs t h = ap (λ x. after_folded (infix_of t.kind) t.kind m x) (close_chooses (asks t.kind) b from c d e fs h)
 
 pub not_behind : (fs : List Frame) (x : Moved) → reach fs < tight → unless_behind fs x ≡ x
@@ -150,5 +150,5 @@ operator_step k op m from d fs i h =
     let high = level_high op in
     ap (λ o. after_folded o k m (close (asked_level o k) from d fs)) i ∙ (ap (wait m op) (close_stays (level op) from d fs (omega arith) high h) ∙ not_behind fs _ (omega arith))
 
-pub question_step : (m from : ℕ) (d : Term) (fs : List Frame) → reach fs ≤ 1 → after_folded None kinds.Question m (close 1 from d fs) ≡ go m (Operand (suc m)) (Asked from d ∷ fs)
+pub question_step : (m from : ℕ) (d : Term) (fs : List Frame) → reach fs ≤ 1 → after_folded None kinds.Question m (close 1 from d fs) ≡ go m (Operand (suc m)) (Conditional from d ∷ fs)
 question_step m from d fs h = ap (ask m) (close_stays 1 from d fs (omega arith) (omega arith) h) ∙ not_behind fs _ (omega arith)

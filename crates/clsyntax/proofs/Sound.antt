@@ -6,7 +6,7 @@ use Rattle.clsyntax_lex.specs.declared.token.TokenKind.{TokenKind}
 use Rattle.clsyntax_lex.specs.declared.token.TokenKind.TheVariants as kinds
 use Rattle.clsyntax_terms.specs.Grammar.{Placed, put, Head, Program, Reads, no_items, kernel, void, typed, bare_heading, heading, no_functions}
 use Rattle.clsyntax_terms.specs.Machine as machine
-use Rattle.clsyntax_terms.specs.Machine.{Frame, InItems, InBody, InHead, InProgram, ForParameter, Mode, Operand, Have, Named, Opened, CastType, AfterAnd, AndName, CallOpen, Optional, Item, Begin, Aim, BeginName, Aimed, Ended, Closing, Did, AfterIf, AfterWhile, AfterFor, AfterDo, AfterSpace, AfterConst, AfterElement, AfterTyping, Declared, ArrayNamed, ArrayOpened, ArraySized, ArrayClosed, Top, AfterKernel, AfterReturning, AfterName, HeadOpen, WantParameter, AfterParameter, HeadDone, State, in_mode, Moved, on_typing, on_open_brace, step, begun}
+use Rattle.clsyntax_terms.specs.Machine.{Frame, InItems, InBody, InHead, InProgram, ForParameter, Mode, Operand, ExpressionRead, Named, Opened, CastType, AfterAnd, AndName, CallOpen, Optional, Item, Begin, Aim, BeginName, TargetRead, Ended, Closing, StatementRead, AfterIf, AfterWhile, AfterFor, AfterDo, AfterSpace, AfterConst, AfterElement, AfterTyping, Declared, ArrayNamed, ArrayOpened, ArraySized, ArrayClosed, Top, AfterKernel, AfterReturning, AfterName, HeadOpen, WantParameter, AfterParameter, HeadDone, State, in_mode, Moved, on_typing, on_open_brace, step, begun}
 use Rattle.clsyntax.proofs.Moves.{Runs, stop, onward}
 use Rattle.clsyntax.proofs.Stands.{AnItem, ABody, AHead, AParameter, AfterOne, AFunction, Stands, in_program, in_head, first, next, after_one, head_read, in_body, in_items, Good, Keeps, Safe, kept}
 use Rattle.clsyntax.proofs.SoundExpressions.{safe_operand, safe_have, safe_named, safe_opened, safe_cast_type, safe_after_and, safe_and_name, safe_call_open, safe_optional}
@@ -69,7 +69,7 @@ safe_head_done fs _ = λ w qs a. tt
 
 safe : (m : Mode) (fs : List Frame) (kind : TokenKind) → Safe m fs kind
 safe (Operand n) fs kind = safe_operand n fs kind
-safe (Have n from e) fs kind = safe_have n from e fs kind
+safe (ExpressionRead n from e) fs kind = safe_have n from e fs kind
 safe (Named n a x) fs kind = safe_named n a x fs kind
 safe (Opened n a) fs kind = safe_opened n a fs kind
 safe (CastType n a type) fs kind = safe_cast_type n a type fs kind
@@ -83,10 +83,10 @@ safe (machine.Initial n) fs kind = safe_initial n fs kind
 safe (machine.Final n) fs kind = safe_final n fs kind
 safe (Aim n) fs kind = safe_aim n fs kind
 safe (BeginName u n a x) fs kind = safe_begin_name u n a x fs kind
-safe (Aimed u n a p) fs kind = safe_aimed u n a p fs kind
+safe (TargetRead u n a p) fs kind = safe_aimed u n a p fs kind
 safe (Ended n s) fs kind = safe_ended n s fs kind
 safe (Closing n s) fs kind = safe_closing n s fs kind
-safe (Did s) fs kind = safe_did s fs kind
+safe (StatementRead s) fs kind = safe_did s fs kind
 safe (AfterIf n a) fs kind = safe_after_if n a fs kind
 safe (AfterWhile n a) fs kind = safe_after_while n a fs kind
 safe (AfterFor n a) fs kind = safe_after_for n a fs kind

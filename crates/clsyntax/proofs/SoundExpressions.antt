@@ -10,7 +10,7 @@ use Rattle.clmodel.specs.Tree.{Term, Variable, Element, ElementAddress, Call, Bi
 use Rattle.clsyntax_lex.specs.declared.token.TokenKind.{TokenKind}
 use Rattle.clsyntax_lex.specs.declared.token.TokenKind.TheVariants as kinds
 use Rattle.clsyntax_terms.specs.Grammar.{Placed, put, start, prefixed_by, infix_of, level, tight, assign_of, Expr, Simple, Declaration, Reads, number, variable, element, address, bare_call, call, round, operator, cast, prefixed, binary, choice, element_target, dereference_target, assign, step_before, bare_call_only, call_only, simple, do_loop, simple_initial, declared_initial, no_condition, condition, simple_final, return_only, return_value, declare_as, declaration}
-use Rattle.clsyntax_terms.specs.Machine.{Frame, After, Before, Asked, Chosen, InRound, InElement, InAddress, InCall, InPart, InBehind, InStep, InAssign, InDeclare, InReturn, InIf, InWhile, InDo, InInitial, InCondition, InFinal, Then, Turns, ForTurns, InItems, Operand, Have, Named, Opened, CastType, AfterAnd, AndName, CallOpen, Optional, Moved, go, Folded, folded, close, on_operand, on_close_round, on_comma, on_close_square, on_colon, end_simple, end_final, ends_simple, end_step, end_declaration, without, on_semicolon, on_assignment, unless_behind, end_expression, asked_level, after_folded, close_call}
+use Rattle.clsyntax_terms.specs.Machine.{Frame, After, Before, Conditional, Chosen, InRound, InElement, InAddress, InCall, InPart, InBehind, InStep, InAssign, InDeclare, InReturn, InIf, InWhile, InDo, InInitial, InCondition, InFinal, Then, Turns, ForTurns, InItems, Operand, ExpressionRead, Named, Opened, CastType, AfterAnd, AndName, CallOpen, Optional, Moved, go, Folded, folded, close, on_operand, on_close_round, on_comma, on_close_square, on_colon, end_simple, end_final, ends_simple, end_step, end_declaration, without, on_semicolon, on_assignment, unless_behind, end_expression, asked_level, after_folded, close_call}
 use Rattle.clsyntax.proofs.Levels.{reach, level_low}
 use Rattle.clsyntax.proofs.Stands.{AnExpr, SomeArguments, AnItem, AStatement, ASimple, none_yet, some_yet, arguments_then, Stands, in_items, as_item, as_statement, as_initial, in_then, in_turns, in_for_turns, in_initial, in_condition, in_final, in_if, in_while, in_do, in_return, declared_initially, in_step, in_part, in_behind, in_assign, in_declare, in_after, in_before, in_asked, in_chosen, in_round, in_element, in_address, call_open, in_call, HasExpr, has_expr, HasTarget, has_target, HasStatement, HasEnded, HasClosing, HasAnd, has_and, HasAndName, has_and_name, KeepsFrom, Keeps, Safe, kept}
 
@@ -101,11 +101,11 @@ safe_wait : (m from b : ℕ) (k : TokenKind) (op : InfixOperator) (e : Term) (fs
 safe_wait m from b k op e (InBehind u a n ∷ fs) w qs i = tt
 safe_wait m from b k op e _ w qs i = λ g. waits g i (λ h. h)
 
-asks_for : {w qs : List Placed} {fs : List Frame} {m from b : ℕ} {e : Term} → HasFolded w 1 m from e fs (put m kinds.Question b ∷ qs) → (front fs ≤ 1 → reach fs ≤ 0) → Stands w (AnExpr (suc m)) (Asked from e ∷ fs) qs
+asks_for : {w qs : List Placed} {fs : List Frame} {m from b : ℕ} {e : Term} → HasFolded w 1 m from e fs (put m kinds.Question b ∷ qs) → (front fs ≤ 1 → reach fs ≤ 0) → Stands w (AnExpr (suc m)) (Conditional from e ∷ fs) qs
 asks_for (has_folded s g h f r) on = in_asked s (on g) (r 1 f)
 
 safe_ask : (m from b : ℕ) (e : Term) (fs : List Frame) (w qs : List Placed)
-    → KeepsFrom w qs (λ n. HasFolded w 1 m from e fs (put n kinds.Question b ∷ qs)) (unless_behind fs (go m (Operand (suc m)) (Asked from e ∷ fs)))
+    → KeepsFrom w qs (λ n. HasFolded w 1 m from e fs (put n kinds.Question b ∷ qs)) (unless_behind fs (go m (Operand (suc m)) (Conditional from e ∷ fs)))
 safe_ask m from b e (InBehind u a n ∷ fs) w qs = tt
 safe_ask m from b e (After c op d ∷ fs) w qs = λ g. asks_for g (λ h. absurd (let low = level_low op in let above : suc (level op) ≤ 1 = h in omega arith))
 safe_ask m from b e (Before c p ∷ fs) w qs = λ g. asks_for g (λ h. absurd (let above : tight ≤ 1 = h in omega arith))
@@ -134,7 +134,7 @@ address_end (has_folded (in_address s) g h f r) = has_expr s (λ l. address (r 0
 part_end : {w qs : List Placed} {fs : List Frame} {u : Bool} {m from a x n c : ℕ} {e : Term} → HasFolded w 0 m from e (InPart u a x n ∷ fs) (put (suc n) kinds.CloseSquare c ∷ qs) → HasTarget w u n a (TargetElement a x e) fs qs
 part_end (has_folded (in_part s) g h f r) = has_target s tt (element_target (r 0 f))
 
-colon_end : {w qs : List Placed} {fs : List Frame} {m from b c : ℕ} {d e : Term} → HasFolded w 0 m from e (Asked b d ∷ fs) (put m kinds.Colon c ∷ qs) → Stands w (AnExpr m) (Chosen b d e ∷ fs) qs
+colon_end : {w qs : List Placed} {fs : List Frame} {m from b c : ℕ} {d e : Term} → HasFolded w 0 m from e (Conditional b d ∷ fs) (put m kinds.Colon c ∷ qs) → Stands w (AnExpr m) (Chosen b d e ∷ fs) qs
 colon_end (has_folded (in_asked s y q) g h f r) = in_chosen s y q (r 0 f)
 
 assigned : {w qs : List Placed} {fs : List Frame} {a n m from : ℕ} {p : Target} {op : Option BinaryOperator} {e : Term} → HasFolded w 0 m from e (InAssign a n p op ∷ fs) qs → HasEnded w n (Assign a p op e) fs qs
@@ -254,7 +254,7 @@ safe_square m from e (InPart u b x n ∷ fs) w qs a = part_end
 safe_square m from e _ w qs a = tt
 
 safe_colon : (m from : ℕ) (e : Term) (fs : List Frame) (w qs : List Placed) (a : ℕ) → Ending m from e fs kinds.Colon w qs a (on_colon m e fs)
-safe_colon m from e (Asked b d ∷ fs) w qs a = colon_end
+safe_colon m from e (Conditional b d ∷ fs) w qs a = colon_end
 safe_colon m from e _ w qs a = tt
 
 safe_end_declaration : (m from b n c x : ℕ) (kind : VariableType) (e : Term) (fs : List Frame) (w qs : List Placed) (a : ℕ)
@@ -292,7 +292,7 @@ safe_whole m from e fs kinds.Question w qs a = safe_ask m from a e fs w qs
 safe_whole m from e fs kind w qs a = safe_end m from e fs kind w qs a refl
 
 safe_after : (m from : ℕ) (e : Term) (fs : List Frame) (kind : TokenKind) (o : Option InfixOperator) → infix_of kind ≡ o → (w qs : List Placed) (a : ℕ)
-    → Keeps w (Have m from e) fs (record { kind = kind; at = a }) qs (after_folded o kind m (close (asked_level o kind) from e fs))
+    → Keeps w (ExpressionRead m from e) fs (record { kind = kind; at = a }) qs (after_folded o kind m (close (asked_level o kind) from e fs))
 safe_after m from e fs kind (Some op) i w qs a =
     let x : Folded = close (level op) from e fs in
     kept w qs (λ k. HasFolded w (level op) m x.from x.term x.rest (put k kind a ∷ qs)) (λ k. HasExpr w m from e fs (put k kind a ∷ qs)) (after_folded (Some op) kind m x)
@@ -302,7 +302,7 @@ safe_after m from e fs kind None i w qs a =
     kept w qs (λ k. HasFolded w (asked_level None kind) m x.from x.term x.rest (put k kind a ∷ qs)) (λ k. HasExpr w m from e fs (put k kind a ∷ qs)) (end_expression kind m x)
     (λ k g. have_folded g (asked_level None kind)) (safe_whole m x.from x.term x.rest kind w qs a)
 
-pub safe_have : (n from : ℕ) (e : Term) (fs : List Frame) (kind : TokenKind) → Safe (Have n from e) fs kind
+pub safe_have : (n from : ℕ) (e : Term) (fs : List Frame) (kind : TokenKind) → Safe (ExpressionRead n from e) fs kind
 safe_have n from e fs kind = λ w qs a. safe_after n from e fs kind (infix_of kind) refl w qs a
 
 pub safe_named : (n a x : ℕ) (fs : List Frame) (kind : TokenKind) → Safe (Named n a x) fs kind

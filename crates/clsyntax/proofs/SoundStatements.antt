@@ -13,7 +13,7 @@ use Rattle.clsyntax_lex.specs.declared.token.TokenKind.{TokenKind}
 use Rattle.clsyntax_lex.specs.declared.token.TokenKind.TheVariants as kinds
 use Rattle.clsyntax_terms.specs.Grammar.{Placed, put, Head, with_body, IsNoElse, type_of, assign_of, step_of, parameter_of, Statement, Typing, Declaration, Reads, variable_target, step_before, step_behind, empty, block, if_only, if_else, while_loop, for_loop, no_initial, no_final, break_only, continue_only, integer, pointer, const_pointer, declare, array, local_array, no_items, statement, parameter, first_parameter, next_parameter, function}
 use Rattle.clsyntax_terms.specs.Machine as machine
-use Rattle.clsyntax_terms.specs.Machine.{Frame, InStep, InAssign, InDeclare, InItems, InBlock, InBody, InHead, InInitial, InFinal, Then, Otherwise, Turns, DoTurns, ForTurns, InProgram, Purpose, ForParameter, ForDeclaration, takes_size, nesting_of, Item, Begin, Aim, BeginName, Aimed, Ended, Closing, Did, AfterIf, AfterWhile, AfterFor, AfterDo, AfterSpace, AfterConst, AfterElement, AfterTyping, Declared, ArrayNamed, ArrayOpened, ArraySized, ArrayClosed, end_step, add_declaration, ends_simple, on_typing, on_after_const, on_local_name, on_array, on_parameter_name, on_typed_name, on_close_brace, on_placed, on_aimed, begin_call, on_simple, on_begin, on_item, Settled, settle, is_else, on_settled, add_parameter}
+use Rattle.clsyntax_terms.specs.Machine.{Frame, InStep, InAssign, InDeclare, InItems, InBlock, InBody, InHead, InInitial, InFinal, Then, Otherwise, Turns, DoTurns, ForTurns, InProgram, Purpose, ForParameter, ForDeclaration, takes_size, nesting_of, Item, Begin, Aim, BeginName, TargetRead, Ended, Closing, StatementRead, AfterIf, AfterWhile, AfterFor, AfterDo, AfterSpace, AfterConst, AfterElement, AfterTyping, Declared, ArrayNamed, ArrayOpened, ArraySized, ArrayClosed, end_step, add_declaration, ends_simple, on_typing, on_after_const, on_local_name, on_array, on_parameter_name, on_typed_name, on_close_brace, on_placed, on_target_read, begin_call, on_simple, on_begin, on_item, Settled, settle, is_else, on_settled, add_parameter}
 use Rattle.clsyntax.proofs.Stands.{AnExpr, AnItem, AStatement, AnInitial, ASimple, AfterOne, AFunction, target_need, purpose_need, at_of, Stands, in_program, first, next, after_one, in_body, in_block, in_items, as_item, as_statement, as_initial, in_then, in_otherwise, in_turns, in_do_turns, in_for_turns, in_initial, in_condition, in_final, in_if, in_while, in_do, in_return, declared_initially, in_step, in_part, in_behind, in_assign, in_declare, call_open, HasTarget, has_target, HasStatement, HasEnded, HasClosing, HasBody, HasSpace, HasElement, HasTyping, parameter_typing, declaration_typing, initial_typing, HasDeclared, has_declared, has_initial, HasArrayName, HasArray, HasLength, HasClosed, KeepsFrom, Keeps, Safe, kept}
 use Rattle.clsyntax.proofs.SoundExpressions.{declared_added, end_kind, safe_ends_simple}
 
@@ -281,23 +281,23 @@ stepped : {w qs : List Placed} {fs : List Frame} {n from b k : ℕ} {up : Bool} 
 stepped (has_target (in_step s i) g r) = record { from = _; stands = s; reads = step_before i r }
 
 safe_placed : (n b : ℕ) (p : Target) (fs : List Frame) (kind : TokenKind) (o : Option (Option BinaryOperator)) → assign_of kind ≡ o → (u : Option Bool) → step_of kind ≡ u → (w qs : List Placed) (a : ℕ)
-    → Keeps w (Aimed false n b p) fs (record { kind = kind; at = a }) qs (on_placed o u n b p fs)
+    → Keeps w (TargetRead false n b p) fs (record { kind = kind; at = a }) qs (on_placed o u n b p fs)
 safe_placed n b p fs kind (Some op) i u j w qs a = λ h. aim_end h i
 safe_placed n b p fs kind None i (Some up) j w qs a = λ h. behind_step h j
 safe_placed n b p fs kind None i None j w qs a = tt
 
-safe_end_step : (u : Bool) (n b : ℕ) (p : Target) (fs : List Frame) (w qs : List Placed) (a : ℕ) → Keeps w (Aimed true n b p) fs (record { kind = end_kind u; at = a }) qs (end_step u p fs)
+safe_end_step : (u : Bool) (n b : ℕ) (p : Target) (fs : List Frame) (w qs : List Placed) (a : ℕ) → Keeps w (TargetRead true n b p) fs (record { kind = end_kind u; at = a }) qs (end_step u p fs)
 safe_end_step u n b p (InStep c j up ∷ fs) w qs a =
     kept w qs (λ k. HasEnded w j (Step c p up) fs (put k (end_kind u) a ∷ qs)) (λ k. HasTarget w true n b p (InStep c j up ∷ fs) (put k (end_kind u) a ∷ qs)) (ends_simple u j (Step c p up) fs)
     (λ k g. stepped g) (safe_ends_simple u j (Step c p up) fs w qs a)
 safe_end_step u n b p _ w qs a = tt
 
-safe_stepped : (n b : ℕ) (p : Target) (fs : List Frame) (kind : TokenKind) → Safe (Aimed true n b p) fs kind
+safe_stepped : (n b : ℕ) (p : Target) (fs : List Frame) (kind : TokenKind) → Safe (TargetRead true n b p) fs kind
 safe_stepped n b p fs kinds.Semicolon = λ w qs a. safe_end_step false n b p fs w qs a
 safe_stepped n b p fs kinds.CloseRound = λ w qs a. safe_end_step true n b p fs w qs a
 safe_stepped n b p fs _ = λ w qs a. tt
 
-pub safe_aimed : (u : Bool) (n b : ℕ) (p : Target) (fs : List Frame) (kind : TokenKind) → Safe (Aimed u n b p) fs kind
+pub safe_aimed : (u : Bool) (n b : ℕ) (p : Target) (fs : List Frame) (kind : TokenKind) → Safe (TargetRead u n b p) fs kind
 safe_aimed false n b p fs kind = λ w qs a. safe_placed n b p fs kind (assign_of kind) refl (step_of kind) refl w qs a
 safe_aimed true n b p fs kind = safe_stepped n b p fs kind
 
@@ -309,7 +309,7 @@ pub safe_begin_name : (u : Bool) (n b x : ℕ) (fs : List Frame) (kind : TokenKi
 safe_begin_name u n b x fs kinds.OpenSquare = λ w qs a h. in_part {u = u} h
 safe_begin_name u n b x fs kinds.OpenRound = λ w qs a. safe_begin_call u n b x fs w qs a
 safe_begin_name u n b x fs kind = λ w qs a.
-    kept w qs (λ k. HasTarget w u n b (TargetVariable b x) fs (put k kind a ∷ qs)) (λ k. Stands w (target_need u n) fs (put n (kinds.Name x) b ∷ put k kind a ∷ qs)) (on_aimed u n b (TargetVariable b x) fs kind)
+    kept w qs (λ k. HasTarget w u n b (TargetVariable b x) fs (put k kind a ∷ qs)) (λ k. Stands w (target_need u n) fs (put n (kinds.Name x) b ∷ put k kind a ∷ qs)) (on_target_read u n b (TargetVariable b x) fs kind)
     (λ k s. has_target s tt variable_target) (safe_aimed u n b (TargetVariable b x) fs kind w qs a)
 
 pub safe_ended : (n : ℕ) (s : Stmt) (fs : List Frame) (kind : TokenKind) → Safe (Ended n s) fs kind
@@ -390,7 +390,7 @@ safe_settled s (Then b n e ∷ fs) kind w qs a = safe_else b n e s fs kind w qs 
 safe_settled s (DoTurns b n ∷ fs) kind w qs a = safe_do_while b n s fs kind w qs a
 safe_settled s _ kind w qs a = tt
 
-pub safe_did : (s : Stmt) (fs : List Frame) (kind : TokenKind) → Safe (Did s) fs kind
+pub safe_did : (s : Stmt) (fs : List Frame) (kind : TokenKind) → Safe (StatementRead s) fs kind
 safe_did s fs kind = λ w qs a.
     let x : Settled = settle (is_else kind) s fs in
     kept w qs (λ k. HasStatement w x.statement x.rest (put k kind a ∷ qs)) (λ k. HasStatement w s fs (put k kind a ∷ qs)) (on_settled x.statement x.rest (record { kind = kind; at = a }))

@@ -15,7 +15,7 @@ use Rattle.clsyntax_lex.specs.declared.token.TokenKind.TheVariants as kinds
 use Rattle.clsyntax_terms.specs.Grammar as grammar
 use Rattle.clsyntax_terms.specs.Machine as machine
 use Rattle.clsyntax_terms.specs.Grammar.{Placed, put, start, Head, Prefix, infix_of, level, head, type_of, assign_of, step_of, IsNamed, Expr, Arguments, Assignee, Simple, Statement, Initial, Condition, Typing, Declaration, Items, Parameters, Returning, Heading, Program, Reads, one_argument, next_argument}
-use Rattle.clsyntax_terms.specs.Machine.{Frame, After, Before, Asked, Chosen, InRound, InElement, InAddress, InCall, InPart, InBehind, InStep, InAssign, InDeclare, InReturn, InIf, InWhile, InDo, InInitial, InCondition, InFinal, Then, Otherwise, Turns, DoTurns, ForTurns, InItems, InBlock, InBody, InHead, InProgram, Purpose, ForParameter, ForDeclaration, takes_size, nesting_of, Mode, Operand, Have, Named, Opened, CastType, AfterAnd, AndName, CallOpen, Optional, Item, Begin, Aim, BeginName, Aimed, Ended, Closing, Did, AfterIf, AfterWhile, AfterFor, AfterDo, AfterSpace, AfterConst, AfterElement, AfterTyping, Declared, ArrayNamed, ArrayOpened, ArraySized, ArrayClosed, Top, AfterKernel, AfterReturning, AfterName, HeadOpen, WantParameter, AfterParameter, HeadDone, State, in_mode, Moved, step}
+use Rattle.clsyntax_terms.specs.Machine.{Frame, After, Before, Conditional, Chosen, InRound, InElement, InAddress, InCall, InPart, InBehind, InStep, InAssign, InDeclare, InReturn, InIf, InWhile, InDo, InInitial, InCondition, InFinal, Then, Otherwise, Turns, DoTurns, ForTurns, InItems, InBlock, InBody, InHead, InProgram, Purpose, ForParameter, ForDeclaration, takes_size, nesting_of, Mode, Operand, ExpressionRead, Named, Opened, CastType, AfterAnd, AndName, CallOpen, Optional, Item, Begin, Aim, BeginName, TargetRead, Ended, Closing, StatementRead, AfterIf, AfterWhile, AfterFor, AfterDo, AfterSpace, AfterConst, AfterElement, AfterTyping, Declared, ArrayNamed, ArrayOpened, ArraySized, ArrayClosed, Top, AfterKernel, AfterReturning, AfterName, HeadOpen, WantParameter, AfterParameter, HeadDone, State, in_mode, Moved, step}
 use Rattle.clsyntax.proofs.Levels.{reach}
 
 -- What the innermost frame waits for, and its nesting. An item is a statement or a declaration; a simple statement may be a
@@ -123,7 +123,7 @@ pub data Stands : List Placed → Need → List Frame → List Placed → Type 0
       → Stands w (AnExpr n) fs ps → reach fs ≤ level op → infix_of k ≡ Some op → Reads (Expr (level op) n d m) ps (put m k b ∷ qs) → Stands w (AnExpr (suc m)) (After (start ps) op d ∷ fs) qs
   in_before : {w ps qs : List Placed} {fs : List Frame} {n : ℕ} {p : Prefix} → Stands w (AnExpr n) fs ps → Reads (grammar.Before n p) ps qs → Stands w (AnExpr (suc n)) (Before (start ps) p ∷ fs) qs
   in_asked : {w ps qs : List Placed} {fs : List Frame} {n m b : ℕ} {d : Term}
-      → Stands w (AnExpr n) fs ps → reach fs ≤ 0 → Reads (Expr 1 n d m) ps (put m kinds.Question b ∷ qs) → Stands w (AnExpr (suc m)) (Asked (start ps) d ∷ fs) qs
+      → Stands w (AnExpr n) fs ps → reach fs ≤ 0 → Reads (Expr 1 n d m) ps (put m kinds.Question b ∷ qs) → Stands w (AnExpr (suc m)) (Conditional (start ps) d ∷ fs) qs
   in_chosen : {w ps qs rs : List Placed} {fs : List Frame} {n m o b c : ℕ} {d e : Term}
       → Stands w (AnExpr n) fs ps → reach fs ≤ 0 → Reads (Expr 1 n d m) ps (put m kinds.Question b ∷ qs) → Reads (Expr 0 (suc m) e o) qs (put o kinds.Colon c ∷ rs) → Stands w (AnExpr o) (Chosen (start ps) d e ∷ fs) rs
   in_round : {w qs : List Placed} {fs : List Frame} {n a : ℕ} → Stands w (AnExpr n) fs (put n kinds.OpenRound a ∷ qs) → Stands w (AnExpr (suc n)) (InRound a n ∷ fs) qs
@@ -236,7 +236,7 @@ pub record HasReturning (w : List Placed) (k : Bool) (r : Option IntType) (fs : 
 
 abbrev pub GoodIn : List Placed → Mode → List Frame → List Placed → Type 0
 GoodIn w (Operand n) fs qs = Stands w (AnExpr n) fs qs
-GoodIn w (Have n from e) fs qs = HasExpr w n from e fs qs
+GoodIn w (ExpressionRead n from e) fs qs = HasExpr w n from e fs qs
 GoodIn w (Named n a x) fs qs = Stands w (AnExpr n) fs (put n (kinds.Name x) a ∷ qs)
 GoodIn w (Opened n a) fs qs = Stands w (AnExpr n) fs (put n kinds.OpenRound a ∷ qs)
 GoodIn w (CastType n a type) fs qs = HasCast w n a type fs qs
@@ -250,10 +250,10 @@ GoodIn w (machine.Initial n) fs qs = Stands w (AnInitial n) fs qs
 GoodIn w (machine.Final n) fs qs = Stands w (ASimple n) fs qs
 GoodIn w (Aim n) fs qs = Stands w (AStepTarget n) fs qs
 GoodIn w (BeginName u n a x) fs qs = Stands w (target_need u n) fs (put n (kinds.Name x) a ∷ qs)
-GoodIn w (Aimed u n a t) fs qs = HasTarget w u n a t fs qs
+GoodIn w (TargetRead u n a t) fs qs = HasTarget w u n a t fs qs
 GoodIn w (Ended n s) fs qs = HasEnded w n s fs qs
 GoodIn w (Closing n s) fs qs = HasClosing w n s fs qs
-GoodIn w (Did s) fs qs = HasStatement w s fs qs
+GoodIn w (StatementRead s) fs qs = HasStatement w s fs qs
 GoodIn w (AfterIf n a) fs qs = Stands w (AStatement n) fs (put n kinds.If a ∷ qs)
 GoodIn w (AfterWhile n a) fs qs = Stands w (AStatement n) fs (put n kinds.While a ∷ qs)
 GoodIn w (AfterFor n a) fs qs = Stands w (AStatement n) fs (put n kinds.For a ∷ qs)

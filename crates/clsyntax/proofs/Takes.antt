@@ -12,7 +12,7 @@ use Rattle.clsyntax_lex.specs.declared.token.Token.{Token}
 use Rattle.clsyntax_lex.specs.declared.token.TokenKind.{TokenKind}
 use Rattle.clsyntax_lex.specs.declared.token.TokenKind.TheVariants as kinds
 use Rattle.clsyntax_terms.specs.Grammar.{Placed, put, level, tight, Prefix, prefix_of, prefixed_by, type_of, assign_of, step_of, IsNamed, IsNoElse, pointer_to}
-use Rattle.clsyntax_terms.specs.Machine.{Frame, After, Before, Chosen, InRound, InPart, InBehind, InStep, InAssign, InItems, Then, Otherwise, Turns, ForTurns, Purpose, ForParameter, ForDeclaration, takes_size, nesting_of, Mode, Operand, Have, Named, Opened, CastType, CallOpen, Optional, Item, Begin, Initial, Final, Aim, BeginName, Aimed, Ended, Did, AfterElement, AfterTyping, AfterReturning, HeadOpen, WantParameter, State, in_mode, Moved, go, when, on_operand, on_prefix, on_opened, on_have, on_named, on_call_open, end_simple, on_optional, on_typing, on_after_const, on_after_space, on_head_open, on_top, on_simple, on_begin, on_item, on_initial, on_final, is_else, Settled, settle, on_settled, on_placed, on_aimed, on_begin_name, step}
+use Rattle.clsyntax_terms.specs.Machine.{Frame, After, Before, Chosen, InRound, InPart, InBehind, InStep, InAssign, InItems, Then, Otherwise, Turns, ForTurns, Purpose, ForParameter, ForDeclaration, takes_size, nesting_of, Mode, Operand, ExpressionRead, Named, Opened, CastType, CallOpen, Optional, Item, Begin, Initial, Final, Aim, BeginName, TargetRead, Ended, StatementRead, AfterElement, AfterTyping, AfterReturning, HeadOpen, WantParameter, State, in_mode, Moved, go, when, on_operand, on_prefix, on_opened, on_expression_read, on_named, on_call_open, end_simple, on_optional, on_typing, on_after_const, on_after_space, on_head_open, on_top, on_simple, on_begin, on_item, on_initial, on_final, is_else, Settled, settle, on_settled, on_placed, on_target_read, on_begin_name, step}
 use Rattle.clsyntax.proofs.Moves.{Runs, stop, onward, Alike}
 use Rattle.clsyntax.proofs.Levels.{asks, IsNoOpening, Follows, taken, chosen_taken}
 
@@ -63,27 +63,27 @@ cast_step n a fs kinds.SizeT type at e = let f : Some _ ≡ Some type = e in let
 cast_step n a fs _ type at e = let clash : None ≡ Some type = e in cc
 
 -- a name moves as an expression does, but at an opening bracket
-named_same : (n a x : ℕ) (fs : List Frame) (kind : TokenKind) (at : ℕ) → IsNoOpening kind → on_named n a x fs (token_of kind at) ≡ on_have n a (Variable a x) fs (token_of kind at)
+named_same : (n a x : ℕ) (fs : List Frame) (kind : TokenKind) (at : ℕ) → IsNoOpening kind → on_named n a x fs (token_of kind at) ≡ on_expression_read n a (Variable a x) fs (token_of kind at)
 named_same n a x fs kinds.OpenRound at h = absurd h
 named_same n a x fs kinds.OpenSquare at h = absurd h
 named_same n a x fs _ at h = refl
 
-pub named_alike : (l n a x : ℕ) (fs : List Frame) (qs : List Placed) → Follows l qs → Alike (in_mode (Named n a x) fs) (in_mode (Have n a (Variable a x)) fs) qs
+pub named_alike : (l n a x : ℕ) (fs : List Frame) (qs : List Placed) → Follows l qs → Alike (in_mode (Named n a x) fs) (in_mode (ExpressionRead n a (Variable a x)) fs) qs
 named_alike l n a x fs [] f = tt
 named_alike l n a x fs (q ∷ qs) f = named_same n a x fs q.token.kind q.token.at f.no_opening
 
 -- ---- what an expression is read for takes it at the next token
 
-pub prefixed_alike : (m b from : ℕ) (p : Prefix) (e : Term) (fs : List Frame) (qs : List Placed) → Alike (in_mode (Have m from e) (Before b p ∷ fs)) (in_mode (Have m b (prefixed_by p b e)) fs) qs
+pub prefixed_alike : (m b from : ℕ) (p : Prefix) (e : Term) (fs : List Frame) (qs : List Placed) → Alike (in_mode (ExpressionRead m from e) (Before b p ∷ fs)) (in_mode (ExpressionRead m b (prefixed_by p b e)) fs) qs
 prefixed_alike m b from p e fs [] = tt
 prefixed_alike m b from p e fs (q ∷ qs) = refl
 
 pub taken_alike : (l m b from : ℕ) (op : InfixOperator) (d e : Term) (fs : List Frame) (qs : List Placed) → Follows l qs → l ≤ level op
-    → Alike (in_mode (Have m from e) (After b op d ∷ fs)) (in_mode (Have m b (Binary b op d e)) fs) qs
+    → Alike (in_mode (ExpressionRead m from e) (After b op d ∷ fs)) (in_mode (ExpressionRead m b (Binary b op d e)) fs) qs
 taken_alike l m b from op d e fs [] f h = tt
 taken_alike l m b from op d e fs (q ∷ qs) f h = taken m b from op d e fs q.token (let g = f.level_ in omega arith)
 
-pub chosen_alike : (m b from : ℕ) (c d e : Term) (fs : List Frame) (qs : List Placed) → Follows 0 qs → Alike (in_mode (Have m from e) (Chosen b c d ∷ fs)) (in_mode (Have m b (Choice b c d e)) fs) qs
+pub chosen_alike : (m b from : ℕ) (c d e : Term) (fs : List Frame) (qs : List Placed) → Follows 0 qs → Alike (in_mode (ExpressionRead m from e) (Chosen b c d ∷ fs)) (in_mode (ExpressionRead m b (Choice b c d e)) fs) qs
 chosen_alike m b from c d e fs [] f = tt
 chosen_alike m b from c d e fs (q ∷ qs) f = chosen_taken m b from c d e fs q.token f.level_
 
@@ -91,7 +91,7 @@ chosen_alike m b from c d e fs (q ∷ qs) f = chosen_taken m b from c d e fs q.t
 
 -- a simple statement in front of these frames is a whole one at its semicolon
 abbrev pub IsPlain : List Frame → Type 0
-IsPlain fs = (n : ℕ) (s : Stmt) → end_simple n s fs ≡ go n (Did s) fs
+IsPlain fs = (n : ℕ) (s : Stmt) → end_simple n s fs ≡ go n (StatementRead s) fs
 
 -- a state takes what a statement's state takes; so for a simple one
 pub record TakesStatement (s : State) (n : ℕ) (fs : List Frame) : Type 0 where
@@ -175,12 +175,12 @@ step_no_opening kinds.OpenRound up e = let clash : None ≡ Some up = e in cc
 step_no_opening kinds.OpenSquare up e = let clash : None ≡ Some up = e in cc
 step_no_opening _ up e = tt
 
-begin_same : (u : Bool) (n a x : ℕ) (fs : List Frame) (k : TokenKind) (at : ℕ) → IsNoOpening k → on_begin_name u n a x fs (token_of k at) ≡ on_aimed u n a (TargetVariable a x) fs k
+begin_same : (u : Bool) (n a x : ℕ) (fs : List Frame) (k : TokenKind) (at : ℕ) → IsNoOpening k → on_begin_name u n a x fs (token_of k at) ≡ on_target_read u n a (TargetVariable a x) fs k
 begin_same u n a x fs kinds.OpenRound at h = absurd h
 begin_same u n a x fs kinds.OpenSquare at h = absurd h
 begin_same u n a x fs _ at h = refl
 
-pub begin_alike : (u : Bool) (n a x : ℕ) (fs : List Frame) {t : Target} (qs : List Placed) → AfterTarget u t qs → Alike (in_mode (BeginName u n a x) fs) (in_mode (Aimed u n a (TargetVariable a x)) fs) qs
+pub begin_alike : (u : Bool) (n a x : ℕ) (fs : List Frame) {t : Target} (qs : List Placed) → AfterTarget u t qs → Alike (in_mode (BeginName u n a x) fs) (in_mode (TargetRead u n a (TargetVariable a x)) fs) qs
 begin_alike u n a x fs _ (assigns {d = d} {k = k} {op = op} e) = begin_same false n a x fs k d (assign_no_opening k op e)
 begin_alike u n a x fs _ (steps {d = d} {k = k} {up = up} e g) = begin_same false n a x fs k d (step_no_opening k up e)
 begin_alike u n a x fs _ (stops at_semicolon) = refl
@@ -207,7 +207,7 @@ target_ends t u _ (steps e g) h = absurd (h g)
 target_ends t u qs (stops f) h = end_follows tight qs f
 
 behind_assign : (n m a from d : ℕ) (e : Term) (fs : List Frame) (k : TokenKind) (op : Option BinaryOperator) → assign_of k ≡ Some op
-    → on_have m from e (InBehind false a n ∷ fs) (token_of k d) ≡ on_aimed false n a (TargetDereference a e) fs k
+    → on_expression_read m from e (InBehind false a n ∷ fs) (token_of k d) ≡ on_target_read false n a (TargetDereference a e) fs k
 behind_assign n m a from d e fs kinds.Assign op h = refl
 behind_assign n m a from d e fs kinds.PlusAssign op h = refl
 behind_assign n m a from d e fs kinds.MinusAssign op h = refl
@@ -222,7 +222,7 @@ behind_assign n m a from d e fs kinds.OrAssign op h = refl
 behind_assign n m a from d e fs _ op h = let clash : None ≡ Some op = h in absurd cc
 
 pub behind_alike : (u : Bool) (n m a from : ℕ) (e : Term) (fs : List Frame) (qs : List Placed) → AfterTarget u (TargetDereference a e) qs
-    → Alike (in_mode (Have m from e) (InBehind u a n ∷ fs)) (in_mode (Aimed u n a (TargetDereference a e)) fs) qs
+    → Alike (in_mode (ExpressionRead m from e) (InBehind u a n ∷ fs)) (in_mode (TargetRead u n a (TargetDereference a e)) fs) qs
 behind_alike u n m a from e fs _ (assigns {d = d} {k = k} {op = op} h) = behind_assign n m a from d e fs k op h
 behind_alike u n m a from e fs _ (steps h g) = absurd g
 behind_alike u n m a from e fs _ (stops at_semicolon) = refl
@@ -243,11 +243,11 @@ star_begins a ps from_aim = onward refl stop
 
 -- ---- simple statements
 
-pub assign_step : (n a : ℕ) (p : Target) (fs : List Frame) (k : TokenKind) (op : Option BinaryOperator) → assign_of k ≡ Some op → on_aimed false n a p fs k ≡ go n (Operand n) (InAssign a n p op ∷ fs)
+pub assign_step : (n a : ℕ) (p : Target) (fs : List Frame) (k : TokenKind) (op : Option BinaryOperator) → assign_of k ≡ Some op → on_target_read false n a p fs k ≡ go n (Operand n) (InAssign a n p op ∷ fs)
 assign_step n a p fs k op e = ap (λ o. on_placed o (step_of k) n a p fs) e
 
 pub assign_alike : (n m from a : ℕ) (p : Target) (op : Option BinaryOperator) (e : Term) (fs : List Frame) (qs : List Placed) → AtEnd qs
-    → Alike (in_mode (Have m from e) (InAssign a n p op ∷ fs)) (in_mode (Ended n (Assign a p op e)) fs) qs
+    → Alike (in_mode (ExpressionRead m from e) (InAssign a n p op ∷ fs)) (in_mode (Ended n (Assign a p op e)) fs) qs
 assign_alike n m from a p op e fs _ at_semicolon = refl
 assign_alike n m from a p op e fs _ at_bracket = refl
 
@@ -256,19 +256,19 @@ step_begins n a fs kinds.PlusPlus up e = let same : true ≡ up = cc in ap (λ z
 step_begins n a fs kinds.MinusMinus up e = let same : false ≡ up = cc in ap (λ z. go n (Aim (suc n)) (InStep a n z ∷ fs)) same
 step_begins n a fs _ up e = let clash : None ≡ Some up = e in absurd cc
 
-pub step_ends : (n a : ℕ) (p : Target) (fs : List Frame) (k : TokenKind) (up : Bool) → step_of k ≡ Some up → on_aimed false n a p fs k ≡ go n (Ended n (Step a p up)) fs
+pub step_ends : (n a : ℕ) (p : Target) (fs : List Frame) (k : TokenKind) (up : Bool) → step_of k ≡ Some up → on_target_read false n a p fs k ≡ go n (Ended n (Step a p up)) fs
 step_ends n a p fs kinds.PlusPlus up e = let same : true ≡ up = cc in ap (λ z. go n (Ended n (Step a p z)) fs) same
 step_ends n a p fs kinds.MinusMinus up e = let same : false ≡ up = cc in ap (λ z. go n (Ended n (Step a p z)) fs) same
 step_ends n a p fs _ up e = let clash : None ≡ Some up = e in absurd cc
 
-pub step_alike : (n k a b : ℕ) (p : Target) (up : Bool) (fs : List Frame) (qs : List Placed) → AtEnd qs → Alike (in_mode (Aimed true k b p) (InStep a n up ∷ fs)) (in_mode (Ended n (Step a p up)) fs) qs
+pub step_alike : (n k a b : ℕ) (p : Target) (up : Bool) (fs : List Frame) (qs : List Placed) → AtEnd qs → Alike (in_mode (TargetRead true k b p) (InStep a n up ∷ fs)) (in_mode (Ended n (Step a p up)) fs) qs
 step_alike n k a b p up fs _ at_semicolon = refl
 step_alike n k a b p up fs _ at_bracket = refl
 
 -- ---- what a statement stands in takes it at the next token
 
 -- a statement is added to those before it
-pub did_then : (n : ℕ) (ss : Stmts) (s : Stmt) (fs : List Frame) (ps : List Placed) → Alike (in_mode (Did s) (InItems n ss ∷ fs)) (in_mode (Item n) (InItems n (ThenStmt ss s) ∷ fs)) ps
+pub did_then : (n : ℕ) (ss : Stmts) (s : Stmt) (fs : List Frame) (ps : List Placed) → Alike (in_mode (StatementRead s) (InItems n ss ∷ fs)) (in_mode (Item n) (InItems n (ThenStmt ss s) ∷ fs)) ps
 did_then n ss s fs [] = tt
 did_then n ss s fs (p ∷ ps) = refl
 
@@ -276,22 +276,22 @@ pub not_else : (k : TokenKind) → (k ≡ kinds.Else → ⊥) → is_else k ≡ 
 not_else kinds.Else h = absurd (h refl)
 not_else _ h = refl
 
-pub if_alike : (a n : ℕ) (e : Term) (s : Stmt) (fs : List Frame) (ps : List Placed) → IsNoElse ps → Alike (in_mode (Did s) (Then a n e ∷ fs)) (in_mode (Did (If a e s)) fs) ps
+pub if_alike : (a n : ℕ) (e : Term) (s : Stmt) (fs : List Frame) (ps : List Placed) → IsNoElse ps → Alike (in_mode (StatementRead s) (Then a n e ∷ fs)) (in_mode (StatementRead (If a e s)) fs) ps
 if_alike a n e s fs [] h = tt
 if_alike a n e s fs (p ∷ ps) h =
     let k = not_else p.token.kind h in
     let on : Settled → Moved = λ x. on_settled x.statement x.rest p.token in
     ap (λ b. on (settle b s (Then a n e ∷ fs))) k ∙ ap (λ b. on (settle b (If a e s) fs)) (sym k)
 
-pub else_alike : (a : ℕ) (e : Term) (s t : Stmt) (fs : List Frame) (ps : List Placed) → Alike (in_mode (Did t) (Otherwise a e s ∷ fs)) (in_mode (Did (IfElse a e s t)) fs) ps
+pub else_alike : (a : ℕ) (e : Term) (s t : Stmt) (fs : List Frame) (ps : List Placed) → Alike (in_mode (StatementRead t) (Otherwise a e s ∷ fs)) (in_mode (StatementRead (IfElse a e s t)) fs) ps
 else_alike a e s t fs [] = tt
 else_alike a e s t fs (p ∷ ps) = refl
 
-pub while_alike : (a : ℕ) (e : Term) (s : Stmt) (fs : List Frame) (ps : List Placed) → Alike (in_mode (Did s) (Turns a e ∷ fs)) (in_mode (Did (While a e s)) fs) ps
+pub while_alike : (a : ℕ) (e : Term) (s : Stmt) (fs : List Frame) (ps : List Placed) → Alike (in_mode (StatementRead s) (Turns a e ∷ fs)) (in_mode (StatementRead (While a e s)) fs) ps
 while_alike a e s fs [] = tt
 while_alike a e s fs (p ∷ ps) = refl
 
-pub for_alike : (a : ℕ) (i f : MaybeStmt) (c : MaybeTerm) (s : Stmt) (fs : List Frame) (ps : List Placed) → Alike (in_mode (Did s) (ForTurns a i c f ∷ fs)) (in_mode (Did (For a i c f s)) fs) ps
+pub for_alike : (a : ℕ) (i f : MaybeStmt) (c : MaybeTerm) (s : Stmt) (fs : List Frame) (ps : List Placed) → Alike (in_mode (StatementRead s) (ForTurns a i c f ∷ fs)) (in_mode (StatementRead (For a i c f s)) fs) ps
 for_alike a i f c s fs [] = tt
 for_alike a i f c s fs (p ∷ ps) = refl
 

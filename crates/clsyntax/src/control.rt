@@ -253,8 +253,8 @@ fn on_settled(statement: Box<Statement>, stack: Stack, token: Token) -> Moved
 }
 
 /// After a statement.
-pub(crate) fn on_did(statement: Box<Statement>, stack: Stack, token: Token) -> Moved
-    ensures { Steps result (machine.on_did (stmt statement.value) (opened stack) token) }
+pub(crate) fn on_statement_read(statement: Box<Statement>, stack: Stack, token: Token) -> Moved
+    ensures { Steps result (machine.on_statement_read (stmt statement.value) (opened stack) token) }
 {
     let before_else = matches!(token.kind, TokenKind::Else);
     let settled = settle(before_else, statement, stack)?;

@@ -7,20 +7,20 @@ ghost use Rattle.clsyntax_terms.specs.Views.{opened, state_of, Steps};
 
 use crate::arrays::on_array_mode;
 use crate::control::{
-    on_after_do, on_after_for, on_after_if, on_after_while, on_did, on_final, on_initial,
+    on_after_do, on_after_for, on_after_if, on_after_while, on_final, on_initial, on_statement_read,
 };
 use crate::heads::{on_head, on_type};
 use crate::operands::{on_call_open, on_opened, on_optional};
 use crate::statements::{
-    on_aim, on_aimed, on_begin, on_begin_name, on_declared, on_item, open_call,
+    on_aim, on_begin, on_begin_name, on_declared, on_item, on_target_read, open_call,
 };
 use clmodel::tree::{Expression, Statement};
 use clsyntax_lex::token::{Token, TokenKind};
 use clsyntax_terms::closing::on_ended;
-use clsyntax_terms::expressions::{on_have, on_operand};
+use clsyntax_terms::expressions::{on_expression_read, on_operand};
 use clsyntax_terms::nesting::Nesting;
 use clsyntax_terms::state::{
-    Address, Cast, Frame, Have, Identifier, Mode, Moved, Prefix, Stack, State, Step,
+    Address, Cast, ExpressionRead, Frame, Identifier, Mode, Moved, Prefix, Stack, State, Step,
 };
 use std::alloc::Global;
 
@@ -40,12 +40,12 @@ fn on_named(nesting: Nesting, identifier: Identifier, stack: Stack, token: Token
         _ => {
             let Identifier { at, name } = identifier;
             let value = Box::new(stack.alloc, Expression::Variable { at, name })?;
-            let have = Have {
+            let read = ExpressionRead {
                 nesting,
                 from: at,
                 value,
             };
-            on_have(have, stack, token)
+            on_expression_read(read, stack, token)
         }
     }
 }
@@ -100,7 +100,7 @@ fn on_closing(nesting: Nesting, statement: Box<Statement>, stack: Stack, token: 
     ensures { Steps result (machine.on_closing nesting.0 (stmt statement.value) (opened stack) token) }
 {
     match token.kind {
-        TokenKind::Semicolon => stack.go(nesting, Mode::Did(statement)),
+        TokenKind::Semicolon => stack.go(nesting, Mode::StatementRead(statement)),
         _ => Ok(Step::Refused),
     }
 }
@@ -113,7 +113,7 @@ pub(crate) fn step(alloc: Global, state: Box<State>, token: Token) -> Moved
     let stack = Stack { alloc, frames };
     match mode {
         Mode::Operand { nesting } => on_operand(nesting, stack, token),
-        Mode::Have(have) => on_have(have, stack, token),
+        Mode::ExpressionRead(read) => on_expression_read(read, stack, token),
         Mode::Named {
             nesting,
             identifier,
@@ -130,10 +130,10 @@ pub(crate) fn step(alloc: Global, state: Box<State>, token: Token) -> Moved
         Mode::Final { nesting } => on_final(nesting, stack, token),
         Mode::Aim { nesting } => on_aim(nesting, stack, token),
         Mode::BeginName(name) => on_begin_name(name, stack, token),
-        Mode::Aimed(aimed) => on_aimed(aimed, stack, token),
+        Mode::TargetRead(read) => on_target_read(read, stack, token),
         Mode::Ended { nesting, statement } => on_ended(nesting, statement, stack, token.kind),
         Mode::Closing { nesting, statement } => on_closing(nesting, statement, stack, token),
-        Mode::Did(statement) => on_did(statement, stack, token),
+        Mode::StatementRead(statement) => on_statement_read(statement, stack, token),
         Mode::AfterIf { nesting, at } => on_after_if(nesting, at, stack, token.kind),
         Mode::AfterWhile { nesting, at } => on_after_while(nesting, at, stack, token.kind),
         Mode::AfterFor { nesting, at } => on_after_for(nesting, at, stack, token.kind),

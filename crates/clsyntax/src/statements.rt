@@ -16,8 +16,8 @@ use clsyntax_terms::closing::{add_declaration, declaration, end_step};
 use clsyntax_terms::nesting::Nesting;
 use clsyntax_terms::operators::assign_of;
 use clsyntax_terms::state::{
-    Aimed, Assign, Call, Declared, FirstName, Frame, HeadMode, Identifier, Mode, Moved, Purpose,
-    Stack, Step,
+    Assign, Call, Declared, FirstName, Frame, HeadMode, Identifier, Mode, Moved, Purpose, Stack,
+    Step, TargetRead,
 };
 
 /// After a declared name.
@@ -85,7 +85,7 @@ fn end_items(nesting: Nesting, body: Vec<Statement>, stack: Stack) -> Moved
         }
         Frame::InBlock { at, .. } => {
             let statement = Box::new(stack.alloc, block_of(at, body))?;
-            stack.go(nesting, Mode::Did(statement))
+            stack.go(nesting, Mode::StatementRead(statement))
         }
         _ => {
             drop(frame);
@@ -198,7 +198,7 @@ pub(crate) fn on_begin(nesting: Nesting, stack: Stack, token: Token) -> Moved
         TokenKind::OpenBrace => open_block(nesting, at, stack),
         TokenKind::Semicolon => {
             let statement = Box::new(stack.alloc, Statement::Empty { at })?;
-            stack.go(nesting, Mode::Did(statement))
+            stack.go(nesting, Mode::StatementRead(statement))
         }
         TokenKind::If => stack.go(nesting, Mode::AfterIf { nesting, at }),
         TokenKind::While => stack.go(nesting, Mode::AfterWhile { nesting, at }),
@@ -267,7 +267,7 @@ fn step_of(kind: TokenKind) -> Option<bool>
 
 /// After the target with which a statement begins.
 fn on_placed(nesting: Nesting, at: u32, target: Box<Target>, stack: Stack, token: Token) -> Moved
-    ensures { Steps result (machine.on_aimed false nesting.0 at (tree_target target.value) (opened stack) token.kind) }
+    ensures { Steps result (machine.on_target_read false nesting.0 at (tree_target target.value) (opened stack) token.kind) }
 {
     match assign_of(token.kind) {
         Some(operator) => {
@@ -295,15 +295,15 @@ fn on_placed(nesting: Nesting, at: u32, target: Box<Target>, stack: Stack, token
 }
 
 /// After a name or an element that is a target.
-pub(crate) fn on_aimed(aimed: Aimed, stack: Stack, token: Token) -> Moved
-    ensures { Steps result (machine.on_aimed aimed.is_step aimed.nesting.0 aimed.at (tree_target aimed.target.value) (opened stack) token.kind) }
+pub(crate) fn on_target_read(read: TargetRead, stack: Stack, token: Token) -> Moved
+    ensures { Steps result (machine.on_target_read read.is_step read.nesting.0 read.at (tree_target read.target.value) (opened stack) token.kind) }
 {
-    let Aimed {
+    let TargetRead {
         is_step,
         nesting,
         at,
         target,
-    } = aimed;
+    } = read;
     match (is_step, token.kind) {
         (false, _) => on_placed(nesting, at, target, stack, token),
         (true, TokenKind::Semicolon) => end_step(false, target, stack),
@@ -350,13 +350,13 @@ pub(crate) fn on_begin_name(first: FirstName, stack: Stack, token: Token) -> Mov
         _ => {
             let Identifier { at, name } = identifier;
             let target = Box::new(stack.alloc, Target::Variable { at, name })?;
-            let aimed = Aimed {
+            let read = TargetRead {
                 is_step,
                 nesting,
                 at,
                 target,
             };
-            on_aimed(aimed, stack, token)
+            on_target_read(read, stack, token)
         }
     }
 }

@@ -22,7 +22,7 @@ pub data Frame : Type 0 where
   -- a prefix that waits for its operand
   Before : (at : ℕ) → Prefix → Frame
   -- `condition ?`, then `condition ? chosen :`; from: where the condition begins
-  Asked : (from : ℕ) → Term → Frame
+  Conditional : (from : ℕ) → Term → Frame
   Chosen : (from : ℕ) → Term → Term → Frame
   -- what an expression is read for
   InRound : (at n : ℕ) → Frame
@@ -74,7 +74,7 @@ nesting_of (ForDeclaration at n) = n
 pub data Mode : Type 0 where
   -- an operand is wanted; one was read, which begins at an offset
   Operand : (n : ℕ) → Mode
-  Have : (n from : ℕ) → Term → Mode
+  ExpressionRead : (n from : ℕ) → Term → Mode
   -- in an expression: a name was read; `(`; `(` and a type; `&`; `&` and a name; the bracket of a call
   Named : (n at name : ℕ) → Mode
   Opened : (n at : ℕ) → Mode
@@ -92,10 +92,10 @@ pub data Mode : Type 0 where
   -- a target is wanted; a first name was read; a target; a statement but its semicolon, simple or not; a whole statement
   Aim : (n : ℕ) → Mode
   BeginName : (is_step : Bool) → (n at name : ℕ) → Mode
-  Aimed : (is_step : Bool) → (n at : ℕ) → Target → Mode
+  TargetRead : (is_step : Bool) → (n at : ℕ) → Target → Mode
   Ended : (n : ℕ) → Stmt → Mode
   Closing : (n : ℕ) → Stmt → Mode
-  Did : Stmt → Mode
+  StatementRead : Stmt → Mode
   -- `if`, `while`, `for`; the `while` behind the body of a `do`
   AfterIf : (n at : ℕ) → Mode
   AfterWhile : (n at : ℕ) → Mode
@@ -167,7 +167,7 @@ on_prefix None n a fs = None
 -- where an operand is wanted
 abbrev pub on_operand : ℕ → List Frame → Token → Moved
 on_operand n fs t = elim t.kind [
-  | kinds.Number v ↦ go n (Have n t.at (Number t.at v)) fs
+  | kinds.Number v ↦ go n (ExpressionRead n t.at (Number t.at v)) fs
   | kinds.Name x ↦ go n (Named n t.at x) fs
   | kinds.And ↦ go n (AfterAnd (suc n) t.at) fs
   | kinds.OpenRound ↦ go n (Opened n t.at) fs
@@ -190,14 +190,14 @@ on_cast_type n a type fs t = elim t.kind [
 
 -- where a call's bracket closes
 abbrev pub end_call : Bool → ℕ → ℕ → ℕ → Terms → List Frame → Moved
-end_call false a x n es fs = go (suc n) (Have n a (Call a x es)) fs
+end_call false a x n es fs = go (suc n) (ExpressionRead n a (Call a x es)) fs
 end_call true a x n es fs = go (suc n) (Ended n (CallOnly a x es)) fs
 
 -- a simple statement at its semicolon: it may be the first part of a `for`
 abbrev pub end_simple : ℕ → Stmt → List Frame → Moved
 end_simple n s (InInitial a ∷ fs) = go n (Optional n) (InCondition a n (With s) ∷ fs)
 end_simple n s (InFinal a i c ∷ fs) = None
-end_simple n s fs = go n (Did s) fs
+end_simple n s fs = go n (StatementRead s) fs
 
 -- so at a bracket: it is the third part of a `for`
 abbrev pub end_final : ℕ → Stmt → List Frame → Moved
@@ -224,7 +224,7 @@ end_bracket e (InBehind true a n ∷ fs) = end_step true (TargetDereference a e)
 end_bracket e _ = None
 
 abbrev pub on_close_round : Term → List Frame → Moved
-on_close_round e (InRound a n ∷ fs) = go (suc n) (Have n a e) fs
+on_close_round e (InRound a n ∷ fs) = go (suc n) (ExpressionRead n a e) fs
 on_close_round e (InCall is_statement a x n es ∷ fs) = end_call is_statement a x n (ThenTerm es e) fs
 on_close_round e fs = end_bracket e fs
 
@@ -233,13 +233,13 @@ on_comma e (InCall is_statement a x n es ∷ fs) = go (suc n) (Operand (suc n)) 
 on_comma e _ = None
 
 abbrev pub on_close_square : Term → List Frame → Moved
-on_close_square e (InElement a x n ∷ fs) = go (suc n) (Have n a (Element a x e)) fs
-on_close_square e (InAddress a b x n ∷ fs) = go (suc n) (Have n a (ElementAddress a b x e)) fs
-on_close_square e (InPart is_step a x n ∷ fs) = go (suc n) (Aimed is_step n a (TargetElement a x e)) fs
+on_close_square e (InElement a x n ∷ fs) = go (suc n) (ExpressionRead n a (Element a x e)) fs
+on_close_square e (InAddress a b x n ∷ fs) = go (suc n) (ExpressionRead n a (ElementAddress a b x e)) fs
+on_close_square e (InPart is_step a x n ∷ fs) = go (suc n) (TargetRead is_step n a (TargetElement a x e)) fs
 on_close_square e _ = None
 
 abbrev pub on_colon : ℕ → Term → List Frame → Moved
-on_colon n e (Asked b d ∷ fs) = go n (Operand n) (Chosen b d e ∷ fs)
+on_colon n e (Conditional b d ∷ fs) = go n (Operand n) (Chosen b d e ∷ fs)
 on_colon n e _ = None
 
 -- the semicolon of a declaration in a block
@@ -256,13 +256,13 @@ abbrev pub on_semicolon : Term → List Frame → Moved
 on_semicolon e (InAssign a n p op ∷ fs) = end_simple n (Assign a p op e) fs
 on_semicolon e (InBehind true a n ∷ fs) = end_step false (TargetDereference a e) fs
 on_semicolon e (InDeclare a n kind b x ∷ fs) = end_declaration n (DeclareAs a kind b x e) fs
-on_semicolon e (InReturn a n ∷ fs) = go n (Did (ReturnValue a e)) fs
+on_semicolon e (InReturn a n ∷ fs) = go n (StatementRead (ReturnValue a e)) fs
 on_semicolon e (InCondition a n i ∷ fs) = go n (Final n) (InFinal a i (WithTerm e) ∷ fs)
 on_semicolon e _ = None
 
 -- a semicolon in place of an expression
 abbrev pub without : List Frame → Moved
-without (InReturn a n ∷ fs) = go n (Did (Return a)) fs
+without (InReturn a n ∷ fs) = go n (StatementRead (Return a)) fs
 without (InCondition a n i ∷ fs) = go n (Final n) (InFinal a i WithoutTerm ∷ fs)
 without _ = None
 
@@ -280,7 +280,7 @@ abbrev pub wait : ℕ → InfixOperator → Folded → Moved
 wait n op x = unless_behind x.rest (go n (Operand (suc n)) (After x.from op x.term ∷ x.rest))
 
 abbrev pub ask : ℕ → Folded → Moved
-ask n x = unless_behind x.rest (go n (Operand (suc n)) (Asked x.from x.term ∷ x.rest))
+ask n x = unless_behind x.rest (go n (Operand (suc n)) (Conditional x.from x.term ∷ x.rest))
 
 -- after an expression, at a token that is no operator between two
 abbrev pub end_expression : TokenKind → ℕ → Folded → Moved
@@ -302,15 +302,15 @@ abbrev pub after_folded : Option InfixOperator → TokenKind → ℕ → Folded 
 after_folded (Some op) kind n x = wait n op x
 after_folded None kind n x = end_expression kind n x
 
-abbrev pub on_have : ℕ → ℕ → Term → List Frame → Token → Moved
-on_have n from e fs t = after_folded (infix_of t.kind) t.kind n (close (asked_level (infix_of t.kind) t.kind) from e fs)
+abbrev pub on_expression_read : ℕ → ℕ → Term → List Frame → Token → Moved
+on_expression_read n from e fs t = after_folded (infix_of t.kind) t.kind n (close (asked_level (infix_of t.kind) t.kind) from e fs)
 
 -- after a name in an expression
 abbrev pub on_named : ℕ → ℕ → ℕ → List Frame → Token → Moved
 on_named n a x fs t = elim t.kind [
   | kinds.OpenSquare ↦ go n (Operand (suc n)) (InElement a x n ∷ fs)
   | kinds.OpenRound ↦ go n (CallOpen (suc n)) (InCall false a x n NoTerm ∷ fs)
-  | _ ↦ on_have n a (Variable a x) fs t
+  | _ ↦ on_expression_read n a (Variable a x) fs t
 ]
 
 abbrev pub on_after_and : ℕ → ℕ → List Frame → Token → Moved
@@ -448,7 +448,7 @@ end_function n f _ = None
 -- where a block with these items ends
 abbrev pub end_items : ℕ → Stmts → List Frame → Moved
 end_items n ss (InBody h a ∷ fs) = end_function n (with_body h a ss) fs
-end_items n ss (InBlock a m ∷ fs) = go n (Did (Block a ss)) fs
+end_items n ss (InBlock a m ∷ fs) = go n (StatementRead (Block a ss)) fs
 end_items n ss _ = None
 
 abbrev pub on_close_brace : List Frame → Moved
@@ -469,7 +469,7 @@ on_simple n fs t = elim t.kind [
 abbrev pub on_begin : ℕ → List Frame → Token → Moved
 on_begin n fs t = elim t.kind [
   | kinds.OpenBrace ↦ go n (Item (suc n)) (InItems (suc n) NoStmt ∷ InBlock t.at n ∷ fs)
-  | kinds.Semicolon ↦ go n (Did (Empty t.at)) fs
+  | kinds.Semicolon ↦ go n (StatementRead (Empty t.at)) fs
   | kinds.If ↦ go n (AfterIf n t.at) fs
   | kinds.While ↦ go n (AfterWhile n t.at) fs
   | kinds.Do ↦ go n (Begin (suc n)) (DoTurns t.at n ∷ fs)
@@ -564,9 +564,9 @@ on_stepped p fs kind = elim kind [
 ]
 
 -- after a name or an element that is a target
-abbrev pub on_aimed : Bool → ℕ → ℕ → Target → List Frame → TokenKind → Moved
-on_aimed false n a p fs kind = on_placed (assign_of kind) (step_of kind) n a p fs
-on_aimed true n a p fs kind = on_stepped p fs kind
+abbrev pub on_target_read : Bool → ℕ → ℕ → Target → List Frame → TokenKind → Moved
+on_target_read false n a p fs kind = on_placed (assign_of kind) (step_of kind) n a p fs
+on_target_read true n a p fs kind = on_stepped p fs kind
 
 abbrev pub begin_call : Bool → ℕ → ℕ → ℕ → List Frame → Moved
 begin_call false n a x fs = go n (CallOpen (suc n)) (InCall true a x n NoTerm ∷ fs)
@@ -577,7 +577,7 @@ abbrev pub on_begin_name : Bool → ℕ → ℕ → ℕ → List Frame → Token
 on_begin_name is_step n a x fs t = elim t.kind [
   | kinds.OpenSquare ↦ go n (Operand (suc n)) (InPart is_step a x n ∷ fs)
   | kinds.OpenRound ↦ begin_call is_step n a x fs
-  | _ ↦ on_aimed is_step n a (TargetVariable a x) fs t.kind
+  | _ ↦ on_target_read is_step n a (TargetVariable a x) fs t.kind
 ]
 
 -- after a simple statement
@@ -591,7 +591,7 @@ on_ended n s fs kind = elim kind [
 -- after another statement but its semicolon
 abbrev pub on_closing : ℕ → Stmt → List Frame → Token → Moved
 on_closing n s fs t = elim t.kind [
-  | kinds.Semicolon ↦ go n (Did s) fs
+  | kinds.Semicolon ↦ go n (StatementRead s) fs
   | _ ↦ None
 ]
 
@@ -634,8 +634,8 @@ on_settled s (Then a n e ∷ fs) t = on_else a n e s fs t.kind
 on_settled s (DoTurns a n ∷ fs) t = on_do_while a n s fs t.kind
 on_settled s _ t = None
 
-abbrev pub on_did : Stmt → List Frame → Token → Moved
-on_did s fs t = let x : Settled = settle (is_else t.kind) s fs in on_settled x.statement x.rest t
+abbrev pub on_statement_read : Stmt → List Frame → Token → Moved
+on_statement_read s fs t = let x : Settled = settle (is_else t.kind) s fs in on_settled x.statement x.rest t
 
 -- ---- functions
 
@@ -692,7 +692,7 @@ on_head_done fs t = elim t.kind [
 
 abbrev pub step_in : Mode → List Frame → Token → Moved
 step_in (Operand n) fs t = on_operand n fs t
-step_in (Have n from e) fs t = on_have n from e fs t
+step_in (ExpressionRead n from e) fs t = on_expression_read n from e fs t
 step_in (Named n a x) fs t = on_named n a x fs t
 step_in (Opened n a) fs t = on_opened n a fs t
 step_in (CastType n a type) fs t = on_cast_type n a type fs t
@@ -706,10 +706,10 @@ step_in (Initial n) fs t = on_initial n fs t
 step_in (Final n) fs t = on_final n fs t
 step_in (Aim n) fs t = on_aim n fs t
 step_in (BeginName is_step n a x) fs t = on_begin_name is_step n a x fs t
-step_in (Aimed is_step n a p) fs t = on_aimed is_step n a p fs t.kind
+step_in (TargetRead is_step n a p) fs t = on_target_read is_step n a p fs t.kind
 step_in (Ended n s) fs t = on_ended n s fs t.kind
 step_in (Closing n s) fs t = on_closing n s fs t
-step_in (Did s) fs t = on_did s fs t
+step_in (StatementRead s) fs t = on_statement_read s fs t
 step_in (AfterIf n a) fs t = on_after_if n a fs t.kind
 step_in (AfterWhile n a) fs t = on_after_while n a fs t.kind
 step_in (AfterFor n a) fs t = on_after_for n a fs t.kind

@@ -69,7 +69,7 @@ in_call c = machine.InCall c.is_statement c.identifier.at c.identifier.name c.ne
 abbrev pub frame_of : Frame → machine.Frame
 frame_of (frames.After from operator left) = machine.After from operator (term left.value)
 frame_of (frames.Before at p) = machine.Before at (prefix p)
-frame_of (frames.Asked from condition) = machine.Asked from (term condition.value)
+frame_of (frames.Conditional from condition) = machine.Conditional from (term condition.value)
 frame_of (frames.Chosen from condition chosen) = machine.Chosen from (term condition.value) (term chosen.value)
 frame_of (frames.InRound at nesting) = machine.InRound at nesting.0
 frame_of (frames.InElement i nesting) = machine.InElement i.at i.name nesting.0
@@ -126,7 +126,7 @@ array_mode_of (arrays.Closed nesting statement) = machine.ArrayClosed nesting.0 
 
 abbrev pub mode_of : Mode → machine.Mode
 mode_of (modes.Operand nesting) = machine.Operand nesting.0
-mode_of (modes.Have h) = machine.Have h.nesting.0 h.from (term h.value.value)
+mode_of (modes.ExpressionRead h) = machine.ExpressionRead h.nesting.0 h.from (term h.value.value)
 mode_of (modes.Named nesting i) = machine.Named nesting.0 i.at i.name
 mode_of (modes.Opened nesting at) = machine.Opened nesting.0 at
 mode_of (modes.CastType c) = machine.CastType c.nesting.0 c.at c.target
@@ -140,10 +140,10 @@ mode_of (modes.Initial nesting) = machine.Initial nesting.0
 mode_of (modes.Final nesting) = machine.Final nesting.0
 mode_of (modes.Aim nesting) = machine.Aim nesting.0
 mode_of (modes.BeginName n) = machine.BeginName n.is_step n.nesting.0 n.identifier.at n.identifier.name
-mode_of (modes.Aimed a) = machine.Aimed a.is_step a.nesting.0 a.at (tree_target a.target.value)
+mode_of (modes.TargetRead a) = machine.TargetRead a.is_step a.nesting.0 a.at (tree_target a.target.value)
 mode_of (modes.Ended nesting statement) = machine.Ended nesting.0 (stmt statement.value)
 mode_of (modes.Closing nesting statement) = machine.Closing nesting.0 (stmt statement.value)
-mode_of (modes.Did statement) = machine.Did (stmt statement.value)
+mode_of (modes.StatementRead statement) = machine.StatementRead (stmt statement.value)
 mode_of (modes.AfterIf nesting at) = machine.AfterIf nesting.0 at
 mode_of (modes.AfterWhile nesting at) = machine.AfterWhile nesting.0 at
 mode_of (modes.AfterFor nesting at) = machine.AfterFor nesting.0 at

@@ -65,7 +65,7 @@ fn end_simple(nesting: Nesting, statement: Box<Statement>, stack: Stack) -> Move
 {
     // The frame is looked at before it is taken, since it stays but in front of the second part of a `for`.
     match stack.part() {
-        Part::Other => stack.go(nesting, Mode::Did(statement)),
+        Part::Other => stack.go(nesting, Mode::StatementRead(statement)),
         Part::Final => Ok(Step::Refused),
         Part::Initial => {
             let Some((frame, stack)) = stack.pop() else {
@@ -251,10 +251,10 @@ fn end_declaration(nesting: Nesting, statement: Box<Statement>, stack: Stack) ->
 
 /// Where a value is given back, if there is one.
 fn end_return(nesting: Nesting, at: u32, value: Option<Box<Expression>>, stack: Stack) -> Moved
-    ensures { Steps result (machine.go nesting.0 (machine.Did (tree.returned at value)) (opened stack)) }
+    ensures { Steps result (machine.go nesting.0 (machine.StatementRead (tree.returned at value)) (opened stack)) }
 {
     let statement = Box::new(stack.alloc, Statement::Return { at, value })?;
-    stack.go(nesting, Mode::Did(statement))
+    stack.go(nesting, Mode::StatementRead(statement))
 }
 
 /// The semicolon behind an expression.

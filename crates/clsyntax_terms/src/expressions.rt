@@ -1,4 +1,4 @@
-//! Expressions.
+//! What each token does to what is open of an expression (C99 6.5).
 #![tactic(auto)]
 
 ghost use Rattle.std.specs.Prelude.{◌≡◌, suc};
@@ -12,7 +12,8 @@ use crate::closing::{end_bracket, on_semicolon};
 use crate::nesting::Nesting;
 use crate::operators::{Folded, assign_of, close, infix_of, is_star, prefix_of};
 use crate::state::{
-    Aimed, Assign, Call, FirstName, Frame, Have, Identifier, Mode, Moved, Stack, Step,
+    Assign, Call, ExpressionRead, FirstName, Frame, Identifier, Mode, Moved, Stack, Step,
+    TargetRead,
 };
 use clmodel::tree::{Expression, InfixOperator, Statement, Target};
 use clsyntax_lex::token::{Token, TokenKind};
@@ -25,12 +26,12 @@ pub fn on_operand(nesting: Nesting, stack: Stack, token: Token) -> Moved
     match kind {
         TokenKind::Number(value) => {
             let value = Box::new(stack.alloc, Expression::Number { at, value })?;
-            let have = Have {
+            let read = ExpressionRead {
                 nesting,
                 from: at,
                 value,
             };
-            stack.go(nesting, Mode::Have(have))
+            stack.go(nesting, Mode::ExpressionRead(read))
         }
         TokenKind::Name(name) => {
             let identifier = Identifier { at, name };
@@ -87,12 +88,12 @@ pub fn end_call(call: Call, stack: Stack) -> Moved
         stack.go(inner, Mode::Ended { nesting, statement })
     } else {
         let value = Box::new(stack.alloc, call_of(identifier, arguments))?;
-        let have = Have {
+        let read = ExpressionRead {
             nesting,
             from: identifier.at,
             value,
         };
-        stack.go(inner, Mode::Have(have))
+        stack.go(inner, Mode::ExpressionRead(read))
     }
 }
 
@@ -139,7 +140,7 @@ fn on_comma(value: Box<Expression>, stack: Stack) -> Moved
 
 /// Where the index of a target ends.
 fn end_part(array: FirstName, index: Box<Expression>, stack: Stack) -> Moved
-    ensures { Steps result (machine.go (suc array.nesting.0) (machine.Aimed array.is_step array.nesting.0 array.identifier.at (tree.TargetElement array.identifier.at array.identifier.name (term index.value))) (opened stack)) }
+    ensures { Steps result (machine.go (suc array.nesting.0) (machine.TargetRead array.is_step array.nesting.0 array.identifier.at (tree.TargetElement array.identifier.at array.identifier.name (term index.value))) (opened stack)) }
 {
     let FirstName {
         is_step,
@@ -151,13 +152,13 @@ fn end_part(array: FirstName, index: Box<Expression>, stack: Stack) -> Moved
     let Some(inner) = nesting.deeper() else {
         return Ok(Step::Deep);
     };
-    let aimed = Aimed {
+    let read = TargetRead {
         is_step,
         nesting,
         at,
         target,
     };
-    stack.go(inner, Mode::Aimed(aimed))
+    stack.go(inner, Mode::TargetRead(read))
 }
 
 /// Where an index ends.
@@ -202,7 +203,7 @@ fn on_colon(nesting: Nesting, chosen: Box<Expression>, stack: Stack) -> Moved
         return Ok(Step::Refused);
     };
     match frame {
-        Frame::Asked { from, condition } => {
+        Frame::Conditional { from, condition } => {
             let choice = Frame::Chosen {
                 from,
                 condition,
@@ -258,7 +259,7 @@ fn end_expression(kind: TokenKind, nesting: Nesting, folded: Folded) -> Moved
         TokenKind::Question if is_star(&stack.frames) => Ok(Step::Refused),
         TokenKind::Question => stack.open(
             nesting,
-            Frame::Asked {
+            Frame::Conditional {
                 from,
                 condition: value,
             },
@@ -284,14 +285,14 @@ fn asked_level(between: Option<InfixOperator>, kind: TokenKind) -> u32
 }
 
 /// After an expression.
-pub fn on_have(have: Have, stack: Stack, token: Token) -> Moved
-    ensures { Steps result (machine.on_have have.nesting.0 have.from (term have.value.value) (opened stack) token) }
+pub fn on_expression_read(read: ExpressionRead, stack: Stack, token: Token) -> Moved
+    ensures { Steps result (machine.on_expression_read read.nesting.0 read.from (term read.value.value) (opened stack) token) }
 {
-    let Have {
+    let ExpressionRead {
         nesting,
         from,
         value,
-    } = have;
+    } = read;
     let infix = infix_of(token.kind);
     let operand = Folded { from, value, stack };
     let folded = close(asked_level(infix, token.kind), operand)?;

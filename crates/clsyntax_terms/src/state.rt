@@ -113,7 +113,7 @@ pub struct FirstName {
 
 /// A target, and whether `++` or `--` stands before it.
 #[derive(Drop)]
-pub struct Aimed {
+pub struct TargetRead {
     pub is_step: bool,
     pub nesting: Nesting,
     pub at: u32,
@@ -122,7 +122,7 @@ pub struct Aimed {
 
 /// An expression, and where it begins.
 #[derive(Drop)]
-pub struct Have {
+pub struct ExpressionRead {
     pub nesting: Nesting,
     pub from: u32,
     pub value: Box<Expression>,
@@ -151,7 +151,7 @@ pub enum Frame {
         prefix: Prefix,
     },
     /// `condition ?`, and where it begins
-    Asked {
+    Conditional {
         from: u32,
         condition: Box<Expression>,
     },
@@ -280,7 +280,7 @@ pub enum Mode {
         nesting: Nesting,
     },
     /// An expression was read
-    Have(Have),
+    ExpressionRead(ExpressionRead),
     /// In an expression a name was read
     Named {
         nesting: Nesting,
@@ -331,7 +331,7 @@ pub enum Mode {
     /// A target's or a call's first name was read
     BeginName(FirstName),
     /// The target was read
-    Aimed(Aimed),
+    TargetRead(TargetRead),
     /// A simple statement was read
     Ended {
         nesting: Nesting,
@@ -343,7 +343,7 @@ pub enum Mode {
         statement: Box<Statement>,
     },
     /// A statement was read
-    Did(Box<Statement>),
+    StatementRead(Box<Statement>),
     AfterIf {
         nesting: Nesting,
         at: u32,
@@ -542,16 +542,16 @@ impl Stack {
 
     /// The step of a bracket's end, at which an expression was read that begins at an offset.
     pub(crate) fn close(self, nesting: Nesting, from: u32, value: Box<Expression>) -> Moved
-        ensures { Steps result (machine.go (suc nesting.0) (machine.Have nesting.0 from (term value.value)) (opened self)) }
+        ensures { Steps result (machine.go (suc nesting.0) (machine.ExpressionRead nesting.0 from (term value.value)) (opened self)) }
     {
         match nesting.deeper() {
             Some(inner) => {
-                let have = Have {
+                let read = ExpressionRead {
                     nesting,
                     from,
                     value,
                 };
-                self.go(inner, Mode::Have(have))
+                self.go(inner, Mode::ExpressionRead(read))
             }
             None => Ok(Step::Deep),
         }

@@ -12,7 +12,7 @@ use clmodel::setup::Range;
 const MAX_GROUP: u64 = 256;
 
 /// The most items that a launch may have.
-const MAX_ITEMS: u64 = 65536;
+const MAX_ITEMS: u64 = 65_536;
 
 /// Whether in a dimension the offset and the global size pass 2^64 - 1 together (OpenCL 1.2, section 5.8).
 fn any_passes(offset: &[u64], global: &[u64]) -> bool

@@ -145,7 +145,7 @@ fn hex_value(byte: u8) -> u8
 {
     match byte {
         b'0'..=b'9' => byte - b'0',
-        b'a'..=b'f' => byte - 87,
+        b'a'..=b'f' => byte - (b'a' - 10),
         _ => 0,
     }
 }

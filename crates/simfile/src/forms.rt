@@ -13,6 +13,9 @@ use crate::lines::{
 };
 use line_fields::{after, number_at, number_before, value_at};
 
+/// The most lines of a source.
+pub(crate) const MAX_SOURCE_LINES: u64 = 65_536;
+
 #[tactic(auto, unfolding(crate::specs::Reading::buffer_at))]
 fn buffer_at(bytes: &[u8]) -> Option<(Line<'_>, &[u8])>
     ensures { option_map (λ read. (command_of read.0, read.1.now)) result ≡ buffer_at bytes.now }
@@ -96,12 +99,12 @@ fn release_at(bytes: &[u8]) -> Option<(Line<'_>, &[u8])>
     Some((Line::Release { name }, rest))
 }
 
-/// The lines of a source, of which there are 1 to 65,536.
+/// The lines of a source: one to [`MAX_SOURCE_LINES`].
 #[tactic(auto, unfolding(crate::specs::Reading::source_at))]
 fn source_at(count: u64, bytes: &[u8]) -> Option<(&[u8], &[u8])>
     ensures { option_map (λ read. (read.0.now, read.1.now)) result ≡ source_at count bytes.now }
 {
-    if count == 0 || count > 65536 {
+    if count == 0 || count > MAX_SOURCE_LINES {
         return None;
     }
     lines_at(count, bytes)

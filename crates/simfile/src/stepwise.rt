@@ -10,15 +10,12 @@ ghost use Rattle.simfile.specs.Stepwise.{source_lines, WholeRead, WholeNone, NoL
 
 use crate::commands::command_of;
 use crate::fields::name_before;
-use crate::forms::line_at;
+use crate::forms::{MAX_SOURCE_LINES, line_at};
 use crate::lines::Version;
 use crate::script::line_feeds;
 use host_commands::command::Command;
 use line_fields::{after, number_before};
 use std::alloc::{AllocError, Global};
-
-/// The most lines of a source.
-const MAX_SOURCE_LINES: u64 = 65_536;
 
 /// The first line of a script of version 2.
 const VERSION_TWO: &[u8] = b"clsim 2\n";

@@ -11,6 +11,9 @@ use clmodel::access::Width;
 use spaces_base::cells::put;
 use std::alloc::{AllocError, Global};
 
+/// The bytes of a page, a power of two: an aligned element lies on one page.
+pub(crate) const PAGE: usize = 256;
+
 /// The copies of pages of 256 bytes, each made before the page's first change.
 #[derive(Drop)]
 pub(crate) struct Pages {
@@ -30,10 +33,10 @@ fn page_row(base: &[u8], page: usize) -> &[u8]
     ensures short { length result.now ≤ 256 }
     ensures bytes { (byte : ℕ) → byte < length base.now → byte / 256 ≡ page → (byte % 256 < length result.now) × (slice_index result.now (byte % 256) ≡ slice_index base.now byte) }
 {
-    let first = page * 256;
+    let first = page * PAGE;
     let count = base.len() - first;
-    if count > 256 {
-        &base[first..first + 256]
+    if count > PAGE {
+        &base[first..first + PAGE]
     } else {
         &base[first..]
     }
@@ -50,7 +53,7 @@ fn add_row(cells: &mut Vec<u8>, place: usize, row: &[u8]) -> Result<(), AllocErr
 {
     cells.truncate(place);
     cells.extend_from_slice(row)?;
-    cells.resize(place + 256, 0)
+    cells.resize(place + PAGE, 0)
 }
 
 impl Pages {
@@ -71,11 +74,11 @@ impl Pages {
         requires { byte < length base.now }
         ensures { result ≡ overlaid_byte base.now (copies self.now.table) self.now.cells.items byte }
     {
-        let copy = self.table.copy_of(byte / 256);
+        let copy = self.table.copy_of(byte / PAGE);
         if copy == 0 {
             base[byte]
         } else {
-            self.cells[(copy - 1) * 256 + byte % 256]
+            self.cells[(copy - 1) * PAGE + byte % PAGE]
         }
     }
 
@@ -104,12 +107,12 @@ impl Pages {
             return number_in(base, at, width);
         }
         let count = width.bytes() as usize;
-        if at % 256 + count > 256 {
+        if at % PAGE + count > PAGE {
             return self.number_by_bytes(base, at, count);
         }
-        let copy = self.table.copy_of(at / 256);
+        let copy = self.table.copy_of(at / PAGE);
         if copy > 0 {
-            return number_in(self.cells.as_slice(), (copy - 1) * 256 + at % 256, width);
+            return number_in(self.cells.as_slice(), (copy - 1) * PAGE + at % PAGE, width);
         }
         number_in(base, at, width)
     }
@@ -123,8 +126,8 @@ impl Pages {
         ensures same_table { self.new.table ≡ self.old.table }
     {
         if count > 0 {
-            let copy = self.table.copy_of(first / 256);
-            self.cells[(copy - 1) * 256 + first % 256] = (value % 256) as u8;
+            let copy = self.table.copy_of(first / PAGE);
+            self.cells[(copy - 1) * PAGE + first % PAGE] = (value % 256) as u8;
             self.put_by_bytes(base, first + 1, count - 1, value / 256);
         }
     }
@@ -141,7 +144,7 @@ impl Pages {
             return Ok(copy);
         }
         let count = self.numbers.len();
-        add_row(&mut self.cells, count * 256, page_row(base, page))?;
+        add_row(&mut self.cells, count * PAGE, page_row(base, page))?;
         // so that nothing fails once the table is changed
         self.numbers.reserve(1)?;
         self.table.set(page, count + 1)?;
@@ -162,14 +165,14 @@ impl Pages {
         ensures same { OnErr result (overlaid base.now (copies self.new.table) self.new.cells.items ≡ overlaid base.now (copies self.old.table) self.old.cells.items) }
     {
         let count = width.bytes() as usize;
-        let page = at / 256;
+        let page = at / PAGE;
         let copy = self.copy(base, page)?;
-        if at % 256 + count > 256 {
+        if at % PAGE + count > PAGE {
             self.copy(base, page + 1)?;
             self.put_by_bytes(base, at, count, value);
             return Ok(());
         }
-        let place = (copy - 1) * 256 + at % 256;
+        let place = (copy - 1) * PAGE + at % PAGE;
         put(self.cells.as_mut_slice(), place, count, value);
         Ok(())
     }
