@@ -24,9 +24,7 @@ use Rattle.clmodel.proofs.Ending.{step_less}
 use Rattle.clmodel.proofs.Faultless.{same_numbers_self}
 use Rattle.joining.specs.Group.{Plan, IsGroup, going, turn_of, RunsIn, Reached, Reported, IsRun}
 use Rattle.joining.proofs.GroupTurns as group_turns
-use Rattle.group_run.specs.Loops.{Accesses, Steps, IsMade, AtOneStop, Gathers, IsLeading, GathersAt, IsBrief, IsAdvanced, IsItemRun, IsGathered}
-use Rattle.group_run.specs.declared.loops.ItemRun.{ItemRun}
-use Rattle.group_run.specs.declared.loops.ItemRun.TheVariants as item_step
+use Rattle.group_run.specs.Loops.{Accesses, Steps, IsMade, AtOneStop, Gathers, IsLeading, GathersAt, GathersOrReports, IsBrief, IsGathered}
 use Rattle.group_run.specs.declared.machine.Made.{Made}
 use Rattle.group_run.specs.declared.machine.Made.TheVariants as made_as
 
@@ -228,8 +226,8 @@ joins_first p s k None y other gathered none e =
     (joins p s k y y gathered here e (same_stop_self y), (omega arith, here))
 
 -- where the first item stops, as the code has kept it
-pub led : (p : Plan) (s : State) (k : ℕ) (leading : Option Stop) (x : Stop) → leading ≡ Some x → IsLeading p s k leading → first_stop p s ≡ Some x
-led p s k leading x is h = (subst (IsLeading p s k) is h).1
+pub leading_stop : (p : Plan) (s : State) (k : ℕ) (leading : Option Stop) (x : Stop) → leading ≡ Some x → IsLeading p s k leading → first_stop p s ≡ Some x
+leading_stop p s k leading x is h = (subst (IsLeading p s k) is h).1
 
 stop_turn :
     (l : Launch) (s : State) (first item : ℕ) (x y : Stop) (a : Action) → stop_of (next_action l s first) ≡ Some x → stop_of a ≡ Some y
@@ -376,10 +374,10 @@ pub advanced_on :
     (p q : Plan) (old asked new : Events → State → Type 0) (origin : State) (events more : Events) (k : ℕ) (leading : Option Stop) (o : Object) (element : ℤ) (op : Operation)
     (report : Option (Box Fault Global)) → q ≡ p → report ≡ None → (g : GathersAt p old origin events k leading) → ((es : Events) (s : State) → old es s → asked es s)
     → Accesses p g.0.0.state (p.first + k) o element op
-    → ((g : GathersAt q asked origin events k leading) → Accesses q g.0.0.state (q.first + k) o element op → IsAdvanced q new origin more k leading report) → GathersAt p new origin more k leading
+    → ((g : GathersAt q asked origin events k leading) → Accesses q g.0.0.state (q.first + k) o element op → GathersOrReports q new origin more k leading report) → GathersAt p new origin more k leading
 advanced_on p q old asked new origin events more k leading o element op report e is g f acts h =
-    subst (λ z. IsAdvanced p new origin more k leading z) is
-    (subst (λ z. (g : GathersAt z asked origin events k leading) → Accesses z g.0.0.state (z.first + k) o element op → IsAdvanced z new origin more k leading report) e h
+    subst (λ z. GathersOrReports p new origin more k leading z) is
+    (subst (λ z. (g : GathersAt z asked origin events k leading) → Accesses z g.0.0.state (z.first + k) o element op → GathersOrReports z new origin more k leading report) e h
     ((moved p old asked origin events f g.0.0, g.0.1), g.1) acts)
 
 -- and what it reports
@@ -387,17 +385,17 @@ pub reported_on :
     (p q : Plan) (old asked new : Events → State → Type 0) (origin : State) (events more : Events) (k : ℕ) (leading : Option Stop) (o : Object) (element : ℤ) (op : Operation)
     (report : Option (Box Fault Global)) (f : Box Fault Global) → q ≡ p → report ≡ Some f → (g : GathersAt p old origin events k leading) → ((es : Events) (s : State) → old es s → asked es s)
     → Accesses p g.0.0.state (p.first + k) o element op
-    → ((g : GathersAt q asked origin events k leading) → Accesses q g.0.0.state (q.first + k) o element op → IsAdvanced q new origin more k leading report) → Reported p new origin more f.value
+    → ((g : GathersAt q asked origin events k leading) → Accesses q g.0.0.state (q.first + k) o element op → GathersOrReports q new origin more k leading report) → Reported p new origin more f.value
 reported_on p q old asked new origin events more k leading o element op report f e is g moves acts h =
-    subst (λ z. IsAdvanced p new origin more k leading z) is
-    (subst (λ z. (g : GathersAt z asked origin events k leading) → Accesses z g.0.0.state (z.first + k) o element op → IsAdvanced z new origin more k leading report) e h
+    subst (λ z. GathersOrReports p new origin more k leading z) is
+    (subst (λ z. (g : GathersAt z asked origin events k leading) → Accesses z g.0.0.state (z.first + k) o element op → GathersOrReports z new origin more k leading report) e h
     ((moved p old asked origin events moves g.0.0, g.0.1), g.1) acts)
 
 pub item_ran_on :
-    (p q : Plan) (fits : Events → State → Type 0) (origin : State) (events : Events) (k : ℕ) (leading : Option Stop) (o : ItemRun) → q ≡ p → o ≡ item_step.Stops
-    → IsItemRun q fits origin events k leading o → GathersAt p fits origin events (k + 1) leading
-item_ran_on p q fits origin events k leading o e is h =
-    subst (λ z. GathersAt z fits origin events (k + 1) leading) e (subst (λ z. IsItemRun q fits origin events k leading z) is h)
+    (p q : Plan) (fits : Events → State → Type 0) (origin : State) (events : Events) (count : ℕ) (leading : Option Stop) (report : Option (Box Fault Global)) → q ≡ p → report ≡ None
+    → GathersOrReports q fits origin events count leading report → GathersAt p fits origin events count leading
+item_ran_on p q fits origin events count leading report e is h =
+    subst (λ z. GathersAt z fits origin events count leading) e (subst (λ z. GathersOrReports q fits origin events count leading z) is h)
 
 gathered_on :
     (p q : Plan) (fits : Events → State → Type 0) (origin : State) (events : Events) (o : Option (Box Fault Global)) → q ≡ p → o ≡ None → IsGathered q fits origin events o

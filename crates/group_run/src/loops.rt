@@ -5,7 +5,7 @@ ghost use Rattle.std.specs.Box.{box_value};
 ghost use Rattle.clmodel.specs.Run.{State, Events, next_action, stop_of};
 ghost use Rattle.clmodel.specs.declared.action.Stop.{Stop};
 ghost use Rattle.joining.specs.Group.{IsGroup, Reached, IsRun};
-ghost use Rattle.group_run.specs.Loops.{Accesses, Gathers, GathersAt, IsBrief, IsAdvanced, IsItemRun, IsGathered};
+ghost use Rattle.group_run.specs.Loops.{Accesses, Gathers, GathersAt, GathersOrReports, IsBrief, IsGathered};
 
 use crate::machine::{Machine, Made, Report};
 use crate::runs::Runs;
@@ -17,16 +17,8 @@ use divergence::same_stop;
 use std::alloc::AllocError;
 use std::mem::replace;
 
-/// What the run of an item to its next stop comes to.
-#[derive(Drop)]
-pub enum ItemRun {
-    /// At the stop of the group's first item.
-    Stops,
-    /// The run is over with this report.
-    Reports(Box<Fault>),
-}
-
-/// Judges an item's stop: the first item's is kept, and that of another is compared with it. An error is out of memory.
+/// Judges an item's stop: the first item's is kept, and that of another is compared with it. It reports a stop that is another one. An
+/// error is out of memory.
 // It is no part of `run_item`, where each access would have to make room for a stop.
 #[inline(never)]
 fn stop_at<M: Machine>(
@@ -35,19 +27,19 @@ fn stop_at<M: Machine>(
     stop: Stop,
     leading: &mut Option<Stop>,
     runs: &Runs,
-) -> Result<ItemRun, AllocError>
+) -> Result<Report, AllocError>
     ghost origin: { State }
     requires whole { IsGroup (M.plan m.now) }
     requires inside { k < (M.plan m.now).count }
     requires reached { (g : GathersAt (M.plan m.now) (M.fits m.now) origin runs.now k leading.old) × (stop_of (next_action (M.plan m.now).launch g.0.0.state ((M.plan m.now).first + k)) ≡ Some stop) }
-    ensures { IfOk result (IsItemRun (M.plan m.now) (M.fits m.now) origin runs.now k leading.new) }
+    ensures { IfOk result (GathersOrReports (M.plan m.now) (M.fits m.now) origin runs.now (k + 1) leading.new) }
 {
     let Some(first) = leading else {
         *leading = Some(stop);
-        return Ok(ItemRun::Stops);
+        return Ok(None);
     };
     if same_stop(first, &stop) {
-        return Ok(ItemRun::Stops);
+        return Ok(None);
     }
     let fault = Fault::Divergence {
         item: m.first(),
@@ -55,7 +47,7 @@ fn stop_at<M: Machine>(
         other_item: m.first() + k,
         other_stop: stop,
     };
-    Ok(ItemRun::Reports(m.boxed(fault)?))
+    Ok(Some(m.boxed(fault)?))
 }
 
 /// Makes this access, which an item does next, and keeps its event.
@@ -76,7 +68,7 @@ fn advance<M: Machine>(
     ensures ticks_kept { (j : ℕ) → M.ticks m.new j ≤ M.ticks m.old j }
     ensures ticks_less { IfOk result (λ report. report ≡ None → M.ticks m.new k < M.ticks m.old k) }
     ensures advanced { IfOk result (λ report. (leading : Option Stop) (g : GathersAt (M.plan m.old) (M.fits m.old) origin runs.old k leading)
-        → Accesses (M.plan m.old) g.0.0.state ((M.plan m.old).first + k) object element operation → IsAdvanced (M.plan m.old) (M.fits m.new) origin runs.new k leading report) }
+        → Accesses (M.plan m.old) g.0.0.state ((M.plan m.old).first + k) object element operation → GathersOrReports (M.plan m.old) (M.fits m.new) origin runs.new k leading report) }
 {
     let event = Event::Item(m.first() + k);
     match m.access(k, object, element, operation)? {
@@ -98,7 +90,7 @@ fn run_item<M: Machine>(
     k: u32,
     leading: &mut Option<Stop>,
     runs: &mut Runs,
-) -> Result<ItemRun, AllocError>
+) -> Result<Report, AllocError>
     ghost origin: { State }
     requires whole { IsGroup (M.plan m.old) }
     requires inside { k < (M.plan m.old).count }
@@ -106,7 +98,7 @@ fn run_item<M: Machine>(
     requires reached { GathersAt (M.plan m.old) (M.fits m.old) origin runs.old k leading.old }
     ensures plan_same { M.plan m.new ≡ M.plan m.old }
     ensures ticks_kept { (j : ℕ) → M.ticks m.new j ≤ M.ticks m.old j }
-    ensures halted { IfOk result (IsItemRun (M.plan m.old) (M.fits m.new) origin runs.new k leading.new) }
+    ensures halted { IfOk result (GathersOrReports (M.plan m.old) (M.fits m.new) origin runs.new (k + 1) leading.new) }
 {
     'steps: loop {
         // No `?` at `next`: it would move an action, which has room for a barrier's turns, for each access.
@@ -120,7 +112,7 @@ fn run_item<M: Machine>(
             ) => {
                 match advance(m, k, object, element, operation, runs)? {
                     None => {}
-                    Some(fault) => return Ok(ItemRun::Reports(fault)),
+                    Some(fault) => return Ok(Some(fault)),
                 }
             }
             Ok(Action::Barrier { instance, .. }) => {
@@ -129,7 +121,7 @@ fn run_item<M: Machine>(
             Ok(Action::End) => return stop_at(m, k, Stop::Ended, leading, runs),
             Ok(Action::Fault(cause)) => {
                 let fault = m.fault_of(m.first() + k, cause)?;
-                return Ok(ItemRun::Reports(fault));
+                return Ok(Some(fault));
             }
             Err(error) => return Err(error),
         }
@@ -150,8 +142,8 @@ fn run_interval<M: Machine>(m: &mut M, runs: &mut Runs) -> Result<Report, AllocE
     let mut leading = None;
     for k in 0..m.count() {
         match run_item(m, k, &mut leading, runs)? {
-            ItemRun::Stops => {}
-            ItemRun::Reports(fault) => return Ok(Some(fault)),
+            None => {}
+            Some(fault) => return Ok(Some(fault)),
         }
     }
     Ok(None)

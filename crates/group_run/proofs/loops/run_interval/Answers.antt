@@ -1,4 +1,4 @@
-use Rattle.std.proofs.Common.{◌≡◌, ◌<◌, subst, ◌∙◌, arith}
+use Rattle.std.proofs.Common.{◌≡◌, ◌+◌, ◌<◌, subst, ◌∙◌, arith}
 use Rattle.group_run.specs.Loops.{Gathers}
 use Rattle.group_run.proofs.Turns.{item_asks, item_ran_on}
 use Rattle.group_run.proofs.loops.run_interval.Goals as goal
@@ -19,8 +19,8 @@ loop-k-preserved g c =
       plan_same = c.run_item.ensures.plan_same ∙ i.plan_same;
       ticks_kept = λ j. omega (arith, c.run_item.ensures.ticks_kept j, i.ticks_kept j);
       gathers =
-          item_ran_on (g.M.Machine.plan c.args.m.now) (g.M.Machine.plan c.loop-k.m) (g.M.Machine.fits c.run_item.new.m) g.origin c.run_item.new.runs c.loop-k.k
-          c.run_item.new.leading c.in_ok-run_item.field-0 i.plan_same c.in-Stops.is c.in_ok-run_item.ensures.halted;
+          item_ran_on (g.M.Machine.plan c.args.m.now) (g.M.Machine.plan c.loop-k.m) (g.M.Machine.fits c.run_item.new.m) g.origin c.run_item.new.runs (c.loop-k.k + 1)
+          c.run_item.new.leading c.in_ok-run_item.field-0 i.plan_same c.in-None.is c.in_ok-run_item.ensures.halted;
     }
 
 pub returns-clause-gathered : goal.returns-clause-gathered

@@ -1,7 +1,7 @@
 use Rattle.std.proofs.Common.{◌+◌, sym, ap, ap₂, ◌∙◌, arith}
 use Rattle.clmodel.specs.Law.{Reports}
 use Rattle.clmodel.specs.declared.fault.Fault.TheVariants as fault
-use Rattle.group_run.proofs.Turns.{joins_first, joins, led, differs}
+use Rattle.group_run.proofs.Turns.{joins_first, joins, leading_stop, differs}
 use Rattle.group_run.proofs.loops.stop_at.Goals as goal
 
 pub returns-in_default : goal.returns-in_default
@@ -15,7 +15,7 @@ returns-then-same_stop g c =
     let p = g.M.Machine.plan c.args.m.now in
     let r = c.requires.1.1.1 in
     let s = r.0.0.0.state in
-    let first = led p s c.args.k c.args.leading.now c.in-Some.first c.in-Some.is r.0.1 in
+    let first = leading_stop p s c.args.k c.args.leading.now c.in-Some.first c.in-Some.is r.0.1 in
     ((r.0.0.0, joins p s c.args.k c.in-Some.first c.args.stop r.0.0.1 first r.1 (sym c.same_stop.ensures.value ∙ c.if-same_stop.true)), (omega arith, first))
 
 pub returns : goal.returns
@@ -29,7 +29,7 @@ returns g c =
       holds = r.0.0.0.holds;
       reports =
           differs p c.requires.1.0 s c.args.k c.in-Some.first c.args.stop c.requires.1.1.0 r.0.0.1 r.0.0.0.calm
-          (led p s c.args.k c.args.leading.now c.in-Some.first c.in-Some.is r.0.1) r.1 (sym c.same_stop.ensures.value ∙ c.if-same_stop.false)
+          (leading_stop p s c.args.k c.args.leading.now c.in-Some.first c.in-Some.is r.0.1) r.1 (sym c.same_stop.ensures.value ∙ c.if-same_stop.false)
           ∙ ap (λ x. Reports (fault.Divergence p.first x (p.first + c.args.k) c.args.stop)) (sym c.replace.ensures.value)
           ∙ ap₂ (λ a b. Reports (fault.Divergence a c.replace.result (b + c.args.k) c.args.stop)) (sym c.first.ensures.value) (sym c.first-2.ensures.value)
           ∙ ap Reports (sym c.in_ok-boxed.ensures);
