@@ -104,9 +104,12 @@ impl Device {
         ensures ok { IfOk result (λ reply. Answers (machine_of self.old) (Command.Launch name.now range.now) reply (machine_of self.new)) }
         ensures err { IfErr result (λ refusal. Step (machine_of self.old) (Command.Launch name.now range.now) (Reply.Refused refusal) (machine_of self.new)) }
     {
-        let Started { launch, names } = self.start(name, range)?;
-        let outcome = run_launch(self.alloc, &launch, &self.buffers)?;
-        Ok(self.conclude(Launched { names, outcome }))
+        let launched = {
+            let Started { launch, names } = self.start(name, range)?;
+            let outcome = run_launch(self.alloc, &launch, &self.buffers)?;
+            Launched { names, outcome }
+        };
+        Ok(self.conclude(launched))
     }
 
     /// The same by 1 to 16 workers, which call the gate.
@@ -122,8 +125,11 @@ impl Device {
         ensures ok { IfOk result (λ reply. Answers (machine_of self.old) (Command.Launch name.now range.now) reply (machine_of self.new)) }
         ensures err { IfErr result (λ refusal. Step (machine_of self.old) (Command.Launch name.now range.now) (Reply.Refused refusal) (machine_of self.new)) }
     {
-        let Started { launch, names } = self.start(name, range)?;
-        let outcome = run_parallel(rt, self.alloc, &launch, &self.buffers, workers, gate)?;
-        Ok(self.conclude(Launched { names, outcome }))
+        let launched = {
+            let Started { launch, names } = self.start(name, range)?;
+            let outcome = run_parallel(rt, self.alloc, &launch, &self.buffers, workers, gate)?;
+            Launched { names, outcome }
+        };
+        Ok(self.conclude(launched))
     }
 }
