@@ -1,4 +1,4 @@
-use Rattle.std.proofs.Common.{◌≡◌, ℕ, ◌+◌, ◌-◌, ◌<◌, ◌≤◌, ◌^◌, ◌++◌, refl, Option, Bor, List, length, take, ap, ap₂, sym, subst, ◌∙◌, arith, rules, IfOk}
+use Rattle.std.proofs.Common.{◌≡◌, ℕ, ◌+◌, ◌-◌, ◌<◌, ◌≤◌, ◌++◌, refl, Option, Bor, List, length, take, ap, ap₂, sym, subst, ◌∙◌, arith, rules, IfOk}
 use Rattle.std.proofs.lemmas.Result.{IfOk-weaker}
 use Rattle.lower.proofs.Fronts.{block_room, nodes_there}
 use Rattle.lower.proofs.Reach.{put_length, past_exits, loop_exits, once_short, round_short, turns_short}
@@ -8,8 +8,7 @@ use Rattle.lower_code.proofs.Room.{fewer, fewer_asked}
 use denote.Param.Weighed.{most, at_most}
 use Rattle.std.specs.Option.{option_map}
 use Rattle.clmodel.specs.Next.{sites, part_sites, all_sites}
-use Rattle.clmodel.specs.Typing.Rules.{length_limit}
-use Rattle.clmodel.specs.Typing.Sizes.{node_limit, size, row_size}
+use Rattle.clmodel.specs.Typing.Sizes.{size, row_size}
 use Rattle.clmodel.specs.Tree.{Stmt, For, ThenStmt, Without, WithTerm, stmt, term}
 use Rattle.clmodel.specs.declared.tree.Statement.{Statement, size-Statement, the_lemmas}
 use Rattle.regcode.specs.declared.instruction.Instruction.{Instruction}
