@@ -16,21 +16,21 @@ returns-in_err-copy-2-clause-same c =
     let base = c.args.base.now in
     let old = c.args.self.now in
     let first = c.copy.new.self in
-    let second = c.copy-then-at-count-gt256.new.self in
+    let second = c.copy-then-at-count-gt-PAGE.new.self in
     on_err c.from_residual-in_err-copy-2.result
-    (overlaid_same base (copies first.table) first.cells.items (copies second.table) second.cells.items c.copy-then-at-count-gt256.ensures.bytes
+    (overlaid_same base (copies first.table) first.cells.items (copies second.table) second.cells.items c.copy-then-at-count-gt-PAGE.ensures.bytes
     ∙ overlaid_same base (copies old.table) old.cells.items (copies first.table) first.cells.items c.copy.ensures.bytes)
 
-pub returns-then-at-count-gt256-clause-changed : goal.returns-then-at-count-gt256-clause-changed
-returns-then-at-count-gt256-clause-changed c =
+pub returns-then-at-count-gt-PAGE-clause-changed : goal.returns-then-at-count-gt-PAGE-clause-changed
+returns-then-at-count-gt-PAGE-clause-changed c =
     let base = c.args.base.now in
     let old = c.args.self.now in
     let first = c.copy.new.self in
-    let second = c.copy-then-at-count-gt256.new.self in
+    let second = c.copy-then-at-count-gt-PAGE.new.self in
     let last = c.put_by_bytes.new.self in
     let count = byte_count c.args.width in
     let same : overlaid base (copies second.table) second.cells.items ≡ overlaid base (copies old.table) old.cells.items =
-    overlaid_same base (copies first.table) first.cells.items (copies second.table) second.cells.items c.copy-then-at-count-gt256.ensures.bytes
+    overlaid_same base (copies first.table) first.cells.items (copies second.table) second.cells.items c.copy-then-at-count-gt-PAGE.ensures.bytes
     ∙ overlaid_same base (copies old.table) old.cells.items (copies first.table) first.cells.items c.copy.ensures.bytes in
     let bytes : (byte : ℕ) → overlaid_cells base (copies last.table) last.cells.items byte ≡ written (overlaid_cells base (copies second.table) second.cells.items) c.args.at count c.args.value byte =
     subst (λ n. (byte : ℕ) → overlaid_cells base (copies last.table) last.cells.items byte ≡ written (overlaid_cells base (copies second.table) second.cells.items) c.args.at n c.args.value byte)
@@ -54,7 +54,7 @@ returns-clause-changed c =
     let more = take first.cells.len (c.put.new.cells ++ drop (length c.put.new.cells) first.cells.items) in
     let some : 0 < copy = c.in_ok-copy.ensures.copied.0 in
     let is : page (at / 256) ≡ copy = c.in_ok-copy.ensures.copied.1 in
-    let inside : at % 256 + count ≤ 256 = omega (arith, c.if-at-count-gt256.false, c.bytes-count.ensures.value) in
+    let inside : at % 256 + count ≤ 256 = omega (arith, c.if-at-count-gt-PAGE.false, c.bytes-count.ensures.value) in
     let same : overlaid base page first.cells.items ≡ overlaid base (copies old.table) old.cells.items =
     overlaid_same base (copies old.table) old.cells.items page first.cells.items c.copy.ensures.bytes in
     let long : length c.put.new.cells ≡ length first.cells.items = c.put.ensures.same_length ∙ ap length c.as_mut_slice.ensures.value in
