@@ -271,7 +271,8 @@ CL_API_ENTRY cl_int CL_API_CALL clEnqueueCopyBufferRect(cl_command_queue q, cl_m
     BEGIN;
     MEMBER(m);
     MEMBER(target);
-    return finish(&made, CL_COMMAND_COPY_BUFFER_RECT, rect(m, target, o, p, r, row, slice, row2, slice2, NULL, NULL), event);
+    return finish(&made, CL_COMMAND_COPY_BUFFER_RECT, rect(m, target, o, p, r, row, slice, row2, slice2, NULL, NULL),
+                  event);
 }
 
 // A mapped region is a copy: it is filled at the mapping, and written back where it was mapped for writing.

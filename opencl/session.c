@@ -169,8 +169,8 @@ static long long nanoseconds(void) {
     return now.tv_sec * 1000000000LL + now.tv_nsec;
 }
 
-// Takes what came of a reply, as `read` does. Its beginning is looked for for a while first, so that this side's processor
-// doesn't sleep between small commands.
+// Takes what came of a reply, as `read` does. It looks for its beginning for a while first, so that this side's
+// processor doesn't sleep between small commands.
 static ssize_t receive(session *s) {
     char *to = s->in + s->end;
     size_t room = s->room - s->end;
@@ -195,8 +195,8 @@ static bool grow(session *s) {
     return true;
 }
 
-// A reply that is longer than there is memory for is read to its end, and is then as one that refuses for want of memory:
-// one so long holds data or a fault's schedule, and neither a read nor a launch with a fault changes the device.
+// A reply that is longer than there is memory for is read to its end, and is then as one that refuses for want of
+// memory: one so long holds data or a fault's schedule, and neither a read nor a launch with a fault changes the device.
 static const char *read_line(session *s) {
     size_t seen = 0;
     bool fits = true;

@@ -26,7 +26,9 @@ static bool is_want(cl_int fault) { return fault == CL_OUT_OF_HOST_MEMORY || fau
 
 static const char source[] = "#define TIMES 3\n"
                              "__constant int table[2] = {5, 7};\n"
-                             "__kernel void f(__global int *a, int n) { a[get_global_id(0)] *= TIMES * n + table[n]; }\n"
+                             "__kernel void f(__global int *a, int n) {\n"
+                             "    a[get_global_id(0)] *= TIMES * n + table[n];\n"
+                             "}\n"
                              "__kernel void race(__global int *a) { a[get_global_id(0)] = a[get_global_id(0) / 2]; }\n";
 
 static cl_mem buffer_by_map(cl_context c, cl_command_queue q) {
