@@ -5,9 +5,6 @@ import sys
 
 VERSION = 1
 
-# how many bytes a number of a type has (OpenCL 1.2, section 6.1.1)
-WIDTHS = {"char": 1, "uchar": 1, "short": 2, "ushort": 2, "int": 4, "uint": 4, "long": 8, "ulong": 8, "size_t": 8}
-
 
 class BadInput(Exception):
     """A file that holds no explanations of a known version."""
@@ -102,8 +99,8 @@ def argument_texts(whole):
     """The parameters of the kernel for which the memory of a fault is the argument, each with the element in which the byte lies."""
     memory, found = whole["memory"] or {"parameters": []}, []
     for parameter in memory["parameters"]:
-        width = next((WIDTHS[word] for word in parameter["type"].split() if word in WIDTHS), None)
-        element = "" if width is None or memory["byte"] is None else f": byte {memory['byte']} lies in element {memory['byte'] // width}"
+        inside = parameter["element"] is not None and memory["byte"] is not None
+        element = f": byte {memory['byte']} lies in element {parameter['element']}" if inside else ""
         found.append(f"argument {parameter['index']} of the kernel: {parameter['type']} {parameter['name']}{element}")
     return found
 

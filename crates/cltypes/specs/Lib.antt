@@ -2,3 +2,4 @@ pub mod Answers
 pub mod Samples
 pub mod Views
 pub mod Limits
+pub mod Kernels

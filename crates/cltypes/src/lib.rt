@@ -32,6 +32,7 @@ use clmodel::tree::{Function, Tree};
 pub use clmodel::type_fault::TypeFault;
 use cltypes_scope::Context;
 use functions::check_function;
+pub use size::NODE_LIMIT;
 use std::alloc::{AllocError, Global};
 pub use summaries::Summaries;
 

@@ -17,7 +17,7 @@ pub(crate) const LOOP_LIMIT: u32 = 8;
 pub(crate) const BYTE_LIMIT: u32 = 4096;
 
 /// How many nodes the body of a kernel may have.
-pub(crate) const NODE_LIMIT: u32 = 20_000;
+pub const NODE_LIMIT: u32 = 20_000;
 
 /// How many parameters a function may have (OpenCL 1.2, table 4.3, bounds their bytes; the limit is this project's own).
 pub(crate) const PARAMETER_LIMIT: usize = 13_000;

@@ -5,14 +5,13 @@ use Rattle.std.proofs.lemmas.List.Elements.{All-push, All-weaker}
 use Rattle.std.proofs.lemmas.Map.Views.{All-values-set_value, IfSome-lookup_from_All}
 use Rattle.std.specs.List.{All}
 use Rattle.std.specs.Map.{lookup, set_value, values_of}
-use Rattle.std.specs.Option.{option_map_or}
-use Rattle.clmodel.specs.Setup.{kernel_in}
-use Rattle.clmodel.specs.Tree.{Func, Program, program}
+use Rattle.clmodel.specs.Tree.{Program, program, func}
 use Rattle.clmodel.specs.Typing.Sizes.{parameter_limit}
 use Rattle.clmodel.specs.declared.setup.Argument.{Argument}
-use Rattle.clmodel.specs.declared.tree.Parameter.{Parameter}
+use Rattle.clmodel.specs.declared.tree.Function.{Function}
 use Rattle.cltypes.specs.declared.checked.Checked.{Checked}
-use Rattle.host_commands.specs.Kernels.{KernelState, new_kernel, parameters_of}
+use Rattle.cltypes.specs.Kernels.{IsKernel}
+use Rattle.host_commands.specs.Kernels.{KernelState, new_kernel}
 use Rattle.lower.proofs.Lowered.{few_arguments}
 use Rattle.lower.specs.Lowers.{IsLowered}
 use Rattle.regcode.specs.Listing.{Listing}
@@ -77,21 +76,13 @@ kept_with_argument programs kernels name compiled index argument kept found =
     All-values-set_value (is name) (IsCompiled programs) kernels (with_argument_set compiled index argument) kept
     (record { there = was.there; acts_as = was.acts_as; few = omega (arith, length-set compiled.kernel.arguments index (Some argument), was.few) })
 
--- a kernel of a checked program has few parameters
-few_parameters : (checked : Checked) (number : ℕ) → length (parameters_of (program checked.tree) number) ≤ parameter_limit
-few_parameters checked number = go (kernel_in (program checked.tree).functions number) refl
-  where
-    go : (found : Option Func) → kernel_in (program checked.tree).functions number ≡ found → length (option_map_or (λ f. f.parameters) found []) ≤ parameter_limit
-    go None is = omega arith
-    go (Some f) is = few_arguments (program checked.tree) number checked.typed f is
-
--- so a kernel that was made has few arguments
-pub made_has_few : (checked : Checked) (number : ℕ) (program_name : List ℕ) (parameters : List Parameter) (kernel : KernelState) → parameters ≡ parameters_of (program checked.tree) number
-    → kernel ≡ new_kernel program_name number (length parameters) → length kernel.arguments ≤ parameter_limit
-made_has_few checked number program_name parameters kernel of_parameters made =
-    let given : length kernel.arguments ≡ length parameters = ap (λ k. length k.arguments) made ∙ length-replicate (length parameters) None in
-    let same : length parameters ≡ length (parameters_of (program checked.tree) number) = ap length of_parameters in
-    omega (arith, given, same, few_parameters checked number)
+-- a kernel that was made of one that was found in a checked program has few arguments
+pub made_has_few : (checked : Checked) (place : ℕ) (function : Function) (program_name : List ℕ) (kernel : KernelState) → IsKernel checked.tree place function
+    → kernel ≡ new_kernel program_name function.name (length function.parameters.items) → length kernel.arguments ≤ parameter_limit
+made_has_few checked place function program_name kernel found made =
+    let given : length kernel.arguments ≡ length function.parameters.items = ap (λ k. length k.arguments) made ∙ length-replicate (length function.parameters.items) None in
+    let few : length function.parameters.items ≤ parameter_limit = few_arguments (program checked.tree) function.name checked.typed (func function) found.there in
+    omega (arith, given, few)
 
 -- code with other registers that acts alike is a kernel's code too
 pub renumbered_is_lowered : (program : Program) (number : ℕ) (code same : Listing) → IsLowered program number code → IsRenumbered code same → IsLowered program number same

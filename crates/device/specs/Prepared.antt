@@ -12,6 +12,7 @@ use Rattle.launches.specs.Groups.{HasGroups}
 use Rattle.device.specs.Machine.{Machine, first, row, kernel_of, setup_of, bytes_of}
 use Rattle.device.specs.declared.prepared.Prepared.{Prepared}
 use Rattle.device.specs.declared.prepared.Launched.{Launched}
+use Rattle.device.specs.declared.prepared.Started.{Started}
 
 -- what it runs over a range
 abbrev pub prepared_setup : Prepared → Range → Setup
@@ -28,6 +29,11 @@ pub record IsPrepared (m : Machine) (kernel : List ℕ) (range : Range) (launch 
   pub admitted : first (row m (command.Launch kernel range)) ≡ None
   pub setup : launches.setup_of launch ≡ setup_of m (kernel_of m kernel) range
   pub groups : HasGroups (launches.setup_of launch)
+
+-- such a launch, with the names of its buffers
+pub record IsStarted (m : Machine) (kernel : List ℕ) (range : Range) (started : Started) : Type 0 where
+  pub prepared : IsPrepared m kernel range started.launch
+  pub names : started.names.items ≡ buffer_names (setup_of m (kernel_of m kernel) range)
 
 -- what the run of a launch comes to that its row doesn't refuse
 pub record Comes (m : Machine) (kernel : List ℕ) (range : Range) (launched : Launched) : Type 0 where

@@ -1,21 +1,22 @@
 //! Kernels with their code.
 #![tactic(auto)]
 
-ghost use Rattle.std.specs.Prelude.{◌≡◌, true, is_some, IfOk, MatchOption};
+ghost use Rattle.std.specs.Prelude.{◌≡◌, IfOk, MatchOption};
 ghost use Rattle.std.specs.List.{list_any};
 ghost use Rattle.std.specs.Map.{set_value, values_of};
-ghost use Rattle.clmodel.specs.Setup.{kernel_in};
 ghost use Rattle.clmodel.specs.Tree.{program};
+ghost use Rattle.cltypes.specs.Kernels.{IsKernel};
 ghost use Rattle.host_commands.specs.Kernels.{names_buffer};
 ghost use Rattle.spaces_base.specs.Tables.{is, find};
 ghost use Rattle.lower.specs.Lowers.{IsLowered};
 ghost use Rattle.device.specs.Kept.{with_argument_set};
 
+use clmodel::lookup::PlacedFunction;
 use clmodel::setup::Argument;
 use clmodel::text::Name;
 use cltypes::Checked;
 use host_commands::kernel::Kernel;
-use lower::{LowerFault, lower_kernel};
+use lower::lower_kernel;
 use regcode::Code;
 use renumbering::renumber;
 use spaces_base::Table;
@@ -28,16 +29,16 @@ pub(crate) struct CompiledKernel {
     pub(crate) code: Code,
 }
 
-/// The code of a program's kernel, by the number of its name, with the registers that its instructions name. An error is out of memory.
-pub(crate) fn code_of(alloc: Global, checked: &Checked, number: u32) -> Result<Code, AllocError>
-    requires { is_some (kernel_in (program checked.now.tree).functions number) ≡ true }
-    ensures { IfOk result (IsLowered (program checked.now.tree) number) }
+/// The code of a program's kernel, with the registers that its instructions name. An error is out of memory.
+pub(crate) fn code_of(
+    alloc: Global,
+    checked: &Checked,
+    kernel: PlacedFunction<'_>,
+) -> Result<Code, AllocError>
+    requires { IsKernel checked.now.tree kernel.place kernel.function.now }
+    ensures { IfOk result (IsLowered (program checked.now.tree) kernel.entry.function.now.name) }
 {
-    let code = match lower_kernel(alloc, checked, number) {
-        Ok(code) => code,
-        Err(LowerFault::OutOfMemory) => return Err(AllocError),
-        Err(LowerFault::NoSuchKernel) => unreachable!(),
-    };
+    let code = lower_kernel(alloc, checked, kernel)?;
     renumber(alloc, code)
 }
 

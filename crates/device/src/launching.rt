@@ -6,7 +6,7 @@ ghost use Rattle.clmodel.specs.declared.setup.Range.{Range as RangeOf};
 ghost use Rattle.host_commands.specs.Ranges.{IsLaunchable};
 
 use crate::Device;
-use crate::prepared::{Launched, Prepared};
+use crate::prepared::{Launched, Prepared, Started};
 use clmodel::determinacy::{clean_is_complete, determinacy};
 use clmodel::outcome::Outcome;
 use clmodel::run_laws::report_is_shown;
@@ -23,7 +23,7 @@ use workers::{Gate, run_parallel};
 
 impl Device {
     ghost use Rattle.device.specs.Machine.{Step, Answers, IsRefusal, machine_of, kernel_of, setup_of, first, row};
-    ghost use Rattle.device.specs.Prepared.{prepared_setup, IsPrepared, Comes};
+    ghost use Rattle.device.specs.Prepared.{prepared_setup, IsPrepared, IsStarted, Comes};
 
     /// A kernel that may be launched over a range, or the launch's refusal.
     fn admitted(&self, name: &Name, range: &Range) -> Result<Prepared<'_>, Refusal>
@@ -70,36 +70,16 @@ impl Device {
         Ok(prepared.launch(self.alloc, range)?)
     }
 
-    /// Runs a kernel over a range on the buffers as they are, which it doesn't change. A launch copies the names of its buffers, at most
-    /// 64, here and in `Launch::new`. What the buffers hold isn't copied here: `run_launch` makes one copy of each, in which it joins
-    /// the groups, and a clean outcome hands it on.
-    fn start(&self, name: &Name, range: &Range) -> Result<Launched, Refusal>
-        ensures came { IfOk result (Comes (machine_of self.now) name.now range.now) }
+    /// The launch of a kernel over a range, with the names of its buffers. A launch copies these names, at most 64, here and in
+    /// `Launch::new`. What the buffers hold isn't copied here: whoever runs the launch makes one copy of each, in which the groups are
+    /// joined, and a clean outcome hands it on.
+    fn start<'a>(&'a self, name: &Name, range: &'a Range) -> Result<Started<'a>, Refusal>
+        ensures started { IfOk result (IsStarted (machine_of self.now) name.now range.now) }
         ensures refused { IfErr result (IsRefusal (machine_of self.now) (Command.Launch name.now range.now)) }
     {
         let launch = self.prepare(name, range)?;
         let names = Name::copies(self.alloc, launch.buffer_names())?;
-        let outcome = run_launch(self.alloc, &launch, &self.buffers)?;
-        Ok(Launched { names, outcome })
-    }
-
-    /// Runs a kernel over a range by 1 to 16 workers, which call the gate, on the buffers as they are. It doesn't change them.
-    fn start_with<G: Gate, T: Threads + Wait + Sync>(
-        &self,
-        rt: &T,
-        name: &Name,
-        range: &Range,
-        workers: u32,
-        gate: &G,
-    ) -> Result<Launched, Refusal>
-        requires workers { (1 ≤ workers) × (workers ≤ 16) }
-        ensures came { IfOk result (Comes (machine_of self.now) name.now range.now) }
-        ensures refused { IfErr result (IsRefusal (machine_of self.now) (Command.Launch name.now range.now)) }
-    {
-        let launch = self.prepare(name, range)?;
-        let names = Name::copies(self.alloc, launch.buffer_names())?;
-        let outcome = run_parallel(rt, self.alloc, &launch, &self.buffers, workers, gate)?;
-        Ok(Launched { names, outcome })
+        Ok(Started { launch, names })
     }
 
     /// What is said of a launch that came to this. Where it came out clean, the buffers hold what it left.
@@ -124,11 +104,15 @@ impl Device {
         ensures ok { IfOk result (λ reply. Answers (machine_of self.old) (Command.Launch name.now range.now) reply (machine_of self.new)) }
         ensures err { IfErr result (λ refusal. Step (machine_of self.old) (Command.Launch name.now range.now) (Reply.Refused refusal) (machine_of self.new)) }
     {
-        let launched = self.start(name, range)?;
+        let launched = {
+            let Started { launch, names } = self.start(name, range)?;
+            let outcome = run_launch(self.alloc, &launch, &self.buffers)?;
+            Launched { names, outcome }
+        };
         Ok(self.conclude(launched))
     }
 
-    /// Runs a kernel over a range by 1 to 16 workers, which call the gate. Where it came out clean, the buffers hold what it left.
+    /// The same by 1 to 16 workers, which call the gate.
     pub(crate) fn launch_with<G: Gate, T: Threads + Wait + Sync>(
         &mut self,
         rt: &T,
@@ -141,7 +125,11 @@ impl Device {
         ensures ok { IfOk result (λ reply. Answers (machine_of self.old) (Command.Launch name.now range.now) reply (machine_of self.new)) }
         ensures err { IfErr result (λ refusal. Step (machine_of self.old) (Command.Launch name.now range.now) (Reply.Refused refusal) (machine_of self.new)) }
     {
-        let launched = self.start_with(rt, name, range, workers, gate)?;
+        let launched = {
+            let Started { launch, names } = self.start(name, range)?;
+            let outcome = run_parallel(rt, self.alloc, &launch, &self.buffers, workers, gate)?;
+            Launched { names, outcome }
+        };
         Ok(self.conclude(launched))
     }
 }

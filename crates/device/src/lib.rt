@@ -307,11 +307,12 @@ impl Device {
         let Some(checked) = self.program(&program) else {
             return Err(Refusal::NoSuchName);
         };
-        let Some(number) = checked.tree.kernel_number(function.as_slice()) else {
+        let Some(found) = checked.kernel(function.as_slice()) else {
             return Err(Refusal::NoSuchKernel);
         };
-        let count = parameters_of(&checked.tree, number).len();
-        let code = code_of(self.alloc, checked, number)?;
+        let number = found.function.name;
+        let count = found.function.parameters.len();
+        let code = code_of(self.alloc, checked, found)?;
         let kernel = Kernel::new(self.alloc, program, number, count)?;
         let compiled = CompiledKernel { kernel, code };
         self.kernels.insert(name, compiled)?;

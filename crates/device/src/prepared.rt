@@ -33,6 +33,13 @@ pub(crate) struct Prepared<'a> {
     pub(crate) ghost fits: { are_too_large (objects_of (kernel_in (program checked.now.tree).functions kernel.now.function) kernel.now.arguments) ≡ false },
 }
 
+/// A launch that may run, with the names of its buffers.
+#[derive(Drop)]
+pub(crate) struct Started<'a> {
+    pub(crate) launch: Launch<'a>,
+    pub(crate) names: Vec<Name>,
+}
+
 /// What a launch came to, with the names of its buffers.
 #[derive(Drop)]
 pub(crate) struct Launched {

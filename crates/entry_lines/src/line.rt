@@ -38,7 +38,23 @@ impl Line {
         }
     }
 
+    /// The entry at a place behind its first round, or the one that it would have there.
+    #[inline(never)]
+    #[tactic(auto, unfolding(crate::specs::Lines::entry_at))]
+    fn later_entry(&self, heads: &[Entry], steps: &[Step], k: usize) -> Entry
+        requires later { self.now.period ≤ k }
+        requires some { 0 < self.now.period }
+        requires heads { self.now.head + self.now.period ≤ length heads.now }
+        requires steps { self.now.step + self.now.period ≤ length steps.now }
+        ensures { result ≡ entry_at heads.now steps.now self.now.head self.now.period self.now.step k }
+    {
+        let place = k % self.period;
+        let rounds = (k / self.period) as u64;
+        steps[self.step + place].ahead(&heads[self.head + place], rounds)
+    }
+
     /// The entry at a place of it, or the one that it would have there.
+    #[inline(always)]
     #[tactic(auto, unfolding(crate::specs::Lines::entry_at))]
     pub(crate) fn entry(&self, heads: &[Entry], steps: &[Step], k: usize) -> Entry
         requires heads { self.now.head + self.now.period ≤ length heads.now }
@@ -48,8 +64,6 @@ impl Line {
         if k < self.period {
             return heads[self.head + k];
         }
-        let place = k % self.period;
-        let rounds = (k / self.period) as u64;
-        steps[self.step + place].ahead(&heads[self.head + place], rounds)
+        self.later_entry(heads, steps, k)
     }
 }

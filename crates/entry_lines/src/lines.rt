@@ -13,13 +13,15 @@ use shadow_list::{Entry, Hit, hit_between};
 use std::alloc::{AllocError, Global};
 use std::marker::Model;
 
-/// So many entries of first rounds stay as they are, so that a short list costs no search for rounds. They take 56 KiB at most.
-const SHORT: usize = 1024;
+/// So many entries of first rounds stay as they are, so that a short list costs no search for rounds. With the next one
+/// they take 56 KiB at most.
+const SHORT: usize = 1023;
 
 /// Entries in their order, seen as a list. Where they go on by equal steps, as the accesses of a loop do, they take
 /// memory for the entries of one round and their steps, however many follow; each other entry takes some 56 bytes, and
-/// so do the first 1,024. To add an entry costs a few steps, and looks at up to 64 earlier ones where none is alike;
-/// to get one costs a search among the lines, in as many steps as their number has binary digits.
+/// so do the first 1,023. To add an entry costs a few steps, and looks at up to 64 earlier ones where none is alike;
+/// to get one of the last line costs a few steps, and another a search among the lines, in as many steps as their
+/// number has binary digits.
 #[derive(Drop)]
 pub struct EntryLines {
     /// The entries of the first round of each line, line by line: those of the line that goes on are the last
@@ -43,6 +45,7 @@ impl Model for EntryLines {
 }
 
 /// A line with one entry more of its first round, which is added to those that stand there.
+#[inline(always)]
 fn with_head(heads: &mut Vec<Entry>, line: Line, entry: Entry) -> Line
     requires room { vec_len heads.old < vec_capacity heads.old }
     requires short { line.count + 1 < 2 ^ 64 }
@@ -66,9 +69,6 @@ fn folded(heads: &mut Vec<Entry>, steps: &mut Vec<Step>, closed: &mut Vec<Line>,
     ensures lined { IsLined heads.new.items steps.new.items closed.new.items result }
     ensures same { entries_all heads.new.items steps.new.items (closed.new.items ++ result ∷ []) ≡ entries_all heads.old.items steps.old.items (closed.old.items ++ last ∷ []) }
 {
-    if heads.len() < SHORT {
-        return last;
-    }
     let Some(line) = tail_of(heads.as_slice(), steps, &last) else {
         return last;
     };
@@ -84,8 +84,9 @@ fn folded(heads: &mut Vec<Entry>, steps: &mut Vec<Step>, closed: &mut Vec<Line>,
     line
 }
 
-/// The line that goes on, once an entry is added.
-fn added(
+/// The line that goes on, once an entry is added to a list that isn't short, or whose last line has more than one round.
+#[inline(never)]
+fn added_far(
     heads: &mut Vec<Entry>,
     steps: &mut Vec<Step>,
     closed: &mut Vec<Line>,
@@ -118,7 +119,28 @@ fn added(
     )
 }
 
+/// The line that goes on, once an entry is added. The first ones of a list are put down as they are, without a call.
+#[inline(always)]
+fn added(
+    heads: &mut Vec<Entry>,
+    steps: &mut Vec<Step>,
+    closed: &mut Vec<Line>,
+    last: Line,
+    entry: Entry,
+) -> Line
+    requires lined { IsLined heads.old.items steps.old.items closed.old.items last }
+    requires room { has_room heads.old closed.old last ≡ true }
+    ensures lined { IsLined heads.new.items steps.new.items closed.new.items result }
+    ensures more { entries_all heads.new.items steps.new.items (closed.new.items ++ result ∷ []) ≡ entries_all heads.old.items steps.old.items (closed.old.items ++ last ∷ []) ++ entry ∷ [] }
+{
+    if last.count <= last.period && heads.len() < SHORT {
+        return with_head(heads, last, entry);
+    }
+    added_far(heads, steps, closed, last, entry)
+}
+
 /// Which of the lines has the entry at a place.
+#[inline(never)]
 fn line_of(lines: &[Line], end: usize, i: usize) -> usize
     requires next { AreNext 0 lines.now end }
     requires there { i < end }
@@ -188,6 +210,7 @@ impl EntryLines {
     }
 
     /// Adds an entry for which there is room.
+    #[inline(always)]
     pub fn push_reserved(&mut self, entry: Entry)
         requires { self.old.has_room ≡ true }
         ensures { self.new.items ≡ self.old.items ++ entry ∷ [] }
@@ -202,6 +225,7 @@ impl EntryLines {
     }
 
     /// The entry at a place.
+    #[inline(always)]
     pub fn get(&self, i: usize) -> Entry
         requires { i < length self.now.items }
         ensures { result ≡ slice_index_or self.now.items i result }

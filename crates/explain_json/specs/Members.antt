@@ -126,7 +126,8 @@ item_data i =
 
 abbrev pub parameter_data : ParameterFacts → Data
 parameter_data p =
-    object (member (codes "index") (number_data p.index) (member (codes "name") (text_data p.name) (member (codes "type") (text_data p.type_name) no_members)))
+    object (member (codes "element") (or_null number_data p.element) (member (codes "index") (number_data p.index) (member (codes "name") (text_data p.name)
+    (member (codes "type") (text_data p.type_name) no_members))))
 
 -- the group of local memory
 abbrev pub group_of : MemoryKind → Option ℕ

@@ -19,6 +19,7 @@ impl ToJson for ParameterFacts {
             .with("type", &self.type_name)
             .with("name", &self.name)
             .with("index", &self.index)
+            .with("element", &self.element)
             .finish()
     }
 }

@@ -72,12 +72,16 @@ fn push_memory(memory: &Memory, out: &mut String) -> Result<(), AllocError> {
     Ok(())
 }
 
-/// Adds the parameters whose argument the memory is.
+/// Adds the parameters whose argument the memory is, each with the element in which the byte lies.
 fn push_parameters(memory: &Memory, out: &mut String) -> Result<(), AllocError> {
     for parameter in memory.parameters.as_slice() {
         let (index, name) = (parameter.index, parameter.name.as_str());
         let type_name = parameter.type_name.as_str();
-        writeln!(out, "  argument {index} of the kernel: {type_name} {name}")?;
+        write!(out, "  argument {index} of the kernel: {type_name} {name}")?;
+        if let (Some(byte), Some(element)) = (memory.byte, parameter.element) {
+            write!(out, ": byte {byte} lies in element {element}")?;
+        }
+        out.push_str("\n")?;
     }
     Ok(())
 }

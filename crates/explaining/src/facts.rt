@@ -114,11 +114,13 @@ pub(crate) fn named_of(
     Ok(named)
 }
 
-/// The size of an object of memory, where it is known, and the parameters that it is an argument for.
+/// The size of an object of memory, where it is known, and the parameters that it is an argument for, each with the
+/// element in which a byte lies.
 fn size_and_parameters(
     context: &Context<'_>,
     buffers: &Buffers,
     location: &Location,
+    byte: Option<u64>,
 ) -> Result<(Option<u64>, Vec<ParameterFacts>), AllocError> {
     let alloc = context.alloc;
     let launch = context.launch;
@@ -134,13 +136,14 @@ fn size_and_parameters(
                 context.done,
                 context.kernel,
                 name,
+                byte,
                 parameters,
                 names,
             )?;
             Ok((Some(size), given))
         }
         Location::Local { name, .. } => {
-            let named = parameters_named(alloc, name, parameters, names)?;
+            let named = parameters_named(alloc, name, byte, parameters, names)?;
             Ok((local_size(launch, name), named))
         }
     }
@@ -200,7 +203,7 @@ fn whole_memory(
         return Ok(None);
     };
     if let Some(location) = location_of(fault) {
-        let (size, parameters) = size_and_parameters(context, buffers, location)?;
+        let (size, parameters) = size_and_parameters(context, buffers, location, memory.byte)?;
         memory.size = size;
         memory.parameters = parameters;
     }

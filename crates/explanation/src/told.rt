@@ -43,12 +43,14 @@ pub enum MemoryKind {
     Variable,
 }
 
-/// The parameter that an argument is for: its index from 0, its name and its type.
+/// The parameter that an argument is for: its index from 0, its name and its type, and of a pointer the element of its
+/// type in which the byte lies that a fault is about, from 0.
 #[derive(Drop)]
 pub struct ParameterFacts {
     pub index: usize,
     pub name: String,
     pub type_name: String,
+    pub element: Option<u64>,
 }
 
 /// The memory that a fault is about, with the byte or the element that it names.

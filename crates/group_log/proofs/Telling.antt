@@ -1,6 +1,7 @@
 -- Kept accesses tell what the whole list does, once one more is made and once a barrier is passed.
 use Rattle.std.proofs.Common.{◌≡◌, ℕ, zero, suc, ◌+◌, Bool, true, false, not, ◌&&◌, ◌==◌, Option, None, Some, List, [], ◌∷◌, ◌++◌, refl, sym, ap, ◌∙◌, subst, inl, inr, arith}
-use Rattle.std.specs.Prelude.{All}
+use Rattle.std.specs.Prelude.{All, Result, Ok, Err}
+use Rattle.std.specs.declared.alloc.AllocError.{AllocError}
 use Rattle.std.specs.Option.{option_map}
 use Rattle.std.proofs.lemmas.Bool.{false≢true, and_parts, ne_eqb}
 use Rattle.std.proofs.lemmas.List.Elements.{All-head, All-tail}
@@ -12,11 +13,11 @@ use Rattle.clmodel.specs.declared.access.Region.{Region}
 use Rattle.clmodel.specs.declared.access.Region.TheVariants as region
 use Rattle.clmodel.specs.declared.access.Rule.{Rule}
 use Rattle.clmodel.proofs.Steps.{none_some, map_none}
-use Rattle.shadow_list.specs.Log.{hit_between, hit_on, hit_from, hit, in_buffer, IsThere, IsKept, Log, stamped}
+use Rattle.shadow_list.specs.Log.{hit_between, hit_on, hit_from, hit, in_buffer, IsThere, IsKept, IsNoted, Log, logged, stamped}
 use Rattle.shadow_list.specs.declared.log.Entry.{Entry}
 use Rattle.shadow_list.specs.declared.log.Hit.{Hit}
 use Rattle.shadow_list.proofs.Past.{one_memory}
-use Rattle.group_log.specs.Tells.{Tells, IsTaken}
+use Rattle.group_log.specs.Tells.{Tells, IsTaken, with_last}
 use Rattle.group_log.proofs.Covering.{no_conflict, on_push}
 
 -- ---- a list without a conflict
@@ -174,3 +175,31 @@ noted_tells u b n kept whole x u1 u2 n1 n2 kept1 kept2 whole2 t j a c d e f take
 
 pub tells_new : (u b : Bool) (n : ℕ) (kept whole : List Entry) → n ≡ 0 → kept ≡ [] → whole ≡ [] → Tells u b n kept whole
 tells_new u b n kept whole e k w = subst (λ m. Tells u b m kept whole) (sym e) (subst (λ l. Tells u b 0 l whole) (sym k) (subst (Tells u b 0 []) (sym w) (tells_none u b)))
+
+-- ---- what is noted of an access
+
+-- logs with the same parts
+pub logged_same : (a b : List Entry) (l l2 g g2 : ℕ) (u v : Bool) → a ≡ b → l ≡ l2 → g ≡ g2 → u ≡ v → logged a l g u ≡ logged b l2 g2 v
+logged_same a b l l2 g g2 u v p q r s = ap (λ z. logged z l g u) p ∙ ap (λ z. logged b z g u) q ∙ ap (λ z. logged b l2 z u) r ∙ ap (logged b l2 g2) s
+
+-- an access that has the running interval is noted as it was before it had one
+pub noted_stamped : (old new : Log) (e x : Entry) (r : Result (Option Hit) AllocError) → x ≡ stamped old e → IsNoted old x new r → IsNoted old e new r
+noted_stamped old new e x r s h = go r (subst (λ z. IsNoted old z new r) s h)
+  where
+    go : (r : Result (Option Hit) AllocError) → IsNoted old (stamped old e) new r → IsNoted old e new r
+    go (Ok found) h = h
+    go (Err f) h = h
+
+-- an access is noted where it is put at the end
+pub noted_last : (old new : Log) (e x : Entry) (found : Option Hit) → x ≡ stamped old e → new ≡ with_last old x → found ≡ hit (within_group old.uniform) (stamped old e) old.accesses → IsNoted old e new (Ok found)
+noted_last old new e x found s n h = (
+  h,
+  inr (ap (λ (l : Log). l.accesses) n ∙ ap (λ z. old.accesses ++ z ∷ []) s),
+  ap (λ (l : Log). l.local_interval) n,
+  ap (λ (l : Log). l.global_interval) n,
+  ap (λ (l : Log). l.uniform) n,
+)
+
+-- an access that has the running interval, as a log gives it
+pub stamped_twice : (x : Entry) (n : ℕ) → x.access.interval ≡ n → x ≡ record x { access = record x.access { interval = n } }
+stamped_twice x n h = ap (λ i. record x { access = record x.access { interval = i } }) h

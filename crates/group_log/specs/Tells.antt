@@ -1,7 +1,7 @@
 -- Kept accesses that tell what all accesses of a group do (own, on OpenCL 1.2, 3.3.1 and 6.12.8).
 use Rattle.std.specs.Prelude.{◌≡◌, ℕ, ◌<◌, ◌⊎◌, Bool, None, List, [], ◌∷◌, ◌++◌}
 use Rattle.clmodel.specs.Launch.{within_group}
-use Rattle.shadow_list.specs.Log.{hit_on, in_buffer}
+use Rattle.shadow_list.specs.Log.{Log, hit_on, in_buffer}
 use Rattle.shadow_list.specs.declared.log.Entry.{Entry}
 use Rattle.group_log.specs.Covers.{Covers}
 
@@ -15,3 +15,7 @@ pub record Tells (uniform : Bool) (buffers : Bool) (interval : ℕ) (kept whole 
 -- the kept accesses once one more is made: it is kept, or it tells nothing that they don't (own)
 abbrev pub IsTaken : Bool → List Entry → Entry → List Entry → Type 0
 IsTaken uniform kept x new = (new ≡ kept ++ x ∷ []) ⊎ ((new ≡ kept) × Covers uniform kept x.access)
+
+-- a log with one access more, at its end (own)
+abbrev pub with_last : Log → Entry → Log
+with_last log x = record log { accesses = log.accesses ++ x ∷ [] }

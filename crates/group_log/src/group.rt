@@ -1,14 +1,16 @@
 //! The log of a group that is running.
 
-ghost use Rattle.std.specs.Prelude.{◌≡◌, ◌<◌, ◌-◌, ◌^◌, [], IfOk, false, true};
-ghost use Rattle.shadow.specs.Lasting.{StandsWith};
+ghost use Rattle.std.specs.Prelude.{◌≡◌, ◌<◌, ◌-◌, ◌^◌, [], List, IfOk, OnOk, OnErr, false, true};
+ghost use Rattle.clmodel.specs.declared.access.Access.{Access as TheAccess};
+ghost use Rattle.shadow.specs.Lasting.{StandsWith, Absorbed};
 ghost use Rattle.shadow_list.specs.Log.{IsPlaced, IsNoted, logged, fresh_log, in_buffer};
 ghost use Rattle.group_log.specs.Lasting.{all_of, short_of, last_of, made, LeavesOut};
-ghost use Rattle.group_log.specs.Side.{TakesOf};
-ghost use Rattle.group_log.specs.Tells.{Tells};
+ghost use Rattle.group_log.specs.Covers.{Covers};
+ghost use Rattle.group_log.specs.Side.{TakesOf, IsKnown};
+ghost use Rattle.group_log.specs.Tells.{Tells, with_last};
 
 use crate::lasting::Lasting;
-use crate::side::Side;
+use crate::side::{Glance, Side};
 use crate::whole::Whole;
 use clmodel::access::{Access, Region};
 use shadow::{GroupAccesses, LastingList};
@@ -108,6 +110,76 @@ impl GroupLog {
         self.lasting.list(alloc)
     }
 
+    /// Takes an access of local memory for one of the log's, by what is known of it, without judging it. Where memory is
+    /// refused the log stays.
+    #[inline(always)]
+    fn take_local(&mut self, glance: Glance, entry: Entry) -> Result<(), AllocError>
+        requires space { in_buffer entry.access.region ≡ false }
+        requires interval { entry.access.interval ≡ self.old.local.interval }
+        requires told { glance.look.sight.told ≡ true → Covers self.old.local.uniform self.old.local.kept.items entry.access }
+        requires known { IsKnown self.old.local entry.access glance }
+        ensures taken { OnOk result (logged (all_of self.new.whole.items) self.new.local.interval self.new.global.interval self.new.global.uniform ≡ with_last (logged (all_of self.old.whole.items) self.old.local.interval self.old.global.interval self.old.global.uniform) entry) }
+        ensures stays { OnErr result (logged (all_of self.new.whole.items) self.new.local.interval self.new.global.interval self.new.global.uniform ≡ logged (all_of self.old.whole.items) self.old.local.interval self.old.global.interval self.old.global.uniform) }
+    {
+        self.local.take(glance, entry)?;
+        self.lasting.pass();
+        self.whole = self.whole.with(&entry, &false);
+        Ok(())
+    }
+
+    /// Takes an access of a buffer for one of the log's, as `take_local` does.
+    #[inline(always)]
+    fn take_global(&mut self, glance: Glance, entry: Entry) -> Result<(), AllocError>
+        requires placed { IsPlaced entry }
+        requires space { in_buffer entry.access.region ≡ true }
+        requires interval { entry.access.interval ≡ self.old.global.interval }
+        requires told { glance.look.sight.told ≡ true → Covers self.old.global.uniform self.old.global.kept.items entry.access }
+        requires taken { glance.look.sight.taken ≡ true → (log : List TheAccess) → TakesOf self.old.global log → Absorbed log entry.access }
+        requires known { IsKnown self.old.global entry.access glance }
+        ensures taken { OnOk result (logged (all_of self.new.whole.items) self.new.local.interval self.new.global.interval self.new.global.uniform ≡ with_last (logged (all_of self.old.whole.items) self.old.local.interval self.old.global.interval self.old.global.uniform) entry) }
+        ensures stays { OnErr result (logged (all_of self.new.whole.items) self.new.local.interval self.new.global.interval self.new.global.uniform ≡ logged (all_of self.old.whole.items) self.old.local.interval self.old.global.interval self.old.global.uniform) }
+    {
+        let news = !glance.look.sight.taken;
+        self.lasting.make_room(news)?;
+        self.global.take(glance, entry)?;
+        self.lasting.note(entry, news);
+        self.whole = self.whole.with(&entry, &news);
+        Ok(())
+    }
+
+    /// Notes an access of local memory that has the running interval, where it may conflict.
+    #[cold]
+    #[inline(never)]
+    fn judge_local(&mut self, glance: Glance, entry: Entry) -> Result<Option<Hit>, AllocError>
+        requires placed { IsPlaced entry }
+        requires space { in_buffer entry.access.region ≡ false }
+        requires interval { entry.access.interval ≡ self.old.local.interval }
+        requires told { glance.look.sight.told ≡ true → Covers self.old.local.uniform self.old.local.kept.items entry.access }
+        requires known { IsKnown self.old.local entry.access glance }
+        ensures { IsNoted (logged (all_of self.old.whole.items) self.old.local.interval self.old.global.interval self.old.global.uniform) entry (logged (all_of self.new.whole.items) self.new.local.interval self.new.global.interval self.new.global.uniform) result }
+    {
+        let found = self.local.conflict(&entry);
+        self.take_local(glance, entry)?;
+        Ok(found)
+    }
+
+    /// Notes an access of a buffer that has the running interval, where it may conflict.
+    #[cold]
+    #[inline(never)]
+    fn judge_global(&mut self, glance: Glance, entry: Entry) -> Result<Option<Hit>, AllocError>
+        requires placed { IsPlaced entry }
+        requires space { in_buffer entry.access.region ≡ true }
+        requires interval { entry.access.interval ≡ self.old.global.interval }
+        requires told { glance.look.sight.told ≡ true → Covers self.old.global.uniform self.old.global.kept.items entry.access }
+        requires taken { glance.look.sight.taken ≡ true → (log : List TheAccess) → TakesOf self.old.global log → Absorbed log entry.access }
+        requires known { IsKnown self.old.global entry.access glance }
+        ensures { IsNoted (logged (all_of self.old.whole.items) self.old.local.interval self.old.global.interval self.old.global.uniform) entry (logged (all_of self.new.whole.items) self.new.local.interval self.new.global.interval self.new.global.uniform) result }
+    {
+        let found = self.global.conflict(&entry);
+        self.take_global(glance, entry)?;
+        Ok(found)
+    }
+
     /// Notes an access of local memory, as `note` does.
     #[inline(always)]
     fn note_local(&mut self, entry: Entry) -> Result<Option<Hit>, AllocError>
@@ -117,11 +189,12 @@ impl GroupLog {
     {
         let entry = stamped(entry, self.local.interval);
         let glance = self.local.look(&entry.access);
-        let found = self.local.judge(glance.look.sight.clear, &entry);
-        self.local.take(glance, entry)?;
-        self.lasting.pass();
-        self.whole = self.whole.with(&entry, &false);
-        Ok(found)
+        if glance.look.sight.clear {
+            self.take_local(glance, entry)?;
+            Ok(None)
+        } else {
+            self.judge_local(glance, entry)
+        }
     }
 
     /// Notes an access of a buffer, as `note` does.
@@ -133,13 +206,12 @@ impl GroupLog {
     {
         let entry = stamped(entry, self.global.interval);
         let glance = self.global.look(&entry.access);
-        let found = self.global.judge(glance.look.sight.clear, &entry);
-        let news = !glance.look.sight.taken;
-        self.lasting.make_room(news)?;
-        self.global.take(glance, entry)?;
-        self.lasting.note(entry, news);
-        self.whole = self.whole.with(&entry, &news);
-        Ok(found)
+        if glance.look.sight.clear {
+            self.take_global(glance, entry)?;
+            Ok(None)
+        } else {
+            self.judge_global(glance, entry)
+        }
     }
 }
 
@@ -152,10 +224,12 @@ impl GroupAccesses for GroupLog {
 
     ghost has_last = { λ l. l.lasting.has_last };
 
+    #[inline(always)]
     fn len(&self) -> usize {
         self.lasting.entries.len()
     }
 
+    #[inline(always)]
     fn get(&self, i: usize) -> Entry {
         self.lasting.entries.get(i)
     }

@@ -162,18 +162,12 @@ impl Side {
         }
     }
 
-    /// The conflict of an access with those that are kept. Only where there may be one are all of them walked.
-    #[inline(always)]
-    pub(crate) fn judge(&self, clear: bool, x: &Entry) -> Option<Hit>
-        requires placed { IsPlaced x.now }
-        requires clear { clear ≡ true → (byte : ℕ) → All (λ (y : TheEntry). conflict_between (within_group self.now.uniform) y.access x.now.access byte ≡ None) self.now.kept.items }
+    /// The conflict of an access with those that are kept, all of which are walked.
+    pub(crate) fn conflict(&self, x: &Entry) -> Option<Hit>
+        requires { IsPlaced x.now }
         ensures { result ≡ hit (within_group self.now.uniform) x.now self.now.kept.items }
     {
-        if clear {
-            None
-        } else {
-            self.kept.hit(Rule::within_group(self.uniform), x)
-        }
+        self.kept.hit(Rule::within_group(self.uniform), x)
     }
 
     /// Keeps an access for which there is room, of which nothing is kept at its bytes.
@@ -207,8 +201,31 @@ impl Side {
         Ok(())
     }
 
+    /// Keeps an access of the running interval. Where memory is refused the accesses stay.
+    #[inline(never)]
+    fn keep(&mut self, glance: Glance, entry: Entry) -> Result<(), AllocError>
+        requires interval { entry.access.interval ≡ self.old.interval }
+        requires known { IsKnown self.old entry.access glance }
+        ensures kept { OnOk result (self.new.kept.items ≡ self.old.kept.items ++ entry ∷ []) }
+        ensures stays { OnErr result (self.new.kept.items ≡ self.old.kept.items) }
+        ensures interval { self.new.interval ≡ self.old.interval }
+        ensures uniform { self.new.uniform ≡ self.old.uniform }
+        ensures takes { OnOk result (in_buffer entry.access.region ≡ true → (log : List TheAccess) → TakesOf self.old log → TakesOf self.new (entry.access ∷ log)) }
+        ensures still { OnErr result ((log : List TheAccess) → TakesOf self.old log → TakesOf self.new log) }
+    {
+        self.kept.reserve()?;
+        match glance.number {
+            None => {
+                self.keep_unseen(entry);
+                Ok(())
+            }
+            Some(number) => self.keep_seen(glance, number, entry),
+        }
+    }
+
     /// Keeps an access of the running interval, unless it tells no conflict that kept ones don't tell. Where memory is
     /// refused the accesses stay.
+    #[inline(always)]
     pub(crate) fn take(&mut self, glance: Glance, entry: Entry) -> Result<(), AllocError>
         requires interval { entry.access.interval ≡ self.old.interval }
         requires told { glance.look.sight.told ≡ true → Covers self.old.uniform self.old.kept.items entry.access }
@@ -223,13 +240,6 @@ impl Side {
         if glance.look.sight.told {
             return Ok(());
         }
-        self.kept.reserve()?;
-        match glance.number {
-            None => {
-                self.keep_unseen(entry);
-                Ok(())
-            }
-            Some(number) => self.keep_seen(glance, number, entry),
-        }
+        self.keep(glance, entry)
     }
 }

@@ -1,8 +1,8 @@
 -- The turns of a group, and what its events leave as it was.
-use Rattle.std.proofs.Common.{◌≡◌, ℕ, zero, suc, ◌+◌, ◌<◌, ◌≤◌, ◌^◌, ◌⊎◌, Bool, true, false, not, ◌&&◌, ◌==◌, if◌then◌else◌, ℤ, Option, None, Some, [], ◌∷◌, ◌++◌, length, refl, sym, ap, ◌∙◌, subst, inl, inr, arith, eqb-true, eq-eqb}
-use Rattle.std.proofs.lemmas.Bool.{false≢true, cases_lt}
+use Rattle.std.proofs.Common.{◌≡◌, ℕ, ◌+◌, ◌<◌, ◌≤◌, ◌^◌, ◌⊎◌, Bool, true, false, not, ◌&&◌, ◌==◌, if◌then◌else◌, ℤ, Option, None, Some, [], ◌∷◌, ◌++◌, length, refl, sym, ap, ◌∙◌, subst, inl, inr, arith, eqb-true, eq-eqb}
+use Rattle.std.proofs.lemmas.Bool.{and_from, false≢true, cases_lt}
 use Rattle.clmodel.specs.Launch.{Launch, group_of}
-use Rattle.clmodel.specs.Run.{State, Events, step, next_action, straggler, stop_of, both_stop, same_stop}
+use Rattle.clmodel.specs.Run.{State, Events, step, next_action, straggler, stop_of, both_stop, same_stop, same_numbers}
 use Rattle.clmodel.specs.Law.{Makes, Reports, Finishes, newest_conflict, conflict_turn, item_turn, divergence, has_ended, fault_of, IsBounded, answers_left}
 use Rattle.clmodel.specs.declared.access.Object.{Object}
 use Rattle.clmodel.specs.declared.access.Operation.{Operation}
@@ -21,11 +21,10 @@ use Rattle.clmodel.proofs.Steps.{none_some, some_inj, lowest_is_none, item_inver
 use Rattle.std.specs.Prelude.{Result, Ok, IfOk, Box}
 use Rattle.std.specs.declared.alloc.Global.{Global}
 use Rattle.clmodel.proofs.Ending.{step_less}
+use Rattle.clmodel.proofs.Faultless.{same_numbers_self}
 use Rattle.joining.specs.Group.{Plan, IsGroup, going, turn_of, RunsIn, Reached, Reported, IsRun}
 use Rattle.joining.proofs.GroupTurns as group_turns
-use Rattle.group_run.specs.Loops.{Accesses, Steps, IsMade, AtOneStop, Gathers, IsBrief, IsAdvanced, IsItemRun, IsGathered}
-use Rattle.group_run.specs.declared.loops.ItemRun.{ItemRun}
-use Rattle.group_run.specs.declared.loops.ItemRun.TheVariants as item_step
+use Rattle.group_run.specs.Loops.{Accesses, Steps, IsMade, AtOneStop, Gathers, IsLeading, GathersAt, GathersOrReports, IsBrief, IsGathered}
 use Rattle.group_run.specs.declared.machine.Made.{Made}
 use Rattle.group_run.specs.declared.machine.Made.TheVariants as made_as
 
@@ -124,6 +123,11 @@ still p s t k gathered h = λ j l.
     ∙ ap (λ a. both_stop (first_stop p s) (stop_of a)) (action_other p s t (p.first + k) (p.first + j) h (λ e. absurd (omega (arith, e, l))))
     ∙ gathered j l
 
+-- nor does an item above the first one change where that one stops
+leads_still : (p : Plan) (s t : State) (k : ℕ) (leading : Option Stop) → IsLeading p s k leading → step p.launch s (Item (p.first + k)) ≡ Some t → IsLeading p t k leading
+leads_still p s t k None none h = none
+leads_still p s t k (Some stop) some h = (some.0, ap stop_of (action_other p s t (p.first + k) p.first h (λ e. absurd (omega (arith, e, some.0)))) ∙ some.1)
+
 -- ---- an access
 
 abbrev pub made_room :
@@ -140,16 +144,20 @@ module _
   more whole b t steps =
       runs_more p origin events g.0.state (Item (p.first + k)) t g.0.runs (unstopped p whole g.0.state k b g.1 g.0.calm (ap stop_of asked) ∙ steps.makes) steps.steps
 
-  pub made_done : m ≡ made_as.Done → IsGroup p → k < p.count → Gathers p new origin (events ++ Item (p.first + k) ∷ []) k
-  made_done e whole b =
+  pub made_done :
+      m ≡ made_as.Done → IsGroup p → k < p.count → (leading : Option Stop) → IsLeading p g.0.state k leading → GathersAt p new origin (events ++ Item (p.first + k) ∷ []) k leading
+  made_done e whole b leading leads =
       let w = as_made made_as.Done e events g.0.state g.0.holds asked in (
-        record {
-          state = w.0;
-          runs = more whole b w.0 w.1;
-          holds = w.2;
-          calm = w.3;
-        },
-        still p g.0.state w.0 k g.1 w.1.steps,
+        (
+          record {
+            state = w.0;
+            runs = more whole b w.0 w.1;
+            holds = w.2;
+            calm = w.3;
+          },
+          still p g.0.state w.0 k g.1 w.1.steps,
+        ),
+        leads_still p g.0.state w.0 k leading leads w.1.steps,
       )
 
   pub made_conflict : (f : Box Fault Global) → m ≡ made_as.Conflicts f → IsGroup p → k < p.count → Reported p new origin (events ++ Item (p.first + k) ∷ []) f.value
@@ -189,14 +197,6 @@ pub both_some : (a b : Option Stop) → both_stop a b ≡ true → (x : Stop) ×
 both_some None b h = absurd (false≢true h)
 both_some (Some x) b h = (x, refl)
 
--- the first item is at a stop where another is, or where items are at one
-abbrev pub leads : (p : Plan) (s : State) (k : ℕ) (y : Stop) → AtOneStop p s k → stop_at p s k ≡ Some y → (x : Stop) × (first_stop p s ≡ Some x)
-leads p s zero y gathered e = (y, ap (λ z. stop_of (next_action p.launch s z)) (no_more p.first) ∙ e)
-  where
-    no_more : (n : ℕ) → n ≡ n + 0
-    no_more n = omega arith
-leads p s (suc k) y gathered e = both_some (first_stop p s) (stop_at p s 0) (gathered 0 (omega arith))
-
 abbrev pub gathered_stop : (p : Plan) → IsGroup p → (s : State) → AtOneStop p s p.count → (x : Stop) × (first_stop p s ≡ Some x)
 gathered_stop p whole s gathered = both_some (first_stop p s) (stop_at p s 0) (gathered 0 whole.some)
 
@@ -210,6 +210,24 @@ joins p s k x y gathered f e same = λ j l. go j l (cases_lt j k)
     go : (j : ℕ) → j < k + 1 → (j < k) ⊎ (k ≤ j) → both_stop (first_stop p s) (stop_at p s j) ≡ true
     go j l (inl a) = gathered j a
     go j l (inr a) = let i : k ≡ j = omega (arith, l, a) in subst (λ z. both_stop (first_stop p s) (stop_at p s z) ≡ true) i here
+
+same_stop_self : (x : Stop) → same_stop x x ≡ true
+same_stop_self (At a) = and_from (a.site == a.site) (same_numbers a.turns a.turns) (eq-eqb a.site a.site refl) (same_numbers_self a.turns)
+same_stop_self Ended = refl
+
+-- the first item is at its own stop
+pub joins_first :
+    (p : Plan) (s : State) (k : ℕ) (leading : Option Stop) (y : Stop) → ((x : Stop) → leading ≡ Some x → ⊥) → AtOneStop p s k → IsLeading p s k leading → stop_at p s k ≡ Some y
+    → AtOneStop p s (k + 1) × IsLeading p s (k + 1) (Some y)
+joins_first p s k (Some x) y other gathered some e = absurd (other x refl)
+joins_first p s k None y other gathered none e =
+    let first_is : p.first + k ≡ p.first = omega (arith, none) in
+    let here : first_stop p s ≡ Some y = subst (λ z. stop_of (next_action p.launch s z) ≡ Some y) first_is e in
+    (joins p s k y y gathered here e (same_stop_self y), (omega arith, here))
+
+-- where the first item stops, as the code has kept it
+pub leading_stop : (p : Plan) (s : State) (k : ℕ) (leading : Option Stop) (x : Stop) → leading ≡ Some x → IsLeading p s k leading → first_stop p s ≡ Some x
+leading_stop p s k leading x is h = (subst (IsLeading p s k) is h).1
 
 stop_turn :
     (l : Launch) (s : State) (first item : ℕ) (x y : Stop) (a : Action) → stop_of (next_action l s first) ≡ Some x → stop_of a ≡ Some y
@@ -306,17 +324,17 @@ advance_asks p q old new origin events k o element op e whole b brief g f a =
 
 pub stop_asks :
     (p q : Plan) (old new : Events → State → Type 0) (origin : State) (events : Events) (k : ℕ) (y : Stop) → q ≡ p → IsGroup p → k < p.count
-    → (g : Gathers p old origin events k) → ((es : Events) (s : State) → old es s → new es s) → stop_at p g.0.state k ≡ Some y
-    → IsGroup q × ((k < q.count) × ((g : Gathers q new origin events k) × (stop_at q g.0.state k ≡ Some y)))
-stop_asks p q old new origin events k y e whole b g f a =
-    subst (λ z. IsGroup z × ((k < z.count) × ((g : Gathers z new origin events k) × (stop_at z g.0.state k ≡ Some y)))) (sym e)
-    (whole, (b, ((moved p old new origin events f g.0, g.1), a)))
+    → (leading : Option Stop) → (g : GathersAt p old origin events k leading) → ((es : Events) (s : State) → old es s → new es s) → stop_at p g.0.0.state k ≡ Some y
+    → IsGroup q × ((k < q.count) × ((g : GathersAt q new origin events k leading) × (stop_at q g.0.0.state k ≡ Some y)))
+stop_asks p q old new origin events k y e whole b leading g f a =
+    subst (λ z. IsGroup z × ((k < z.count) × ((g : GathersAt z new origin events k leading) × (stop_at z g.0.0.state k ≡ Some y)))) (sym e)
+    (whole, (b, (((moved p old new origin events f g.0.0, g.0.1), g.1), a)))
 
 pub item_asks :
-    (p q : Plan) (fits : Events → State → Type 0) (origin : State) (events : Events) (k : ℕ) → q ≡ p → IsGroup p → k < p.count → IsBrief p origin → Gathers p fits origin events k
-    → IsGroup q × ((k < q.count) × (IsBrief q origin × Gathers q fits origin events k))
-item_asks p q fits origin events k e whole b brief g =
-    subst (λ z. IsGroup z × ((k < z.count) × (IsBrief z origin × Gathers z fits origin events k))) (sym e) (whole, (b, (brief, g)))
+    (p q : Plan) (fits : Events → State → Type 0) (origin : State) (events : Events) (k : ℕ) → q ≡ p → IsGroup p → k < p.count → IsBrief p origin
+    → (leading : Option Stop) → GathersAt p fits origin events k leading → IsGroup q × ((k < q.count) × (IsBrief q origin × GathersAt q fits origin events k leading))
+item_asks p q fits origin events k e whole b brief leading g =
+    subst (λ z. IsGroup z × ((k < z.count) × (IsBrief z origin × GathersAt z fits origin events k leading))) (sym e) (whole, (b, (brief, g)))
 
 pub interval_asks :
     (p q : Plan) (fits : Events → State → Type 0) (origin : State) (events : Events) → q ≡ p → IsGroup p → IsBrief p origin → Reached p fits origin events
@@ -331,14 +349,6 @@ pub acting :
 acting p q fits {events} s k a e holds is value =
     subst (λ z. next_action z.launch s (z.first + k) ≡ a) e
     (subst (λ r. IfOk r (λ x. (es : Events) (t : State) → fits es t → next_action q.launch t (q.first + k) ≡ x)) is value events s holds)
-
--- where all have come to rest after an interval
-pub leader_asks :
-    (p q : Plan) (fits : Events → State → Type 0) (origin : State) (events : Events) → q ≡ p → IsGroup p → Gathers p fits origin events p.count
-    → (es : Events) × (s : State) × (x : Stop) × fits es s × (first_stop q s ≡ Some x)
-leader_asks p q fits origin events e whole g =
-    let w = gathered_stop p whole g.0.state g.1 in
-    (events, g.0.state, w.0, g.0.holds, subst (λ z. first_stop z g.0.state ≡ Some w.0) (sym e) w.1)
 
 abbrev pub IsWaiting : Plan → (Events → State → Type 0) → Fences → Type 0
 IsWaiting p fits fences =
@@ -361,16 +371,31 @@ told p q n k c h e = ap (λ z. fault_of q.launch (z + k) c) h ∙ ap (λ z. faul
 
 -- what the code's loops have come to, by the first plan
 pub advanced_on :
-    (p q : Plan) (fits : Events → State → Type 0) (origin : State) (events : Events) (k : ℕ) (o : Option (Box Fault Global)) → q ≡ p → o ≡ None → IsAdvanced q fits origin events k o
-    → Gathers p fits origin events k
-advanced_on p q fits origin events k o e is h =
-    subst (λ z. Gathers z fits origin events k) e (subst (λ z. IsAdvanced q fits origin events k z) is h)
+    (p q : Plan) (old asked new : Events → State → Type 0) (origin : State) (events more : Events) (k : ℕ) (leading : Option Stop) (o : Object) (element : ℤ) (op : Operation)
+    (report : Option (Box Fault Global)) → q ≡ p → report ≡ None → (g : GathersAt p old origin events k leading) → ((es : Events) (s : State) → old es s → asked es s)
+    → Accesses p g.0.0.state (p.first + k) o element op
+    → ((g : GathersAt q asked origin events k leading) → Accesses q g.0.0.state (q.first + k) o element op → GathersOrReports q new origin more k leading report) → GathersAt p new origin more k leading
+advanced_on p q old asked new origin events more k leading o element op report e is g f acts h =
+    subst (λ z. GathersOrReports p new origin more k leading z) is
+    (subst (λ z. (g : GathersAt z asked origin events k leading) → Accesses z g.0.0.state (z.first + k) o element op → GathersOrReports z new origin more k leading report) e h
+    ((moved p old asked origin events f g.0.0, g.0.1), g.1) acts)
+
+-- and what it reports
+pub reported_on :
+    (p q : Plan) (old asked new : Events → State → Type 0) (origin : State) (events more : Events) (k : ℕ) (leading : Option Stop) (o : Object) (element : ℤ) (op : Operation)
+    (report : Option (Box Fault Global)) (f : Box Fault Global) → q ≡ p → report ≡ Some f → (g : GathersAt p old origin events k leading) → ((es : Events) (s : State) → old es s → asked es s)
+    → Accesses p g.0.0.state (p.first + k) o element op
+    → ((g : GathersAt q asked origin events k leading) → Accesses q g.0.0.state (q.first + k) o element op → GathersOrReports q new origin more k leading report) → Reported p new origin more f.value
+reported_on p q old asked new origin events more k leading o element op report f e is g moves acts h =
+    subst (λ z. GathersOrReports p new origin more k leading z) is
+    (subst (λ z. (g : GathersAt z asked origin events k leading) → Accesses z g.0.0.state (z.first + k) o element op → GathersOrReports z new origin more k leading report) e h
+    ((moved p old asked origin events moves g.0.0, g.0.1), g.1) acts)
 
 pub item_ran_on :
-    (p q : Plan) (fits : Events → State → Type 0) (origin : State) (events : Events) (k : ℕ) (o : ItemRun) → q ≡ p → o ≡ item_step.Stops → IsItemRun q fits origin events k o
-    → Gathers p fits origin events (k + 1)
-item_ran_on p q fits origin events k o e is h =
-    subst (λ z. Gathers z fits origin events (k + 1)) e (subst (λ z. IsItemRun q fits origin events k z) is h)
+    (p q : Plan) (fits : Events → State → Type 0) (origin : State) (events : Events) (count : ℕ) (leading : Option Stop) (report : Option (Box Fault Global)) → q ≡ p → report ≡ None
+    → GathersOrReports q fits origin events count leading report → GathersAt p fits origin events count leading
+item_ran_on p q fits origin events count leading report e is h =
+    subst (λ z. GathersAt z fits origin events count leading) e (subst (λ z. GathersOrReports q fits origin events count leading z) is h)
 
 gathered_on :
     (p q : Plan) (fits : Events → State → Type 0) (origin : State) (events : Events) (o : Option (Box Fault Global)) → q ≡ p → o ≡ None → IsGathered q fits origin events o

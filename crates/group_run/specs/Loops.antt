@@ -8,13 +8,12 @@ use Rattle.clmodel.specs.declared.access.Object.{Object}
 use Rattle.clmodel.specs.declared.access.Operation.{Operation}
 use Rattle.clmodel.specs.declared.action.Action.{Action}
 use Rattle.clmodel.specs.declared.action.Action.TheVariants as action
+use Rattle.clmodel.specs.declared.action.Stop.{Stop}
 use Rattle.clmodel.specs.declared.fault.Fault.{Fault}
 use Rattle.clmodel.specs.declared.schedule.Event.TheVariants.{Item}
 use Rattle.joining.specs.Group.{Plan, Reached, Reported}
 use Rattle.group_run.specs.declared.machine.Made.{Made}
 use Rattle.group_run.specs.declared.machine.Made.TheVariants as made
-use Rattle.group_run.specs.declared.loops.ItemRun.{ItemRun}
-use Rattle.group_run.specs.declared.loops.ItemRun.TheVariants as item_step
 
 -- an item's next action is this access (OpenCL 1.2, 6.1.5, 6.3, 6.12.11)
 abbrev pub Accesses : Plan → State → ℕ → Object → ℤ → Operation → Type 0
@@ -52,19 +51,23 @@ AtOneStop plan state count =
 abbrev pub Gathers : Plan → (Events → State → Type 0) → State → Events → ℕ → Type 0
 Gathers plan fits origin events count = (reached : Reached plan fits origin events) × AtOneStop plan reached.state count
 
+-- the stop that is kept of the group's first item, where it is among the `count` items that have run: none before (OpenCL 1.2, 6.12.8)
+abbrev pub IsLeading : Plan → State → ℕ → Option Stop → Type 0
+IsLeading plan state count None = count ≡ 0
+IsLeading plan state count (Some stop) = (0 < count) × (stop_of (next_action plan.launch state plan.first) ≡ Some stop)
+
+-- the group has come so far that these items are at one stop, which is this one if there are any
+abbrev pub GathersAt : Plan → (Events → State → Type 0) → State → Events → ℕ → Option Stop → Type 0
+GathersAt plan fits origin events count leading = (gathers : Gathers plan fits origin events count) × IsLeading plan gathers.0.state count leading
+
 -- the run of a launch from a state has fewer events than 2^64
 abbrev pub IsBrief : Plan → State → Type 0
 IsBrief plan origin = (bound : ℕ) × IsBounded plan.launch bound × (answers_left plan.launch bound origin < 2 ^ 64)
 
--- after an access, by the report that it brings
-abbrev pub IsAdvanced : Plan → (Events → State → Type 0) → State → Events → ℕ → Option (Box Fault Global) → Type 0
-IsAdvanced plan fits origin events k None = Gathers plan fits origin events k
-IsAdvanced plan fits origin events k (Some fault) = Reported plan fits origin events fault.value
-
--- what the run of an item of the group comes to
-abbrev pub IsItemRun : Plan → (Events → State → Type 0) → State → Events → ℕ → ItemRun → Type 0
-IsItemRun plan fits origin events k item_step.Stops = Gathers plan fits origin events (k + 1)
-IsItemRun plan fits origin events k (item_step.Reports fault) = Reported plan fits origin events fault.value
+-- by its report: the run of the group is over, or without one it goes on from where these items are at one stop
+abbrev pub GathersOrReports : Plan → (Events → State → Type 0) → State → Events → ℕ → Option Stop → Option (Box Fault Global) → Type 0
+GathersOrReports plan fits origin events count leading None = GathersAt plan fits origin events count leading
+GathersOrReports plan fits origin events count leading (Some fault) = Reported plan fits origin events fault.value
 
 -- after an interval, by the report that it brings: all items are at one stop
 abbrev pub IsGathered : Plan → (Events → State → Type 0) → State → Events → Option (Box Fault Global) → Type 0

@@ -7,17 +7,20 @@ use Rattle.shadow_list.specs.Log.{Log}
 use Rattle.joining.specs.Group.{Plan, IsRun, plan_of}
 use Rattle.group_run.specs.Logs.{IsLogged}
 use Rattle.group_run.specs.declared.result.GroupResult.{GroupResult}
-use Rattle.group_run.specs.declared.result.GroupResult.TheVariants.{Done, Stopped}
+use Rattle.group_run.specs.declared.result.GroupEnd.{GroupEnd}
+use Rattle.group_run.specs.declared.result.GroupEnd.TheVariants.{Done, Stopped}
 
 -- a program's spaces and log after these events of a group, which lead to a state
 pub record Leaves {G : Type 0} (bytes : G → List (Option ℕ)) (plan : Plan) (spaces : List G) (log : Log) (events : Events) (state : State) : Type 0 where
   pub contents : left plan.launch state ≡ map bytes spaces
   pub logged : IsLogged plan log events state
 
--- what the run of a group answers: the canonical run of the group ends clean and leaves this in the buffers, or it makes the events of
--- this schedule and ends with this report
+-- how the canonical run of a group ends, which makes these events and leaves this log: clean, with this in the buffers, or with this report
+abbrev pub IsGroupEnd : {G : Type 0} → (G → List (Option ℕ)) → Launch → ℕ → Log → Events → GroupEnd G → Type 0
+IsGroupEnd bytes launch group log events (Done spaces) = IsRun (plan_of launch group) (Leaves bytes (plan_of launch group) spaces.items log) (start launch) events None
+IsGroupEnd bytes launch group log events (Stopped fault) = IsRun (plan_of launch group) (IsLogged (plan_of launch group) log) (start launch) events (Some fault)
+
+-- what the run of a group answers: its number, and of its canonical run the events as a schedule, the log and the end
 abbrev pub IsResult : {G L : Type 0} → (G → List (Option ℕ)) → (L → Log) → Launch → ℕ → GroupResult G L → Type 0
-IsResult bytes log_of launch group (Done number spaces log runs) =
-    (number ≡ group) × IsMerged runs × IsRun (plan_of launch group) (Leaves bytes (plan_of launch group) spaces.items (log_of log)) (start launch) (events_of runs) None
-IsResult bytes log_of launch group (Stopped number fault log runs) =
-    (number ≡ group) × IsMerged runs × IsRun (plan_of launch group) (IsLogged (plan_of launch group) (log_of log)) (start launch) (events_of runs) (Some fault)
+IsResult bytes log_of launch group result =
+    (result.group ≡ group) × IsMerged result.runs × IsGroupEnd bytes launch group (log_of result.log) (events_of result.runs) result.end

@@ -16,5 +16,5 @@ mod running;
 mod runs;
 
 pub use faults::conflict_fault;
-pub use result::GroupResult;
+pub use result::{GroupEnd, GroupResult};
 pub use running::run_group;

@@ -1,11 +1,11 @@
 //! The run of a group: item by item to their stops, and interval by interval to its end.
 
-ghost use Rattle.std.specs.Prelude.{◌≡◌, ◌<◌, ◌≤◌, ◌+◌, ℕ, None, Some, IfOk, option_map};
+ghost use Rattle.std.specs.Prelude.{◌≡◌, ◌<◌, ◌≤◌, ◌+◌, ℕ, Option, None, Some, IfOk, option_map};
 ghost use Rattle.std.specs.Box.{box_value};
 ghost use Rattle.clmodel.specs.Run.{State, Events, next_action, stop_of};
-ghost use Rattle.clmodel.specs.declared.action.Stop.TheVariants.{Ended};
+ghost use Rattle.clmodel.specs.declared.action.Stop.{Stop};
 ghost use Rattle.joining.specs.Group.{IsGroup, Reached, IsRun};
-ghost use Rattle.group_run.specs.Loops.{Accesses, AtOneStop, Gathers, IsBrief, IsAdvanced, IsItemRun, IsGathered};
+ghost use Rattle.group_run.specs.Loops.{Accesses, Gathers, GathersAt, GathersOrReports, IsBrief, IsGathered};
 
 use crate::machine::{Machine, Made, Report};
 use crate::runs::Runs;
@@ -15,74 +15,39 @@ use clmodel::fault::Fault;
 use clmodel::schedule::Event;
 use divergence::same_stop;
 use std::alloc::AllocError;
+use std::mem::replace;
 
-/// What the run of an item to its next stop comes to.
-#[derive(Drop)]
-pub enum ItemRun {
-    /// At the stop of the group's first item.
-    Stops,
-    /// The run is over with this report.
-    Reports(Box<Fault>),
-}
-
-/// The stop of the group's first item, which is at one. An error is out of memory.
-fn leader<M: Machine>(m: &mut M) -> Result<Stop, AllocError>
-    requires some { 0 < (M.plan m.old).count }
-    requires stops { (events : Events) × (s : State) × (stop : Stop) × M.fits m.old events s × (stop_of (next_action (M.plan m.old).launch s (M.plan m.old).first) ≡ Some stop) }
-    ensures plan_same { M.plan m.new ≡ M.plan m.old }
-    ensures ticks_same { (j : ℕ) → M.ticks m.new j ≡ M.ticks m.old j }
-    ensures fits_same { (events : Events) (s : State) → M.fits m.old events s → M.fits m.new events s }
-    ensures value { IfOk result (λ stop. (events : Events) (s : State) → M.fits m.old events s → stop_of (next_action (M.plan m.old).launch s (M.plan m.old).first) ≡ Some stop) }
-{
-    match m.next(0)? {
-        Action::Barrier { instance, .. } => Ok(Stop::At(instance)),
-        Action::End => Ok(Stop::Ended),
-        _ => unreachable!(),
-    }
-}
-
-/// Judges an item's stop. An error is out of memory.
+/// Judges an item's stop: the first item's is kept, and that of another is compared with it. It reports a stop that is another one. An
+/// error is out of memory.
+// It is no part of `run_item`, where each access would have to make room for a stop.
 #[inline(never)]
-fn stop_at<M: Machine>(m: &mut M, k: u32, stop: Stop, runs: &Runs) -> Result<ItemRun, AllocError>
+fn stop_at<M: Machine>(
+    m: &M,
+    k: u32,
+    stop: Stop,
+    leading: &mut Option<Stop>,
+    runs: &Runs,
+) -> Result<Report, AllocError>
     ghost origin: { State }
-    requires whole { IsGroup (M.plan m.old) }
-    requires inside { k < (M.plan m.old).count }
-    requires reached { (g : Gathers (M.plan m.old) (M.fits m.old) origin runs.now k) × (stop_of (next_action (M.plan m.old).launch g.0.state ((M.plan m.old).first + k)) ≡ Some stop) }
-    ensures plan_same { M.plan m.new ≡ M.plan m.old }
-    ensures ticks_same { (j : ℕ) → M.ticks m.new j ≡ M.ticks m.old j }
-    ensures halted { IfOk result (IsItemRun (M.plan m.old) (M.fits m.new) origin runs.now k) }
+    requires whole { IsGroup (M.plan m.now) }
+    requires inside { k < (M.plan m.now).count }
+    requires reached { (g : GathersAt (M.plan m.now) (M.fits m.now) origin runs.now k leading.old) × (stop_of (next_action (M.plan m.now).launch g.0.0.state ((M.plan m.now).first + k)) ≡ Some stop) }
+    ensures { IfOk result (GathersOrReports (M.plan m.now) (M.fits m.now) origin runs.now (k + 1) leading.new) }
 {
-    let item = m.first() + k;
-    let leading = leader(m)?;
-    if same_stop(&leading, &stop) {
-        Ok(ItemRun::Stops)
-    } else {
-        let fault = Fault::Divergence {
-            item: m.first(),
-            stop: leading,
-            other_item: item,
-            other_stop: stop,
-        };
-        Ok(ItemRun::Reports(m.boxed(fault)?))
+    let Some(first) = leading else {
+        *leading = Some(stop);
+        return Ok(None);
+    };
+    if same_stop(first, &stop) {
+        return Ok(None);
     }
-}
-
-/// Judges the end of an item. An error is out of memory.
-// Mostly the first item is at its end too: then no stops are made to be compared.
-fn end_at<M: Machine>(m: &mut M, k: u32, runs: &Runs) -> Result<ItemRun, AllocError>
-    ghost origin: { State }
-    requires whole { IsGroup (M.plan m.old) }
-    requires inside { k < (M.plan m.old).count }
-    requires reached { (g : Gathers (M.plan m.old) (M.fits m.old) origin runs.now k) × (stop_of (next_action (M.plan m.old).launch g.0.state ((M.plan m.old).first + k)) ≡ Some Ended) }
-    ensures plan_same { M.plan m.new ≡ M.plan m.old }
-    ensures ticks_same { (j : ℕ) → M.ticks m.new j ≡ M.ticks m.old j }
-    ensures halted { IfOk result (IsItemRun (M.plan m.old) (M.fits m.new) origin runs.now k) }
-{
-    match m.next(0) {
-        Ok(Action::End) => Ok(ItemRun::Stops),
-        Ok(_) => stop_at(m, k, Stop::Ended, runs),
-        Err(error) => Err(error),
-    }
+    let fault = Fault::Divergence {
+        item: m.first(),
+        stop: replace(first, Stop::Ended),
+        other_item: m.first() + k,
+        other_stop: stop,
+    };
+    Ok(Some(m.boxed(fault)?))
 }
 
 /// Makes this access, which an item does next, and keeps its event.
@@ -102,7 +67,8 @@ fn advance<M: Machine>(
     ensures plan_same { M.plan m.new ≡ M.plan m.old }
     ensures ticks_kept { (j : ℕ) → M.ticks m.new j ≤ M.ticks m.old j }
     ensures ticks_less { IfOk result (λ report. report ≡ None → M.ticks m.new k < M.ticks m.old k) }
-    ensures advanced { IfOk result (IsAdvanced (M.plan m.old) (M.fits m.new) origin runs.new k) }
+    ensures advanced { IfOk result (λ report. (leading : Option Stop) (g : GathersAt (M.plan m.old) (M.fits m.old) origin runs.old k leading)
+        → Accesses (M.plan m.old) g.0.0.state ((M.plan m.old).first + k) object element operation → GathersOrReports (M.plan m.old) (M.fits m.new) origin runs.new k leading report) }
 {
     let event = Event::Item(m.first() + k);
     match m.access(k, object, element, operation)? {
@@ -118,16 +84,21 @@ fn advance<M: Machine>(
     }
 }
 
-/// Runs an item to its stop, or to a report.
-fn run_item<M: Machine>(m: &mut M, k: u32, runs: &mut Runs) -> Result<ItemRun, AllocError>
+/// Runs an item to its stop, or to a report. `leading` is the stop of the first item, once that one has run.
+fn run_item<M: Machine>(
+    m: &mut M,
+    k: u32,
+    leading: &mut Option<Stop>,
+    runs: &mut Runs,
+) -> Result<Report, AllocError>
     ghost origin: { State }
     requires whole { IsGroup (M.plan m.old) }
     requires inside { k < (M.plan m.old).count }
     requires brief { IsBrief (M.plan m.old) origin }
-    requires reached { Gathers (M.plan m.old) (M.fits m.old) origin runs.old k }
+    requires reached { GathersAt (M.plan m.old) (M.fits m.old) origin runs.old k leading.old }
     ensures plan_same { M.plan m.new ≡ M.plan m.old }
     ensures ticks_kept { (j : ℕ) → M.ticks m.new j ≤ M.ticks m.old j }
-    ensures halted { IfOk result (IsItemRun (M.plan m.old) (M.fits m.new) origin runs.new k) }
+    ensures halted { IfOk result (GathersOrReports (M.plan m.old) (M.fits m.new) origin runs.new (k + 1) leading.new) }
 {
     'steps: loop {
         // No `?` at `next`: it would move an action, which has room for a barrier's turns, for each access.
@@ -141,16 +112,16 @@ fn run_item<M: Machine>(m: &mut M, k: u32, runs: &mut Runs) -> Result<ItemRun, A
             ) => {
                 match advance(m, k, object, element, operation, runs)? {
                     None => {}
-                    Some(fault) => return Ok(ItemRun::Reports(fault)),
+                    Some(fault) => return Ok(Some(fault)),
                 }
             }
             Ok(Action::Barrier { instance, .. }) => {
-                return stop_at(m, k, Stop::At(instance), runs);
+                return stop_at(m, k, Stop::At(instance), leading, runs);
             }
-            Ok(Action::End) => return end_at(m, k, runs),
+            Ok(Action::End) => return stop_at(m, k, Stop::Ended, leading, runs),
             Ok(Action::Fault(cause)) => {
                 let fault = m.fault_of(m.first() + k, cause)?;
-                return Ok(ItemRun::Reports(fault));
+                return Ok(Some(fault));
             }
             Err(error) => return Err(error),
         }
@@ -167,10 +138,12 @@ fn run_interval<M: Machine>(m: &mut M, runs: &mut Runs) -> Result<Report, AllocE
     ensures ticks_kept { (j : ℕ) → M.ticks m.new j ≤ M.ticks m.old j }
     ensures gathered { IfOk result (IsGathered (M.plan m.old) (M.fits m.new) origin runs.new) }
 {
+    // An item's stop stays while the others run: what the first one's is needn't be asked again.
+    let mut leading = None;
     for k in 0..m.count() {
-        match run_item(m, k, runs)? {
-            ItemRun::Stops => {}
-            ItemRun::Reports(fault) => return Ok(Some(fault)),
+        match run_item(m, k, &mut leading, runs)? {
+            None => {}
+            Some(fault) => return Ok(Some(fault)),
         }
     }
     Ok(None)

@@ -41,6 +41,9 @@ impl Made {
 }
 
 /// The items of a group with their memory and the log of their accesses. Items are named by their place in the group.
+///
+/// It is a trait, though `Group` alone is one: so the loops are proved from what a machine promises, and their proofs see no items, no
+/// spaces and no logs.
 pub trait Machine {
     ghost plan: { Self → Plan };
 

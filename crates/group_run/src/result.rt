@@ -3,21 +3,20 @@
 use clmodel::fault::Fault;
 use clmodel::schedule::Schedule;
 
-/// A group that has run, by its number: its log, the runs of its items, and the buffers as they are left, or the fault that stopped it.
+/// How the run of a group ends.
 #[derive(Drop)]
-pub enum GroupResult<G, L> {
-    /// All items have ended.
-    Done {
-        group: u32,
-        spaces: Vec<G>,
-        log: L,
-        runs: Schedule,
-    },
-    /// The run shows a fault.
-    Stopped {
-        group: u32,
-        fault: Fault,
-        log: L,
-        runs: Schedule,
-    },
+pub enum GroupEnd<G> {
+    /// All items have ended, and the buffers are left so.
+    Done(Vec<G>),
+    /// The run shows this fault.
+    Stopped(Fault),
+}
+
+/// A group that has run, by its number: its log, the runs of its items, and its end.
+#[derive(Drop)]
+pub struct GroupResult<G, L> {
+    pub group: u32,
+    pub log: L,
+    pub runs: Schedule,
+    pub end: GroupEnd<G>,
 }

@@ -10,7 +10,7 @@ ghost use Rattle.group_run.specs.Results.{IsResult};
 use crate::group::Group;
 use crate::item::Slot;
 use crate::loops::run_items;
-use crate::result::GroupResult;
+use crate::result::{GroupEnd, GroupResult};
 use crate::runs::Runs;
 use clmodel::fault::Fault;
 use clmodel::schedule::Schedule;
@@ -80,18 +80,18 @@ pub fn run_group<D: Runnable, G: Space + Drop, L: AccessLog + Drop>(
     match report {
         None => {}
         Some(fault) => {
-            return Ok(GroupResult::Stopped {
+            return Ok(GroupResult {
                 group,
-                fault: Box::into_inner(fault),
                 log: machine.log,
                 runs,
+                end: GroupEnd::Stopped(Box::into_inner(fault)),
             });
         }
     }
-    Ok(GroupResult::Done {
+    Ok(GroupResult {
         group,
-        spaces: machine.buffers,
         log: machine.log,
         runs,
+        end: GroupEnd::Done(machine.buffers),
     })
 }

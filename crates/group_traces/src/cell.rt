@@ -80,6 +80,7 @@ impl Word {
     }
 
     /// Whether an access at so many bytes of the word, from the first on, can be added to what is kept of it.
+    #[inline(always)]
     pub(crate) fn fits(
         &self,
         apart: &[Apart],
@@ -104,6 +105,7 @@ impl Word {
     }
 
     /// Where its bytes are kept apart, if they are.
+    #[inline(always)]
     pub(crate) fn place(self) -> Option<usize>
         ensures { MatchOption result (IsWhole self) (IsApart self) }
     {
@@ -114,6 +116,7 @@ impl Word {
     }
 
     /// A word of bytes that were accessed once each.
+    #[inline(always)]
     fn of_singles(singles: Singles) -> Self
         ensures bytes { (apart : List TheApart) (key n k : ℕ) → word_trace apart key n result k ≡ single_byte singles k }
         ensures whole { IsWhole result }
@@ -122,6 +125,7 @@ impl Word {
     }
 
     /// A word that wasn't accessed, with an access at so many bytes of it.
+    #[inline(always)]
     fn first(x: &Access, first: u64, count: u64, mark: WordMark) -> Self
         requires one_word { first % 4 + count ≤ 4 }
         requires short { first + count < 2 ^ 64 }
@@ -137,6 +141,7 @@ impl Word {
 
     /// The word with one access more at so many bytes of it, from the first on, which fits, by the mark of the access
     /// at all of it. One whose bytes are kept apart stays.
+    #[inline(always)]
     pub(crate) fn with(self, x: &Access, first: u64, count: u64, mark: WordMark) -> Self
         requires one_word { first % 4 + count ≤ 4 }
         requires short { first + count < 2 ^ 64 }
@@ -154,6 +159,7 @@ impl Word {
     }
 
     /// What is seen of an access at so many bytes of the word, from the first on.
+    #[inline(never)]
     fn bytes_sight(
         &self,
         apart: &[Apart],
@@ -183,6 +189,7 @@ impl Word {
     }
 
     /// The same, by the mark of the access at the whole word, if it is at all of it.
+    #[inline(always)]
     pub fn sight(
         &self,
         apart: &[Apart],

@@ -93,6 +93,7 @@ impl Singles {
     }
 
     /// Whether each byte is still accessed once where an access is added at so many of them, from the first on.
+    #[inline(never)]
     pub fn holds(self, x: &Access, first: u64, count: u64) -> bool
         requires { first + count < 2 ^ 64 }
         ensures { result ≡ true → HoldsBytes self x.now first count }
@@ -124,6 +125,7 @@ impl Singles {
     }
 
     /// With an access at so many bytes, from the first on, each of which is still accessed once.
+    #[inline(never)]
     pub fn with(self, x: &Access, first: u64, count: u64) -> Self
         requires one_word { first % 4 + count ≤ 4 }
         requires short { first + count < 2 ^ 64 }

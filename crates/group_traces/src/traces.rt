@@ -115,6 +115,7 @@ impl Traces {
 
     /// What is seen of an access at so many bytes of a word, from the first on, by its cell and by the mark of the
     /// access there.
+    #[inline(always)]
     fn part(
         &self,
         i: usize,
@@ -217,8 +218,32 @@ impl Traces {
         self.cells[i].words[n] = word;
     }
 
+    /// Keeps the bytes of the word of a byte, in a cell, apart.
+    #[inline(never)]
+    fn split(&mut self, i: usize, first: u64) -> Result<(), AllocError>
+        requires own { IsOwn self.old (cell_at self.old.cells.items i).key i }
+        ensures same { IsSame self.old self.new }
+        ensures own { (key j : ℕ) → IsOwn self.old key j → IsOwn self.new key j }
+        ensures fits { OnOk result ((y : TheAccess) (f c : ℕ) → IsFitting self.new i (first % 32 / 4) y f c) }
+        ensures others { (m : ℕ) (y : TheAccess) (f c : ℕ) → (m ≡ first % 32 / 4 → ⊥) → IsFitting self.old i m y f c → IsFitting self.new i m y f c }
+    {
+        let n = word_of(first);
+        let cell = &self.cells[i];
+        let key = cell.key;
+        let at = self.apart.len();
+        let traces = cell.words[n].bytes(&self.apart, key, n);
+        self.apart.push(Apart {
+            key,
+            word: n,
+            traces,
+        })?;
+        self.put(i, n, Word::Apart(at));
+        Ok(())
+    }
+
     /// Keeps the bytes of a word of a cell apart, unless an access at so many of them, from the first on, can be added
     /// to what is kept of it.
+    #[inline(always)]
     fn fit(&mut self, i: usize, x: &Access, first: u64, count: u64) -> Result<(), AllocError>
         requires own { IsOwn self.old (cell_at self.old.cells.items i).key i }
         requires short { first + count < 2 ^ 64 }
@@ -229,23 +254,14 @@ impl Traces {
     {
         let n = word_of(first);
         let cell = &self.cells[i];
-        let key = cell.key;
-        let word = cell.words[n];
-        if word.fits(&self.apart, key, n, x, first, count) {
+        if cell.words[n].fits(&self.apart, cell.key, n, x, first, count) {
             return Ok(());
         }
-        let at = self.apart.len();
-        let traces = word.bytes(&self.apart, key, n);
-        self.apart.push(Apart {
-            key,
-            word: n,
-            traces,
-        })?;
-        self.put(i, n, Word::Apart(at));
-        Ok(())
+        self.split(i, first)
     }
 
     /// Adds an access to so many of the bytes that are kept apart at a place, from the first on.
+    #[inline(never)]
     fn write_apart(&mut self, at: usize, x: &Access, first: u64, count: u64)
         requires there { at < length self.old.apart.items }
         requires one_word { first % 4 + count ≤ 4 }
@@ -259,6 +275,7 @@ impl Traces {
     }
 
     /// Adds an access to so many bytes of a word that fits, from the first on, by the mark of the access there.
+    #[inline(always)]
     fn write(&mut self, i: usize, x: &Access, first: u64, count: u64, mark: WordMark)
         requires inside { i < length self.old.cells.items }
         requires one_word { first % 4 + count ≤ 4 }
@@ -278,6 +295,7 @@ impl Traces {
     }
 
     /// Adds an access to one word of a cell, of which it is at so many bytes.
+    #[inline(always)]
     fn mark_one(&mut self, i: usize, x: &Access, count: u64) -> Result<(), AllocError>
         requires own { IsOwn self.old (cell_at self.old.cells.items i).key i }
         requires count { count ≡ byte_count x.now.width }
@@ -292,6 +310,7 @@ impl Traces {
     }
 
     /// Adds an access of eight bytes to two words of a cell.
+    #[inline(never)]
     fn mark_two(&mut self, i: usize, x: &Access) -> Result<(), AllocError>
         requires own { IsOwn self.old (cell_at self.old.cells.items i).key i }
         requires wide { byte_count x.now.width ≡ 8 }

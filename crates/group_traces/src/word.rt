@@ -72,6 +72,7 @@ fn differing(a: WordMark, b: WordMark) -> [bool; 4]
 
 impl WordTrace {
     /// Of one access.
+    #[inline(always)]
     pub fn of(interval: u32, mark: WordMark) -> Self
         ensures { (k : ℕ) → k < 4 → word_byte result k ≡ first_in interval (byte_mark mark k) false }
     {

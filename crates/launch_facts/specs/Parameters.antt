@@ -1,8 +1,8 @@
 -- The parameters of a kernel as an explanation tells them (own), and which of them the commands before a launch give a buffer.
-use Rattle.std.specs.Prelude.{◌≡◌, ℕ, ◌==◌, ◌&&◌, ◌<◌, suc, Bool, true, false, Option, Some, List, [], ◌∷◌, ◌++◌, length, codes, map, slice_get, slice_index_or, string_bytes, if◌then◌else◌}
+use Rattle.std.specs.Prelude.{◌≡◌, ℕ, ◌==◌, ◌&&◌, ◌<◌, ◌/◌, suc, Bool, true, false, Option, None, Some, List, [], ◌∷◌, ◌++◌, length, codes, map, slice_get, slice_index_or, string_bytes, if◌then◌else◌}
 use Rattle.std.specs.Option.{option_map_or, unwrap_or}
 use Rattle.std.specs.Str.Lossy.{utf8_lossy}
-use Rattle.clnum.specs.Integer.{type_word}
+use Rattle.clnum.specs.Integer.{bits, type_word}
 use Rattle.clmodel.specs.Setup.{same_text}
 use Rattle.clmodel.specs.declared.setup.Argument.{Argument}
 use Rattle.clmodel.specs.declared.setup.Argument.TheVariants as argument
@@ -40,17 +40,24 @@ name_of names place = unwrap_or (slice_get names place) []
 abbrev pub is_named : List (List ℕ) → List ℕ → Parameter → Bool
 is_named names name parameter = option_map_or (λ other. same_text other name) (slice_get names parameter.name) false
 
--- an index, the name and the type of a parameter
-pub record IsFacts (names : List (List ℕ)) (i : ℕ) (parameter : Parameter) (p : ParameterFacts) : Type 0 where
+-- the element of a pointer's type in which a byte of its object lies (OpenCL 1.2, section 6.1.5)
+abbrev pub element_of : Option ℕ → VariableType → Option ℕ
+element_of (Some byte) (variable.Pointer pointer) = Some (byte / (bits pointer.element / 8))
+element_of (Some byte) (variable.Integer kind) = None
+element_of None kind = None
+
+-- an index, the name and the type of a parameter, and the element of its type in which a byte lies
+pub record IsFacts (byte : Option ℕ) (names : List (List ℕ)) (i : ℕ) (parameter : Parameter) (p : ParameterFacts) : Type 0 where
   pub index : p.index ≡ i
   pub name : string_bytes p.name ≡ utf8_lossy (name_of names parameter.name)
   pub type_name : string_bytes p.type_name ≡ type_text parameter.kind
+  pub element : p.element ≡ element_of byte parameter.kind
 
 -- what is told of a parameter is right, by its index
-pub record TellsOf (parameters : List Parameter) (names : List (List ℕ)) (p : ParameterFacts) : Type 0 where
+pub record TellsOf (byte : Option ℕ) (parameters : List Parameter) (names : List (List ℕ)) (p : ParameterFacts) : Type 0 where
   pub parameter : Parameter
   pub at : slice_get parameters p.index ≡ Some parameter
-  pub facts : IsFacts names p.index parameter p
+  pub facts : IsFacts byte names p.index parameter p
 
 abbrev pub indexes : List ParameterFacts → List ℕ
 indexes found = map (λ p. p.index) found

@@ -4,7 +4,7 @@
 ghost use Rattle.std.specs.Prelude.{◌≡◌, ◌<◌, ◌++◌, [], ◌∷◌, All, codes, false, length, slice_get, string_bytes, IfOk, OnOk, if◌then◌else◌};
 ghost use Rattle.std.specs.Option.{option_map_or};
 ghost use Rattle.launch_facts.specs.Commands.{did, IsLast};
-ghost use Rattle.launch_facts.specs.Parameters.{space_word, const_word, type_text, is_buffer, sets, gave_buffer, is_named, indexes, IsFacts, TellsOf, IsGiven, AreChosen};
+ghost use Rattle.launch_facts.specs.Parameters.{space_word, const_word, type_text, element_of, is_buffer, sets, gave_buffer, is_named, indexes, IsFacts, TellsOf, IsGiven, AreChosen};
 
 use crate::commands::{this_or_earlier, was_done};
 use clmodel::setup::Argument;
@@ -63,14 +63,27 @@ pub fn type_text(alloc: Global, kind: VariableType) -> Result<String, AllocError
     }
 }
 
-/// A parameter by its index, with the names of a source.
+/// The element of a pointer's type in which a byte of its object lies (OpenCL 1.2, section 6.1.5, of aligned elements).
+fn element_of(byte: Option<u64>, kind: VariableType) -> Option<u64>
+    ensures { result ≡ element_of byte kind }
+{
+    match (byte, kind) {
+        (Some(byte), VariableType::Pointer(pointer)) => {
+            Some(byte / u64::from(pointer.element.bits() / 8))
+        }
+        _ => None,
+    }
+}
+
+/// A parameter by its index, with the names of a source, and the element in which a byte lies.
 fn facts_of(
     alloc: Global,
+    byte: Option<u64>,
     index: usize,
     parameter: &Parameter,
     names: &[Name],
 ) -> Result<ParameterFacts, AllocError>
-    ensures { IfOk result (IsFacts names.now index parameter.now) }
+    ensures { IfOk result (IsFacts byte names.now index parameter.now) }
 {
     let name = match names.get(parameter.name as usize) {
         Some(name) => name.as_slice(),
@@ -80,6 +93,7 @@ fn facts_of(
         index,
         name: String::from_utf8_lossy(alloc, name)?,
         type_name: type_text(alloc, parameter.kind)?,
+        element: element_of(byte, parameter.kind),
     })
 }
 
@@ -151,6 +165,7 @@ fn is_given(commands: &[Command], done: &[bool], kernel: &Name, buffer: &Name, i
 fn push_chosen(
     alloc: Global,
     is_chosen: bool,
+    byte: Option<u64>,
     index: usize,
     parameters: &[Parameter],
     names: &[Name],
@@ -158,34 +173,35 @@ fn push_chosen(
 ) -> Result<(), AllocError>
     requires { index < length parameters.now }
     ensures indexes { OnOk result (indexes found.new.items ≡ indexes found.old.items ++ (if is_chosen then index ∷ [] else [])) }
-    ensures told { OnOk result (All (TellsOf parameters.now names.now) found.old.items → All (TellsOf parameters.now names.now) found.new.items) }
+    ensures told { OnOk result (All (TellsOf byte parameters.now names.now) found.old.items → All (TellsOf byte parameters.now names.now) found.new.items) }
 {
     if !is_chosen {
         return Ok(());
     }
-    let facts = facts_of(alloc, index, &parameters[index], names)?;
+    let facts = facts_of(alloc, byte, index, &parameters[index], names)?;
     found.push(facts)?;
     Ok(())
 }
 
 /// The parameters of a kernel that are given a buffer, in their order, by the commands that set its arguments, of which
-/// each was done or not. An error is out of memory.
+/// each was done or not, with the element in which a byte of it lies. An error is out of memory.
 pub fn parameters_given(
     alloc: Global,
     commands: &[Command],
     done: &[bool],
     kernel: &Name,
     buffer: &Name,
+    byte: Option<u64>,
     parameters: &[Parameter],
     names: &[Name],
 ) -> Result<Vec<ParameterFacts>, AllocError>
     ensures chosen { IfOk result (λ found. AreChosen (IsGiven commands.now done.now kernel.now buffer.now) (length parameters.now) (indexes found.items)) }
-    ensures told { IfOk result (λ found. All (TellsOf parameters.now names.now) found.items) }
+    ensures told { IfOk result (λ found. All (TellsOf byte parameters.now names.now) found.items) }
 {
     let mut found = Vec::new(alloc);
     for index in 0..parameters.len() {
         let is_chosen = is_given(commands, done, kernel, buffer, index);
-        push_chosen(alloc, is_chosen, index, parameters, names, &mut found)?;
+        push_chosen(alloc, is_chosen, byte, index, parameters, names, &mut found)?;
     }
     Ok(found)
 }
@@ -203,20 +219,21 @@ fn is_named(parameters: &[Parameter], index: usize, name: &Name, names: &[Name])
     }
 }
 
-/// The parameters of a kernel that have a name, in their order. An error is out of memory.
+/// The parameters of a kernel that have a name, in their order, with the element in which a byte lies. An error is out of memory.
 pub fn parameters_named(
     alloc: Global,
     name: &Name,
+    byte: Option<u64>,
     parameters: &[Parameter],
     names: &[Name],
 ) -> Result<Vec<ParameterFacts>, AllocError>
     ensures chosen { IfOk result (λ found. AreChosen (λ j is. is ≡ option_map_or (is_named names.now name.now) (slice_get parameters.now j) false) (length parameters.now) (indexes found.items)) }
-    ensures told { IfOk result (λ found. All (TellsOf parameters.now names.now) found.items) }
+    ensures told { IfOk result (λ found. All (TellsOf byte parameters.now names.now) found.items) }
 {
     let mut found = Vec::new(alloc);
     for index in 0..parameters.len() {
         let is_chosen = is_named(parameters, index, name, names);
-        push_chosen(alloc, is_chosen, index, parameters, names, &mut found)?;
+        push_chosen(alloc, is_chosen, byte, index, parameters, names, &mut found)?;
     }
     Ok(found)
 }

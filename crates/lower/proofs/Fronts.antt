@@ -10,10 +10,11 @@ use Rattle.clmodel.specs.Tree.{Stmt, Stmts, NoStmt, ThenStmt, stmt, then_stmts}
 use Rattle.lower_code.proofs.Lists.{block_is}
 use Rattle.lower_code.proofs.Trees.{row_more}
 use Rattle.regcode.specs.declared.instruction.Instruction.{Instruction}
-use Rattle.lower_code.specs.Room.{levels, reach}
-use Rattle.lower_code.specs.declared.positions.Exits.{Exits}
+use Rattle.lower_expr.specs.Scope.{Scope}
 use Rattle.lower_code.specs.Trees.{all_of}
-use Rattle.lower_code.specs.Variables.{elements, row_elements}
+use Rattle.lower_code.specs.declared.holes.StatementContext.{StatementContext}
+use Rattle.lower.specs.Statements.{demand_of, row_demand, HasRoom}
+use Rattle.lower.specs.declared.statements.Ending.{Ending}
 
 module _ (f : ℕ → ℕ) where
   more_sites : (ss : Stmts) (ts : List Statement) → all_sites f ss ≤ all_sites f (then_stmts ss (map stmt ts))
@@ -58,31 +59,12 @@ too_many all n most not_few below = go (cases_lt (all + n) (2 ^ 32))
     go (inl few) = absurd (not_few few)
     go (inr many) = omega (arith, many, below)
 
--- the statements of a block have no more than it
-pub block_few : (f : ℕ → ℕ) (s : Statement) (at : ℕ) (ss : Vec Statement Global) (ts : List Statement) (n : ℕ) → s ≡ rust_statement.Block at ss → ts ≡ ss.items → sites f (stmt s) ≤ n → all_sites f (all_of ts) ≤ n
-block_few f s at ss ts n s_is ts_is few = subst (λ (x : Stmt). sites f x ≤ n) (sym (block_is s at ss ts s_is ts_is)) few
-
--- and no more nodes
-pub block_small : (sizes : Sizes) (s : Statement) (at : ℕ) (ss : Vec Statement Global) (ts : List Statement) (depth n : ℕ) → s ≡ rust_statement.Block at ss → ts ≡ ss.items
-    → depth + (size sizes (stmt s)).nodes ≤ n → depth + (row_size sizes (all_of ts)).nodes ≤ n
-block_small sizes s at ss ts depth n s_is ts_is small =
-    let inner : depth + suc (row_size sizes (all_of ts)).nodes ≤ n = subst (λ (x : Stmt). depth + (size sizes x).nodes ≤ n) (sym (block_is s at ss ts s_is ts_is)) small in
-    omega (arith, inner)
-
--- and need no more levels
-pub block_low : (sizes : Sizes) (s : Statement) (at : ℕ) (ss : Vec Statement Global) (ts : List Statement) (level n : ℕ) → s ≡ rust_statement.Block at ss → ts ≡ ss.items
-    → level + levels (size sizes (stmt s)).nodes < n → level + levels (row_size sizes (all_of ts)).nodes < n
-block_low sizes s at ss ts level n s_is ts_is low =
-    let inner : level + levels (suc (row_size sizes (all_of ts)).nodes) < n = subst (λ (x : Stmt). level + levels (size sizes x).nodes < n) (sym (block_is s at ss ts s_is ts_is)) low in
-    omega (arith, inner)
-
--- and reach no further
-pub block_short : (sizes : Sizes) (s : Statement) (at : ℕ) (ss : Vec Statement Global) (ts : List Statement) (exits : Exits) (code : List Instruction) (n : ℕ) → s ≡ rust_statement.Block at ss → ts ≡ ss.items
-    → reach exits code (size sizes (stmt s)).nodes < n → reach exits code (row_size sizes (all_of ts)).nodes < n
-block_short sizes s at ss ts exits code n s_is ts_is short =
-    let inner : reach exits code (suc (row_size sizes (all_of ts)).nodes) < n = subst (λ (x : Stmt). reach exits code (size sizes x).nodes < n) (sym (block_is s at ss ts s_is ts_is)) short in
-    omega (arith, inner)
-
--- and have no larger arrays
-pub block_arrays : (s : Statement) (at : ℕ) (ss : Vec Statement Global) (ts : List Statement) (n : ℕ) → s ≡ rust_statement.Block at ss → ts ≡ ss.items → elements (stmt s) ≤ n → row_elements (all_of ts) ≤ n
-block_arrays s at ss ts n s_is ts_is few = subst (λ (x : Stmt). elements x ≤ n) (sym (block_is s at ss ts s_is ts_is)) few
+-- the statements of a block take no more than it
+pub block_room : (c : StatementContext) (s : Statement) (at : ℕ) (ss : Vec Statement Global) (ts : List Statement) (scope : Scope) (e : Ending) (code : List Instruction)
+    → s ≡ rust_statement.Block at ss → ts ≡ ss.items → HasRoom (demand_of c (stmt s)) scope e code → HasRoom (row_demand c (all_of ts)) scope e code
+block_room c s at ss ts scope e code s_is ts_is room =
+    let inner = subst (λ (x : Stmt). HasRoom (demand_of c x) scope e code) (sym (block_is s at ss ts s_is ts_is)) room in
+    let small = inner.small in
+    let low = inner.low in
+    let short = inner.short in
+    record { few = inner.few; small = omega (arith, small); low = omega (arith, low); short = omega (arith, short); arrays = inner.arrays }

@@ -1,22 +1,23 @@
 -- The kernel of a name, its code with tables, and what is promised of it.
-use Rattle.std.proofs.Common.{◌≡◌, ℕ, ◌<◌, ◌≤◌, ◌^◌, ◌⊎◌, inl, inr, Option, None, Some, List, length, position, refl, ap, ap₂, sym, ◌∙◌, subst, arith}
+use Rattle.std.proofs.Common.{◌≡◌, ℕ, ◌<◌, ◌≤◌, ◌^◌, ◌⊎◌, inl, inr, Some, length, take, ap, ap₂, sym, ◌∙◌, subst, arith}
 use Rattle.std.proofs.Math.Logic.{∥∥₁_elim}
 use Rattle.std.proofs.lemmas.Bool.{cases_lt}
-use Rattle.std.specs.Option.{option_map, option_and_then}
 use Rattle.clmodel.specs.Next.{all_sites, sites_in}
-use Rattle.clmodel.specs.Setup.{kernel_in, kernel_number, functions_before, same_text}
-use Rattle.clmodel.specs.Tree.{Program, Func}
+use Rattle.clmodel.specs.Setup.{kernel_in, functions_before}
+use Rattle.clmodel.specs.Tree.{Program, Func, program, func}
 use Rattle.clmodel.specs.Typing.{IsTypedProgram}
 use Rattle.clmodel.specs.Typing.Functions.{size_of}
 use Rattle.clmodel.specs.Typing.Rules.{length_limit}
 use Rattle.clmodel.specs.Typing.Sizes.{node_limit, parameter_limit}
-use Rattle.clmodel.proofs.Kernels as kernels
+use Rattle.clmodel.specs.declared.tree.Function.{Function}
+use Rattle.clmodel.specs.declared.tree.Tree.{Tree}
+use Rattle.cltypes.specs.Kernels.{IsKernel}
 use Rattle.regcode.specs.Listing.{Listing}
 use Rattle.regcode.specs.Rules.{IsVerified}
 use Rattle.lower_code.specs.Code.{kernel_code}
 use Rattle.lower_code.specs.Variables.{row_elements}
 use Rattle.lower.specs.Accepted.{TypedKernelsVerified}
-use Rattle.lower.specs.Bounds.{FewBarriers, FewNodes, FewArguments, SmallArrays, TypedKernelsFewBarriers, TypedKernelsShort}
+use Rattle.lower.specs.Bounds.{IsWithinLimits, TypedKernelsFewBarriers, TypedKernelsShort}
 use Rattle.lower.specs.Correct.{ActsAsTheTree}
 use Rattle.lower.specs.Lists.{Lists}
 use Rattle.lower.specs.Lowers.{IsLowered}
@@ -32,7 +33,7 @@ pub never_rejected : (p : Program) (number : ℕ) (code : Listing) → TypedKern
 never_rejected p number code law typed lists rejected = ∥∥₁_elim typed (λ x y. absurd x) (λ t. rejected (lists_verified p number code law t lists))
 
 -- a typed program's kernel has few barriers
-pub few_barriers : (p : Program) (number : ℕ) → TypedKernelsFewBarriers → ∥ IsTypedProgram p ∥₁ → FewBarriers p.functions number
+few_barriers : (p : Program) (number : ℕ) → TypedKernelsFewBarriers → ∥ IsTypedProgram p ∥₁ → (f : Func) → kernel_in p.functions number ≡ Some f → all_sites (sites_in (functions_before p.functions number)) f.body < 2 ^ 32
 unfolding TypedKernelsFewBarriers
 few_barriers p number law typed f is = go (cases_lt (all_sites (sites_in (functions_before p.functions number)) f.body) (2 ^ 32))
   where
@@ -42,7 +43,7 @@ few_barriers p number law typed f is = go (cases_lt (all_sites (sites_in (functi
     go (inr many) = absurd (∥∥₁_elim typed (λ x y. absurd x) (λ t. let most = law p number f t is in omega (arith, most, many)))
 
 -- and few nodes
-pub few_nodes : (p : Program) (number : ℕ) → TypedKernelsShort → ∥ IsTypedProgram p ∥₁ → FewNodes p.functions number
+few_nodes : (p : Program) (number : ℕ) → TypedKernelsShort → ∥ IsTypedProgram p ∥₁ → (f : Func) → kernel_in p.functions number ≡ Some f → (size_of (functions_before p.functions number) f).nodes ≤ node_limit
 unfolding TypedKernelsShort
 few_nodes p number law typed f is = go (cases_lt node_limit (size_of (functions_before p.functions number) f).nodes)
   where
@@ -52,7 +53,7 @@ few_nodes p number law typed f is = go (cases_lt node_limit (size_of (functions_
     go (inr few) = few
 
 -- and few parameters
-pub few_arguments : (p : Program) (number : ℕ) → ∥ IsTypedProgram p ∥₁ → FewArguments p.functions number
+pub few_arguments : (p : Program) (number : ℕ) → ∥ IsTypedProgram p ∥₁ → (f : Func) → kernel_in p.functions number ≡ Some f → length f.parameters ≤ parameter_limit
 few_arguments p number typed f is = go (cases_lt parameter_limit (length f.parameters))
   where
     go : (parameter_limit < length f.parameters) ⊎ (length f.parameters ≤ parameter_limit) → length f.parameters ≤ parameter_limit
@@ -60,12 +61,25 @@ few_arguments p number typed f is = go (cases_lt parameter_limit (length f.param
     go (inr few) = few
 
 -- and arrays with few elements
-pub small_arrays : (p : Program) (number : ℕ) → ∥ IsTypedProgram p ∥₁ → SmallArrays p.functions number
+small_arrays : (p : Program) (number : ℕ) → ∥ IsTypedProgram p ∥₁ → (f : Func) → kernel_in p.functions number ≡ Some f → row_elements f.body ≤ length_limit
 small_arrays p number typed f is = go (cases_lt length_limit (row_elements f.body))
   where
     go : (length_limit < row_elements f.body) ⊎ (row_elements f.body ≤ length_limit) → row_elements f.body ≤ length_limit
     go (inl more) = absurd (∥∥₁_elim typed (λ x y. absurd x) (λ t. let most = kernel_arrays p number f t is in omega (arith, most, more)))
     go (inr few) = few
+
+-- so a typed program's kernel is within the limits
+pub within_limits : (tree : Tree) (place : ℕ) (function : Function) → TypedKernelsFewBarriers → TypedKernelsShort → ∥ IsTypedProgram (program tree) ∥₁
+    → IsKernel tree place function → IsWithinLimits (take place tree.functions.items) function
+within_limits tree place function few short typed found =
+    let p = program tree in
+    let f = func function in
+    record {
+      few = subst (λ fs. all_sites (sites_in fs) f.body < 2 ^ 32) (sym found.before) (few_barriers p function.name few typed f found.there);
+      small = subst (λ fs. (size_of fs f).nodes ≤ node_limit) (sym found.before) (few_nodes p function.name short typed f found.there);
+      parameters = few_arguments p function.name typed f found.there;
+      arrays = small_arrays p function.name typed f found.there;
+    }
 
 -- it is the code that is defined for the kernel
 pub lists_same : (p : Program) (number : ℕ) (code made : Listing) → code ≡ made → Lists p.functions number made → Lists p.functions number code
@@ -82,19 +96,3 @@ lists_lowered p number code made law same lists = record {
       (ap (λ l. l.instructions) (same ∙ lists.same) ∙ sym (ap₂ (λ (q : Program) k. kernel_code (functions_before q.functions k) lists.function) program kernel))
       item answers;
 }
-
--- a kernel that has a name is there
-pub named_found : (p : Program) (name : List ℕ) (number : ℕ) → kernel_number p name ≡ Some number → kernel_in p.functions number ≡ None → ⊥
-named_found p name number named none = at (position (same_text name) p.names) named
-  where
-    there : (n : ℕ) (k : Option Func) → kernel_in p.functions n ≡ k → option_map (λ f. f.name) k ≡ Some number → ⊥
-    there n None is found = cc
-    there n (Some f) is found =
-        let same = kernels.named p.functions n f is in
-        let number_is : number ≡ n = cc in
-        let gone = ap (kernel_in p.functions) number_is in
-        cc
-
-    at : (place : Option ℕ) → option_and_then (λ n. option_map (λ f. f.name) (kernel_in p.functions n)) place ≡ Some number → ⊥
-    at None found = cc
-    at (Some n) found = there n (kernel_in p.functions n) refl found

@@ -1,13 +1,16 @@
 -- How long a kernel's code is, and how many barriers it has (own).
-use Rattle.std.specs.Prelude.{◌≡◌, ℕ, ◌+◌, ◌*◌, ◌<◌, ◌≤◌, ◌^◌, Some, length}
+use Rattle.std.specs.Prelude.{◌≡◌, ℕ, ◌+◌, ◌*◌, ◌<◌, ◌≤◌, ◌^◌, List, Some, length}
 use Rattle.clmodel.specs.Next.{all_sites, sites_in}
 use Rattle.clmodel.specs.Setup.{kernel_in, functions_before}
-use Rattle.clmodel.specs.Tree.{Program, Func, Funcs}
+use Rattle.clmodel.specs.Tree.{Program, Func}
 use Rattle.clmodel.specs.Typing.{IsTypedProgram}
 use Rattle.clmodel.specs.Typing.Functions.{size_of}
 use Rattle.clmodel.specs.Typing.Rules.{length_limit}
-use Rattle.clmodel.specs.Typing.Sizes.{node_limit, parameter_limit}
+use Rattle.clmodel.specs.Typing.Sizes.{row_size, node_limit, parameter_limit}
+use Rattle.clmodel.specs.declared.tree.Function.{Function}
 use Rattle.lower_code.specs.Code.{kernel_code}
+use Rattle.lower_code.specs.Helpers.{inside, sizes_in}
+use Rattle.lower_code.specs.Trees.{all_of}
 use Rattle.lower_code.specs.Variables.{row_elements}
 use Rattle.lower.specs.Tables.{register_count}
 
@@ -42,20 +45,10 @@ TypedKernelsFit =
     (length (kernel_code (functions_before program.functions name) f) ≤ per_node * node_limit + parameter_limit + 2)
     × (register_count (kernel_code (functions_before program.functions name) f) ≤ 16 * (parameter_limit + node_limit + 1))
 
--- The kernel of a name's number, if there is one, has so few barriers, those in the helpers that it calls among them, that each has a number of 32 bits.
-abbrev pub FewBarriers : Funcs → ℕ → Type 0
-FewBarriers functions number =
-    (f : Func) → kernel_in functions number ≡ Some f → all_sites (sites_in (functions_before functions number)) f.body < 2 ^ 32
-
--- and it has no more nodes than typing allows
-abbrev pub FewNodes : Funcs → ℕ → Type 0
-FewNodes functions number =
-    (f : Func) → kernel_in functions number ≡ Some f → (size_of (functions_before functions number) f).nodes ≤ node_limit
-
--- nor more parameters
-abbrev pub FewArguments : Funcs → ℕ → Type 0
-FewArguments functions number = (f : Func) → kernel_in functions number ≡ Some f → length f.parameters ≤ parameter_limit
-
--- nor an array of more elements than one may have
-abbrev pub SmallArrays : Funcs → ℕ → Type 0
-SmallArrays functions number = (f : Func) → kernel_in functions number ≡ Some f → row_elements f.body ≤ length_limit
+-- What is wanted of a function, behind these, whose code is made: its barriers, those in the helpers that it calls among them, have numbers of 32 bits, and
+-- it has no more nodes, no more parameters and no array of more elements than typing allows.
+pub record IsWithinLimits (functions : List Function) (function : Function) : Type 0 where
+  pub few : all_sites (inside functions) (all_of function.body.items) < 2 ^ 32
+  pub small : (row_size (sizes_in functions) (all_of function.body.items)).nodes ≤ node_limit
+  pub parameters : length function.parameters.items ≤ parameter_limit
+  pub arrays : row_elements (all_of function.body.items) ≤ length_limit

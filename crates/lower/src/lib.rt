@@ -1,21 +1,22 @@
 //! The register code of kernels: from checked trees to verified code.
 //!
-//! `lower` gives the defined code of a kernel, with the bodies of its helpers in place of their calls. The law
-//! `acts_as_the_tree`: for every program, launch, item and list of answers the code acts as the tree, whatever its
-//! tables are. So it never reads an unset register but as a variable: another name would show. Kernels of typed
-//! programs are verified, short, and have few registers and barriers, so that no count needs a test: besides what its
-//! parameters take, a kernel has at most 140,002 instructions, 320,016 registers and 20,000 barriers. No such kernel is
-//! answered exactly where there is none. The only other error is out of memory.
+//! `lower` gives the defined code of the kernel of a name, with the bodies of its helpers in place of their calls;
+//! `lower_kernel` that of a kernel that was found. The law `acts_as_the_tree`: for every program, launch, item and list of
+//! answers the code acts as the tree, whatever its tables are. So it never reads an unset register but as a variable:
+//! another name would show. Kernels of typed programs are verified, short, and have few registers and barriers, so that no
+//! count needs a test: besides what its parameters take, a kernel has at most 140,002 instructions, 320,016 registers and
+//! 20,000 barriers. `lower` answers that there is no such kernel exactly where there is none. The only other error is out
+//! of memory.
 #![tactic(auto)]
 
 pub mod code_laws;
+mod code_tables;
 mod expansion;
+pub mod kernel_laws;
 mod kernels;
+mod known_functions;
 mod lowering;
 mod sites;
 mod statements;
-mod table;
-pub mod table_laws;
-mod tables;
 
 pub use lowering::{LowerFault, lower, lower_kernel};

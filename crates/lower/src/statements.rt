@@ -21,7 +21,7 @@ ghost use Rattle.lower_code.specs.Emission.{inside, sizes_in, body_of, statement
 ghost use Rattle.lower_code.specs.Growth.{GrowsBefore, KeepsOuter};
 ghost use Rattle.lower_code.specs.Room.{levels, reach, turn_reach};
 ghost use Rattle.lower_code.specs.Variables.{elements, part_elements, row_elements};
-ghost use Rattle.lower.specs.Statements.{is_loop, is_single, begun_at, once_code, round_code};
+ghost use Rattle.lower.specs.Statements.{is_single, begun_at, demand_of, row_demand, part_demand, round_demand, turns_demand, HasRoom, HasRoomInLoop, once_code, round_code};
 
 use crate::sites::{site_before, site_behind_all};
 use clmodel::tree::{Expression, Function, Statement};
@@ -65,165 +65,96 @@ fn statement_of(part: &Option<Box<Statement>>) -> Option<&Statement>
 
 /// Puts a statement in which no other stands before the code, and gives the number of its first barrier.
 fn emit_single<'a>(
-    setting: &StatementContext<'a>,
+    context: &StatementContext<'a>,
     scope: &mut Scope,
     statement: &Statement,
     ending: Ending,
     code: &mut Draft<'a>,
 ) -> Result<u32, AllocError>
     requires kind { is_single statement.now ≡ true }
-    requires few { sites (inside setting.now.helpers.functions.now) (stmt statement.now) ≤ ending.behind }
-    requires small { ending.depth + (size (sizes_in setting.now.helpers.functions.now) (stmt statement.now)).nodes ≤ node_limit }
-    requires low { free_level scope.old + levels (size (sizes_in setting.now.helpers.functions.now) (stmt statement.now)).nodes < 2 ^ 28 }
-    requires arrays { elements (stmt statement.now) ≤ length_limit }
-    ensures code { IfOk result (λ site. code.new ≡ statement_code setting.now scope.old (stmt statement.now) (begun_at ending site) ++ code.old) }
-    ensures site { IfOk result (λ site. site + sites (inside setting.now.helpers.functions.now) (stmt statement.now) ≡ ending.behind) }
+    requires room { HasRoom (demand_of context.now (stmt statement.now)) scope.old ending code.old }
+    ensures code { IfOk result (λ site. code.new ≡ statement_code context.now scope.old (stmt statement.now) (begun_at ending site) ++ code.old) }
+    ensures site { IfOk result (λ site. site + sites (inside context.now.helpers.functions.now) (stmt statement.now) ≡ ending.behind) }
     ensures scope { scope.new ≡ scope.old }
     ensures longer { OnErr result (GrowsBefore code.old code.new) }
 {
-    let site = site_before(setting.helpers, ending.behind, statement);
+    let site = site_before(context.helpers, ending.behind, statement);
     let position = Position {
         depth: ending.depth,
         site,
         exits: ending.exits,
     };
-    put_single(setting, scope, statement, position, code)?;
+    put_single(context, scope, statement, position, code)?;
     Ok(site)
 }
 
 /// Puts such a statement before the code at a position.
 fn put_single<'a>(
-    setting: &StatementContext<'a>,
+    context: &StatementContext<'a>,
     scope: &mut Scope,
     statement: &Statement,
     position: Position,
     code: &mut Draft<'a>,
 ) -> Result<(), AllocError>
     requires kind { is_single statement.now ≡ true }
-    requires few { position.site + sites (inside setting.now.helpers.functions.now) (stmt statement.now) < 2 ^ 32 }
-    requires small { position.depth + (size (sizes_in setting.now.helpers.functions.now) (stmt statement.now)).nodes ≤ node_limit }
-    requires low { free_level scope.old + levels (size (sizes_in setting.now.helpers.functions.now) (stmt statement.now)).nodes < 2 ^ 28 }
+    requires few { position.site + sites (inside context.now.helpers.functions.now) (stmt statement.now) < 2 ^ 32 }
+    requires small { position.depth + (size (sizes_in context.now.helpers.functions.now) (stmt statement.now)).nodes ≤ node_limit }
+    requires low { free_level scope.old + levels (size (sizes_in context.now.helpers.functions.now) (stmt statement.now)).nodes < 2 ^ 28 }
     requires arrays { elements (stmt statement.now) ≤ length_limit }
-    ensures code { OnOk result (code.new ≡ statement_code setting.now scope.old (stmt statement.now) position ++ code.old) }
+    ensures code { OnOk result (code.new ≡ statement_code context.now scope.old (stmt statement.now) position ++ code.old) }
     ensures scope { scope.new ≡ scope.old }
     ensures longer { OnErr result (GrowsBefore code.old code.new) }
 {
     match statement {
         Statement::Empty { .. } => Ok(()),
         Statement::Declare { .. } | Statement::DeclareArray { .. } => {
-            emit_declaration(setting, scope, statement, position, code)
+            emit_declaration(context, scope, statement, position, code)
         }
         Statement::Assign { .. } | Statement::Step { .. } | Statement::Call { .. } => {
-            emit_assignment(setting, scope, statement, position, code)
+            emit_assignment(context, scope, statement, position, code)
         }
         Statement::Break { .. } | Statement::Continue { .. } | Statement::Return { .. } => {
-            put_jump(setting, scope, statement, position, code)
+            put_jump(context, scope, statement, position, code)
         }
         _ => unreachable!(),
     }
 }
 
-/// Statements of a kernel within the limits have numbers for their barriers, registers for their levels, and jumps and arrays of 32 bits. This is the
-/// contract of a function that does nothing: what it asks is shown at its call.
-fn numbers_suffice(
-    setting: &StatementContext<'_>,
-    scope: &Scope,
-    statements: &[Statement],
-    ending: Ending,
-    code: &Draft<'_>,
-)
-    requires few { all_sites (inside setting.now.helpers.functions.now) (all_of statements.now) ≤ ending.behind }
-    requires small { ending.depth + (row_size (sizes_in setting.now.helpers.functions.now) (all_of statements.now)).nodes ≤ node_limit }
-    requires low { free_level scope.now + levels (row_size (sizes_in setting.now.helpers.functions.now) (all_of statements.now)).nodes < 2 ^ 28 }
-    requires short { reach ending.exits code.now (row_size (sizes_in setting.now.helpers.functions.now) (all_of statements.now)).nodes < 2 ^ 32 }
-    requires arrays { row_elements (all_of statements.now) ≤ length_limit }
-    ensures few { all_sites (inside setting.now.helpers.functions.now) (all_of statements.now) ≤ ending.behind }
-    ensures small { ending.depth + (row_size (sizes_in setting.now.helpers.functions.now) (all_of statements.now)).nodes ≤ node_limit }
-    ensures low { free_level scope.now + levels (row_size (sizes_in setting.now.helpers.functions.now) (all_of statements.now)).nodes < 2 ^ 28 }
-    ensures short { reach ending.exits code.now (row_size (sizes_in setting.now.helpers.functions.now) (all_of statements.now)).nodes < 2 ^ 32 }
-    ensures arrays { row_elements (all_of statements.now) ≤ length_limit }
-{}
-
 /// Puts a statement before the code, and gives the number of its first barrier, or of the first behind it if it has none.
 #[cycle(emission)]
 fn emit_statement<'a>(
-    setting: &StatementContext<'a>,
+    context: &StatementContext<'a>,
     scope: &mut Scope,
     statement: &Statement,
     ending: Ending,
     code: &mut Draft<'a>,
 ) -> Result<u32, AllocError>
-    requires few { sites (inside setting.now.helpers.functions.now) (stmt statement.now) ≤ ending.behind }
-    requires small { ending.depth + (size (sizes_in setting.now.helpers.functions.now) (stmt statement.now)).nodes ≤ node_limit }
-    requires low { free_level scope.old + levels (size (sizes_in setting.now.helpers.functions.now) (stmt statement.now)).nodes < 2 ^ 28 }
-    requires short { reach ending.exits code.old (size (sizes_in setting.now.helpers.functions.now) (stmt statement.now)).nodes < 2 ^ 32 }
-    requires arrays { elements (stmt statement.now) ≤ length_limit }
-    ensures code { IfOk result (λ site. code.new ≡ statement_code setting.now scope.old (stmt statement.now) (begun_at ending site) ++ code.old) }
-    ensures site { IfOk result (λ site. site + sites (inside setting.now.helpers.functions.now) (stmt statement.now) ≡ ending.behind) }
+    requires { HasRoom (demand_of context.now (stmt statement.now)) scope.old ending code.old }
+    ensures code { IfOk result (λ site. code.new ≡ statement_code context.now scope.old (stmt statement.now) (begun_at ending site) ++ code.old) }
+    ensures site { IfOk result (λ site. site + sites (inside context.now.helpers.functions.now) (stmt statement.now) ≡ ending.behind) }
     ensures scope { OnOk result (scope.new ≡ scope.old) }
     ensures longer { OnErr result (GrowsBefore code.old code.new) }
     ensures kept { OnErr result (KeepsOuter scope.old scope.new) }
 {
     match statement {
-        Statement::Block { body, .. } => {
-            let body = body.as_slice();
-            numbers_suffice(setting, scope, body, ending, code);
-            emit_all(setting, scope, body, ending, code)
-        }
+        Statement::Block { body, .. } => { emit_all(context, scope, body.as_slice(), ending, code) }
         Statement::If {
             condition,
             chosen,
             ..
-        } => emit_if(setting, scope, condition, chosen, ending, code),
+        } => emit_if(context, scope, condition, chosen, ending, code),
         Statement::IfElse {
             condition,
             chosen,
             otherwise,
             ..
-        } => emit_choice(setting, scope, condition, chosen, otherwise, ending, code),
-        Statement::While { .. } | Statement::DoWhile { .. } | Statement::For { .. } => {
-            emit_loop(setting, scope, statement, ending, code)
-        }
-        Statement::Empty { .. }
-        | Statement::Declare { .. }
-        | Statement::DeclareArray { .. }
-        | Statement::Assign { .. }
-        | Statement::Step { .. }
-        | Statement::Call { .. }
-        | Statement::Break { .. }
-        | Statement::Continue { .. }
-        | Statement::Return { .. } => emit_single(setting, scope, statement, ending, code),
-    }
-}
-
-/// Puts a loop before the code.
-#[cycle(emission)]
-fn emit_loop<'a>(
-    setting: &StatementContext<'a>,
-    scope: &mut Scope,
-    statement: &Statement,
-    ending: Ending,
-    code: &mut Draft<'a>,
-) -> Result<u32, AllocError>
-    requires kind { is_loop statement.now ≡ true }
-    requires few { sites (inside setting.now.helpers.functions.now) (stmt statement.now) ≤ ending.behind }
-    requires small { ending.depth + (size (sizes_in setting.now.helpers.functions.now) (stmt statement.now)).nodes ≤ node_limit }
-    requires low { free_level scope.old + levels (size (sizes_in setting.now.helpers.functions.now) (stmt statement.now)).nodes < 2 ^ 28 }
-    requires short { reach ending.exits code.old (size (sizes_in setting.now.helpers.functions.now) (stmt statement.now)).nodes < 2 ^ 32 }
-    requires arrays { elements (stmt statement.now) ≤ length_limit }
-    ensures code { IfOk result (λ site. code.new ≡ statement_code setting.now scope.old (stmt statement.now) (begun_at ending site) ++ code.old) }
-    ensures site { IfOk result (λ site. site + sites (inside setting.now.helpers.functions.now) (stmt statement.now) ≡ ending.behind) }
-    ensures scope { OnOk result (scope.new ≡ scope.old) }
-    ensures longer { OnErr result (GrowsBefore code.old code.new) }
-    ensures kept { OnErr result (KeepsOuter scope.old scope.new) }
-{
-    match statement {
+        } => emit_choice(context, scope, condition, chosen, otherwise, ending, code),
         Statement::While {
             condition,
             body,
             ..
         } => emit_for(
-            setting,
+            context,
             scope,
             None,
             Some(condition),
@@ -236,7 +167,7 @@ fn emit_loop<'a>(
             body,
             condition,
             ..
-        } => emit_do(setting, scope, body, condition, ending, code),
+        } => emit_do(context, scope, body, condition, ending, code),
         Statement::For {
             first,
             condition,
@@ -244,7 +175,7 @@ fn emit_loop<'a>(
             body,
             ..
         } => emit_for(
-            setting,
+            context,
             scope,
             statement_of(first),
             condition_of(condition),
@@ -253,26 +184,30 @@ fn emit_loop<'a>(
             ending,
             code,
         ),
-        _ => unreachable!(),
+        Statement::Empty { .. }
+        | Statement::Declare { .. }
+        | Statement::DeclareArray { .. }
+        | Statement::Assign { .. }
+        | Statement::Step { .. }
+        | Statement::Call { .. }
+        | Statement::Break { .. }
+        | Statement::Continue { .. }
+        | Statement::Return { .. } => emit_single(context, scope, statement, ending, code),
     }
 }
 
 /// Puts the code of statements, in order, before the code.
 #[cycle(emission)]
 fn emit_all<'a>(
-    setting: &StatementContext<'a>,
+    context: &StatementContext<'a>,
     scope: &mut Scope,
     statements: &[Statement],
     ending: Ending,
     code: &mut Draft<'a>,
 ) -> Result<u32, AllocError>
-    requires few { all_sites (inside setting.now.helpers.functions.now) (all_of statements.now) ≤ ending.behind }
-    requires small { ending.depth + (row_size (sizes_in setting.now.helpers.functions.now) (all_of statements.now)).nodes ≤ node_limit }
-    requires low { free_level scope.old + levels (row_size (sizes_in setting.now.helpers.functions.now) (all_of statements.now)).nodes < 2 ^ 28 }
-    requires short { reach ending.exits code.old (row_size (sizes_in setting.now.helpers.functions.now) (all_of statements.now)).nodes < 2 ^ 32 }
-    requires arrays { row_elements (all_of statements.now) ≤ length_limit }
-    ensures code { IfOk result (λ site. code.new ≡ row_code setting.now scope.old (all_of statements.now) (begun_at ending site) ++ code.old) }
-    ensures site { IfOk result (λ site. site + all_sites (inside setting.now.helpers.functions.now) (all_of statements.now) ≡ ending.behind) }
+    requires { HasRoom (row_demand context.now (all_of statements.now)) scope.old ending code.old }
+    ensures code { IfOk result (λ site. code.new ≡ row_code context.now scope.old (all_of statements.now) (begun_at ending site) ++ code.old) }
+    ensures site { IfOk result (λ site. site + all_sites (inside context.now.helpers.functions.now) (all_of statements.now) ≡ ending.behind) }
     ensures scope { OnOk result (scope.new ≡ scope.old) }
     ensures longer { OnErr result (GrowsBefore code.old code.new) }
     ensures kept { OnErr result (KeepsOuter scope.old scope.new) }
@@ -288,7 +223,7 @@ fn emit_all<'a>(
             behind,
             exits: ending.exits.past(code.added(end)),
         };
-        behind = emit_statement(setting, scope, statement, here, code)?;
+        behind = emit_statement(context, scope, statement, here, code)?;
     }
     Ok(behind)
 }
@@ -317,7 +252,7 @@ pub fn emit_body<'a>(
     };
     let mut scope = Scope::new(code.allocator(), position.level);
     declare_parameters(&mut scope, function.parameters.as_slice())?;
-    let setting = StatementContext {
+    let context = StatementContext {
         helpers,
         result: function.result,
     };
@@ -328,33 +263,29 @@ pub fn emit_body<'a>(
         behind,
         exits,
     };
-    emit_all(&setting, &mut scope, body, ending, code)?;
+    emit_all(&context, &mut scope, body, ending, code)?;
     Ok(())
 }
 
 /// Puts a choice without a second side before the code.
 #[cycle(emission)]
 fn emit_if<'a>(
-    setting: &StatementContext<'a>,
+    context: &StatementContext<'a>,
     scope: &mut Scope,
     condition: &Expression,
     chosen: &Statement,
     ending: Ending,
     code: &mut Draft<'a>,
 ) -> Result<u32, AllocError>
-    requires few { sites (inside setting.now.helpers.functions.now) (stmt chosen.now) ≤ ending.behind }
-    requires small { ending.depth + (size (sizes_in setting.now.helpers.functions.now) (tree.If 0 (term condition.now) (stmt chosen.now))).nodes ≤ node_limit }
-    requires low { free_level scope.old + levels (size (sizes_in setting.now.helpers.functions.now) (tree.If 0 (term condition.now) (stmt chosen.now))).nodes < 2 ^ 28 }
-    requires short { reach ending.exits code.old (size (sizes_in setting.now.helpers.functions.now) (tree.If 0 (term condition.now) (stmt chosen.now))).nodes < 2 ^ 32 }
-    requires arrays { elements (stmt chosen.now) ≤ length_limit }
-    ensures code { IfOk result (λ site. code.new ≡ statement_code setting.now scope.old (tree.If 0 (term condition.now) (stmt chosen.now)) (begun_at ending site) ++ code.old) }
-    ensures site { IfOk result (λ site. site + sites (inside setting.now.helpers.functions.now) (stmt chosen.now) ≡ ending.behind) }
+    requires { HasRoom (demand_of context.now (tree.If 0 (term condition.now) (stmt chosen.now))) scope.old ending code.old }
+    ensures code { IfOk result (λ site. code.new ≡ statement_code context.now scope.old (tree.If 0 (term condition.now) (stmt chosen.now)) (begun_at ending site) ++ code.old) }
+    ensures site { IfOk result (λ site. site + sites (inside context.now.helpers.functions.now) (stmt chosen.now) ≡ ending.behind) }
     ensures scope { OnOk result (scope.new ≡ scope.old) }
     ensures longer { OnErr result (GrowsBefore code.old code.new) }
     ensures kept { OnErr result (KeepsOuter scope.old scope.new) }
 {
     let end = code.len();
-    let site = emit_statement(setting, scope, chosen, ending, code)?;
+    let site = emit_statement(context, scope, chosen, ending, code)?;
     put_test(scope, condition, code.added(end), code)?;
     Ok(site)
 }
@@ -362,7 +293,7 @@ fn emit_if<'a>(
 /// Puts a choice between two statements before the code.
 #[cycle(emission)]
 fn emit_choice<'a>(
-    setting: &StatementContext<'a>,
+    context: &StatementContext<'a>,
     scope: &mut Scope,
     condition: &Expression,
     chosen: &Statement,
@@ -370,19 +301,15 @@ fn emit_choice<'a>(
     ending: Ending,
     code: &mut Draft<'a>,
 ) -> Result<u32, AllocError>
-    requires few { sites (inside setting.now.helpers.functions.now) (stmt chosen.now) + sites (inside setting.now.helpers.functions.now) (stmt otherwise.now) ≤ ending.behind }
-    requires small { ending.depth + (size (sizes_in setting.now.helpers.functions.now) (tree.IfElse 0 (term condition.now) (stmt chosen.now) (stmt otherwise.now))).nodes ≤ node_limit }
-    requires low { free_level scope.old + levels (size (sizes_in setting.now.helpers.functions.now) (tree.IfElse 0 (term condition.now) (stmt chosen.now) (stmt otherwise.now))).nodes < 2 ^ 28 }
-    requires short { reach ending.exits code.old (size (sizes_in setting.now.helpers.functions.now) (tree.IfElse 0 (term condition.now) (stmt chosen.now) (stmt otherwise.now))).nodes < 2 ^ 32 }
-    requires arrays { elements (tree.IfElse 0 (term condition.now) (stmt chosen.now) (stmt otherwise.now)) ≤ length_limit }
-    ensures code { IfOk result (λ site. code.new ≡ statement_code setting.now scope.old (tree.IfElse 0 (term condition.now) (stmt chosen.now) (stmt otherwise.now)) (begun_at ending site) ++ code.old) }
-    ensures site { IfOk result (λ site. site + (sites (inside setting.now.helpers.functions.now) (stmt chosen.now) + sites (inside setting.now.helpers.functions.now) (stmt otherwise.now)) ≡ ending.behind) }
+    requires { HasRoom (demand_of context.now (tree.IfElse 0 (term condition.now) (stmt chosen.now) (stmt otherwise.now))) scope.old ending code.old }
+    ensures code { IfOk result (λ site. code.new ≡ statement_code context.now scope.old (tree.IfElse 0 (term condition.now) (stmt chosen.now) (stmt otherwise.now)) (begun_at ending site) ++ code.old) }
+    ensures site { IfOk result (λ site. site + (sites (inside context.now.helpers.functions.now) (stmt chosen.now) + sites (inside context.now.helpers.functions.now) (stmt otherwise.now)) ≡ ending.behind) }
     ensures scope { OnOk result (scope.new ≡ scope.old) }
     ensures longer { OnErr result (GrowsBefore code.old code.new) }
     ensures kept { OnErr result (KeepsOuter scope.old scope.new) }
 {
     let end = code.len();
-    let between = emit_statement(setting, scope, otherwise, ending, code)?;
+    let between = emit_statement(context, scope, otherwise, ending, code)?;
     let middle = code.len();
     let by = code.added(end);
     code.put(Instruction::Jump { by })?;
@@ -391,7 +318,7 @@ fn emit_choice<'a>(
         behind: between,
         exits: ending.exits.past(code.added(end)),
     };
-    let site = emit_statement(setting, scope, chosen, first, code)?;
+    let site = emit_statement(context, scope, chosen, first, code)?;
     put_test(scope, condition, code.added(middle), code)?;
     Ok(site)
 }
@@ -399,53 +326,45 @@ fn emit_choice<'a>(
 /// Puts the first part of a `for` before the code.
 #[cycle(emission)]
 fn emit_part<'a>(
-    setting: &StatementContext<'a>,
+    context: &StatementContext<'a>,
     scope: &mut Scope,
     part: Option<&Statement>,
     ending: Ending,
     code: &mut Draft<'a>,
 ) -> Result<u32, AllocError>
-    requires few { part_sites (inside setting.now.helpers.functions.now) (part_of part) ≤ ending.behind }
-    requires small { ending.depth + (part_size (sizes_in setting.now.helpers.functions.now) (part_of part)).nodes ≤ node_limit }
-    requires low { free_level scope.old + levels (part_size (sizes_in setting.now.helpers.functions.now) (part_of part)).nodes < 2 ^ 28 }
-    requires short { reach ending.exits code.old (part_size (sizes_in setting.now.helpers.functions.now) (part_of part)).nodes < 2 ^ 32 }
-    requires arrays { part_elements (part_of part) ≤ length_limit }
-    ensures code { IfOk result (λ site. code.new ≡ maybe_code setting.now scope.old (part_of part.entry) (begun_at ending site) ++ code.old) }
-    ensures site { IfOk result (λ site. site + part_sites (inside setting.now.helpers.functions.now) (part_of part.entry) ≡ ending.behind) }
+    requires { HasRoom (part_demand context.now (part_of part)) scope.old ending code.old }
+    ensures code { IfOk result (λ site. code.new ≡ maybe_code context.now scope.old (part_of part.entry) (begun_at ending site) ++ code.old) }
+    ensures site { IfOk result (λ site. site + part_sites (inside context.now.helpers.functions.now) (part_of part.entry) ≡ ending.behind) }
     ensures scope { OnOk result (scope.new ≡ scope.old) }
     ensures longer { OnErr result (GrowsBefore code.old code.new) }
     ensures kept { OnErr result (KeepsOuter scope.old scope.new) }
 {
     match part {
         None => Ok(ending.behind),
-        Some(statement) => emit_statement(setting, scope, statement, ending, code),
+        Some(statement) => emit_statement(context, scope, statement, ending, code),
     }
 }
 
 /// Puts a loop whose condition stands behind its body before the code.
 #[cycle(emission)]
 fn emit_do<'a>(
-    setting: &StatementContext<'a>,
+    context: &StatementContext<'a>,
     scope: &mut Scope,
     body: &Statement,
     condition: &Expression,
     ending: Ending,
     code: &mut Draft<'a>,
 ) -> Result<u32, AllocError>
-    requires few { sites (inside setting.now.helpers.functions.now) (stmt body.now) ≤ ending.behind }
-    requires small { ending.depth + (size (sizes_in setting.now.helpers.functions.now) (stmt body.now)).nodes < node_limit }
-    requires low { free_level scope.old + levels (size (sizes_in setting.now.helpers.functions.now) (tree.DoWhile 0 (stmt body.now) (term condition.now))).nodes < 2 ^ 28 }
-    requires short { reach ending.exits code.old (size (sizes_in setting.now.helpers.functions.now) (tree.DoWhile 0 (stmt body.now) (term condition.now))).nodes < 2 ^ 32 }
-    requires arrays { elements (stmt body.now) ≤ length_limit }
-    ensures code { IfOk result (λ site. code.new ≡ statement_code setting.now scope.old (tree.DoWhile 0 (stmt body.now) (term condition.now)) (begun_at ending site) ++ code.old) }
-    ensures site { IfOk result (λ site. site + sites (inside setting.now.helpers.functions.now) (stmt body.now) ≡ ending.behind) }
+    requires { HasRoom (demand_of context.now (tree.DoWhile 0 (stmt body.now) (term condition.now))) scope.old ending code.old }
+    ensures code { IfOk result (λ site. code.new ≡ statement_code context.now scope.old (tree.DoWhile 0 (stmt body.now) (term condition.now)) (begun_at ending site) ++ code.old) }
+    ensures site { IfOk result (λ site. site + sites (inside context.now.helpers.functions.now) (stmt body.now) ≡ ending.behind) }
     ensures scope { OnOk result (scope.new ≡ scope.old) }
     ensures longer { OnErr result (GrowsBefore code.old code.new) }
     ensures kept { OnErr result (KeepsOuter scope.old scope.new) }
 {
     let mut turn = Draft::new(code.allocator());
     put_condition(scope, Some(condition), &mut turn)?;
-    let site = emit_once(setting, scope, body, ending, &mut turn)?;
+    let site = emit_once(context, scope, body, ending, &mut turn)?;
     end_do(ending.depth, turn, code)?;
     Ok(site)
 }
@@ -453,19 +372,15 @@ fn emit_do<'a>(
 /// Puts the body of a loop before the rest of its turn. The ending is that of the loop.
 #[cycle(emission)]
 fn emit_once<'a>(
-    setting: &StatementContext<'a>,
+    context: &StatementContext<'a>,
     scope: &mut Scope,
     body: &Statement,
     ending: Ending,
     turn: &mut Draft<'a>,
 ) -> Result<u32, AllocError>
-    requires few { sites (inside setting.now.helpers.functions.now) (stmt body.now) ≤ ending.behind }
-    requires small { ending.depth + (size (sizes_in setting.now.helpers.functions.now) (stmt body.now)).nodes < node_limit }
-    requires low { free_level scope.old + levels (size (sizes_in setting.now.helpers.functions.now) (stmt body.now)).nodes < 2 ^ 28 }
-    requires short { turn_reach ending.exits turn.old (size (sizes_in setting.now.helpers.functions.now) (stmt body.now)).nodes < 2 ^ 32 }
-    requires arrays { elements (stmt body.now) ≤ length_limit }
-    ensures code { IfOk result (λ site. turn.new ≡ once_code setting.now scope.old (stmt body.now) (begun_at ending site) (length turn.old) ++ turn.old) }
-    ensures site { IfOk result (λ site. site + sites (inside setting.now.helpers.functions.now) (stmt body.now) ≡ ending.behind) }
+    requires { HasRoomInLoop (demand_of context.now (stmt body.now)) scope.old ending turn.old }
+    ensures code { IfOk result (λ site. turn.new ≡ once_code context.now scope.old (stmt body.now) (begun_at ending site) (length turn.old) ++ turn.old) }
+    ensures site { IfOk result (λ site. site + sites (inside context.now.helpers.functions.now) (stmt body.now) ≡ ending.behind) }
     ensures scope { OnOk result (scope.new ≡ scope.old) }
     ensures longer { OnErr result (GrowsBefore turn.old turn.new) }
     ensures kept { OnErr result (KeepsOuter scope.old scope.new) }
@@ -475,75 +390,65 @@ fn emit_once<'a>(
         behind: ending.behind,
         exits: ending.exits.in_loop(turn.past(0)),
     };
-    let site = emit_statement(setting, scope, body, here, turn)?;
+    let site = emit_statement(context, scope, body, here, turn)?;
     Ok(site)
 }
 
 /// Puts the third part of a `for` before the rest of its turn, and its body before that. The ending is that of the loop.
 #[cycle(emission)]
 fn emit_stepped<'a>(
-    setting: &StatementContext<'a>,
+    context: &StatementContext<'a>,
     scope: &mut Scope,
     third: &Statement,
     body: &Statement,
     ending: Ending,
     turn: &mut Draft<'a>,
 ) -> Result<u32, AllocError>
-    requires few { sites (inside setting.now.helpers.functions.now) (stmt third.now) + sites (inside setting.now.helpers.functions.now) (stmt body.now) ≤ ending.behind }
-    requires small_third { ending.depth + (size (sizes_in setting.now.helpers.functions.now) (stmt third.now)).nodes < node_limit }
-    requires small { ending.depth + (size (sizes_in setting.now.helpers.functions.now) (stmt body.now)).nodes < node_limit }
-    requires low { free_level scope.old + levels ((size (sizes_in setting.now.helpers.functions.now) (stmt third.now)).nodes + (size (sizes_in setting.now.helpers.functions.now) (stmt body.now)).nodes) < 2 ^ 28 }
-    requires short { turn_reach ending.exits turn.old ((size (sizes_in setting.now.helpers.functions.now) (stmt third.now)).nodes + (size (sizes_in setting.now.helpers.functions.now) (stmt body.now)).nodes) < 2 ^ 32 }
-    requires arrays { max (elements (stmt third.now)) (elements (stmt body.now)) ≤ length_limit }
-    ensures code { IfOk result (λ site. turn.new ≡ round_code setting.now scope.old (tree.With (stmt third.now)) (stmt body.now) (begun_at ending site) (length turn.old) ++ turn.old) }
-    ensures site { IfOk result (λ site. site + (sites (inside setting.now.helpers.functions.now) (stmt third.now) + sites (inside setting.now.helpers.functions.now) (stmt body.now)) ≡ ending.behind) }
+    requires { HasRoomInLoop (round_demand context.now (tree.With (stmt third.now)) (stmt body.now)) scope.old ending turn.old }
+    ensures code { IfOk result (λ site. turn.new ≡ round_code context.now scope.old (tree.With (stmt third.now)) (stmt body.now) (begun_at ending site) (length turn.old) ++ turn.old) }
+    ensures site { IfOk result (λ site. site + (sites (inside context.now.helpers.functions.now) (stmt third.now) + sites (inside context.now.helpers.functions.now) (stmt body.now)) ≡ ending.behind) }
     ensures scope { OnOk result (scope.new ≡ scope.old) }
     ensures longer { OnErr result (GrowsBefore turn.old turn.new) }
     ensures kept { OnErr result (KeepsOuter scope.old scope.new) }
 {
-    let between = site_before(setting.helpers, ending.behind, body);
+    let between = site_before(context.helpers, ending.behind, body);
     let last = Ending {
         depth: ending.depth + 1,
         behind: between,
         exits: ending.exits.in_loop(turn.past(0)),
     };
-    let site = emit_statement(setting, scope, third, last, turn)?;
-    emit_once(setting, scope, body, ending, turn)?;
+    let site = emit_statement(context, scope, third, last, turn)?;
+    emit_once(context, scope, body, ending, turn)?;
     Ok(site)
 }
 
 /// Puts the body and the third part of a `for`, if it has one, before the rest of its turn. The ending is that of the loop.
 #[cycle(emission)]
 fn emit_round<'a>(
-    setting: &StatementContext<'a>,
+    context: &StatementContext<'a>,
     scope: &mut Scope,
     third: Option<&Statement>,
     body: &Statement,
     ending: Ending,
     turn: &mut Draft<'a>,
 ) -> Result<u32, AllocError>
-    requires few { part_sites (inside setting.now.helpers.functions.now) (part_of third) + sites (inside setting.now.helpers.functions.now) (stmt body.now) ≤ ending.behind }
-    requires small_third { ending.depth + (part_size (sizes_in setting.now.helpers.functions.now) (part_of third)).nodes < node_limit }
-    requires small { ending.depth + (size (sizes_in setting.now.helpers.functions.now) (stmt body.now)).nodes < node_limit }
-    requires low { free_level scope.old + levels ((part_size (sizes_in setting.now.helpers.functions.now) (part_of third)).nodes + (size (sizes_in setting.now.helpers.functions.now) (stmt body.now)).nodes) < 2 ^ 28 }
-    requires short { turn_reach ending.exits turn.old ((part_size (sizes_in setting.now.helpers.functions.now) (part_of third)).nodes + (size (sizes_in setting.now.helpers.functions.now) (stmt body.now)).nodes) < 2 ^ 32 }
-    requires arrays { max (part_elements (part_of third)) (elements (stmt body.now)) ≤ length_limit }
-    ensures code { IfOk result (λ site. turn.new ≡ round_code setting.now scope.old (part_of third.entry) (stmt body.now) (begun_at ending site) (length turn.old) ++ turn.old) }
-    ensures site { IfOk result (λ site. site + (part_sites (inside setting.now.helpers.functions.now) (part_of third.entry) + sites (inside setting.now.helpers.functions.now) (stmt body.now)) ≡ ending.behind) }
+    requires { HasRoomInLoop (round_demand context.now (part_of third) (stmt body.now)) scope.old ending turn.old }
+    ensures code { IfOk result (λ site. turn.new ≡ round_code context.now scope.old (part_of third.entry) (stmt body.now) (begun_at ending site) (length turn.old) ++ turn.old) }
+    ensures site { IfOk result (λ site. site + (part_sites (inside context.now.helpers.functions.now) (part_of third.entry) + sites (inside context.now.helpers.functions.now) (stmt body.now)) ≡ ending.behind) }
     ensures scope { OnOk result (scope.new ≡ scope.old) }
     ensures longer { OnErr result (GrowsBefore turn.old turn.new) }
     ensures kept { OnErr result (KeepsOuter scope.old scope.new) }
 {
     match third {
-        None => emit_once(setting, scope, body, ending, turn),
-        Some(third) => emit_stepped(setting, scope, third, body, ending, turn),
+        None => emit_once(context, scope, body, ending, turn),
+        Some(third) => emit_stepped(context, scope, third, body, ending, turn),
     }
 }
 
 /// Puts a `for` before the code.
 #[cycle(emission)]
 fn emit_for<'a>(
-    setting: &StatementContext<'a>,
+    context: &StatementContext<'a>,
     scope: &mut Scope,
     first: Option<&Statement>,
     condition: Option<&Expression>,
@@ -552,34 +457,30 @@ fn emit_for<'a>(
     ending: Ending,
     code: &mut Draft<'a>,
 ) -> Result<u32, AllocError>
-    requires few { sites (inside setting.now.helpers.functions.now) (tree.For 0 (part_of first) (test_of condition) (part_of third) (stmt body.now)) ≤ ending.behind }
-    requires small { ending.depth + (size (sizes_in setting.now.helpers.functions.now) (tree.For 0 (part_of first) (test_of condition) (part_of third) (stmt body.now))).nodes ≤ node_limit }
-    requires low { free_level scope.old + levels (size (sizes_in setting.now.helpers.functions.now) (tree.For 0 (part_of first) (test_of condition) (part_of third) (stmt body.now))).nodes < 2 ^ 28 }
-    requires short { reach ending.exits code.old (size (sizes_in setting.now.helpers.functions.now) (tree.For 0 (part_of first) (test_of condition) (part_of third) (stmt body.now))).nodes < 2 ^ 32 }
-    requires arrays { elements (tree.For 0 (part_of first) (test_of condition) (part_of third) (stmt body.now)) ≤ length_limit }
-    ensures code { IfOk result (λ site. code.new ≡ statement_code setting.now scope.old (tree.For 0 (part_of first.entry) (test_of condition.entry) (part_of third.entry) (stmt body.now)) (begun_at ending site) ++ code.old) }
-    ensures site { IfOk result (λ site. site + sites (inside setting.now.helpers.functions.now) (tree.For 0 (part_of first.entry) (test_of condition.entry) (part_of third.entry) (stmt body.now)) ≡ ending.behind) }
+    requires { HasRoom (demand_of context.now (tree.For 0 (part_of first) (test_of condition) (part_of third) (stmt body.now))) scope.old ending code.old }
+    ensures code { IfOk result (λ site. code.new ≡ statement_code context.now scope.old (tree.For 0 (part_of first.entry) (test_of condition.entry) (part_of third.entry) (stmt body.now)) (begun_at ending site) ++ code.old) }
+    ensures site { IfOk result (λ site. site + sites (inside context.now.helpers.functions.now) (tree.For 0 (part_of first.entry) (test_of condition.entry) (part_of third.entry) (stmt body.now)) ≡ ending.behind) }
     ensures scope { OnOk result (scope.new ≡ scope.old) }
     ensures longer { OnErr result (GrowsBefore code.old code.new) }
     ensures kept { OnErr result (KeepsOuter scope.old scope.new) }
 {
     let end = code.len();
     declare_part(scope, first)?;
-    let behind = emit_turns(setting, scope, condition, third, body, ending, code)?;
+    let behind = emit_turns(context, scope, condition, third, body, ending, code)?;
     leave_part(scope, first);
     let before = Ending {
         depth: ending.depth,
         behind,
         exits: ending.exits.past(code.added(end)),
     };
-    let site = emit_part(setting, scope, first, before, code)?;
+    let site = emit_part(context, scope, first, before, code)?;
     Ok(site)
 }
 
 /// Puts a `for` without its first part, whose variable is declared, before the code.
 #[cycle(emission)]
 fn emit_turns<'a>(
-    setting: &StatementContext<'a>,
+    context: &StatementContext<'a>,
     scope: &mut Scope,
     condition: Option<&Expression>,
     third: Option<&Statement>,
@@ -587,15 +488,10 @@ fn emit_turns<'a>(
     ending: Ending,
     code: &mut Draft<'a>,
 ) -> Result<u32, AllocError>
-    requires few { part_sites (inside setting.now.helpers.functions.now) (part_of third) + sites (inside setting.now.helpers.functions.now) (stmt body.now) ≤ ending.behind }
-    requires small_third { ending.depth + (part_size (sizes_in setting.now.helpers.functions.now) (part_of third)).nodes < node_limit }
-    requires small { ending.depth + (size (sizes_in setting.now.helpers.functions.now) (stmt body.now)).nodes < node_limit }
-    requires low { free_level scope.old + levels ((condition_size (sizes_in setting.now.helpers.functions.now) (test_of condition)).nodes + (part_size (sizes_in setting.now.helpers.functions.now) (part_of third)).nodes + (size (sizes_in setting.now.helpers.functions.now) (stmt body.now)).nodes) < 2 ^ 28 }
-    requires short { reach ending.exits code.old ((condition_size (sizes_in setting.now.helpers.functions.now) (test_of condition)).nodes + (part_size (sizes_in setting.now.helpers.functions.now) (part_of third)).nodes + (size (sizes_in setting.now.helpers.functions.now) (stmt body.now)).nodes + 1) < 2 ^ 32 }
-    requires arrays { max (part_elements (part_of third)) (elements (stmt body.now)) ≤ length_limit }
+    requires { HasRoom (turns_demand context.now (test_of condition) (part_of third) (stmt body.now)) scope.old ending code.old }
     ensures code { IfOk result (λ site. code.new
-        ≡ while_code ending.depth (round_code setting.now scope.old (part_of third.entry) (stmt body.now) (begun_at ending site) (length (condition_code scope.old (test_of condition.entry)))) (condition_code scope.old (test_of condition.entry)) ++ code.old) }
-    ensures site { IfOk result (λ site. site + (part_sites (inside setting.now.helpers.functions.now) (part_of third.entry) + sites (inside setting.now.helpers.functions.now) (stmt body.now)) ≡ ending.behind) }
+        ≡ while_code ending.depth (round_code context.now scope.old (part_of third.entry) (stmt body.now) (begun_at ending site) (length (condition_code scope.old (test_of condition.entry)))) (condition_code scope.old (test_of condition.entry)) ++ code.old) }
+    ensures site { IfOk result (λ site. site + (part_sites (inside context.now.helpers.functions.now) (part_of third.entry) + sites (inside context.now.helpers.functions.now) (stmt body.now)) ≡ ending.behind) }
     ensures scope { OnOk result (scope.new ≡ scope.old) }
     ensures longer { OnErr result (GrowsBefore code.old code.new) }
     ensures kept { OnErr result (KeepsOuter scope.old scope.new) }
@@ -603,7 +499,7 @@ fn emit_turns<'a>(
     let mut turn = Draft::new(code.allocator());
     put_condition(scope, condition, &mut turn)?;
     let start = turn.len();
-    let site = emit_round(setting, scope, third, body, ending, &mut turn)?;
+    let site = emit_round(context, scope, third, body, ending, &mut turn)?;
     end_while(ending.depth, start, turn, code)?;
     Ok(site)
 }

@@ -2,3 +2,4 @@ pub mod LeadingLaws
 pub mod RegisterValues
 pub mod Outcomes
 pub mod KeptValues
+pub mod Faultless

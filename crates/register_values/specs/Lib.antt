@@ -1,3 +1,4 @@
 pub mod Leading
 pub mod RegisterValues
 pub mod Kept
+pub mod Faultless

@@ -2,7 +2,6 @@
 
 use counted_io::WriteFailed;
 use host_commands::build::NotBuilt;
-use lower::LowerFault;
 use std::alloc::AllocError;
 
 /// A launch isn't run: its source doesn't build, its sizes are refused, or memory is.
@@ -23,12 +22,6 @@ impl From<WriteFailed> for NotRun {
 
 impl From<NotBuilt> for NotRun {
     fn from(_why: NotBuilt) -> Self {
-        NotRun
-    }
-}
-
-impl From<LowerFault> for NotRun {
-    fn from(_why: LowerFault) -> Self {
         NotRun
     }
 }

@@ -70,11 +70,11 @@ fn compare_program(
 ) -> Result<Compared, NotRun>
     requires { budget ≤ 1000000 }
 {
-    let Some(kernel) = checked.tree.kernel_number(b"f") else {
+    let Some(found) = checked.kernel(b"f") else {
         return Err(NotRun);
     };
-    let code = lower_kernel(alloc, checked, kernel)?;
-    compare_code(alloc, inputs, checked, kernel, &code, budget)
+    let code = lower_kernel(alloc, checked, found)?;
+    compare_code(alloc, inputs, checked, found.function.name, &code, budget)
 }
 
 /// Compares the runs of a row's source.

@@ -5,4 +5,3 @@ pub mod Absorbing
 pub mod Marking
 pub mod Missing
 pub mod Listing
-pub mod Telling

@@ -1,13 +1,11 @@
 -- Which accesses of a group's log tell other groups nothing new, and lists that leave such out (own, on OpenCL 1.2, 3.3.1 and 6.5.2).
-use Rattle.std.specs.Prelude.{◌≡◌, ◌⊎◌, ℕ, Bool, true, false, List, [], ◌∷◌, ◌+◌, ◌++◌, map, reverse, slice_index_or}
+use Rattle.std.specs.Prelude.{◌≡◌, ◌⊎◌, ℕ, Bool, true, false, List, [], ◌∷◌, ◌++◌, map, reverse}
 use Rattle.clmodel.specs.declared.access.Access.{Access}
 use Rattle.clmodel.specs.declared.access.Region.{Region}
 use Rattle.clmodel.specs.declared.access.Region.TheVariants as region
 use Rattle.joining.specs.Memory.{at_byte}
 use Rattle.shadow.specs.Seen.{seen, seen_with, mark_of}
 use Rattle.shadow_list.specs.declared.log.Entry.{Entry}
-use Rattle.shadow.specs.declared.seen.Mark.{Mark}
-use Rattle.shadow.specs.declared.told.Told.{Told}
 
 -- what is kept of each byte stays with one access more, whose region this is: it is of a local object, which no other group shares, or at
 -- each of its bytes the earlier accesses were of its sort, or of two sorts
@@ -44,11 +42,3 @@ TellsNews earlier short [] = short ≡ []
 TellsNews earlier short (x ∷ whole) =
     (Absorbed earlier x.access × TellsNews (x.access ∷ earlier) short whole)
     ⊎ ((Absorbed earlier x.access → ⊥) × (rest : List Entry) × (short ≡ x ∷ rest) × TellsNews (x.access ∷ earlier) rest whole)
-
--- what other groups were told of the accesses to the same bytes, the newest first: the first of them once more tells nothing new, and at the
--- bytes with another sort no access does
-pub record IsTold (log : List Access) (t : Told) : Type 0 where
-  pub first : (number byte : ℕ) → at_byte (region.Buffer number) byte t.first ≡ true
-      → seen_with (seen (region.Buffer number) byte log) (mark_of t.first byte) ≡ seen (region.Buffer number) byte log
-  pub mixed : (k number : ℕ) (m : Mark) → slice_index_or t.mixed k false ≡ true → t.first.region ≡ region.Buffer number
-      → seen_with (seen (region.Buffer number) (t.first.first + k) log) m ≡ seen (region.Buffer number) (t.first.first + k) log

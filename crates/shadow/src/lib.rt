@@ -6,19 +6,16 @@
 //! far (the lowest byte, there the earliest access), and none for a local object. `is_written` says whether a byte was
 //! written. `add` keeps an access, and answers false only where it changes no mark. An error leaves the footprint.
 //! `LastingList::of` stands for its log: it leaves out accesses of local objects, and those that change no mark of
-//! their group's own. An access that a `Told` has changes no mark; no clause says that it has each such access. The
-//! crate knows no memory and no schedule.
+//! their group's own. The crate knows no memory and no schedule.
 #![tactic(auto)]
 
 mod footprint;
 mod group_accesses;
 mod pages;
 mod seen;
-mod told;
 mod words;
 
 pub use footprint::Footprint;
 pub use group_accesses::{GroupAccesses, LastingList};
 pub use seen::{Mark, Meeting, mark_clash, mark_of, one_sort};
-pub use told::Told;
 pub use words::{WordMark, agrees, byte_mark, is_one_sort, word_mark};

@@ -15,7 +15,13 @@ use crate::words::{
 use clmodel::access::Access;
 use std::alloc::{AllocError, Global};
 
-/// The words of a buffer, in pages of 64, of which those have words that were touched.
+/// The words of a page.
+const PAGE_WORDS: usize = 64;
+
+/// The bytes of a page.
+const PAGE_BYTES: usize = 256;
+
+/// The words of a buffer, in pages, of which those have words that were touched.
 #[derive(Drop)]
 pub(crate) struct Pages {
     pub(crate) pages: Vec<Vec<Word>>,
@@ -35,17 +41,17 @@ fn grow(alloc: Global, pages: &mut Vec<Vec<Word>>, count: usize) -> Result<(), A
     Ok(())
 }
 
-/// Fills the words of a page up to 64.
+/// Fills the words of a page up to `PAGE_WORDS`.
 fn fill(row: &mut Vec<Word>) -> Result<(), AllocError>
     ensures long { OnOk result (64 ≤ length row.new.items) }
     ensures same { (k : ℕ) → slice_index_or row.new.items k word.Untouched ≡ slice_index_or row.old.items k word.Untouched }
     ensures longer { length row.old.items ≤ length row.new.items }
 {
-    if row.len() >= 64 {
+    if row.len() >= PAGE_WORDS {
         return Ok(());
     }
-    row.reserve_exact(64 - row.len())?;
-    while row.len() < 64 {
+    row.reserve_exact(PAGE_WORDS - row.len())?;
+    while row.len() < PAGE_WORDS {
         row.push(Word::Untouched)?;
     }
     Ok(())
@@ -59,8 +65,8 @@ fn mark_word(pages: &mut Vec<Vec<Word>>, number: usize, mark: WordMark) -> bool
     ensures kept { (page : ℕ) → IsPage pages.old.items page → IsPage pages.new.items page }
     ensures others { (n : ℕ) → (n ≡ number → ⊥) → word_in pages.new.items n ≡ word_in pages.old.items n }
 {
-    let row = &mut pages[number / 64];
-    mark_whole(&mut row[number % 64], mark)
+    let row = &mut pages[number / PAGE_WORDS];
+    mark_whole(&mut row[number % PAGE_WORDS], mark)
 }
 
 /// Marks the word that an access is at, or the two of them. Whether what is kept of one of its bytes changes.
@@ -90,7 +96,7 @@ fn mark_byte(pages: &[Vec<Word>], apart: &mut Vec<Bytes>, byte: usize, mark: Mar
     ensures marked { IsMarked (cell_in apart.old.items pages.now) (cell_in apart.new.items pages.now) (λ _. mark) byte 1 result }
 {
     let number = byte / 4;
-    match pages[number / 64][number % 64] {
+    match pages[number / PAGE_WORDS][number % PAGE_WORDS] {
         Word::Apart(at) => mark_in(&mut apart[at].bytes, byte % 4, mark),
         Word::Untouched | Word::Touched(_) | Word::Mixed(_, _) => unreachable!(),
     }
@@ -128,15 +134,15 @@ fn split_word(
     ensures others { (n : ℕ) → IsApart apart.old.items n (word_in pages.old.items n) → IsApart apart.new.items n (word_in pages.new.items n) }
     ensures same { (byte : ℕ) → cell_in apart.new.items pages.new.items byte ≡ cell_in apart.old.items pages.old.items byte }
 {
-    let row = &mut pages[number / 64];
-    let word = row[number % 64];
+    let row = &mut pages[number / PAGE_WORDS];
+    let word = row[number % PAGE_WORDS];
     if is_apart(apart, number, word) {
         return Ok(());
     }
     let place = apart.len();
     let bytes = bytes_of(apart, number, word);
     apart.push(bytes)?;
-    row[number % 64] = Word::Apart(place);
+    row[number % PAGE_WORDS] = Word::Apart(place);
     Ok(())
 }
 
@@ -173,9 +179,9 @@ impl Pages {
     fn word(&self, number: usize) -> Option<&Word>
         ensures { MatchOption result (word_in self.now.pages.items number ≡ word.Untouched) (λ w. w.now ≡ word_in self.now.pages.items number) }
     {
-        match self.pages.get(number / 64) {
+        match self.pages.get(number / PAGE_WORDS) {
             None => None,
-            Some(row) => row.get(number % 64),
+            Some(row) => row.get(number % PAGE_WORDS),
         }
     }
 
@@ -259,11 +265,11 @@ impl Pages {
         ensures last { OnOk result (IsPage self.new.pages.items (last / 256)) }
         ensures same { (byte : ℕ) → cell_in self.new.apart.items self.new.pages.items byte ≡ cell_in self.old.apart.items self.old.pages.items byte }
     {
-        self.make(alloc, first / 256)?;
-        if last / 256 == first / 256 {
+        self.make(alloc, first / PAGE_BYTES)?;
+        if last / PAGE_BYTES == first / PAGE_BYTES {
             return Ok(());
         }
-        self.make(alloc, last / 256)
+        self.make(alloc, last / PAGE_BYTES)
     }
 
     /// Whether a word that has its place stays one when an access to all of it is added.

@@ -186,7 +186,7 @@ word_own : (l : Launch) (m : Memory) (spaces : List (List (Option ℕ))) (n word
 word_own l m spaces n word s b leaves h k = number_as (cells_at spaces n) (m (region.Buffer n)) word 4 b (λ i c. own_cells l m spaces leaves n i (in_word l n word s i h c)) k
 
 -- where no lower group wrote a byte, the group's own is put, by each kind
-own_put : (k : AccessKind) (first lower own : Cells) (byte : ℕ) → joined_value k false first lower own byte ≡ number_or_0 own byte 1
+pub own_put : (k : AccessKind) (first lower own : Cells) (byte : ℕ) → joined_value k false first lower own byte ≡ number_or_0 own byte 1
 own_put kind.Load first lower own byte = refl
 own_put kind.Store first lower own byte = refl
 own_put (kind.Update class) first lower own byte = refl

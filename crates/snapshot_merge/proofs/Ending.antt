@@ -1,5 +1,5 @@
 -- What a launch concludes once its groups are joined.
-use Rattle.std.proofs.Common.{◌≡◌, ℕ, suc, ◌+◌, ◌*◌, ◌<◌, ◌≤◌, ◌⊎◌, Bool, true, Option, None, Some, List, ◌∷◌, nat_lt, refl, ap, ◌∙◌, inl, inr, arith}
+use Rattle.std.proofs.Common.{◌≡◌, ℕ, suc, ◌+◌, ◌*◌, ◌<◌, ◌≤◌, ◌⊎◌, Bool, true, Option, None, Some, List, [], ◌∷◌, nat_lt, refl, ap, ◌∙◌, inl, inr, arith}
 use Rattle.std.proofs.Math.Nat.{suc-mul, mul-le-mul_right}
 use Rattle.std.proofs.lemmas.Bool.{cases_lt, lt-ltb}
 use Rattle.clmodel.specs.Launch.{Launch}
@@ -10,19 +10,19 @@ use Rattle.clmodel.specs.Setup.{Setup, group_items}
 use Rattle.clmodel.specs.declared.fault.Fault.{Fault}
 use Rattle.clmodel.specs.declared.outcome.Outcome.TheVariants.{Clean, Faulted}
 use Rattle.clmodel.specs.declared.schedule.EventRun.{EventRun}
-use Rattle.group_run.specs.Results.{IsResult}
 use Rattle.group_run.specs.declared.result.GroupResult.{GroupResult}
-use Rattle.group_run.specs.declared.result.GroupResult.TheVariants.{Done, Stopped}
+use Rattle.group_run.specs.declared.result.GroupEnd.{GroupEnd}
+use Rattle.group_run.specs.declared.result.GroupEnd.TheVariants.{Done, Stopped}
 use Rattle.joining.specs.Parts.{IsGrouped}
-use Rattle.joining.specs.Steps.{HasGroup}
 use Rattle.launches.specs.Groups.{HasGroups}
 use Rattle.shadow_list.specs.Log.{Log}
 use Rattle.shadow_list.specs.declared.log.Entry.{Entry}
-use Rattle.snapshot_merge.specs.Launches.{AreResults, IsShortResult, AreResultsTo}
+use Rattle.snapshot_merge.specs.Launches.{Followed, AreResults, IsShortResult, AreResultsTo}
 use Rattle.snapshot_merge.specs.Laws.{JoiningLaws}
 use Rattle.snapshot_merge.specs.JoinedGroups.{HoldsGroups, IsStopped, CameOfNext}
 use Rattle.snapshot_merge.specs.declared.joined_groups.JoinedGroups.{JoinedGroups}
 use Rattle.snapshot_merge.proofs.Contents.{contents_end}
+use Rattle.snapshot_merge.proofs.Listed.{short_whole}
 
 -- ---- how many groups there are
 
@@ -48,13 +48,13 @@ further_there group groups size items e b =
 
 -- ---- what a join came to
 
-pub next_stopped : {G L : Type 0} (l : Launch) (g : ℕ) (came : GroupResult G L) (fault : Fault) (so_far : JoinedGroups) → CameOfNext l g came (Some fault) so_far → IsStopped l fault so_far.runs.items
-next_stopped l g (Done number spaces log runs) fault so_far h = h
-next_stopped l g (Stopped number stop log runs) fault so_far h = h
+pub next_stopped : {G : Type 0} (l : Launch) (g : ℕ) (end : GroupEnd G) (fault : Fault) (so_far : JoinedGroups) → CameOfNext l g end (Some fault) so_far → IsStopped l fault so_far.runs.items
+next_stopped l g (Done spaces) fault so_far h = h
+next_stopped l g (Stopped stop) fault so_far h = h
 
-pub next_held : {G L : Type 0} (l : Launch) (g : ℕ) (came : GroupResult G L) (so_far : JoinedGroups) → CameOfNext l g came None so_far → HoldsGroups l (suc g) so_far
-next_held l g (Done number spaces log runs) so_far h = h
-next_held l g (Stopped number stop log runs) so_far h = absurd h
+pub next_held : {G : Type 0} (l : Launch) (g : ℕ) (end : GroupEnd G) (so_far : JoinedGroups) → CameOfNext l g end None so_far → HoldsGroups l (suc g) so_far
+next_held l g (Done spaces) so_far h = h
+next_held l g (Stopped stop) so_far h = absurd h
 
 pub concludes_fault : (l : Launch) (fault : Fault) (runs : List EventRun) → IsStopped l fault runs → Concludes l (Faulted fault runs)
 concludes_fault l fault runs h = (events_of runs, h.0.0, h.0.1, refl, h.1)
@@ -64,43 +64,38 @@ concludes_clean l g so_far laws grouped holds all =
     let end = laws.ends l g holds.joined grouped holds.is_joined all in
     (holds.joined.events, end.0, end.1, ap (λ m. contents m 0 l.buffers) end.2 ∙ contents_end l holds.joined.memory so_far.contents.items holds.contents)
 
--- ---- results that are handed in
-
-pub first_there :
-    {G L : Type 0} (bytes : G → List (Option ℕ)) (log_of : L → Log) (l : Launch) (g : ℕ) (r : GroupResult G L) (rs : List (GroupResult G L)) → AreResults bytes log_of l g (r ∷ rs) → HasGroup l g
-first_there bytes log_of l g (Done number spaces log runs) rs h = h.0
-first_there bytes log_of l g (Stopped number fault log runs) rs h = h.0
-
--- the group whose result comes next is one of the groups
-pub next_below :
-    {G L : Type 0} (bytes : G → List (Option ℕ)) (log_of : L → Log) (l : Launch) (g groups : ℕ) (r : GroupResult G L) (rs : List (GroupResult G L)) → groups * l.group_size ≡ l.items
-    → AreResults bytes log_of l g (r ∷ rs) → g < groups
-next_below bytes log_of l g groups r rs count h = there_below g groups l.group_size l.items count (first_there bytes log_of l g r rs h)
-
-pub first_result :
-    {G L : Type 0} (bytes : G → List (Option ℕ)) (log_of : L → Log) (l : Launch) (g : ℕ) (r : GroupResult G L) (rs : List (GroupResult G L)) → AreResults bytes log_of l g (r ∷ rs)
-    → IsResult bytes log_of l g r
-first_result bytes log_of l g (Done number spaces log runs) rs h = h.1
-first_result bytes log_of l g (Stopped number fault log runs) rs h = h.1
-
-pub rest_results :
-    {G L : Type 0} (bytes : G → List (Option ℕ)) (log_of : L → Log) (l : Launch) (g : ℕ) (r : GroupResult G L) (rs : List (GroupResult G L)) (so_far : JoinedGroups) → AreResults bytes log_of l g (r ∷ rs)
-    → CameOfNext l g r None so_far → AreResults bytes log_of l (suc g) rs
-rest_results bytes log_of l g (Done number spaces log runs) rs so_far h n = h.2
-rest_results bytes log_of l g (Stopped number fault log runs) rs so_far h n = absurd n
-
 -- ---- results of a round
 
 module _ {G L : Type 0} (bytes : G → List (Option ℕ)) (listed : L → List Entry) (has_last : L → Bool) (l : Launch) (last g : ℕ) where
-  pub round_there : (r : GroupResult G L) (rs : List (GroupResult G L)) → AreResultsTo bytes listed has_last l last g (r ∷ rs) → HasGroup l g
-  round_there (Done number spaces log runs) rs h = h.0
-  round_there (Stopped number fault log runs) rs h = h.0
-
   pub round_result : (r : GroupResult G L) (rs : List (GroupResult G L)) → AreResultsTo bytes listed has_last l last g (r ∷ rs) → IsShortResult bytes listed has_last l g r
-  round_result (Done number spaces log runs) rs h = h.1
-  round_result (Stopped number fault log runs) rs h = h.1
+  round_result r rs h = h.1
+
+  after : (end : GroupEnd G) (more none : Type 0) (so_far : JoinedGroups) → CameOfNext l g end None so_far → Followed end more none → more
+  after (Done spaces) more none so_far n h = h
+  after (Stopped fault) more none so_far n h = absurd n
 
   pub round_rest :
-      (r : GroupResult G L) (rs : List (GroupResult G L)) (so_far : JoinedGroups) → AreResultsTo bytes listed has_last l last g (r ∷ rs) → CameOfNext l g r None so_far → AreResultsTo bytes listed has_last l last (suc g) rs
-  round_rest (Done number spaces log runs) rs so_far h n = h.2
-  round_rest (Stopped number fault log runs) rs so_far h n = absurd n
+      (r : GroupResult G L) (rs : List (GroupResult G L)) (so_far : JoinedGroups) → AreResultsTo bytes listed has_last l last g (r ∷ rs) → CameOfNext l g r.end None so_far → AreResultsTo bytes listed has_last l last (suc g) rs
+  round_rest r rs so_far h n = after r.end (AreResultsTo bytes listed has_last l last (suc g) rs) (rs ≡ []) so_far n h.2
+
+-- ---- results that are handed in
+
+followed_map : {G : Type 0} (end : GroupEnd G) (more less none : Type 0) → (more → less) → Followed end more none → Followed end less none
+followed_map (Done spaces) more less none f h = f h
+followed_map (Stopped fault) more less none f h = h
+
+-- they are those of all groups, or up to and with one that stopped
+pub results_to :
+    {G L : Type 0} (bytes : G → List (Option ℕ)) (log_of : L → Log) (l : Launch) (groups : ℕ) → groups * l.group_size ≡ l.items → 0 < l.group_size → (g : ℕ) (rs : List (GroupResult G L))
+    → AreResults bytes log_of l g rs → AreResultsTo bytes (λ log. (log_of log).accesses) (λ log. true) l groups g rs
+results_to bytes log_of l groups count some g [] h = go (cases_lt g groups)
+  where
+    go : (g < groups) ⊎ (groups ≤ g) → groups ≤ g
+    go (inl b) = let m : g * l.group_size < l.items = below_there g groups l.group_size l.items count some b in absurd (omega (arith, h, m))
+    go (inr b) = b
+results_to bytes log_of l groups count some g (r ∷ rs) h = (
+  h.0,
+  short_whole bytes log_of l g r h.1,
+  followed_map r.end (AreResults bytes log_of l (suc g) rs) (AreResultsTo bytes (λ log. (log_of log).accesses) (λ log. true) l groups (suc g) rs) (rs ≡ [])
+      (results_to bytes log_of l groups count some (suc g) rs) h.2,
+)

@@ -34,13 +34,15 @@ use Rattle.shadow_list.specs.declared.log.Entry.{Entry}
 use Rattle.snapshot_merge.specs.Runs.{Adds, MayFollow}
 use Rattle.snapshot_merge.specs.Laws.{JoiningLaws}
 use Rattle.snapshot_merge.specs.Meetings.{AreOthers, MissUpTo, IsFirstMet, report_at, is_below, meeting_fault}
-use Rattle.snapshot_merge.specs.Changes.{AreChanged, AllWroteBytes, changes_of, value_of}
+use Rattle.snapshot_merge.specs.Changes.{AreChanged, AreUpdates, AllWroteBytes, changes_of, value_of, filled_at, cells_at}
 use Rattle.snapshot_merge.specs.Memory.{HoldsBytes}
 use Rattle.snapshot_merge.specs.JoinedGroups.{HoldsLog, HoldsGroups, IsStopped}
+use Rattle.snapshot_merge.specs.declared.changes.JoinedUpdate.{JoinedUpdate}
 use Rattle.snapshot_merge.specs.declared.joined_groups.JoinedGroups.{JoinedGroups}
-use Rattle.snapshot_merge.proofs.Contents.{IsClear, joined_contents}
+use Rattle.snapshot_merge.proofs.Contents.{IsClear, joined_contents, own_put}
+use Rattle.snapshot_merge.proofs.Updates.{updates_none}
 use Rattle.snapshot_merge.proofs.Written.{wrote_bytes}
-use Rattle.snapshot_merge.specs.declared.meetings.Met.{Met}
+use Rattle.snapshot_merge.specs.declared.meetings.FirstConflict.{FirstConflict}
 use Rattle.snapshot_merge.proofs.Crossed.{Laws, IsFurther, Misses, Crosses, not_crossed, crossed, entries_of_others, locals_miss}
 use Rattle.snapshot_merge.proofs.CrossedRuns.{none_from}
 use Rattle.shadow.proofs.Listing.{stands}
@@ -113,7 +115,7 @@ met_is u (region.Local owner i) x kept m h = absurd (none_some m h)
 -- an access of the group meets the lower groups'
 pub meets_stopped :
     (l : Launch) (g : ℕ) (lower : Joined) (part : Part) (log : Log) (footprint : Footprint) (old more new : List EventRun) (r : IsRunning l g lower part log footprint old more)
-    (met : Met) (fault : Fault) → IsFirstMet l.uniform true log.accesses r.held.kept (Some met) → Adds old new more (take (met.entry.event + 1) (events_of more))
+    (met : FirstConflict) (fault : Fault) → IsFirstMet l.uniform true log.accesses r.held.kept (Some met) → Adds old new more (take (met.entry.event + 1) (events_of more))
     → Some fault ≡ report_at l met part.stopped → IsStopped l fault new
 meets_stopped l g lower part log footprint old more new r met fault first adds told =
     let far = further l g lower part log footprint old more r in
@@ -195,14 +197,19 @@ pub record IsGiven (l : Launch) (g : ℕ) (so_far : JoinedGroups) (more : List E
   pub merged : IsMerged more
 
 -- what it finds to be met first, whatever is kept
-abbrev pub Finds : Bool → ℕ → JoinedGroups → Log → Option Met → Type 0
+abbrev pub Finds : Bool → ℕ → JoinedGroups → Log → Option FirstConflict → Type 0
 Finds u g so_far log found =
     (kept : List Access) → IsFootprint so_far.footprint kept → (g ≡ 0 → kept ≡ []) → AreOthers log.accesses kept → IsFirstMet u true log.accesses kept found
 
+-- the same in the entries that are there, of which the last of all may be one
+abbrev pub FindsIn : Bool → ℕ → JoinedGroups → Bool → List Entry → Option FirstConflict → Type 0
+FindsIn u g so_far last listed found =
+    (kept : List Access) → IsFootprint so_far.footprint kept → (g ≡ 0 → kept ≡ []) → AreOthers listed kept → IsFirstMet u last listed kept found
+
 -- what it finds in a short list that stands for the log, by whether the launch is uniform
 pub finds_whole :
-    {u : Bool} (l : Launch) (g : ℕ) (so_far : JoinedGroups) (last : Bool) (listed : List Entry) (log : Log) (found : Option Met) → u ≡ l.uniform → StandsWith last listed log.accesses
-    → ((kept : List Access) → IsFootprint so_far.footprint kept → (g ≡ 0 → kept ≡ []) → AreOthers listed kept → IsFirstMet u last listed kept found) → Finds l.uniform g so_far log found
+    {u : Bool} (l : Launch) (g : ℕ) (so_far : JoinedGroups) (last : Bool) (listed : List Entry) (log : Log) (found : Option FirstConflict) → u ≡ l.uniform → StandsWith last listed log.accesses
+    → FindsIn u g so_far last listed found → Finds l.uniform g so_far log found
 finds_whole {u} l g so_far last listed log found same stand finds =
     subst (λ v. Finds v g so_far log found) same
     (λ kept remembers none apart. first_whole u last listed log.accesses kept found stand apart (finds kept remembers none (others_listed last listed log.accesses kept stand apart)))
@@ -244,7 +251,7 @@ done_running l g so_far log more spaces c run =
     }
 
 found_first :
-    (l : Launch) (g : ℕ) (lower : Joined) (part : Part) (log : Log) (so_far : JoinedGroups) (more : List EventRun) (r : IsRunning l g lower part log so_far.footprint so_far.runs.items more) (found : Option Met)
+    (l : Launch) (g : ℕ) (lower : Joined) (part : Part) (log : Log) (so_far : JoinedGroups) (more : List EventRun) (r : IsRunning l g lower part log so_far.footprint so_far.runs.items more) (found : Option FirstConflict)
     → Finds l.uniform g so_far log found → IsFirstMet l.uniform true log.accesses r.held.kept found
 found_first l g lower part log so_far more r found finds =
     finds r.held.kept r.held.remembers (first_none l g lower part log so_far.footprint so_far.runs.items more r) (others l g lower part log so_far.footprint so_far.runs.items more r)
@@ -265,7 +272,7 @@ done_follows l g so_far log more spaces c run =
 -- a group that stopped meets the lower groups
 pub stop_meets :
     (l : Launch) (g : ℕ) (so_far : JoinedGroups) (log : Log) (more new : List EventRun) (fault : Fault) (c : IsGiven l g so_far more)
-    → IsRun (plan_of l g) (IsLogged (plan_of l g) log) (start l) (events_of more) (Some fault) → (met : Met) (report : Fault) → Finds l.uniform g so_far log (Some met)
+    → IsRun (plan_of l g) (IsLogged (plan_of l g) log) (start l) (events_of more) (Some fault) → (met : FirstConflict) (report : Fault) → Finds l.uniform g so_far log (Some met)
     → Adds so_far.runs.items new more (take (met.entry.event + 1) (events_of more)) → Some report ≡ report_at l met (Some fault) → IsStopped l report new
 stop_meets l g so_far log more new fault c run met report finds adds told =
     let part : Part = stopped_part l g (IsLogged (plan_of l g) log) (events_of more) fault run in
@@ -284,23 +291,23 @@ stop_alone l g so_far log more new fault c run finds adds =
 -- a group that has ended meets the lower groups
 pub done_meets :
     (l : Launch) (g : ℕ) (so_far : JoinedGroups) (log : Log) (more new : List EventRun) (spaces : List Overlaid) (c : IsGiven l g so_far more)
-    → IsRun (plan_of l g) (Left l g spaces log) (start l) (events_of more) None → (met : Met) (report : Fault) → Finds l.uniform g so_far log (Some met)
+    → IsRun (plan_of l g) (Left l g spaces log) (start l) (events_of more) None → (met : FirstConflict) (report : Fault) → Finds l.uniform g so_far log (Some met)
     → Adds so_far.runs.items new more (take (met.entry.event + 1) (events_of more)) → Some report ≡ report_at l met None → IsStopped l report new
 done_meets l g so_far log more new spaces c run met report finds adds told =
     let part : Part = done_part l g (Left l g spaces log) (events_of more) run in
     let r : IsRunning l g c.holds.joined part log so_far.footprint so_far.runs.items more = done_running l g so_far log more spaces c run in
     meets_stopped l g c.holds.joined part log so_far.footprint so_far.runs.items more new r met report (found_first l g c.holds.joined part log so_far more r (Some met) finds) adds told
 
--- what its changes come to, whatever is kept
-abbrev pub Changes : JoinedGroups → List Overlaid → List Entry → List (List ℕ) → Type 0
-Changes so_far spaces listed new =
-    (kept : List Access) → IsFootprint so_far.footprint kept → AllWroteBytes (map (λ (space : Overlaid). space.bytes) spaces) listed
+-- what its changes come to, whatever is kept: of group 0 nothing is kept below it
+abbrev pub Changes : ℕ → JoinedGroups → List Overlaid → List Entry → List (List ℕ) → Type 0
+Changes g so_far spaces listed new =
+    (kept : List Access) → IsFootprint so_far.footprint kept → (g ≡ 0 → kept ≡ []) → AllWroteBytes (map (λ (space : Overlaid). space.bytes) spaces) listed
     → AreChanged so_far.contents.items new (changes_of (value_of (map (λ row. row.now) so_far.first.items) so_far.contents.items (λ n b. wrote kept (region.Buffer n) b) (map (λ (space : Overlaid). space.bytes) spaces)) listed)
 
 -- a group that has ended is joined, where a further group may follow
 pub done_joined :
     (l : Launch) (g : ℕ) (so_far : JoinedGroups) (log : Log) (more : List EventRun) (spaces : List Overlaid) (c : IsGiven l g so_far more)
-    → IsRun (plan_of l g) (Left l g spaces log) (start l) (events_of more) None → Finds l.uniform g so_far log None → (listed : List Entry) → StandsFor [] listed log.accesses → (new : JoinedGroups) → Changes so_far spaces listed new.contents.items → new.first ≡ so_far.first
+    → IsRun (plan_of l g) (Left l g spaces log) (start l) (events_of more) None → Finds l.uniform g so_far log None → (listed : List Entry) → StandsFor [] listed log.accesses → (new : JoinedGroups) → Changes g so_far spaces listed new.contents.items → new.first ≡ so_far.first
     → (HasGroup l (suc g) → ((kept : List Access) → IsFootprint so_far.footprint kept → IsFootprint new.footprint (accesses_of log.accesses ++ kept)) × Adds so_far.runs.items new.runs.items more (events_of more))
     → HoldsGroups l (suc g) new
 done_joined l g so_far log more spaces c run finds listed stand new changes first further_held =
@@ -327,37 +334,35 @@ done_joined l g so_far log more spaces c run finds listed stand new changes firs
       joined = join l lower part;
       is_joined = is_joined l g lower part log so_far.footprint so_far.runs.items more r met refl;
       first = ap (λ (z : Vec (Bor (List ℕ)) Global). map (λ row. row.now) z.items) first ∙ c.holds.first;
-      contents = subst (λ (j : Joined). HoldsBytes l j.memory new.contents.items) (sym (joined_whole l lower part none)) (joined_contents l g lower part so_far.contents.items log.accesses r.held.kept (map (λ row. row.now) so_far.first.items) (map (λ (space : Overlaid). space.bytes) spaces) clear listed stand new.contents.items (changes r.held.kept r.held.remembers (wrote_bytes l g lower part so_far.contents.items log.accesses r.held.kept (map (λ row. row.now) so_far.first.items) (map (λ (space : Overlaid). space.bytes) spaces) clear listed stand)));
+      contents = subst (λ (j : Joined). HoldsBytes l j.memory new.contents.items) (sym (joined_whole l lower part none)) (joined_contents l g lower part so_far.contents.items log.accesses r.held.kept (map (λ row. row.now) so_far.first.items) (map (λ (space : Overlaid). space.bytes) spaces) clear listed stand new.contents.items (changes r.held.kept r.held.remembers (first_none l g lower part log so_far.footprint so_far.runs.items more r) (wrote_bytes l g lower part so_far.contents.items log.accesses r.held.kept (map (λ row. row.now) so_far.first.items) (map (λ (space : Overlaid). space.bytes) spaces) clear listed stand)));
       log = λ h. let held = further_held h in log_joined l g lower part log so_far.footprint so_far.runs.items more r new.footprint new.runs.items met (held.0 r.held.kept r.held.remembers) held.1;
     }
+
+-- of the accesses of a group that none is below nothing is kept before any change
+pub updates_alone :
+    (first lower : List (List ℕ)) (own : List (List (Option ℕ))) (kept : List Access) (entries : List Entry) (updates : List JoinedUpdate) → updates ≡ [] → kept ≡ []
+    → AreUpdates (value_of first lower (λ n b. wrote kept (region.Buffer n) b) own) own 0 entries updates
+updates_alone first lower own kept entries updates e none =
+    subst (AreUpdates (value_of first lower (λ n b. wrote kept (region.Buffer n) b) own) own 0 entries) (sym e)
+    (subst (λ z. AreUpdates (value_of first lower (λ n b. wrote z (region.Buffer n) b) own) own 0 entries []) (sym none)
+    (updates_none (value_of first lower (λ n b. wrote [] (region.Buffer n) b) own) own
+    (λ x number w is byte c. own_put x.kind (filled_at first number) (filled_at lower number) (cells_at own number) byte) 0 entries))
 
 -- two facts of a result that is there
 pub both_ok : {A E : Type 0} (P Q R : A → Type 0) (r : Result A E) → IfOk r P → IfOk r Q → ((a : A) → P a → Q a → R a) → IfOk r R
 both_ok P Q R (Ok a) p q f = f a p q
 both_ok P Q R (Err e) p q f = tt
 
--- a group that has ended is joined and its accesses and events added
+-- a group that has ended is joined, and where a further group may follow its accesses and events are added
 pub done_added :
     (l : Launch) (g : ℕ) (so_far : JoinedGroups) (log : Log) (more : List EventRun) (spaces : List Overlaid) (c : IsGiven l g so_far more)
-    → IsRun (plan_of l g) (Left l g spaces log) (start l) (events_of more) None → Finds l.uniform g so_far log None → (last : Bool) (listed : List Entry) → StandsWith last listed log.accesses → (mid new : JoinedGroups) → Changes so_far spaces listed mid.contents.items
-    → mid.first ≡ so_far.first → mid.footprint ≡ so_far.footprint → mid.runs ≡ so_far.runs → new.first ≡ mid.first → new.contents ≡ mid.contents
-    → ((kept : List Access) → IsFootprint mid.footprint kept → IsFootprint new.footprint (accesses_of listed ++ kept)) → Adds mid.runs.items new.runs.items more (events_of more)
+    → IsRun (plan_of l g) (Left l g spaces log) (start l) (events_of more) None → Finds l.uniform g so_far log None → (last : Bool) (listed : List Entry) → StandsWith last listed log.accesses → (new : JoinedGroups)
+    → Changes g so_far spaces listed new.contents.items → new.first ≡ so_far.first
+    → (HasGroup l (suc g) → ((kept : List Access) → IsFootprint so_far.footprint kept → IsFootprint new.footprint (accesses_of listed ++ kept)) × Adds so_far.runs.items new.runs.items more (events_of more))
     → HoldsGroups l (suc g) new
-done_added l g so_far log more spaces c run finds last listed stand mid new changes first footprint runs first2 contents2 remembers adds =
-    done_joined l g so_far log more spaces c run finds listed (stands last listed log.accesses stand) new
-    (λ kept k w. subst (λ (z : Vec (List ℕ) Global). AreChanged so_far.contents.items z.items (changes_of (value_of (map (λ row. row.now) so_far.first.items) so_far.contents.items (λ n b. wrote kept (region.Buffer n) b) (map (λ (space : Overlaid). space.bytes) spaces)) listed)) (sym contents2) (changes kept k w))
-    (first2 ∙ first) (λ h. (
-      λ kept k. footprint_whole last listed log.accesses kept new.footprint stand (remembers kept (subst (λ f. IsFootprint f kept) (sym footprint) k)),
-      subst (λ (z : Vec EventRun Global). Adds z.items new.runs.items more (events_of more)) runs adds,
-    ))
-
--- the last group is joined
-pub done_last :
-    (l : Launch) (g : ℕ) (so_far : JoinedGroups) (log : Log) (more : List EventRun) (spaces : List Overlaid) (c : IsGiven l g so_far more)
-    → IsRun (plan_of l g) (Left l g spaces log) (start l) (events_of more) None → Finds l.uniform g so_far log None → (last : Bool) (listed : List Entry) → StandsWith last listed log.accesses → (mid : JoinedGroups) → Changes so_far spaces listed mid.contents.items → mid.first ≡ so_far.first
-    → (HasGroup l (suc g) → ⊥) → HoldsGroups l (suc g) mid
-done_last l g so_far log more spaces c run finds last listed stand mid changes first none =
-    done_joined l g so_far log more spaces c run finds listed (stands last listed log.accesses stand) mid changes first (λ h. absurd (none h))
+done_added l g so_far log more spaces c run finds last listed stand new changes first held =
+    done_joined l g so_far log more spaces c run finds listed (stands last listed log.accesses stand) new changes first
+    (λ h. (λ kept k. footprint_whole last listed log.accesses kept new.footprint stand ((held h).0 kept k), (held h).1))
 
 -- a buffer that another is put in place of, as long as it
 pub front : {A : Type 0} (n : ℕ) (xs rest : List A) → length xs ≡ n → take n (xs ++ rest) ≡ xs

@@ -4,14 +4,17 @@ use Rattle.std.specs.Prelude.{slice_get}
 use Rattle.std.proofs.lemmas.Bool.{cases_lt, ne_eqb}
 use Rattle.std.proofs.lemmas.Option.{slice_get_within}
 use Rattle.clmodel.specs.Launch.{Launch}
+use Rattle.clmodel.specs.Outcome.{events_of}
+use Rattle.clmodel.specs.Run.{Events}
 use Rattle.clmodel.specs.declared.access.Access.{Access}
 use Rattle.clmodel.specs.declared.access.Region.TheVariants as region
 use Rattle.clmodel.proofs.Steps.{none_some, some_inj}
 use Rattle.joining.specs.Memory.{wrote}
 use Rattle.group_run.specs.Logs.{accesses_of}
-use Rattle.group_run.specs.Results.{IsResult}
+use Rattle.group_run.specs.Results.{IsResult, IsGroupEnd}
 use Rattle.group_run.specs.declared.result.GroupResult.{GroupResult}
-use Rattle.group_run.specs.declared.result.GroupResult.TheVariants.{Done, Stopped}
+use Rattle.group_run.specs.declared.result.GroupEnd.{GroupEnd}
+use Rattle.group_run.specs.declared.result.GroupEnd.TheVariants.{Done, Stopped}
 use Rattle.shadow.specs.Lasting.{StandsFor, StandsWith}
 use Rattle.shadow.specs.Seen.{IsFootprint, seen, is_written, met_at}
 use Rattle.shadow.specs.declared.footprint.Footprint.{Footprint}
@@ -24,8 +27,8 @@ use Rattle.shadow_list.specs.declared.log.Entry.{Entry}
 use Rattle.snapshot_merge.specs.JoinedGroups.{HandsBack}
 use Rattle.snapshot_merge.specs.Launches.{IsShortResult}
 use Rattle.snapshot_merge.specs.Meetings.{AreOthers, MissUpTo, IsFirstMet}
-use Rattle.snapshot_merge.specs.declared.joined_groups.JoinEnd.TheVariants.{Goes}
-use Rattle.snapshot_merge.specs.declared.meetings.Met.{Met}
+use Rattle.snapshot_merge.specs.declared.joined_groups.JoinEnd.TheVariants.{Continues}
+use Rattle.snapshot_merge.specs.declared.meetings.FirstConflict.{FirstConflict}
 use Rattle.spaces.specs.Overlay.{Overlaid}
 
 -- ---- entries of lists
@@ -121,7 +124,7 @@ miss_back : (u : Bool) (kept : List Access) (xs whole : List Entry) (x : Entry) 
 miss_back u kept xs whole x n e m k y c q = m k y c (subst (λ z. slice_get z k ≡ Some y) (sym e) (get_front xs (x ∷ []) k y q))
 
 -- what is met first of the short list is what is met first of the whole
-pub first_whole : (u last : Bool) (short whole : List Entry) (kept : List Access) (found : Option Met) → StandsWith last short whole → AreOthers whole kept → IsFirstMet u last short kept found
+pub first_whole : (u last : Bool) (short whole : List Entry) (kept : List Access) (found : Option FirstConflict) → StandsWith last short whole → AreOthers whole kept → IsFirstMet u last short kept found
     → IsFirstMet u true whole kept found
 first_whole u last short whole kept None h others m = miss_all u kept [] short whole (stands last short whole h) others (none_yet u kept) m
 first_whole u last short whole kept (Some met) (inl (e, f)) others m = absurd (none_some met.entry (subst (λ z. slice_get z m.0 ≡ Some met.entry) e m.1))
@@ -195,14 +198,17 @@ wrote_listed short whole n byte h =
 -- a result with its whole log
 pub short_whole : {G L : Type 0} (bytes : G → List (Option ℕ)) (log_of : L → Log) (l : Launch) (g : ℕ) (came : GroupResult G L) → IsResult bytes log_of l g came
     → IsShortResult bytes (λ log. (log_of log).accesses) (λ log. true) l g came
-short_whole bytes log_of l g (Done number spaces log runs) is = (log_of log, whole_stands (log_of log).accesses, is)
-short_whole bytes log_of l g (Stopped number fault log runs) is = (log_of log, whole_stands (log_of log).accesses, is)
+short_whole bytes log_of l g came is = (log_of came.log, whole_stands (log_of came.log).accesses, is)
+
+end_uniform : {G : Type 0} (bytes : G → List (Option ℕ)) (l : Launch) (g : ℕ) (log : Log) (events : Events) (end : GroupEnd G) → IsGroupEnd bytes l g log events end → log.uniform ≡ l.uniform
+end_uniform bytes l g log events (Done spaces) is = is.0.holds.logged.uniform
+end_uniform bytes l g log events (Stopped fault) is = is.holds.uniform
 
 -- the log that is handed back is of the launch's flag
-pub back_uniform : {G L : Type 0} (bytes : G → List (Option ℕ)) (log_of : L → Log) (l : Launch) (g : ℕ) (came : GroupResult G L) (back : L) → IsResult bytes log_of l g came → HandsBack came (Goes back)
+pub back_uniform : {G L : Type 0} (bytes : G → List (Option ℕ)) (log_of : L → Log) (l : Launch) (g : ℕ) (came : GroupResult G L) (back : L) → IsResult bytes log_of l g came → HandsBack came.log (Continues back)
     → (log_of back).uniform ≡ l.uniform
-back_uniform bytes log_of l g (Done number spaces log runs) back is e = ap (λ z. (log_of z).uniform) e ∙ is.2.0.holds.logged.uniform
-back_uniform bytes log_of l g (Stopped number fault log runs) back is e = absurd e
+back_uniform bytes log_of l g came back is e =
+    ap (λ z. (log_of z).uniform) e ∙ end_uniform bytes l g (log_of came.log) (events_of came.runs) came.end is.2
 
 abbrev pub bytes_of : Overlaid → List (Option ℕ)
 bytes_of overlay = overlay.bytes

@@ -7,8 +7,16 @@ use Rattle.clmodel.specs.declared.access.Access.{Access}
 use Rattle.clmodel.proofs.Steps.{if_true, if_false}
 use Rattle.shadow_list.specs.declared.log.Entry.{Entry}
 use Rattle.snapshot_merge.specs.declared.changes.JoinedUpdate.{JoinedUpdate}
-use Rattle.snapshot_merge.specs.Changes.{IsKept, AreUpdates, kept_at}
+use Rattle.snapshot_merge.specs.Changes.{IsKept, AreUpdates, kept_at, next_after}
+use Rattle.snapshot_merge.specs.Comparing.{with_update}
 use Rattle.snapshot_merge.proofs.Entries.{take_one}
+
+-- ---- no update
+
+-- of accesses of which nothing is kept
+pub updates_none : (value : ℕ → Access → ℕ → ℕ) (own : List (List (Option ℕ))) → ((x : Access) → IsKept value own x None) → (place : ℕ) (xs : List Entry) → AreUpdates value own place xs []
+updates_none value own h place [] = refl
+updates_none value own h place (x ∷ xs) = inl (h x.access, updates_none value own h (suc place) xs)
 
 -- ---- one more access
 
@@ -46,6 +54,13 @@ updates_push value own xs i v x old new b at e k h =
     subst (AreUpdates value own 0 (take (i + 1) xs)) (sym e)
     (subst (λ ys. AreUpdates value own 0 ys (old ++ record { place = i; value = v } ∷ [])) (sym (take_one xs i x at))
     (pushed value own 0 (take i xs) x old (record { place = i; value = v }) h (omega (arith, long)) k))
+
+-- an access of which this is kept
+pub updates_more :
+    (value : ℕ → Access → ℕ → ℕ) (own : List (List (Option ℕ))) (xs : List Entry) (i : ℕ) (x : Entry) (old new : List JoinedUpdate) (kept : Option ℕ) → i < length xs → slice_get xs i ≡ Some x
+    → new ≡ with_update old i kept → IsKept value own x.access kept → AreUpdates value own 0 (take i xs) old → AreUpdates value own 0 (take (i + 1) xs) new
+updates_more value own xs i x old new None b at e k h = subst (AreUpdates value own 0 (take (i + 1) xs)) (sym e) (updates_skip value own xs i x old at k h)
+updates_more value own xs i x old new (Some v) b at e k h = updates_push value own xs i v x old new b at e k h
 
 -- ---- the next access
 
@@ -125,3 +140,14 @@ after_some value own xs i next x updates (Some v) b e k n h =
     subst (λ n. AreUpdates value own n (drop (i + 1) xs) (drop (next + 1) updates)) one
     (subst (AreUpdates value own (suc i) (drop (i + 1) xs)) (drop-drop 1 next updates)
     (then_fewer value own i v x (drop (i + 1) xs) (drop next updates) (subst (λ ys. AreUpdates value own i ys (drop next updates)) (from_here xs i x b e) h) (sym k)))
+
+pub after_next :
+    (value : ℕ → Access → ℕ → ℕ) (own : List (List (Option ℕ))) (xs : List Entry) (i next : ℕ) (x : Entry) (updates : List JoinedUpdate) (kept : Option ℕ) → i < length xs → x ≡ get_or xs i x
+    → kept ≡ kept_at i (drop next updates) → AreUpdates value own i (drop i xs) (drop next updates)
+    → AreUpdates value own (i + 1) (drop (i + 1) xs) (drop (next_after next kept) updates)
+after_next value own xs i next x updates None b e k h = after_none value own xs i next x updates None b e k refl h
+after_next value own xs i next x updates (Some v) b e k h = after_some value own xs i next x updates (Some v) b e k refl h
+
+pub next_within : (next i : ℕ) (kept : Option ℕ) → next ≤ i → next_after next kept ≤ i + 1
+next_within next i None h = omega (arith, h)
+next_within next i (Some v) h = omega (arith, h)

@@ -1,5 +1,5 @@
 -- The bytes that a further group changes in what the lower groups left (OpenCL 1.2, 3.3, 6.12.11; own in the list).
-use Rattle.std.specs.Prelude.{◌≡◌, ℕ, suc, ◌-◌, ◌/◌, ◌*◌, ◌%◌, ◌<◌, ◌==◌, Bool, true, false, ◌&&◌, if◌then◌else◌, ◌⊎◌, Option, None, Some, List, [], ◌∷◌, length, map, slice_get, slice_index_or}
+use Rattle.std.specs.Prelude.{◌≡◌, ℕ, suc, ◌+◌, ◌-◌, ◌/◌, ◌*◌, ◌%◌, ◌<◌, ◌==◌, Bool, true, false, ◌&&◌, if◌then◌else◌, ◌⊎◌, Option, None, Some, List, [], ◌∷◌, length, map, slice_get, slice_index_or}
 use Rattle.std.specs.List.{range_with_len, flat_map}
 use Rattle.std.specs.Option.{option_map, unwrap_or}
 use Rattle.clmodel.specs.Cells.{Cells, cells_of, byte_count, byte_of, covers, number}
@@ -127,3 +127,8 @@ AreUpdates value own place (e ∷ entries) updates =
 abbrev pub kept_at : ℕ → List JoinedUpdate → Option ℕ
 kept_at place [] = None
 kept_at place (update ∷ updates) = if update.place == place then Some update.value else None
+
+-- how many updates stand before those of the later accesses, where so many stood before an access of which this is kept (own)
+abbrev pub next_after : ℕ → Option ℕ → ℕ
+next_after next None = next
+next_after next (Some value) = next + 1

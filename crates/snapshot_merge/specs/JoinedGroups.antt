@@ -8,8 +8,8 @@ use Rattle.clmodel.specs.declared.access.Access.{Access}
 use Rattle.clmodel.specs.declared.fault.Fault.{Fault}
 use Rattle.clmodel.specs.declared.outcome.Outcome.TheVariants.{Clean}
 use Rattle.clmodel.specs.declared.schedule.EventRun.{EventRun}
-use Rattle.group_run.specs.declared.result.GroupResult.{GroupResult}
-use Rattle.group_run.specs.declared.result.GroupResult.TheVariants.{Done, Stopped}
+use Rattle.group_run.specs.declared.result.GroupEnd.{GroupEnd}
+use Rattle.group_run.specs.declared.result.GroupEnd.TheVariants.{Done, Stopped}
 use Rattle.joining.specs.Join.{Joined}
 use Rattle.joining.specs.Parts.{IsGrouped}
 use Rattle.joining.specs.Steps.{HasGroup, IsJoined}
@@ -17,7 +17,7 @@ use Rattle.shadow.specs.Seen.{IsFootprint}
 use Rattle.shadow.specs.declared.footprint.Footprint.{Footprint}
 use Rattle.snapshot_merge.specs.Memory.{HoldsBytes}
 use Rattle.snapshot_merge.specs.declared.joined_groups.JoinEnd.{JoinEnd}
-use Rattle.snapshot_merge.specs.declared.joined_groups.JoinEnd.TheVariants.{Goes, Reports}
+use Rattle.snapshot_merge.specs.declared.joined_groups.JoinEnd.TheVariants.{Continues, Reports}
 use Rattle.snapshot_merge.specs.declared.joined_groups.JoinedGroups.{JoinedGroups}
 
 -- a footprint and runs hold the accesses and the events of the groups so far (own)
@@ -48,20 +48,19 @@ CameOfDone launch group None so_far = HoldsGroups launch (suc group) so_far
 
 -- the report of a join, if it has one (own)
 abbrev pub report_of : {L : Type 0} → JoinEnd L → Option Fault
-report_of (Goes log) = None
+report_of (Continues log) = None
 report_of (Reports fault) = Some fault
 
--- what comes of joining the result of one more group: a group that stopped always brings a report (own)
-abbrev pub CameOfNext : {G L : Type 0} → Launch → ℕ → GroupResult G L → Option Fault → JoinedGroups → Type 0
-CameOfNext launch group (Done number spaces log runs) report so_far = CameOfDone launch group report so_far
-CameOfNext launch group (Stopped number fault log runs) (Some report) so_far = IsStopped launch report so_far.runs.items
-CameOfNext launch group (Stopped number fault log runs) None so_far = ⊥
+-- what comes of joining the result of one more group, by its end: a group that stopped always brings a report (own)
+abbrev pub CameOfNext : {G : Type 0} → Launch → ℕ → GroupEnd G → Option Fault → JoinedGroups → Type 0
+CameOfNext launch group (Done spaces) report so_far = CameOfDone launch group report so_far
+CameOfNext launch group (Stopped fault) (Some report) so_far = IsStopped launch report so_far.runs.items
+CameOfNext launch group (Stopped fault) None so_far = ⊥
 
--- the log that a join hands back is that of the result, of a group that has ended (own)
-abbrev pub HandsBack : {G L : Type 0} → GroupResult G L → JoinEnd L → Type 0
-HandsBack (Done number spaces log runs) (Goes back) = back ≡ log
-HandsBack (Stopped number fault log runs) (Goes back) = ⊥
-HandsBack came (Reports fault) = Unit {0}
+-- the log that a join hands back, if it has no report, is that of the result (own)
+abbrev pub HandsBack : {L : Type 0} → L → JoinEnd L → Type 0
+HandsBack log (Continues back) = back ≡ log
+HandsBack log (Reports fault) = Unit {0}
 
 -- where all groups of a launch are joined without a report, the launch ends clean with what they leave (3.2)
 abbrev pub JoinedConclude : Type 0

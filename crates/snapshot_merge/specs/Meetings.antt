@@ -7,7 +7,7 @@ use Rattle.clmodel.specs.declared.fault.Fault.TheVariants as fault
 use Rattle.shadow.specs.Seen.{OfOthers, met_at}
 use Rattle.shadow.specs.declared.seen.Meeting.{Meeting}
 use Rattle.shadow_list.specs.declared.log.Entry.{Entry}
-use Rattle.snapshot_merge.specs.declared.meetings.Met.{Met}
+use Rattle.snapshot_merge.specs.declared.meetings.FirstConflict.{FirstConflict}
 
 -- a meeting of an access as a fault (3.3.1, own in what it names)
 abbrev pub meeting_fault : Launch → Access → Meeting → Fault
@@ -29,7 +29,7 @@ MissUpTo uniform entries kept count =
 
 -- the first of the entries that meets these accesses, if there is one, and whether it is the last of its group, which is the last of them
 -- where `has_last` holds (own)
-abbrev pub IsFirstMet : Bool → Bool → List Entry → List Access → Option Met → Type 0
+abbrev pub IsFirstMet : Bool → Bool → List Entry → List Access → Option FirstConflict → Type 0
 IsFirstMet uniform has_last entries kept None = MissUpTo uniform entries kept (length entries)
 IsFirstMet uniform has_last entries kept (Some met) =
     (k : ℕ) × (slice_get entries k ≡ Some met.entry) × MissUpTo uniform entries kept k
@@ -38,5 +38,5 @@ IsFirstMet uniform has_last entries kept (Some met) =
 
 -- the report where an access meets those of the lower groups: the group's own, if the access is its last and it stopped with a conflict on
 -- a lower byte, else the meeting (own)
-abbrev pub report_at : Launch → Met → Option Fault → Option Fault
+abbrev pub report_at : Launch → FirstConflict → Option Fault → Option Fault
 report_at launch met stopped = if met.last && is_below stopped met.meeting.byte then stopped else Some (meeting_fault launch met.entry.access met.meeting)

@@ -1,18 +1,19 @@
 //! The bytes that a work-group changes in what the lower groups left.
 //!
 //! An update of bytes that lower groups wrote joins its word as they left it, before the group changes anything. So
-//! `joined_updates` keeps what the bytes of such updates become, and `make_changes` makes all changes of the group
+//! `Before::compare` keeps what the bytes of such updates become, and `join_accesses` makes all changes of the group
 //! afterwards, each by the number kept of it or else by the group's own bytes. A group without such updates keeps
 //! nothing.
 
-ghost use Rattle.std.specs.Prelude.{◌≡◌, ◌<◌, ◌≤◌, ◌+◌, ◌%◌, ◌^◌, ℕ, List, Some, map, drop, true, IfOk, IfSome};
+ghost use Rattle.std.specs.Prelude.{◌≡◌, ◌<◌, ◌≤◌, ◌+◌, ◌++◌, ◌∷◌, ◌%◌, ◌^◌, ℕ, List, Some, map, drop, true, IfSome, OnOk};
 ghost use Rattle.clmodel.specs.Cells.{cells_of, byte_count, byte_of, covers, number};
 ghost use Rattle.clmodel.specs.declared.access.Access.{Access as TheAccess};
 ghost use Rattle.clmodel.specs.declared.access.AccessKind.TheVariants as kind;
 ghost use Rattle.clmodel.specs.declared.access.Region.TheVariants as region;
+ghost use Rattle.group_run.specs.Logs.{accesses_of};
 ghost use Rattle.joining.specs.Memory as joining;
 ghost use Rattle.shadow.specs.Seen.{IsFootprint};
-ghost use Rattle.snapshot_merge.specs.Changes.{number_or_0, joined_value, value_of, access_changes, changes_of, cells_at, filled_at, bytes_of, IsValue, AreBytes, WroteBytes, AllWroteBytes, AreChanged, IsKept, AreUpdates, kept_at};
+ghost use Rattle.snapshot_merge.specs.Changes.{number_or_0, joined_value, value_of, access_changes, changes_of, cells_at, filled_at, bytes_of, IsValue, AreBytes, WroteBytes, AllWroteBytes, AreChanged, IsKept, AreUpdates, kept_at, next_after};
 
 use crate::joined_numbers::joined_number;
 use clmodel::access::{Access, AccessKind, Class, Region, Width};
@@ -228,7 +229,7 @@ impl Before<'_, '_, '_, '_> {
 
     /// What the bytes of an access become, as a number, if it is an update of a buffer's bytes of which lower groups
     /// wrote some.
-    fn kept_value(&self, x: &Access) -> Option<u64>
+    pub(crate) fn kept_value(&self, x: &Access) -> Option<u64>
         requires { x.now.first + byte_count x.now.width < 2 ^ 64 }
         ensures { (log : List TheAccess) → IsFootprint self.now.footprint.now log → IsKept (value_of (map (λ row. row.now) self.now.first.now) self.now.lower.now (λ n b. joining.wrote log (region.Buffer n) b) (map (λ space. space.bytes) self.now.own.now)) (map (λ space. space.bytes) self.now.own.now) x.now result }
     {
@@ -239,24 +240,6 @@ impl Before<'_, '_, '_, '_> {
             return None;
         };
         self.updated_value(class, number, x)
-    }
-
-    /// The updates of the further group of whose bytes lower groups wrote some, in their order, and what these bytes
-    /// become: 16 bytes for each. An error is out of memory.
-    pub(crate) fn joined_updates<L: GroupAccesses>(
-        &self,
-        alloc: Global,
-        log: &L,
-    ) -> Result<Vec<JoinedUpdate>, AllocError>
-        ensures { IfOk result (λ updates. (kept : List TheAccess) → IsFootprint self.now.footprint.now kept → AreUpdates (value_of (map (λ row. row.now) self.now.first.now) self.now.lower.now (λ n b. joining.wrote kept (region.Buffer n) b) (map (λ space. space.bytes) self.now.own.now)) (map (λ space. space.bytes) self.now.own.now) 0 (L.listed log.now) updates.items) }
-    {
-        let mut updates = Vec::new(alloc);
-        for place in 0..log.len() {
-            if let Some(value) = self.kept_value(&log.get(place).access) {
-                updates.push(JoinedUpdate { place, value })?;
-            }
-        }
-        Ok(updates)
     }
 }
 
@@ -320,22 +303,56 @@ fn kept_at(updates: &[JoinedUpdate], next: usize, place: usize) -> Option<u64>
     }
 }
 
-/// Makes the changes of a group's accesses, one after another.
-pub(crate) fn make_changes<L: GroupAccesses>(
+/// The place of the next update behind an access, of which this is kept.
+fn next_after(next: usize, kept: Option<u64>) -> usize
+    requires { next + 1 < 2 ^ 64 }
+    ensures { result ≡ next_after next kept }
+{
+    match kept {
+        Some(_) => next + 1,
+        None => next,
+    }
+}
+
+/// Adds an access of the further group to those of the lower groups, where a group after it is to be joined. An error is
+/// out of memory.
+fn mark_access(
+    alloc: Global,
+    footprint: &mut Footprint,
+    further: bool,
+    x: &Access,
+) -> Result<(), AllocError>
+    requires { x.now.first + byte_count x.now.width < 2 ^ 64 }
+    ensures { OnOk result (further ≡ true → (kept : List TheAccess) → IsFootprint footprint.old kept → IsFootprint footprint.new (x.now ∷ kept)) }
+{
+    if further {
+        footprint.add(alloc, x)?;
+    }
+    Ok(())
+}
+
+/// Makes the changes of a group's accesses, one after another, and adds the accesses to those of the lower groups where a
+/// group after it is to be joined. Each access is got once. An error is out of memory.
+pub(crate) fn join_accesses<L: GroupAccesses>(
+    alloc: Global,
     contents: &mut [Bytes],
+    footprint: &mut Footprint,
+    further: bool,
     own: &[Overlay<'_>],
     log: &L,
     updates: &[JoinedUpdate],
-)
-    ensures { (value : ℕ → TheAccess → ℕ → ℕ) → AllWroteBytes (map (λ space. space.bytes) own.now) (L.listed log.now) → AreUpdates value (map (λ space. space.bytes) own.now) 0 (L.listed log.now) updates.now → AreChanged contents.old contents.new (changes_of value (L.listed log.now)) }
+) -> Result<(), AllocError>
+    ensures changed { OnOk result ((value : ℕ → TheAccess → ℕ → ℕ) → AllWroteBytes (map (λ space. space.bytes) own.now) (L.listed log.now) → AreUpdates value (map (λ space. space.bytes) own.now) 0 (L.listed log.now) updates.now → AreChanged contents.old contents.new (changes_of value (L.listed log.now))) }
+    ensures marked { OnOk result (further ≡ true → (kept : List TheAccess) → IsFootprint footprint.old kept → IsFootprint footprint.new (accesses_of (L.listed log.now) ++ kept)) }
 {
     let count = log.len();
     let mut next = 0;
     for place in 0..count {
+        let entry = log.get(place);
         let kept = kept_at(updates, next, place);
-        change_access(contents, own, &log.get(place).access, kept);
-        if kept.is_some() {
-            next += 1;
-        }
+        change_access(contents, own, &entry.access, kept);
+        mark_access(alloc, footprint, further, &entry.access)?;
+        next = next_after(next, kept);
     }
+    Ok(())
 }

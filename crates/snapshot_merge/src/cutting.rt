@@ -1,6 +1,6 @@
 //! Schedules, one after another.
 
-ghost use Rattle.std.specs.Prelude.{◌<◌, OnOk, take};
+ghost use Rattle.std.specs.Prelude.{◌≡◌, ◌<◌, true, OnOk, take};
 ghost use Rattle.clmodel.specs.Outcome.{events_of};
 ghost use Rattle.snapshot_merge.specs.Runs.{Adds, IsFirstOf, MayFollow};
 
@@ -13,6 +13,21 @@ pub(crate) fn add_all(runs: &mut Vec<EventRun>, more: &[EventRun]) -> Result<(),
     ensures { OnOk result (Adds runs.old.items runs.new.items more.now (events_of more.now)) }
 {
     runs.extend_from_slice(more)
+}
+
+/// Adds the events of further runs, where a group after theirs is to be joined. An error is out of memory.
+pub(crate) fn add_runs(
+    runs: &mut Vec<EventRun>,
+    further: bool,
+    more: &[EventRun],
+) -> Result<(), AllocError>
+    requires { MayFollow runs.old.items more.now }
+    ensures { OnOk result (further ≡ true → Adds runs.old.items runs.new.items more.now (events_of more.now)) }
+{
+    if further {
+        add_all(runs, more)?;
+    }
+    Ok(())
 }
 
 /// The first events of a run, `most` of them or all where it has fewer, and how many they are.

@@ -1,4 +1,4 @@
-//! The run of one work-group.
+//! The run of one work-group, and how it ended.
 
 ghost use Rattle.std.specs.Prelude.{◌≡◌, Some, map, IfOk};
 ghost use Rattle.clmodel.specs.Next.{launch_of};
@@ -7,10 +7,11 @@ ghost use Rattle.group_run.specs.Results.{IsResult};
 ghost use Rattle.joining.specs.Steps.{HasGroup};
 ghost use Rattle.launches.specs.Groups.{HasGroups};
 ghost use Rattle.shadow_list.specs.Log.{fresh_log};
+ghost use Rattle.snapshot_merge.specs.Launches.{is_stopped};
 ghost use Rattle.spaces_base.specs.Buffers.{bytes_in};
 
 use clmodel::text::Name;
-use group_run::{GroupResult, run_group};
+use group_run::{GroupEnd, GroupResult, run_group};
 use item_step::Launch;
 use launches::LoadedLaunch;
 use launches::laws::setups_are_runnable;
@@ -54,4 +55,14 @@ pub fn one_group<'a, L: AccessLog + Drop>(
     let loaded = LoadedLaunch::new(alloc, launch, buffers);
     let overlays = overlays_of(alloc, buffers, launch.buffer_names())?;
     run_group(alloc, &loaded, group, overlays, log)
+}
+
+/// Whether a group has stopped.
+pub fn has_stopped<G, L>(came: &GroupResult<G, L>) -> bool
+    ensures { result ≡ is_stopped came.now }
+{
+    match came.end {
+        GroupEnd::Done(_) => false,
+        GroupEnd::Stopped(_) => true,
+    }
 }

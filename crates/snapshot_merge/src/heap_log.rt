@@ -57,10 +57,12 @@ impl GroupAccesses for HeapLog {
 
     ghost has_last = { heap_has_last };
 
+    #[inline(always)]
     fn len(&self) -> usize {
         self.log.len()
     }
 
+    #[inline(always)]
     fn get(&self, i: usize) -> Entry {
         self.log.get(i)
     }

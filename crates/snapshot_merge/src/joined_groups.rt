@@ -17,20 +17,22 @@ ghost use Rattle.shadow.specs.Lasting.{StandsWith};
 ghost use Rattle.shadow.specs.Seen.{IsFootprint};
 ghost use Rattle.shadow_list.specs.Log.{Log};
 ghost use Rattle.spaces_base.specs.Buffers.{bytes_in};
-ghost use Rattle.snapshot_merge.specs.Changes.{AreChanged, AllWroteBytes, changes_of, value_of};
+ghost use Rattle.snapshot_merge.specs.Changes.{AreChanged, AreUpdates, AllWroteBytes, changes_of, value_of};
+ghost use Rattle.snapshot_merge.specs.Comparing.{met_of, KeepsUpdates};
 ghost use Rattle.snapshot_merge.specs.Launches.{IsShortResult};
 ghost use Rattle.snapshot_merge.specs.Meetings.{AreOthers, IsFirstMet, report_at};
 ghost use Rattle.snapshot_merge.specs.Runs.{Adds, MayFollow};
 ghost use Rattle.snapshot_merge.specs.JoinedGroups.{HoldsGroups, IsStopped, CameOfDone, CameOfNext, HandsBack, report_of};
 
-use crate::changes::{Before, make_changes};
-use crate::cutting::{add_all, add_first};
+use crate::changes::{Before, JoinedUpdate, join_accesses};
+use crate::comparing::Compared;
+use crate::cutting::{add_all, add_first, add_runs};
 use crate::laws::laws;
-use crate::meetings::{Met, add_accesses, first_met, report_at};
+use crate::meetings::{FirstConflict, report_at};
 use clmodel::fault::Fault;
 use clmodel::schedule::{EventRun, Schedule};
 use clmodel::text::{Bytes, Name};
-use group_run::GroupResult;
+use group_run::{GroupEnd, GroupResult};
 use item_step::Launch;
 use launches::Described;
 use shadow::{Footprint, GroupAccesses};
@@ -52,7 +54,7 @@ pub struct JoinedGroups<'a> {
 #[derive(Drop)]
 pub(crate) enum JoinEnd<L> {
     /// Nothing to report so far. The group's log is handed back.
-    Goes(L),
+    Continues(L),
     /// The launch's report.
     Reports(Fault),
 }
@@ -105,66 +107,66 @@ impl<'a> JoinedGroups<'a> {
         })
     }
 
-    /// The first access of a group's log that conflicts with the lower groups', by whether the launch is uniform: group 0 has none.
-    fn first_met<L: GroupAccesses>(&self, uniform: bool, group: u32, log: &L) -> Option<Met>
-        ensures { (kept : List TheAccess) → IsFootprint self.now.footprint kept → (group ≡ 0 → kept ≡ []) → AreOthers (L.listed log.now) kept → IsFirstMet uniform (L.has_last log.now) (L.listed log.now) kept result }
-    {
-        if group == 0 {
-            return None;
-        }
-        first_met(uniform, &self.footprint, log)
-    }
-
-    /// Leaves in the contents what a further group, of which nothing crosses, leaves.
-    fn change<L: GroupAccesses>(
-        &mut self,
+    /// Compares a group's accesses with those of the lower groups, by whether the launch is uniform. Group 0 has none below
+    /// it, and isn't walked. A group that stopped leaves no spaces. An error is out of memory.
+    fn compare<L: GroupAccesses>(
+        &self,
         alloc: Global,
+        uniform: bool,
+        group: u32,
         spaces: &[Overlay<'_>],
         log: &L,
-    ) -> Result<(), AllocError>
-        ensures changed { OnOk result ((kept : List TheAccess) → IsFootprint self.old.footprint kept → AllWroteBytes (map (λ space. space.bytes) spaces.now) (L.listed log.now) → AreChanged self.old.contents.items self.new.contents.items (changes_of (value_of (map (λ row. row.now) self.old.first.items) self.old.contents.items (λ n b. joining.wrote kept (region.Buffer n) b) (map (λ space. space.bytes) spaces.now)) (L.listed log.now))) }
-        ensures first { self.new.first ≡ self.old.first }
-        ensures footprint { self.new.footprint ≡ self.old.footprint }
-        ensures runs { self.new.runs ≡ self.old.runs }
+    ) -> Result<Compared, AllocError>
+        ensures met { IfOk result (λ found. (kept : List TheAccess) → IsFootprint self.now.footprint kept → (group ≡ 0 → kept ≡ []) → AreOthers (L.listed log.now) kept → IsFirstMet uniform (L.has_last log.now) (L.listed log.now) kept (met_of found)) }
+        ensures updates { IfOk result (λ found. (kept : List TheAccess) → IsFootprint self.now.footprint kept → (group ≡ 0 → kept ≡ []) → KeepsUpdates (value_of (map (λ row. row.now) self.now.first.items) self.now.contents.items (λ n b. joining.wrote kept (region.Buffer n) b) (map (λ space. space.bytes) spaces.now)) (map (λ space. space.bytes) spaces.now) (L.listed log.now) found) }
     {
+        if group == 0 {
+            return Ok(Compared::Apart(Vec::new(alloc)));
+        }
         let before = Before {
             first: self.first.as_slice(),
             lower: self.contents.as_slice(),
             footprint: &self.footprint,
             own: spaces,
         };
-        let updates = before.joined_updates(alloc, log)?;
-        make_changes(
-            self.contents.as_mut_slice(),
-            spaces,
-            log,
-            updates.as_slice(),
-        );
-        Ok(())
+        before.compare(alloc, uniform, log)
     }
 
-    /// Adds the accesses and the events of a group.
+    /// Adds a group of which nothing conflicts: what it leaves, and its accesses and events where a group after it is to be
+    /// joined.
     fn add<L: GroupAccesses>(
         &mut self,
         alloc: Global,
+        further: bool,
+        spaces: &[Overlay<'_>],
         log: &L,
+        updates: &[JoinedUpdate],
         runs: &Schedule,
     ) -> Result<(), AllocError>
         requires { MayFollow self.old.runs.items runs.now }
-        ensures accesses { OnOk result ((kept : List TheAccess) → IsFootprint self.old.footprint kept → IsFootprint self.new.footprint (accesses_of (L.listed log.now) ++ kept)) }
-        ensures runs { OnOk result (Adds self.old.runs.items self.new.runs.items runs.now (events_of runs.now)) }
+        ensures changed { OnOk result ((value : ℕ → TheAccess → ℕ → ℕ) → AllWroteBytes (map (λ space. space.bytes) spaces.now) (L.listed log.now) → AreUpdates value (map (λ space. space.bytes) spaces.now) 0 (L.listed log.now) updates.now → AreChanged self.old.contents.items self.new.contents.items (changes_of value (L.listed log.now))) }
+        ensures accesses { OnOk result (further ≡ true → (kept : List TheAccess) → IsFootprint self.old.footprint kept → IsFootprint self.new.footprint (accesses_of (L.listed log.now) ++ kept)) }
+        ensures runs { OnOk result (further ≡ true → Adds self.old.runs.items self.new.runs.items runs.now (events_of runs.now)) }
         ensures first { self.new.first ≡ self.old.first }
-        ensures contents { self.new.contents ≡ self.old.contents }
     {
-        add_accesses(alloc, &mut self.footprint, log)?;
-        add_all(&mut self.runs, runs.as_slice())
+        join_accesses(
+            alloc,
+            self.contents.as_mut_slice(),
+            &mut self.footprint,
+            further,
+            spaces,
+            log,
+            updates,
+        )?;
+        add_runs(&mut self.runs, further, runs.as_slice())?;
+        Ok(())
     }
 
     /// The report where an access of a group conflicts with a lower group's, with the events up to it.
     fn cross<D: Described>(
         &mut self,
         launch: &D,
-        met: &Met,
+        met: &FirstConflict,
         stopped: Option<Fault>,
         runs: &Schedule,
     ) -> Result<Fault, AllocError>
@@ -195,13 +197,10 @@ impl<'a> JoinedGroups<'a> {
         ensures { IfOk result (λ report. CameOfDone (D.launch launch.now) number.group report self.new) }
     {
         laws();
-        match self.first_met(launch.uniform(), number.group, log) {
-            Some(met) => Ok(Some(self.cross(launch, &met, None, runs)?)),
-            None => {
-                self.change(alloc, spaces, log)?;
-                if number.further {
-                    self.add(alloc, log, runs)?;
-                }
+        match self.compare(alloc, launch.uniform(), number.group, spaces, log)? {
+            Compared::Conflict(met) => Ok(Some(self.cross(launch, &met, None, runs)?)),
+            Compared::Apart(updates) => {
+                self.add(alloc, number.further, spaces, log, updates.as_slice(), runs)?;
                 Ok(None)
             }
         }
@@ -210,6 +209,7 @@ impl<'a> JoinedGroups<'a> {
     /// Joins a group that has stopped: its report, or that of its first access that conflicts with a lower group's, if there is one.
     fn join_stopped<D: Described, L: GroupAccesses>(
         &mut self,
+        alloc: Global,
         launch: &D,
         group: u32,
         fault: Fault,
@@ -224,9 +224,9 @@ impl<'a> JoinedGroups<'a> {
         ensures { IfOk result (λ report. IsStopped (D.launch launch.now) report self.new.runs.items) }
     {
         laws();
-        match self.first_met(launch.uniform(), group, log) {
-            Some(met) => self.cross(launch, &met, Some(fault), runs),
-            None => {
+        match self.compare(alloc, launch.uniform(), group, &[], log)? {
+            Compared::Conflict(met) => self.cross(launch, &met, Some(fault), runs),
+            Compared::Apart(_updates) => {
                 add_all(&mut self.runs, runs.as_slice())?;
                 Ok(fault)
             }
@@ -247,28 +247,19 @@ impl<'a> JoinedGroups<'a> {
         requires further { HasGroup (D.launch launch.now) (suc number.group) → number.further ≡ true }
         requires so_far { HoldsGroups (D.launch launch.now) number.group self.old }
         requires result { IsShortResult (λ overlay. overlay.bytes) L.listed L.has_last (D.launch launch.now) number.group came }
-        ensures came { IfOk result (λ end. CameOfNext (D.launch launch.now) number.group came.entry (report_of end) self.new) }
-        ensures log { IfOk result (HandsBack came.entry) }
+        ensures came { IfOk result (λ end. CameOfNext (D.launch launch.now) number.group came.entry.end (report_of end) self.new) }
+        ensures log { IfOk result (HandsBack came.entry.log) }
     {
-        match came {
-            GroupResult::Done {
-                spaces,
-                log,
-                runs,
-                ..
-            } => {
+        let GroupResult { log, runs, end, .. } = came;
+        match end {
+            GroupEnd::Done(spaces) => {
                 match self.join_done(alloc, launch, number, spaces.as_slice(), &log, &runs)? {
-                    None => Ok(JoinEnd::Goes(log)),
+                    None => Ok(JoinEnd::Continues(log)),
                     Some(report) => Ok(JoinEnd::Reports(report)),
                 }
             }
-            GroupResult::Stopped {
-                fault,
-                log,
-                runs,
-                ..
-            } => {
-                let report = self.join_stopped(launch, number.group, fault, &log, &runs)?;
+            GroupEnd::Stopped(fault) => {
+                let report = self.join_stopped(alloc, launch, number.group, fault, &log, &runs)?;
                 Ok(JoinEnd::Reports(report))
             }
         }

@@ -9,8 +9,8 @@
 //! with items and answers below 2^32.
 #![tactic(auto)]
 
-mod around;
 mod changes;
+mod comparing;
 mod cutting;
 mod groups;
 mod heap_log;
@@ -22,10 +22,9 @@ mod merging;
 mod rounds;
 mod run;
 
-pub use around::Around;
-pub use groups::one_group;
+pub use groups::{has_stopped, one_group};
 pub use joined_groups::JoinedGroups;
 pub use launches::group_count;
 pub use merging::merge;
-pub use rounds::{RoundEnd, join_round, joined_groups_conclude};
+pub use rounds::{RoundEnd, join_round, outcome_of};
 pub use run::{run_launch, run_launch_around};

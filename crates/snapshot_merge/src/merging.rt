@@ -1,6 +1,6 @@
 //! The join of results that are handed in.
 
-ghost use Rattle.std.specs.Prelude.{◌≡◌, IfOk};
+ghost use Rattle.std.specs.Prelude.{IfOk};
 ghost use Rattle.clmodel.specs.Next.{launch_of};
 ghost use Rattle.clmodel.specs.Outcome.{Concludes};
 ghost use Rattle.item_step.specs.Launches.{setup_of};
@@ -8,12 +8,12 @@ ghost use Rattle.launches.specs.Groups.{HasGroups};
 ghost use Rattle.spaces_base.specs.Buffers.{bytes_in};
 ghost use Rattle.snapshot_merge.specs.Launches.{AreResults};
 
-use crate::joined_groups::{GroupPlace, JoinEnd, JoinedGroups};
-use crate::laws::laws;
+use crate::joined_groups::JoinedGroups;
+use crate::rounds::{join_round, outcome_of};
 use clmodel::outcome::Outcome;
 use group_run::GroupResult;
 use item_step::Launch;
-use launches::{LoadedLaunch, group_count};
+use launches::group_count;
 use shadow_list::Accesses;
 use spaces::Overlay;
 use spaces_base::Buffers;
@@ -31,20 +31,8 @@ pub fn merge<'a, L: Accesses + Drop>(
     requires results { AreResults (λ overlay. overlay.bytes) L.log (launch_of (setup_of launch.now) (bytes_in buffers.now)) 0 results.items }
     ensures { IfOk result (Concludes (launch_of (setup_of launch.now) (bytes_in buffers.now))) }
 {
-    laws();
     let groups = group_count(launch);
-    let loaded = LoadedLaunch::new(alloc, launch, buffers);
-    let mut so_far = JoinedGroups::new(alloc, launch, buffers)?;
-    let mut group = 0;
-    for result in results {
-        let number = GroupPlace {
-            group,
-            further: group + 1 < groups,
-        };
-        if let JoinEnd::Reports(fault) = so_far.join(alloc, &loaded, number, result)? {
-            return Ok(Outcome::Faulted(fault, so_far.into_schedule()));
-        }
-        group += 1;
-    }
-    Ok(Outcome::Clean(so_far.into_contents()))
+    let so_far = JoinedGroups::new(alloc, launch, buffers)?;
+    let end = join_round(alloc, launch, buffers, so_far, 0, groups, results)?;
+    Ok(outcome_of(launch, buffers, end, groups))
 }

@@ -1,7 +1,9 @@
 //! The join of some groups that follow one another.
 
-ghost use Rattle.std.specs.Prelude.{◌≤◌, IfOk};
+ghost use Rattle.std.specs.Prelude.{◌≡◌, ◌*◌, ◌<◌, ◌≤◌, IfOk};
 ghost use Rattle.clmodel.specs.Next.{launch_of};
+ghost use Rattle.clmodel.specs.Outcome.{Concludes};
+ghost use Rattle.clmodel.specs.Setup.{item_count, group_items};
 ghost use Rattle.item_step.specs.Launches.{setup_of};
 ghost use Rattle.spaces_base.specs.Buffers.{bytes_in};
 ghost use Rattle.launches.specs.Groups.{HasGroups};
@@ -24,13 +26,12 @@ use std::alloc::{AllocError, Global};
 #[derive(Drop)]
 pub enum RoundEnd<'a> {
     /// Nothing to report so far.
-    Goes(JoinedGroups<'a>),
+    Continues(JoinedGroups<'a>),
     /// What the launch comes to.
     Ends(Outcome),
 }
 
-/// Joins the results of the groups from one on up to another, which isn't among them, in their order (OpenCL 1.2, section 3.2). The
-/// results are those of all of them, or up to and with one that stopped. Each result is let go once it is joined. An error is out of memory.
+/// Joins the results of the groups `first..last` in their order (OpenCL 1.2, section 3.2). The results are those of all of them, or up to and with one that stopped. Each result is let go once it is joined. An error is out of memory.
 pub fn join_round<'a, L: GroupAccesses + Drop>(
     alloc: Global,
     launch: &Launch<'_>,
@@ -58,18 +59,33 @@ pub fn join_round<'a, L: GroupAccesses + Drop>(
             further: group + 1 < groups,
         };
         match so_far.join(alloc, &loaded, number, result)? {
-            JoinEnd::Goes(log) => drop(log),
+            JoinEnd::Continues(log) => drop(log),
             JoinEnd::Reports(fault) => {
                 return Ok(RoundEnd::Ends(Outcome::Faulted(fault, so_far.into_schedule())));
             }
         }
     }
-    Ok(RoundEnd::Goes(so_far))
+    Ok(RoundEnd::Continues(so_far))
 }
 
 /// Where all groups of a launch are joined without a report, the launch ends clean with what they leave.
-pub fn joined_groups_conclude()
+fn joined_groups_conclude()
     ensures { JoinedConclude }
 {
     laws();
+}
+
+/// What a launch comes to, of which all groups are joined or one brought a report.
+pub fn outcome_of(launch: &Launch<'_>, buffers: &Buffers, end: RoundEnd<'_>, groups: u32) -> Outcome
+    requires whole { HasGroups (setup_of launch.now) }
+    requires some { 0 < group_items (setup_of launch.now).range }
+    requires all { groups * group_items (setup_of launch.now).range ≡ item_count (setup_of launch.now).range }
+    requires end { CameOfRound (launch_of (setup_of launch.now) (bytes_in buffers.now)) groups end }
+    ensures { Concludes (launch_of (setup_of launch.now) (bytes_in buffers.now)) result }
+{
+    joined_groups_conclude();
+    match end {
+        RoundEnd::Continues(joined) => Outcome::Clean(joined.into_contents()),
+        RoundEnd::Ends(outcome) => outcome,
+    }
 }

@@ -20,12 +20,10 @@ fn sizes(alloc: Global, source: &str) -> Result<Option<(Size, Size)>, AllocError
         Err(NotBuilt::Fault(_)) => return Ok(None),
         Err(NotBuilt::OutOfMemory) => return Err(AllocError),
     };
-    let Some(number) = checked.tree.kernel_number(b"k") else {
+    let Some(found) = checked.kernel(b"k") else {
         return Ok(None);
     };
-    let Ok(code) = lower_kernel(alloc, &checked, number) else {
-        return Ok(None);
-    };
+    let code = lower_kernel(alloc, &checked, found)?;
     let lowered = Size {
         count: code.count(),
         registers: code.registers(),

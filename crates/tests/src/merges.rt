@@ -125,12 +125,11 @@ fn outcomes(
         Err(NotBuilt::Fault(_)) => return Ok(None),
         Err(NotBuilt::OutOfMemory) => return Err(AllocError),
     };
-    let Some(number) = checked.tree.kernel_number(b"k") else {
+    let Some(found) = checked.kernel(b"k") else {
         return Ok(None);
     };
-    let Ok(code) = lower_kernel(alloc, &checked, number) else {
-        return Ok(None);
-    };
+    let number = found.function.name;
+    let code = lower_kernel(alloc, &checked, found)?;
     let range = Range {
         global: Numbers::new(vec![in alloc; groups as u64]?),
         local: Numbers::new(vec![in alloc; 1]?),

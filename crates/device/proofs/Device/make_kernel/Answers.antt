@@ -17,7 +17,7 @@ invariant_of-self c =
     let lowered : IsLowered (program checked.tree) compiled.kernel.function compiled.code =
     subst (λ (n : ℕ). IsLowered (program checked.tree) n compiled.code) (sym (ap (λ k. k.function) c.in_ok-kernel.ensures)) c.in_ok-code.ensures in
     let few : length compiled.kernel.arguments ≤ parameter_limit =
-    made_has_few checked c.in-Some-kernel_number.number c.args.program c.parameters_of-count.result.now compiled.kernel c.parameters_of-count.ensures c.in_ok-kernel.ensures in
+    made_has_few checked c.in-Some-kernel.found.place c.in-Some-kernel.found.function.now c.args.program compiled.kernel c.in-Some-kernel.ensures.placed c.in_ok-kernel.ensures in
     record {
       kept =
           kept_after_kernel device.programs device.kernels c.insert.new.self c.args.name compiled c.insert.result device.kept (made_is_compiled device.programs compiled checked found lowered few)

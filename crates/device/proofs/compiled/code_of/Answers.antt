@@ -7,5 +7,7 @@ use Rattle.device.proofs.compiled.code_of.Goals as goal
 
 pub returns : goal.returns
 returns c =
-    IfOk-weaker c.renumber.result (IsRenumbered c.in-Ok.code) (IsLowered (program c.args.checked.now.tree) c.args.number)
-    (λ same is. renumbered_is_lowered (program c.args.checked.now.tree) c.args.number c.in-Ok.code same c.in-Ok.ensures.code is) c.renumber.ensures
+    let p = program c.args.checked.now.tree in
+    let number = c.args.kernel.function.now.name in
+    IfOk-weaker c.renumber.result (IsRenumbered c.in_ok-code.code) (IsLowered p number)
+    (λ same is. renumbered_is_lowered p number c.in_ok-code.code same c.in_ok-code.ensures.code is) c.renumber.ensures

@@ -1,5 +1,5 @@
 use Rattle.std.proofs.Common.{◌≡◌, ℕ, ◌≤◌}
-use Rattle.group_run.specs.Loops.{Gathers}
+use Rattle.group_run.specs.Loops.{GathersAt}
 use Rattle.group_run.proofs.loops.run_interval.Given as goal
 
 abbrev pub ghost-run_item : goal.ghost-run_item
@@ -10,5 +10,5 @@ invariant-loop-k g l =
     record {
       plan_same : g.M.Machine.plan l.m ≡ g.M.Machine.plan l.fn.m;
       ticks_kept : (j : ℕ) → g.M.Machine.ticks l.m j ≤ g.M.Machine.ticks l.fn.m j;
-      gathers : Gathers (g.M.Machine.plan l.fn.m) (g.M.Machine.fits l.m) g.origin l.runs l.k;
+      gathers : GathersAt (g.M.Machine.plan l.fn.m) (g.M.Machine.fits l.m) g.origin l.runs l.k l.leading;
     }

@@ -1,44 +1,36 @@
-use Rattle.std.proofs.Common.{◌+◌, sym, ap, ap₂, ◌∙◌}
+use Rattle.std.proofs.Common.{◌+◌, sym, ap, ap₂, ◌∙◌, arith}
 use Rattle.clmodel.specs.Law.{Reports}
 use Rattle.clmodel.specs.declared.fault.Fault.TheVariants as fault
-use Rattle.group_run.proofs.Turns.{leads, joins, differs}
+use Rattle.group_run.proofs.Turns.{joins_first, joins, leading_stop, differs}
 use Rattle.group_run.proofs.loops.stop_at.Goals as goal
 
-pub leader-requires-clause-stops : goal.leader-requires-clause-stops
-leader-requires-clause-stops g c =
+pub returns-in_default : goal.returns-in_default
+returns-in_default g c =
     let r = c.requires.1.1.1 in
-    let s = r.0.0.state in
-    let w = leads (g.M.Machine.plan c.args.m.now) s c.args.k c.args.stop r.0.1 r.1 in
-    (c.args.runs.now, s, w.0, r.0.0.holds, w.1)
+    let w = joins_first (g.M.Machine.plan c.args.m.now) r.0.0.0.state c.args.k c.args.leading.now c.args.stop c.in_default.not-Some r.0.0.1 r.0.1 r.1 in
+    ((r.0.0.0, w.0), w.1)
 
-pub returns-then-same_stop-clause-halted : goal.returns-then-same_stop-clause-halted
-returns-then-same_stop-clause-halted g c =
-    let r = c.requires.1.1.1 in
-    let s = r.0.0.state in (
-      record {
-        state = s;
-        runs = r.0.0.runs;
-        holds = c.leader.ensures.fits_same c.args.runs.now s r.0.0.holds;
-        calm = r.0.0.calm;
-      },
-      joins (g.M.Machine.plan c.args.m.now) s c.args.k c.in_ok-leading.leading c.args.stop r.0.1 (c.in_ok-leading.ensures.value c.args.runs.now s r.0.0.holds) r.1
-          (sym c.same_stop.ensures.value ∙ c.if-same_stop.true),
-    )
-
-pub returns-in_ok-boxed-clause-halted : goal.returns-in_ok-boxed-clause-halted
-returns-in_ok-boxed-clause-halted g c =
+pub returns-then-same_stop : goal.returns-then-same_stop
+returns-then-same_stop g c =
     let p = g.M.Machine.plan c.args.m.now in
     let r = c.requires.1.1.1 in
-    let s = r.0.0.state in
+    let s = r.0.0.0.state in
+    let first = leading_stop p s c.args.k c.args.leading.now c.in-Some.first c.in-Some.is r.0.1 in
+    ((r.0.0.0, joins p s c.args.k c.in-Some.first c.args.stop r.0.0.1 first r.1 (sym c.same_stop.ensures.value ∙ c.if-same_stop.true)), (omega arith, first))
+
+pub returns : goal.returns
+returns g c =
+    let p = g.M.Machine.plan c.args.m.now in
+    let r = c.requires.1.1.1 in
+    let s = r.0.0.0.state in
     record {
       state = s;
-      runs = r.0.0.runs;
-      holds = c.leader.ensures.fits_same c.args.runs.now s r.0.0.holds;
+      runs = r.0.0.0.runs;
+      holds = r.0.0.0.holds;
       reports =
-          differs p c.requires.1.0 s c.args.k c.in_ok-leading.leading c.args.stop c.requires.1.1.0 r.0.1 r.0.0.calm (c.in_ok-leading.ensures.value c.args.runs.now s r.0.0.holds) r.1
-          (sym c.same_stop.ensures.value ∙ c.if-same_stop.false)
-          ∙ ap₂ (λ a b. Reports (fault.Divergence a c.in_ok-leading.leading (b + c.args.k) c.args.stop))
-          (sym (c.first-else-same_stop.ensures.value ∙ ap (λ z. z.first) c.leader.ensures.plan_same))
-          (sym c.first.ensures.value)
+          differs p c.requires.1.0 s c.args.k c.in-Some.first c.args.stop c.requires.1.1.0 r.0.0.1 r.0.0.0.calm
+          (leading_stop p s c.args.k c.args.leading.now c.in-Some.first c.in-Some.is r.0.1) r.1 (sym c.same_stop.ensures.value ∙ c.if-same_stop.false)
+          ∙ ap (λ x. Reports (fault.Divergence p.first x (p.first + c.args.k) c.args.stop)) (sym c.replace.ensures.value)
+          ∙ ap₂ (λ a b. Reports (fault.Divergence a c.replace.result (b + c.args.k) c.args.stop)) (sym c.first.ensures.value) (sym c.first-2.ensures.value)
           ∙ ap Reports (sym c.in_ok-boxed.ensures);
     }

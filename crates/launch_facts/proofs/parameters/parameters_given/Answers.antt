@@ -7,7 +7,7 @@ use Rattle.launch_facts.proofs.parameters.parameters_given.Goals as goal
 pub loop-index-init : goal.loop-index-init
 loop-index-init c = (
   subst (λ xs. AreChosen (IsGiven c.args.commands.now c.args.done.now c.args.kernel.now c.args.buffer.now) 0 (indexes xs)) (sym c.new-found.ensures.items) (chosen_none (IsGiven c.args.commands.now c.args.done.now c.args.kernel.now c.args.buffer.now)),
-  All-same (TellsOf c.args.parameters.now c.args.names.now) c.new-found.result.items [] c.new-found.ensures.items (All-nil (TellsOf c.args.parameters.now c.args.names.now)),
+  All-same (TellsOf c.args.byte c.args.parameters.now c.args.names.now) c.new-found.result.items [] c.new-found.ensures.items (All-nil (TellsOf c.args.byte c.args.parameters.now c.args.names.now)),
 )
 
 pub loop-index-preserved : goal.loop-index-preserved

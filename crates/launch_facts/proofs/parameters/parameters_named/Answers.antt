@@ -8,7 +8,7 @@ use Rattle.launch_facts.proofs.parameters.parameters_named.Goals as goal
 pub loop-index-init : goal.loop-index-init
 loop-index-init c = (
   subst (λ xs. AreChosen (λ j is. is ≡ option_map_or (is_named c.args.names.now c.args.name.now) (slice_get c.args.parameters.now j) false) 0 (indexes xs)) (sym c.new-found.ensures.items) (chosen_none (λ j is. is ≡ option_map_or (is_named c.args.names.now c.args.name.now) (slice_get c.args.parameters.now j) false)),
-  All-same (TellsOf c.args.parameters.now c.args.names.now) c.new-found.result.items [] c.new-found.ensures.items (All-nil (TellsOf c.args.parameters.now c.args.names.now)),
+  All-same (TellsOf c.args.byte c.args.parameters.now c.args.names.now) c.new-found.result.items [] c.new-found.ensures.items (All-nil (TellsOf c.args.byte c.args.parameters.now c.args.names.now)),
 )
 
 pub loop-index-preserved : goal.loop-index-preserved

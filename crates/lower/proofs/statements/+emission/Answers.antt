@@ -1,6 +1,6 @@
-use Rattle.std.proofs.Common.{◌≡◌, ℕ, ◌+◌, ◌-◌, ◌<◌, ◌≤◌, ◌^◌, ◌++◌, refl, Option, Bor, List, length, take, ap, ap₂, sym, subst, ◌∙◌, arith, rules, IfOk}
+use Rattle.std.proofs.Common.{◌≡◌, ℕ, ◌+◌, ◌-◌, ◌<◌, ◌≤◌, ◌++◌, refl, Option, Bor, List, length, take, ap, ap₂, sym, subst, ◌∙◌, arith, rules, IfOk}
 use Rattle.std.proofs.lemmas.Result.{IfOk-weaker}
-use Rattle.lower.proofs.Fronts.{block_few, block_small, block_low, block_short, block_arrays, nodes_there}
+use Rattle.lower.proofs.Fronts.{block_room, nodes_there}
 use Rattle.lower.proofs.Reach.{put_length, past_exits, loop_exits, once_short, round_short, turns_short}
 use Rattle.lower_code.proofs.Short.{statement_short, condition_short}
 use Rattle.lower.proofs.LowStatements.{after_part as part_levels, after_row}
@@ -8,8 +8,7 @@ use Rattle.lower_code.proofs.Room.{fewer, fewer_asked}
 use denote.Param.Weighed.{most, at_most}
 use Rattle.std.specs.Option.{option_map}
 use Rattle.clmodel.specs.Next.{sites, part_sites, all_sites}
-use Rattle.clmodel.specs.Typing.Rules.{length_limit}
-use Rattle.clmodel.specs.Typing.Sizes.{node_limit, size, row_size}
+use Rattle.clmodel.specs.Typing.Sizes.{size, row_size}
 use Rattle.clmodel.specs.Tree.{Stmt, For, ThenStmt, Without, WithTerm, stmt, term}
 use Rattle.clmodel.specs.declared.tree.Statement.{Statement, size-Statement, the_lemmas}
 use Rattle.regcode.specs.declared.instruction.Instruction.{Instruction}
@@ -30,19 +29,19 @@ use Rattle.lower.proofs.statements.+emission.Goals as goal
 
 pub emit_statement-returns-in-Block-clause-code : goal.emit_statement-returns-in-Block-clause-code
 emit_statement-returns-in-Block-clause-code t c =
-    subst (λ (s : Stmt). IfOk c.emit_all.result (λ site. c.emit_all.new.code ≡ statement_code c.args.setting.now c.args.scope.now s (begun_at c.args.ending site) ++ c.args.code.now))
-    (block_is c.args.statement.now c.in-Block.at c.in-Block.body c.as_slice-body.result.now c.in-Block.is c.as_slice-body.ensures.value)
+    subst (λ (s : Stmt). IfOk c.emit_all.result (λ site. c.emit_all.new.code ≡ statement_code c.args.context.now c.args.scope.now s (begun_at c.args.ending site) ++ c.args.code.now))
+    (block_is c.args.statement.now c.in-Block.at c.in-Block.body c.as_slice.result.now c.in-Block.is c.as_slice.ensures.value)
     c.emit_all.ensures.code
 
 pub emit_statement-returns-in-Block-clause-site : goal.emit_statement-returns-in-Block-clause-site
 emit_statement-returns-in-Block-clause-site t c =
-    subst (λ (s : Stmt). IfOk c.emit_all.result (λ site. site + sites (inside c.args.setting.now.helpers.functions.now) s ≡ c.args.ending.behind))
-    (block_is c.args.statement.now c.in-Block.at c.in-Block.body c.as_slice-body.result.now c.in-Block.is c.as_slice-body.ensures.value)
+    subst (λ (s : Stmt). IfOk c.emit_all.result (λ site. site + sites (inside c.args.context.now.helpers.functions.now) s ≡ c.args.ending.behind))
+    (block_is c.args.statement.now c.in-Block.at c.in-Block.body c.as_slice.result.now c.in-Block.is c.as_slice.ensures.value)
     c.emit_all.ensures.site
 
 pub emit_choice-returns-clause-code : goal.emit_choice-returns-clause-code
 emit_choice-returns-clause-code t c =
-    let s = c.args.setting.now in
+    let s = c.args.context.now in
     let p = begun_at c.args.ending c.in_ok-site.site in
     let scope = c.args.scope.now in
     let test = term c.args.condition.now in
@@ -61,12 +60,12 @@ emit_choice-returns-clause-code t c =
 
 pub emit_once-returns-clause-code : goal.emit_once-returns-clause-code
 emit_once-returns-clause-code t c =
-    once_placed c.args.setting.now c.args.scope.now (begun_at c.args.ending c.in_ok-site.site) (stmt c.args.body.now) (c.args.ending.depth + 1) c.in_loop.result c.args.turn.now c.emit_statement.new.code c.past.result
+    once_placed c.args.context.now c.args.scope.now (begun_at c.args.ending c.in_ok-site.site) (stmt c.args.body.now) (c.args.ending.depth + 1) c.in_loop.result c.args.turn.now c.emit_statement.new.code c.past.result
     refl c.past.ensures c.in_loop.ensures c.in_ok-site.ensures.code
 
 pub emit_stepped-returns-clause-code : goal.emit_stepped-returns-clause-code
 emit_stepped-returns-clause-code t c =
-    let s = c.args.setting.now in
+    let s = c.args.context.now in
     let third = stmt c.args.third.now in
     let body = stmt c.args.body.now in
     let f = inside s.helpers.functions.now in
@@ -77,7 +76,7 @@ emit_stepped-returns-clause-code t c =
 
 pub emit_round-returns-in-None-clause-code : goal.emit_round-returns-in-None-clause-code
 emit_round-returns-in-None-clause-code t c =
-    let s = c.args.setting.now in
+    let s = c.args.context.now in
     let scope = c.args.scope.now in
     let old = c.args.turn.now in
     let body = stmt c.args.body.now in
@@ -88,7 +87,7 @@ emit_round-returns-in-None-clause-code t c =
 
 pub emit_turns-returns-clause-code : goal.emit_turns-returns-clause-code
 emit_turns-returns-clause-code t c =
-    let s = c.args.setting.now in
+    let s = c.args.context.now in
     let p = begun_at c.args.ending c.in_ok-site.site in
     let scope = c.args.scope.now in
     let third = part_of c.args.third in
@@ -101,7 +100,7 @@ emit_turns-returns-clause-code t c =
 
 pub emit_do-returns-clause-code : goal.emit_do-returns-clause-code
 emit_do-returns-clause-code t c =
-    let s = c.args.setting.now in
+    let s = c.args.context.now in
     let p = begun_at c.args.ending c.in_ok-site.site in
     let scope = c.args.scope.now in
     let body = stmt c.args.body.now in
@@ -113,7 +112,7 @@ emit_do-returns-clause-code t c =
 pub emit_for-returns-clause-code : goal.emit_for-returns-clause-code
 emit_for-returns-clause-code t c =
     let one = c.emit_turns.new.code in
-    for_placed c.args.setting.now c.args.scope.now c.declare_part.new.scope c.leave_part.new.scope (begun_at c.args.ending c.in_ok-site.site) (part_of c.args.first) (test_of c.args.condition) (part_of c.args.third) (stmt c.args.body.now)
+    for_placed c.args.context.now c.args.scope.now c.declare_part.new.scope c.leave_part.new.scope (begun_at c.args.ending c.in_ok-site.site) (part_of c.args.first) (test_of c.args.condition) (part_of c.args.third) (stmt c.args.body.now)
     c.in_ok-behind.behind c.past.result c.args.code.now one c.emit_part.new.code c.added.result
     c.in_ok-declare_part.ensures.declared (c.leave_part.ensures c.args.scope.now (c.in_ok-behind.ensures.scope ∙ c.in_ok-declare_part.ensures.declared))
     c.in_ok-site.ensures.site c.in_ok-behind.ensures.code
@@ -121,7 +120,7 @@ emit_for-returns-clause-code t c =
 
 pub emit_for-returns-clause-site : goal.emit_for-returns-clause-site
 emit_for-returns-clause-site t c =
-    let f = inside c.args.setting.now.helpers.functions.now in
+    let f = inside c.args.context.now.helpers.functions.now in
     let first = part_sites f (part_of c.args.first) in
     let third = part_sites f (part_of c.args.third) in
     let body = sites f (stmt c.args.body.now) in
@@ -130,9 +129,9 @@ emit_for-returns-clause-site t c =
     let all : c.in_ok-site.site + (first + third + body) ≡ c.args.ending.behind = omega (arith, front, rest) in
     all
 
-pub emit_loop-returns-in-For-clause-site : goal.emit_loop-returns-in-For-clause-site
-emit_loop-returns-in-For-clause-site t c =
-    let f = inside c.args.setting.now.helpers.functions.now in
+pub emit_statement-returns-in-For-clause-site : goal.emit_statement-returns-in-For-clause-site
+emit_statement-returns-in-For-clause-site t c =
+    let f = inside c.args.context.now.helpers.functions.now in
     let first = part_named (option_map (λ s. s.value) c.in-For.first) in
     let third = part_named (option_map (λ s. s.value) c.in-For.third) in
     let x = stmt c.deref-in-For.result.now in
@@ -146,7 +145,7 @@ emit_loop-returns-in-For-clause-site t c =
 
 pub emit_all-loop-i-preserved : goal.emit_all-loop-i-preserved
 emit_all-loop-i-preserved t c =
-    let s = c.args.setting.now in
+    let s = c.args.context.now in
     let e = c.args.ending in
     let start = c.args.scope.now in
     let ss = c.args.statements.now in
@@ -229,13 +228,13 @@ emit_for-returns-in_err-behind-clause-kept t c =
 pub emit_for-returns-in_err-site-clause-longer : goal.emit_for-returns-in_err-site-clause-longer
 emit_for-returns-in_err-site-clause-longer t c =
     on_err c.from_residual-in_err-site.result
-    (after_turns c.args.setting.now c.declare_part.new.scope (test_of c.args.condition) (part_of c.args.third) (stmt c.args.body.now) (begun_at c.args.ending c.in_ok-behind.behind)
+    (after_turns c.args.context.now c.declare_part.new.scope (test_of c.args.condition) (part_of c.args.third) (stmt c.args.body.now) (begun_at c.args.ending c.in_ok-behind.behind)
     c.args.code.now c.emit_turns.new.code c.emit_part.new.code c.in_ok-behind.ensures.code c.in_err-site.ensures.longer)
 
 pub emit_all-emit_statement-requires : goal.emit_all-emit_statement-requires
 emit_all-emit_statement-requires t c =
     let ss = c.args.statements.now in
-    let f = inside c.args.setting.now.helpers.functions.now in
+    let f = inside c.args.context.now.helpers.functions.now in
     let place = length ss - 1 - c.loop-i.i in
     let x = c.index-statements-statements.result in
     let below : place < length ss = omega (arith, c.loop-i-test.true) in
@@ -244,7 +243,7 @@ emit_all-emit_statement-requires t c =
     ap (λ m. all_sites f (all_of (take m ss))) left ∙ ap (λ r. all_sites f r) (row_more ss place x below c.index-statements-statements.is) in
     let few : all_sites f (all_of ss) ≤ c.args.ending.behind = c.requires.few in
     let smaller : size-Statement x ≤ most size-Statement ss = subst (λ (y : Statement). size-Statement y ≤ most size-Statement ss) (sym c.index-statements-statements.is) (at_most size-Statement ss place x below) in
-    let sizes = sizes_in c.args.setting.now.helpers.functions.now in
+    let sizes = sizes_in c.args.context.now.helpers.functions.now in
     let nodes = nodes_there sizes ss place x below c.index-statements-statements.is in
     let all = c.requires.small in
     let low = c.requires.low in
@@ -260,57 +259,64 @@ emit_all-emit_statement-requires t c =
     let far = c.requires.short in
     let behind = c.loop-i.invariant.short in
     let arrays = elements_there ss place x below c.index-statements-statements.is in
+    let most_elements = c.requires.arrays in
     let longer_code = c.loop-i.invariant.longer in (
       omega (arith, smaller),
-      (omega (arith, c.loop-i.invariant.site, count, few), (omega (arith, nodes, all), (omega (arith, level, after, nodes, low), (omega (arith, parts, added, exits, far, behind, longer_code), omega (arith, arrays, c.requires.arrays))))),
+      record {
+        few = omega (arith, c.loop-i.invariant.site, count, few);
+        small = omega (arith, nodes, all);
+        low = omega (arith, level, after, nodes, low);
+        short = omega (arith, parts, added, exits, far, behind, longer_code);
+        arrays = omega (arith, arrays, most_elements);
+      },
     )
 
 pub emit_choice-emit_statement-requires-2 : goal.emit_choice-emit_statement-requires-2
 emit_choice-emit_statement-requires-2 t c =
-    let f = inside c.args.setting.now.helpers.functions.now in
+    let f = inside c.args.context.now.helpers.functions.now in
     let between : c.in_ok-between.between + sites f (stmt c.args.otherwise.now) ≡ c.args.ending.behind = c.in_ok-between.ensures.site in
     let few : sites f (stmt c.args.chosen.now) + sites f (stmt c.args.otherwise.now) ≤ c.args.ending.behind = c.requires.few in
     let level : free_level c.emit_statement.new.scope ≡ free_level c.args.scope.now = ap (λ (z : Scope). free_level z) c.in_ok-between.ensures.scope in
     let small = c.requires.small in
     let low = c.requires.low in
-    let s = c.args.setting.now in
+    let s = c.args.context.now in
     let second = put_length c.args.code.now c.emit_statement.new.code (statement_short s c.args.scope.now (stmt c.args.otherwise.now) c.args.ending.depth c.in_ok-between.between (exits_of c.args.ending.exits)) c.in_ok-between.ensures.code in
     let jump = ap length c.in_ok-put.ensures.code in
     let added : c.added.result ≡ length c.put.new.self - length c.args.code.now = c.added.ensures ∙ ap (λ m. length c.put.new.self - m) c.len-end.ensures in
     let exits = past_exits c.added.result c.args.ending.exits c.past.result c.past.ensures in
     let far = c.requires.short in
     let arrays = c.requires.arrays in
-    (search rules, (omega (arith, between, few), (omega (arith, small), (omega (arith, level, low), (omega (arith, second, jump, added, exits, far), omega (arith, arrays))))))
+    (search rules, record { few = omega (arith, between, few); small = omega (arith, small); low = omega (arith, level, low); short = omega (arith, second, jump, added, exits, far); arrays = omega (arith, arrays) })
 
 pub emit_if-put_test-requires : goal.emit_if-put_test-requires
 emit_if-put_test-requires t c =
-    let fewer_nodes = fewer (sizes_in c.args.setting.now.helpers.functions.now) (term c.args.condition.now) in
+    let fewer_nodes = fewer (sizes_in c.args.context.now.helpers.functions.now) (term c.args.condition.now) in
     let level : free_level c.emit_statement.new.scope ≡ free_level c.args.scope.now = ap (λ (z : Scope). free_level z) c.in_ok-site.ensures.scope in
     let low = c.requires.low in
     omega (arith, fewer_nodes, level, low)
 
 pub emit_choice-put_test-requires : goal.emit_choice-put_test-requires
 emit_choice-put_test-requires t c =
-    let fewer_nodes = fewer (sizes_in c.args.setting.now.helpers.functions.now) (term c.args.condition.now) in
+    let fewer_nodes = fewer (sizes_in c.args.context.now.helpers.functions.now) (term c.args.condition.now) in
     let level : free_level c.emit_statement-2.new.scope ≡ free_level c.args.scope.now = ap (λ (z : Scope). free_level z) (c.in_ok-site.ensures.scope ∙ c.in_ok-between.ensures.scope) in
     let low = c.requires.low in
     omega (arith, fewer_nodes, level, low)
 
 pub emit_do-put_condition-requires : goal.emit_do-put_condition-requires
 emit_do-put_condition-requires t c =
-    let fewer_nodes = fewer (sizes_in c.args.setting.now.helpers.functions.now) (term c.args.condition.now) in
+    let fewer_nodes = fewer (sizes_in c.args.context.now.helpers.functions.now) (term c.args.condition.now) in
     let low = c.requires.low in
     omega (arith, fewer_nodes, low)
 
 pub emit_turns-put_condition-requires : goal.emit_turns-put_condition-requires
 emit_turns-put_condition-requires t c =
-    let fewer_nodes = fewer_asked (sizes_in c.args.setting.now.helpers.functions.now) (test_of c.args.condition) in
+    let fewer_nodes = fewer_asked (sizes_in c.args.context.now.helpers.functions.now) (test_of c.args.condition) in
     let low = c.requires.low in
     omega (arith, fewer_nodes, low)
 
 pub emit_for-emit_turns-requires : goal.emit_for-emit_turns-requires
 emit_for-emit_turns-requires t c =
-    let sizes = sizes_in c.args.setting.now.helpers.functions.now in
+    let sizes = sizes_in c.args.context.now.helpers.functions.now in
     let after = part_levels sizes c.args.scope.now.variables (part_of c.args.first) in
     let level : free_level c.declare_part.new.scope ≡ free_level (scope_after_part c.args.scope.now (part_of c.args.first)) = ap (λ (z : Scope). free_level z) c.in_ok-declare_part.ensures.declared in
     let few = c.requires.few in
@@ -318,7 +324,7 @@ emit_for-emit_turns-requires t c =
     let low = c.requires.low in
     let far = c.requires.short in
     let arrays = c.requires.arrays in
-    (search rules, (omega (arith, few), (omega (arith, small), (omega (arith, small), (omega (arith, level, after, low), (omega (arith, far), omega (arith, arrays)))))))
+    (search rules, record { few = omega (arith, few); small = omega (arith, small); low = omega (arith, level, after, low); short = omega (arith, far); arrays = omega (arith, arrays) })
 
 pub emit_for-emit_part-requires : goal.emit_for-emit_part-requires
 emit_for-emit_part-requires t c =
@@ -328,25 +334,18 @@ emit_for-emit_part-requires t c =
     let behind = c.in_ok-behind.ensures.site in
     let small = c.requires.small in
     let low = c.requires.low in
-    let loop = put_length c.args.code.now c.emit_turns.new.code (turns_short c.args.setting.now c.declare_part.new.scope (test_of c.args.condition) (part_of c.args.third) (stmt c.args.body.now) (begun_at c.args.ending c.in_ok-behind.behind)) c.in_ok-behind.ensures.code in
+    let loop = put_length c.args.code.now c.emit_turns.new.code (turns_short c.args.context.now c.declare_part.new.scope (test_of c.args.condition) (part_of c.args.third) (stmt c.args.body.now) (begun_at c.args.ending c.in_ok-behind.behind)) c.in_ok-behind.ensures.code in
     let added : c.added.result ≡ length c.emit_turns.new.code - length c.args.code.now = c.added.ensures ∙ ap (λ m. length c.emit_turns.new.code - m) c.len-end.ensures in
     let exits = past_exits c.added.result c.args.ending.exits c.past.result c.past.ensures in
     let far = c.requires.short in
     let arrays = c.requires.arrays in
-    (search rules, (omega (arith, few, behind), (omega (arith, small), (omega (arith, level, low), (omega (arith, loop, added, exits, far), omega (arith, arrays))))))
+    (search rules, record { few = omega (arith, few, behind); small = omega (arith, small); low = omega (arith, level, low); short = omega (arith, loop, added, exits, far); arrays = omega (arith, arrays) })
 
-pub emit_statement-numbers_suffice-requires : goal.emit_statement-numbers_suffice-requires
-emit_statement-numbers_suffice-requires t c = record {
-  few = block_few (inside c.args.setting.now.helpers.functions.now) c.args.statement.now c.in-Block.at c.in-Block.body c.as_slice-body.result.now c.args.ending.behind
-      c.in-Block.is c.as_slice-body.ensures.value c.requires.few;
-  small = block_small (sizes_in c.args.setting.now.helpers.functions.now) c.args.statement.now c.in-Block.at c.in-Block.body c.as_slice-body.result.now c.args.ending.depth node_limit
-      c.in-Block.is c.as_slice-body.ensures.value c.requires.small;
-  low = block_low (sizes_in c.args.setting.now.helpers.functions.now) c.args.statement.now c.in-Block.at c.in-Block.body c.as_slice-body.result.now (free_level c.args.scope.now) (2 ^ 28)
-      c.in-Block.is c.as_slice-body.ensures.value c.requires.low;
-  short = block_short (sizes_in c.args.setting.now.helpers.functions.now) c.args.statement.now c.in-Block.at c.in-Block.body c.as_slice-body.result.now c.args.ending.exits c.args.code.now (2 ^ 32)
-      c.in-Block.is c.as_slice-body.ensures.value c.requires.short;
-  arrays = block_arrays c.args.statement.now c.in-Block.at c.in-Block.body c.as_slice-body.result.now length_limit c.in-Block.is c.as_slice-body.ensures.value c.requires.arrays;
-}
+pub emit_statement-emit_all-requires : goal.emit_statement-emit_all-requires
+emit_statement-emit_all-requires t c = (
+  search (rules, the_lemmas),
+  block_room c.args.context.now c.args.statement.now c.in-Block.at c.in-Block.body c.as_slice.result.now c.args.scope.now c.args.ending c.args.code.now c.in-Block.is c.as_slice.ensures.value c.requires,
+)
 
 -- lengths of 32 bits
 pub emit_all-added-requires : goal.emit_all-added-requires
@@ -368,32 +367,32 @@ emit_all-past-requires t c =
 
 pub emit_if-added-requires : goal.emit_if-added-requires
 emit_if-added-requires t c =
-    let first = put_length c.args.code.now c.emit_statement.new.code (statement_short c.args.setting.now c.args.scope.now (stmt c.args.chosen.now) c.args.ending.depth c.in_ok-site.site (exits_of c.args.ending.exits)) c.in_ok-site.ensures.code in
+    let first = put_length c.args.code.now c.emit_statement.new.code (statement_short c.args.context.now c.args.scope.now (stmt c.args.chosen.now) c.args.ending.depth c.in_ok-site.site (exits_of c.args.ending.exits)) c.in_ok-site.ensures.code in
     let far = c.requires.short in
     omega (arith, first, far)
 
 pub emit_choice-len-middle-requires : goal.emit_choice-len-middle-requires
 emit_choice-len-middle-requires t c =
-    let second = put_length c.args.code.now c.emit_statement.new.code (statement_short c.args.setting.now c.args.scope.now (stmt c.args.otherwise.now) c.args.ending.depth c.in_ok-between.between (exits_of c.args.ending.exits)) c.in_ok-between.ensures.code in
+    let second = put_length c.args.code.now c.emit_statement.new.code (statement_short c.args.context.now c.args.scope.now (stmt c.args.otherwise.now) c.args.ending.depth c.in_ok-between.between (exits_of c.args.ending.exits)) c.in_ok-between.ensures.code in
     let far = c.requires.short in
     omega (arith, second, far)
 
 pub emit_choice-added-by-requires : goal.emit_choice-added-by-requires
 emit_choice-added-by-requires t c =
-    let second = put_length c.args.code.now c.emit_statement.new.code (statement_short c.args.setting.now c.args.scope.now (stmt c.args.otherwise.now) c.args.ending.depth c.in_ok-between.between (exits_of c.args.ending.exits)) c.in_ok-between.ensures.code in
+    let second = put_length c.args.code.now c.emit_statement.new.code (statement_short c.args.context.now c.args.scope.now (stmt c.args.otherwise.now) c.args.ending.depth c.in_ok-between.between (exits_of c.args.ending.exits)) c.in_ok-between.ensures.code in
     let far = c.requires.short in
     omega (arith, second, far)
 
 pub emit_choice-added-requires : goal.emit_choice-added-requires
 emit_choice-added-requires t c =
-    let second = put_length c.args.code.now c.emit_statement.new.code (statement_short c.args.setting.now c.args.scope.now (stmt c.args.otherwise.now) c.args.ending.depth c.in_ok-between.between (exits_of c.args.ending.exits)) c.in_ok-between.ensures.code in
+    let second = put_length c.args.code.now c.emit_statement.new.code (statement_short c.args.context.now c.args.scope.now (stmt c.args.otherwise.now) c.args.ending.depth c.in_ok-between.between (exits_of c.args.ending.exits)) c.in_ok-between.ensures.code in
     let jump = ap length c.in_ok-put.ensures.code in
     let far = c.requires.short in
     omega (arith, second, jump, far)
 
 pub emit_choice-past-requires : goal.emit_choice-past-requires
 emit_choice-past-requires t c =
-    let second = put_length c.args.code.now c.emit_statement.new.code (statement_short c.args.setting.now c.args.scope.now (stmt c.args.otherwise.now) c.args.ending.depth c.in_ok-between.between (exits_of c.args.ending.exits)) c.in_ok-between.ensures.code in
+    let second = put_length c.args.code.now c.emit_statement.new.code (statement_short c.args.context.now c.args.scope.now (stmt c.args.otherwise.now) c.args.ending.depth c.in_ok-between.between (exits_of c.args.ending.exits)) c.in_ok-between.ensures.code in
     let jump = ap length c.in_ok-put.ensures.code in
     let added : c.added.result ≡ length c.put.new.self - length c.args.code.now = c.added.ensures ∙ ap (λ m. length c.put.new.self - m) c.len-end.ensures in
     let far = c.requires.short in
@@ -405,7 +404,7 @@ emit_choice-past-requires t c =
 
 pub emit_choice-added-requires-2 : goal.emit_choice-added-requires-2
 emit_choice-added-requires-2 t c =
-    let s = c.args.setting.now in
+    let s = c.args.context.now in
     let second = put_length c.args.code.now c.emit_statement.new.code (statement_short s c.args.scope.now (stmt c.args.otherwise.now) c.args.ending.depth c.in_ok-between.between (exits_of c.args.ending.exits)) c.in_ok-between.ensures.code in
     let jump = ap length c.in_ok-put.ensures.code in
     let first = put_length c.put.new.self c.emit_statement-2.new.code (statement_short s c.emit_statement.new.scope (stmt c.args.chosen.now) c.args.ending.depth c.in_ok-site.site (exits_of c.past.result)) c.in_ok-site.ensures.code in
@@ -414,13 +413,13 @@ emit_choice-added-requires-2 t c =
 
 pub emit_for-added-requires : goal.emit_for-added-requires
 emit_for-added-requires t c =
-    let loop = put_length c.args.code.now c.emit_turns.new.code (turns_short c.args.setting.now c.declare_part.new.scope (test_of c.args.condition) (part_of c.args.third) (stmt c.args.body.now) (begun_at c.args.ending c.in_ok-behind.behind)) c.in_ok-behind.ensures.code in
+    let loop = put_length c.args.code.now c.emit_turns.new.code (turns_short c.args.context.now c.declare_part.new.scope (test_of c.args.condition) (part_of c.args.third) (stmt c.args.body.now) (begun_at c.args.ending c.in_ok-behind.behind)) c.in_ok-behind.ensures.code in
     let far = c.requires.short in
     omega (arith, loop, far)
 
 pub emit_for-past-requires : goal.emit_for-past-requires
 emit_for-past-requires t c =
-    let loop = put_length c.args.code.now c.emit_turns.new.code (turns_short c.args.setting.now c.declare_part.new.scope (test_of c.args.condition) (part_of c.args.third) (stmt c.args.body.now) (begun_at c.args.ending c.in_ok-behind.behind)) c.in_ok-behind.ensures.code in
+    let loop = put_length c.args.code.now c.emit_turns.new.code (turns_short c.args.context.now c.declare_part.new.scope (test_of c.args.condition) (part_of c.args.third) (stmt c.args.body.now) (begun_at c.args.ending c.in_ok-behind.behind)) c.in_ok-behind.ensures.code in
     let added : c.added.result ≡ length c.emit_turns.new.code - length c.args.code.now = c.added.ensures ∙ ap (λ m. length c.emit_turns.new.code - m) c.len-end.ensures in
     let far = c.requires.short in
     record {
@@ -431,7 +430,7 @@ emit_for-past-requires t c =
 
 pub emit_do-emit_once-requires : goal.emit_do-emit_once-requires
 emit_do-emit_once-requires t c =
-    let sizes = sizes_in c.args.setting.now.helpers.functions.now in
+    let sizes = sizes_in c.args.context.now.helpers.functions.now in
     let test = WithTerm (term c.args.condition.now) in
     let turn = ap length (begun (condition_code c.args.scope.now test) c.new-turn.result c.put_condition.new.code c.new-turn.ensures c.in_ok-put_condition.ensures.code) in
     let most = (condition_short sizes c.args.scope.now test).most in
@@ -440,11 +439,11 @@ emit_do-emit_once-requires t c =
     let low = c.requires.low in
     let far = c.requires.short in
     let arrays = c.requires.arrays in
-    (search rules, (omega (arith, few), (omega (arith, small), (omega (arith, low), (omega (arith, turn, most, far), omega (arith, arrays))))))
+    (search rules, record { few = omega (arith, few); small = omega (arith, small); low = omega (arith, low); short = omega (arith, turn, most, far); arrays = omega (arith, arrays) })
 
 pub emit_do-end_do-requires : goal.emit_do-end_do-requires
 emit_do-end_do-requires t c =
-    let s = c.args.setting.now in
+    let s = c.args.context.now in
     let sizes = sizes_in s.helpers.functions.now in
     let test = WithTerm (term c.args.condition.now) in
     let turn = ap length (begun (condition_code c.args.scope.now test) c.new-turn.result c.put_condition.new.code c.new-turn.ensures c.in_ok-put_condition.ensures.code) in
@@ -462,19 +461,19 @@ emit_once-emit_statement-requires t c =
     let exits = loop_exits c.past.result c.args.ending.exits c.in_loop.result c.in_loop.ensures in
     let far = c.requires.short in
     let arrays = c.requires.arrays in
-    (search rules, (omega (arith, few), (omega (arith, small), (omega (arith, low), (omega (arith, rest, exits, far), omega (arith, arrays))))))
+    (search rules, record { few = omega (arith, few); small = omega (arith, small); low = omega (arith, low); short = omega (arith, rest, exits, far); arrays = omega (arith, arrays) })
 
 pub emit_stepped-emit_statement-requires : goal.emit_stepped-emit_statement-requires
 emit_stepped-emit_statement-requires t c =
     let few = c.requires.few in
     let between = c.site_before-between.ensures in
-    let small = c.requires.small_third in
+    let small = c.requires.small in
     let low = c.requires.low in
     let rest = c.past.ensures in
     let exits = loop_exits c.past.result c.args.ending.exits c.in_loop.result c.in_loop.ensures in
     let far = c.requires.short in
     let arrays = c.requires.arrays in
-    (search rules, (omega (arith, few, between), (omega (arith, small), (omega (arith, low), (omega (arith, rest, exits, far), omega (arith, arrays))))))
+    (search rules, record { few = omega (arith, few, between); small = omega (arith, small); low = omega (arith, low); short = omega (arith, rest, exits, far); arrays = omega (arith, arrays) })
 
 pub emit_stepped-emit_once-requires : goal.emit_stepped-emit_once-requires
 emit_stepped-emit_once-requires t c =
@@ -482,28 +481,27 @@ emit_stepped-emit_once-requires t c =
     let small = c.requires.small in
     let low = c.requires.low in
     let level : free_level c.emit_statement.new.scope ≡ free_level c.args.scope.now = ap (λ (z : Scope). free_level z) c.in_ok-site.ensures.scope in
-    let third = put_length c.args.turn.now c.emit_statement.new.code (statement_short c.args.setting.now c.args.scope.now (stmt c.args.third.now) (c.args.ending.depth + 1) c.in_ok-site.site (exits_of c.in_loop.result)) c.in_ok-site.ensures.code in
+    let third = put_length c.args.turn.now c.emit_statement.new.code (statement_short c.args.context.now c.args.scope.now (stmt c.args.third.now) (c.args.ending.depth + 1) c.in_ok-site.site (exits_of c.in_loop.result)) c.in_ok-site.ensures.code in
     let far = c.requires.short in
     let arrays = c.requires.arrays in
-    (search rules, (omega (arith, few), (omega (arith, small), (omega (arith, low, level), (omega (arith, third, far), omega (arith, arrays))))))
+    (search rules, record { few = omega (arith, few); small = omega (arith, small); low = omega (arith, low, level); short = omega (arith, third, far); arrays = omega (arith, arrays) })
 
 pub emit_turns-emit_round-requires : goal.emit_turns-emit_round-requires
 emit_turns-emit_round-requires t c =
-    let sizes = sizes_in c.args.setting.now.helpers.functions.now in
+    let sizes = sizes_in c.args.context.now.helpers.functions.now in
     let test = test_of c.args.condition in
     let turn = ap length (begun (condition_code c.args.scope.now test) c.new-turn.result c.put_condition.new.code c.new-turn.ensures c.in_ok-put_condition.ensures.code) in
     let most = (condition_short sizes c.args.scope.now test).most in
     let few = c.requires.few in
-    let small_third = c.requires.small_third in
     let small = c.requires.small in
     let low = c.requires.low in
     let far = c.requires.short in
     let arrays = c.requires.arrays in
-    (search rules, (omega (arith, few), (omega (arith, small_third), (omega (arith, small), (omega (arith, low), (omega (arith, turn, most, far), omega (arith, arrays)))))))
+    (search rules, record { few = omega (arith, few); small = omega (arith, small); low = omega (arith, low); short = omega (arith, turn, most, far); arrays = omega (arith, arrays) })
 
 pub emit_turns-len-start-requires : goal.emit_turns-len-start-requires
 emit_turns-len-start-requires t c =
-    let sizes = sizes_in c.args.setting.now.helpers.functions.now in
+    let sizes = sizes_in c.args.context.now.helpers.functions.now in
     let test = test_of c.args.condition in
     let turn = ap length (begun (condition_code c.args.scope.now test) c.new-turn.result c.put_condition.new.code c.new-turn.ensures c.in_ok-put_condition.ensures.code) in
     let most = (condition_short sizes c.args.scope.now test).most in
@@ -512,7 +510,7 @@ emit_turns-len-start-requires t c =
 
 pub emit_turns-end_while-requires : goal.emit_turns-end_while-requires
 emit_turns-end_while-requires t c =
-    let s = c.args.setting.now in
+    let s = c.args.context.now in
     let sizes = sizes_in s.helpers.functions.now in
     let test = test_of c.args.condition in
     let turn = ap length (begun (condition_code c.args.scope.now test) c.new-turn.result c.put_condition.new.code c.new-turn.ensures c.in_ok-put_condition.ensures.code) in
@@ -523,7 +521,7 @@ emit_turns-end_while-requires t c =
 
 pub emit_choice-returns-clause-site : goal.emit_choice-returns-clause-site
 emit_choice-returns-clause-site t c =
-    let f = inside c.args.setting.now.helpers.functions.now in
+    let f = inside c.args.context.now.helpers.functions.now in
     let one : c.in_ok-site.site + sites f (stmt c.args.chosen.now) ≡ c.in_ok-between.between = c.in_ok-site.ensures.site in
     let two : c.in_ok-between.between + sites f (stmt c.args.otherwise.now) ≡ c.args.ending.behind = c.in_ok-between.ensures.site in
     omega (arith, one, two)
@@ -531,13 +529,13 @@ emit_choice-returns-clause-site t c =
 pub emit_if-returns-clause-code : goal.emit_if-returns-clause-code
 emit_if-returns-clause-code t c =
     let one = c.emit_statement.new.code in
-    if_placed c.args.setting.now c.args.scope.now c.emit_statement.new.scope (begun_at c.args.ending c.in_ok-site.site) (term c.args.condition.now) (stmt c.args.chosen.now) c.args.code.now one c.put_test.new.code c.added.result
+    if_placed c.args.context.now c.args.scope.now c.emit_statement.new.scope (begun_at c.args.ending c.in_ok-site.site) (term c.args.condition.now) (stmt c.args.chosen.now) c.args.code.now one c.put_test.new.code c.added.result
     c.in_ok-site.ensures.code c.in_ok-site.ensures.scope (c.added.ensures ∙ ap (λ n. length one - n) c.len-end.ensures) c.in_ok-put_test.ensures.code
 
-pub emit_loop-emit_for-requires-in-For : goal.emit_loop-emit_for-requires-in-For
-emit_loop-emit_for-requires-in-For t c =
-    let sizes = sizes_in c.args.setting.now.helpers.functions.now in
-    let f = inside c.args.setting.now.helpers.functions.now in
+pub emit_statement-emit_for-requires-in-For : goal.emit_statement-emit_for-requires-in-For
+emit_statement-emit_for-requires-in-For t c =
+    let sizes = sizes_in c.args.context.now.helpers.functions.now in
+    let f = inside c.args.context.now.helpers.functions.now in
     let whole = for_is c.args.statement.now c.in-For.at c.in-For.first c.in-For.condition c.in-For.third c.in-For.body c.statement_of.result c.statement_of-in-For.result (test_of c.condition_of.result) c.deref-in-For.result.now
     c.in-For.is c.statement_of.ensures c.condition_of.ensures c.statement_of-in-For.ensures c.deref-in-For.ensures in
     let barriers = ap (λ x. sites f x) whole in
@@ -552,39 +550,39 @@ emit_loop-emit_for-requires-in-For t c =
     let third = part_depth_is c.statement_of-in-For.result c.in-For.third c.statement_of-in-For.ensures in
     let body = ap (λ (x : Statement). size-Statement x) c.deref-in-For.ensures in
     let all = ap (λ (x : Statement). size-Statement x) c.in-For.is in
-    (search (rules, the_lemmas), (omega (arith, barriers, few), (omega (arith, nodes, small), (omega (arith, nodes, low), (omega (arith, nodes, far), omega (arith, arrays, most))))))
+    (search (rules, the_lemmas), record { few = omega (arith, barriers, few); small = omega (arith, nodes, small); low = omega (arith, nodes, low); short = omega (arith, nodes, far); arrays = omega (arith, arrays, most) })
 
-pub emit_loop-returns-in-While-clause-code : goal.emit_loop-returns-in-While-clause-code
-emit_loop-returns-in-While-clause-code t c =
-    let s = c.args.setting.now in
+pub emit_statement-returns-in-While-clause-code : goal.emit_statement-returns-in-While-clause-code
+emit_statement-returns-in-While-clause-code t c =
+    let s = c.args.context.now in
     let scope = c.args.scope.now in
     let old = c.args.code.now in
-    let test = term c.deref.result.now in
-    let body = stmt c.deref-in-While.result.now in
-    let whole = while_is c.args.statement.now c.in-While.at c.in-While.condition c.in-While.body c.deref.result.now c.deref-in-While.result.now c.in-While.is c.deref.ensures c.deref-in-While.ensures in
+    let test = term c.deref-in-While.result.now in
+    let body = stmt c.deref-in-While-2.result.now in
+    let whole = while_is c.args.statement.now c.in-While.at c.in-While.condition c.in-While.body c.deref-in-While.result.now c.deref-in-While-2.result.now c.in-While.is c.deref-in-While.ensures c.deref-in-While-2.ensures in
     IfOk-weaker c.emit_for.result (λ site. c.emit_for.new.code ≡ statement_code s scope (For 0 Without (WithTerm test) Without body) (begun_at c.args.ending site) ++ old)
     (λ site. c.emit_for.new.code ≡ statement_code s scope (stmt c.args.statement.now) (begun_at c.args.ending site) ++ old)
     (λ site h. h ∙ ap (λ xs. xs ++ old) (while_laid s scope c.in-While.at test body (begun_at c.args.ending site) ∙ ap (λ x. statement_code s scope x (begun_at c.args.ending site)) whole)) c.emit_for.ensures.code
 
-pub emit_loop-returns-in-While-clause-site : goal.emit_loop-returns-in-While-clause-site
-emit_loop-returns-in-While-clause-site t c =
-    let f = inside c.args.setting.now.helpers.functions.now in
-    let body = stmt c.deref-in-While.result.now in
-    let whole = ap (λ x. sites f x) (while_is c.args.statement.now c.in-While.at c.in-While.condition c.in-While.body c.deref.result.now c.deref-in-While.result.now c.in-While.is c.deref.ensures c.deref-in-While.ensures) in
+pub emit_statement-returns-in-While-clause-site : goal.emit_statement-returns-in-While-clause-site
+emit_statement-returns-in-While-clause-site t c =
+    let f = inside c.args.context.now.helpers.functions.now in
+    let body = stmt c.deref-in-While-2.result.now in
+    let whole = ap (λ x. sites f x) (while_is c.args.statement.now c.in-While.at c.in-While.condition c.in-While.body c.deref-in-While.result.now c.deref-in-While-2.result.now c.in-While.is c.deref-in-While.ensures c.deref-in-While-2.ensures) in
     IfOk-weaker c.emit_for.result (λ site. site + (0 + 0 + sites f body) ≡ c.args.ending.behind) (λ site. site + sites f (stmt c.args.statement.now) ≡ c.args.ending.behind)
     (λ site h. omega (arith, h, whole)) c.emit_for.ensures.site
 
-pub emit_loop-returns-in-DoWhile-clause-site : goal.emit_loop-returns-in-DoWhile-clause-site
-emit_loop-returns-in-DoWhile-clause-site t c =
-    let f = inside c.args.setting.now.helpers.functions.now in
+pub emit_statement-returns-in-DoWhile-clause-site : goal.emit_statement-returns-in-DoWhile-clause-site
+emit_statement-returns-in-DoWhile-clause-site t c =
+    let f = inside c.args.context.now.helpers.functions.now in
     let body = c.deref-in-DoWhile.result.now in
     let whole = ap (λ x. sites f x) (do_is c.args.statement.now c.in-DoWhile.at c.in-DoWhile.body c.in-DoWhile.condition body c.in-DoWhile.is c.deref-in-DoWhile.ensures) in
     IfOk-weaker c.emit_do.result (λ site. site + sites f (stmt body) ≡ c.args.ending.behind) (λ site. site + sites f (stmt c.args.statement.now) ≡ c.args.ending.behind)
     (λ site h. omega (arith, h, whole)) c.emit_do.ensures.site
 
-pub emit_loop-returns-in-For-clause-code : goal.emit_loop-returns-in-For-clause-code
-emit_loop-returns-in-For-clause-code t c =
-    let s = c.args.setting.now in
+pub emit_statement-returns-in-For-clause-code : goal.emit_statement-returns-in-For-clause-code
+emit_statement-returns-in-For-clause-code t c =
+    let s = c.args.context.now in
     let scope = c.args.scope.now in
     let old = c.args.code.now in
     let whole = for_is c.args.statement.now c.in-For.at c.in-For.first c.in-For.condition c.in-For.third c.in-For.body c.statement_of.result c.statement_of-in-For.result (test_of c.condition_of.result) c.deref-in-For.result.now
@@ -596,7 +594,7 @@ emit_loop-returns-in-For-clause-code t c =
 
 pub emit_statement-returns-in-IfElse-clause-site : goal.emit_statement-returns-in-IfElse-clause-site
 emit_statement-returns-in-IfElse-clause-site t c =
-    let f = inside c.args.setting.now.helpers.functions.now in
+    let f = inside c.args.context.now.helpers.functions.now in
     let one = c.deref-in-IfElse-2.result.now in
     let two = c.deref-in-IfElse-3.result.now in
     let whole = ap (λ x. sites f x) (if_else_is c.args.statement.now c.in-IfElse.at c.in-IfElse.condition c.in-IfElse.chosen c.in-IfElse.otherwise one two c.in-IfElse.is c.deref-in-IfElse-2.ensures c.deref-in-IfElse-3.ensures) in

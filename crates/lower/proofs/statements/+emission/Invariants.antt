@@ -16,9 +16,6 @@ use Rattle.lower.proofs.statements.+emission.Given as goal
 abbrev pub decreases-emit_statement : goal.decreases-emit_statement
 decreases-emit_statement l = 10 * (size-Statement l.statement.now) + 3
 
-abbrev pub decreases-emit_loop : goal.decreases-emit_loop
-decreases-emit_loop l = 10 * (size-Statement l.statement.now) + 2
-
 abbrev pub decreases-emit_all : goal.decreases-emit_all
 decreases-emit_all l = 10 * (most size-Statement l.statements.now) + 4
 
@@ -53,14 +50,14 @@ decreases-emit_for l = 10 * (max (part_depth l.first) (max (part_depth l.third) 
 abbrev pub invariant-emit_all-loop-i : goal.invariant-emit_all-loop-i
 invariant-emit_all-loop-i l = record {
   scope : l.scope ≡ scope_after_all l.fn.scope (all_of (take (length l.statements - l.i) l.statements));
-  site : l.behind + all_sites (inside l.setting.helpers.functions.now) (all_of l.statements)
-      ≡ l.ending.behind + all_sites (inside l.setting.helpers.functions.now) (all_of (take (length l.statements - l.i) l.statements));
+  site : l.behind + all_sites (inside l.context.helpers.functions.now) (all_of l.statements)
+      ≡ l.ending.behind + all_sites (inside l.context.helpers.functions.now) (all_of (take (length l.statements - l.i) l.statements));
   longer : length l.fn.code ≤ length l.code;
-  short : length l.code + instructions (row_size (sizes_in l.setting.helpers.functions.now) (all_of (take (length l.statements - l.i) l.statements))).nodes
-      ≤ length l.fn.code + instructions (row_size (sizes_in l.setting.helpers.functions.now) (all_of l.statements)).nodes;
+  short : length l.code + instructions (row_size (sizes_in l.context.helpers.functions.now) (all_of (take (length l.statements - l.i) l.statements))).nodes
+      ≤ length l.fn.code + instructions (row_size (sizes_in l.context.helpers.functions.now) (all_of l.statements)).nodes;
   grows : GrowsBefore l.fn.code l.code;
-  code : (site : ℕ) → site + all_sites (inside l.setting.helpers.functions.now) (all_of (take (length l.statements - l.i) l.statements)) ≡ l.behind
-      → row_code l.setting l.fn.scope (all_of l.statements) (begun_at l.ending site) ++ l.fn.code
-      ≡ stmts_code (call_code (functions_of l.setting.helpers.functions.now)) (result_in (functions_of l.setting.helpers.functions.now)) (inside l.setting.helpers.functions.now) l.setting.result l.fn.scope
+  code : (site : ℕ) → site + all_sites (inside l.context.helpers.functions.now) (all_of (take (length l.statements - l.i) l.statements)) ≡ l.behind
+      → row_code l.context l.fn.scope (all_of l.statements) (begun_at l.ending site) ++ l.fn.code
+      ≡ stmts_code (call_code (functions_of l.context.helpers.functions.now)) (result_in (functions_of l.context.helpers.functions.now)) (inside l.context.helpers.functions.now) l.context.result l.fn.scope
       (all_of (take (length l.statements - l.i) l.statements)) l.ending.depth site (past (length l.code - length l.fn.code) (exits_of l.ending.exits)) ++ l.code;
 }

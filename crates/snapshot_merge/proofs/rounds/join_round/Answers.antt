@@ -1,4 +1,4 @@
-use Rattle.std.proofs.Common.{suc, Some, None, sym, ap₂, subst, add-one}
+use Rattle.std.proofs.Common.{◌≡◌, suc, Some, None, sym, ap₂, subst, arith, add-one}
 use Rattle.clmodel.specs.Launch as model
 use Rattle.clmodel.specs.Next.{launch_of}
 use Rattle.item_step.specs.Launches.{setup_of}
@@ -32,11 +32,11 @@ returns-in-Reports g c =
     let same = ap₂ (λ x y. launch_of (setup_of x) (bytes_in y)) c.new-loaded.ensures.launch c.new-loaded.ensures.buffers in
     let l = launch_of (setup_of c.args.launch.now) (bytes_in c.args.buffers.now) in
     let group = c.loop-group.group in
-    let next : CameOfNext l group c.in-Some.result (Some c.in-Reports.fault) c.join.new.self
-    = subst (λ (end : JoinEnd g.row.L.Denot). CameOfNext l group c.in-Some.result (report_of end) c.join.new.self) c.in-Reports.is
-    (subst (λ (z : model.Launch). CameOfNext z group c.in-Some.result (report_of c.in_ok-log.field-0) c.join.new.self) same c.in_ok-log.ensures.came) in
+    let next : CameOfNext l group c.in-Some.result.end (Some c.in-Reports.fault) c.join.new.self
+    = subst (λ (end : JoinEnd g.row.L.Denot). CameOfNext l group c.in-Some.result.end (report_of end) c.join.new.self) c.in-Reports.is
+    (subst (λ (z : model.Launch). CameOfNext z group c.in-Some.result.end (report_of c.in_ok-log.field-0) c.join.new.self) same c.in_ok-log.ensures.came) in
     concludes_fault l c.in-Reports.fault c.into_schedule.result
-    (subst (IsStopped l c.in-Reports.fault) (sym c.into_schedule.ensures) (next_stopped l group c.in-Some.result c.in-Reports.fault c.join.new.self next))
+    (subst (IsStopped l c.in-Reports.fault) (sym c.into_schedule.ensures) (next_stopped l group c.in-Some.result.end c.in-Reports.fault c.join.new.self next))
 
 pub loop-group-preserved : goal.loop-group-preserved
 loop-group-preserved g c =
@@ -44,11 +44,25 @@ loop-group-preserved g c =
     let l = launch_of (setup_of c.args.launch.now) (bytes_in c.args.buffers.now) in
     let group = c.loop-group.group in
     let now = subst (AreResultsTo bytes_of g.L.GroupAccesses.listed g.L.GroupAccesses.has_last l c.args.last group) c.in-Some.ensures.items c.loop-group.invariant.rest in
-    let next : CameOfNext l group c.in-Some.result None c.join.new.self
-    = subst (λ (end : JoinEnd g.row.L.Denot). CameOfNext l group c.in-Some.result (report_of end) c.join.new.self) c.in-Goes.is
-    (subst (λ (z : model.Launch). CameOfNext z group c.in-Some.result (report_of c.in_ok-log.field-0) c.join.new.self) same c.in_ok-log.ensures.came) in
+    let next : CameOfNext l group c.in-Some.result.end None c.join.new.self
+    = subst (λ (end : JoinEnd g.row.L.Denot). CameOfNext l group c.in-Some.result.end (report_of end) c.join.new.self) c.in-Continues.is
+    (subst (λ (z : model.Launch). CameOfNext z group c.in-Some.result.end (report_of c.in_ok-log.field-0) c.join.new.self) same c.in_ok-log.ensures.came) in
     record {
-      held = subst (λ n. HoldsGroups l n c.join.new.self) (sym (add-one group)) (next_held l group c.in-Some.result c.join.new.self next);
+      held = subst (λ n. HoldsGroups l n c.join.new.self) (sym (add-one group)) (next_held l group c.in-Some.result.end c.join.new.self next);
       rest = subst (λ n. AreResultsTo bytes_of g.L.GroupAccesses.listed g.L.GroupAccesses.has_last l c.args.last n (into_iter_items c.next.new.self)) (sym (add-one group))
           (round_rest bytes_of g.L.GroupAccesses.listed g.L.GroupAccesses.has_last l c.args.last group c.in-Some.result (into_iter_items c.next.new.self) c.join.new.self now next);
     }
+
+pub loop-group-init : goal.loop-group-init
+loop-group-init g c =
+    let l = launch_of (setup_of c.args.launch.now) (bytes_in c.args.buffers.now) in
+    record {
+      held = c.requires.so_far;
+      rest = subst (AreResultsTo bytes_of g.L.GroupAccesses.listed g.L.GroupAccesses.has_last l c.args.last c.args.first) (sym c.into_iter-results.ensures.rest) c.requires.results;
+    }
+
+pub returns : goal.returns
+returns g c =
+    let l = launch_of (setup_of c.args.launch.now) (bytes_in c.args.buffers.now) in
+    let all : c.loop-group.group ≡ c.args.last = omega (arith, c.loop-group-test.false, c.loop-group.auto.group-end, c.requires.order) in
+    subst (λ n. HoldsGroups l n c.loop-group.so_far) all c.loop-group.invariant.held

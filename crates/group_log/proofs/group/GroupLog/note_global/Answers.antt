@@ -1,45 +1,24 @@
-use Rattle.std.proofs.Common.{◌≡◌, Bool, not, true, false, [], ◌∷◌, ◌++◌, if◌then◌else◌, refl, sym, ap, ◌∙◌, subst, inr}
-use Rattle.std.proofs.lemmas.Bool.{false≢true}
-use Rattle.group_log.proofs.Taking.{not_true}
-use Rattle.shadow_list.specs.Log.{stamped, in_buffer, IsKept}
+use Rattle.std.proofs.Common.{◌≡◌, true, None, sym, ap, ◌∙◌}
+use Rattle.clmodel.specs.Launch.{within_group}
+use Rattle.shadow_list.specs.Log.{stamped, in_buffer}
 use Rattle.shadow_list.specs.declared.log.Entry.{Entry}
-use Rattle.group_log.specs.Side.{TakesOf}
-use Rattle.group_log.specs.Lasting.{all_of, short_of, last_of, made, LeavesOut}
+use Rattle.group_log.specs.Lasting.{all_of}
 use Rattle.group_log.specs.declared.group.GroupLog.{GroupLog}
-use Rattle.group_log.proofs.Shortened.{made_more, short_more, last_more, all_more, left_out_more, absorbed_stays, log_of}
-use Rattle.group_log.proofs.Telling.{stamped_global, told, noted_tells, other_tells}
+use Rattle.group_log.proofs.Shortened.{log_of}
+use Rattle.group_log.proofs.Telling.{stamped_global, none_hit, told, noted_stamped, noted_last}
 use Rattle.group_log.proofs.group.GroupLog.note_global.Goals as goal
 
-pub invariant_of-self-2 : goal.invariant_of-self-2
-invariant_of-self-2 c =
+pub returns-else-glance : goal.returns-else-glance
+returns-else-glance c =
     let l : GroupLog = c.args.self.now in
-    let x : Entry = c.stamped-entry.result in
-    let space : in_buffer x.access.region ≡ true = ap (λ (z : Entry). in_buffer z.access.region) c.stamped-entry.ensures ∙ c.requires.space in
-    let news : Bool = not c.look-glance.result.look.sight.taken in
-    let kept : IsKept (all_of l.whole.items) x (all_of c.with-self.result.items) = inr (ap all_of c.with-self.ensures ∙ all_more l.whole.items x news) in
-    record {
-      one_launch = l.one_launch ∙ sym c.take.ensures.uniform;
-      local_tells = other_tells l.local.uniform false l.local.interval l.local.kept.items (all_of l.whole.items) (all_of c.with-self.result.items) x l.local_tells (λ e. false≢true (sym e ∙ space)) kept;
-      global_tells = noted_tells l.global.uniform true l.global.interval l.global.kept.items (all_of l.whole.items) x l.global.uniform c.take.new.self.uniform l.global.interval c.take.new.self.interval
-          l.global.kept.items c.take.new.self.kept.items (all_of c.with-self.result.items) l.global_tells (ap (λ (z : Entry). z.access.interval) c.stamped-entry.ensures)
-          refl refl refl c.take.ensures.uniform c.take.ensures.interval c.in_ok-take.ensures.kept kept;
-      takes = subst (TakesOf c.take.new.self) (sym (ap (made []) c.with-self.ensures ∙ made_more [] l.whole.items (x, news))) (c.in_ok-take.ensures.takes space (made [] l.whole.items) l.takes);
-      entries = c.note.ensures.entries ∙ ap (λ z. if news then z ++ x ∷ [] else z) (c.make_room.ensures.entries ∙ l.entries) ∙ sym (ap short_of c.with-self.ensures ∙ short_more l.whole.items x news);
-      has_last = c.note.ensures.has_last ∙ sym (ap (last_of false) c.with-self.ensures ∙ last_more false l.whole.items x news);
-      left_out = subst (LeavesOut []) (sym c.with-self.ensures) (left_out_more [] l.whole.items x news l.left_out (λ f. absorbed_stays (made [] l.whole.items) x.access (c.look-glance.ensures.taken (not_true c.look-glance.result.look.sight.taken f) (made [] l.whole.items) l.takes)));
-    }
+    noted_stamped (log_of l) (log_of c.judge_global.new.self) c.args.entry c.stamped-entry.result c.judge_global.result (stamped_global (log_of l) c.args.entry c.stamped-entry.result c.requires.space c.stamped-entry.ensures) c.judge_global.ensures
 
-pub returns : goal.returns
-returns c =
+pub returns-in_ok-take_global : goal.returns-in_ok-take_global
+returns-in_ok-take_global c =
     let l : GroupLog = c.args.self.now in
     let x : Entry = c.stamped-entry.result in
     let space : in_buffer x.access.region ≡ true = ap (λ (z : Entry). in_buffer z.access.region) c.stamped-entry.ensures ∙ c.requires.space in
-    let news : Bool = not c.look-glance.result.look.sight.taken in
-    let kept : IsKept (all_of l.whole.items) x (all_of c.with-self.result.items) = inr (ap all_of c.with-self.ensures ∙ all_more l.whole.items x news) in
-    let same : x ≡ stamped (log_of l) c.args.entry = stamped_global (log_of l) c.args.entry x c.requires.space c.stamped-entry.ensures in (
-      told l.global.uniform true l.global.interval l.global.kept.items (all_of l.whole.items) (log_of l) c.args.entry x c.judge-found.result l.global_tells c.judge-found.ensures same space (ap (λ (z : Entry). z.access.interval) c.stamped-entry.ensures),
-      subst (λ z. IsKept (all_of l.whole.items) z (all_of c.with-self.result.items)) same kept,
-      refl,
-      c.take.ensures.interval,
-      c.take.ensures.uniform,
-    )
+    let same : x ≡ stamped (log_of l) c.args.entry = stamped_global (log_of l) c.args.entry x c.requires.space c.stamped-entry.ensures in
+    noted_last (log_of l) (log_of c.take_global.new.self) c.args.entry x None same c.in_ok-take_global.ensures.taken
+    (told l.global.uniform true l.global.interval l.global.kept.items (all_of l.whole.items) (log_of l) c.args.entry x None l.global_tells
+    (sym (none_hit (within_group l.global.uniform) x l.global.kept.items (c.look-glance.ensures.clear c.if-glance.true))) same space (ap (λ (z : Entry). z.access.interval) c.stamped-entry.ensures))

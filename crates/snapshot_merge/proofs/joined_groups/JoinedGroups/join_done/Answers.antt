@@ -1,15 +1,16 @@
-use Rattle.std.proofs.Common.{suc, None, Some, sym, subst, ◌∙◌}
-use Rattle.std.specs.Prelude.{Vec}
-use Rattle.std.specs.declared.alloc.Global.{Global}
-use Rattle.std.proofs.lemmas.Bool.{true≢false}
+use Rattle.std.proofs.Common.{ℕ, None, Some, List, map, sym, subst}
+use denote.Bor.{Bor}
 use Rattle.clmodel.specs.Launch.{Launch}
-use Rattle.clmodel.specs.declared.schedule.EventRun.{EventRun}
+use Rattle.clmodel.specs.declared.access.Access.{Access}
+use Rattle.clmodel.specs.declared.access.Region.TheVariants as region
+use Rattle.joining.specs.Memory.{wrote}
 use Rattle.shadow_list.specs.Log.{Log}
-use Rattle.snapshot_merge.specs.JoinedGroups.{HoldsGroups}
-use Rattle.snapshot_merge.specs.Runs.{MayFollow}
-use Rattle.snapshot_merge.proofs.Joining.{IsGiven, Finds, finds_whole, done_follows, done_meets, done_added, done_last}
+use Rattle.spaces.specs.Overlay.{Overlaid}
+use Rattle.snapshot_merge.specs.Changes.{AreUpdates, value_of}
+use Rattle.snapshot_merge.specs.Comparing.{met_of, KeepsUpdates}
+use Rattle.snapshot_merge.specs.declared.comparing.Compared.{Compared}
+use Rattle.snapshot_merge.proofs.Joining.{IsGiven, Changes, Finds, FindsIn, finds_whole, done_follows, done_meets, done_added}
 use Rattle.snapshot_merge.proofs.joined_groups.JoinedGroups.join_done.Goals as goal
-use Rattle.snapshot_merge.proofs.joined_groups.JoinedGroups.join_done.Goals.{then-number+in_ok-add-in-None, else-number}
 
 pub cross-requires : goal.cross-requires
 cross-requires g c =
@@ -21,36 +22,39 @@ pub add-requires : goal.add-requires
 add-requires g c =
     let l : Launch = g.D.Described.launch c.args.launch.now in
     let given : IsGiven l c.args.number.group c.args.self.now c.args.runs.now = record { laws = c.laws.ensures; grouped = c.requires.grouped; there = c.requires.there; holds = c.requires.so_far; merged = c.requires.merged } in
-    subst (λ (z : Vec EventRun Global). MayFollow z.items c.args.runs.now) (sym c.in_ok-change-in-None.ensures.runs)
-    (done_follows l c.args.number.group c.args.self.now c.requires.ran.0 c.args.runs.now c.args.spaces.now given c.requires.ran.2)
+    done_follows l c.args.number.group c.args.self.now c.requires.ran.0 c.args.runs.now c.args.spaces.now given c.requires.ran.2
 
-pub returns-in_ok-cross-in-Some : goal.returns-in_ok-cross-in-Some
-returns-in_ok-cross-in-Some g c =
+pub returns-in_ok-cross-in-Conflict : goal.returns-in_ok-cross-in-Conflict
+returns-in_ok-cross-in-Conflict g c =
     let l : Launch = g.D.Described.launch c.args.launch.now in
     let log : Log = c.requires.ran.0 in
+    let listed = g.L.GroupAccesses.listed c.args.log.now in
+    let last = g.L.GroupAccesses.has_last c.args.log.now in
     let given : IsGiven l c.args.number.group c.args.self.now c.args.runs.now = record { laws = c.laws.ensures; grouped = c.requires.grouped; there = c.requires.there; holds = c.requires.so_far; merged = c.requires.merged } in
-    done_meets l c.args.number.group c.args.self.now log c.args.runs.now c.cross.new.self.runs.items c.args.spaces.now given c.requires.ran.2 c.in-Some.met c.in_ok-cross-in-Some.field-0
-    (finds_whole l c.args.number.group c.args.self.now (g.L.GroupAccesses.has_last c.args.log.now) (g.L.GroupAccesses.listed c.args.log.now) log (Some c.in-Some.met) c.uniform.ensures c.requires.ran.1 c.in-Some.ensures)
-    c.in_ok-cross-in-Some.ensures.runs c.in_ok-cross-in-Some.ensures.report
+    let found : FindsIn c.uniform.result c.args.number.group c.args.self.now last listed (Some c.in-Conflict.met)
+    = subst (λ (found : Compared). FindsIn c.uniform.result c.args.number.group c.args.self.now last listed (met_of found)) c.in-Conflict.is c.in_ok-met.ensures.met in
+    done_meets l c.args.number.group c.args.self.now log c.args.runs.now c.cross.new.self.runs.items c.args.spaces.now given c.requires.ran.2 c.in-Conflict.met c.in_ok-cross-in-Conflict.field-0
+    (finds_whole l c.args.number.group c.args.self.now last listed log (Some c.in-Conflict.met) c.uniform.ensures c.requires.ran.1 found)
+    c.in_ok-cross-in-Conflict.ensures.runs c.in_ok-cross-in-Conflict.ensures.report
 
-pub returns-after-number : goal.returns-after-number
-returns-after-number g c =
+pub returns-in_ok-add-in-Apart : goal.returns-in_ok-add-in-Apart
+returns-in_ok-add-in-Apart g c =
     let l : Launch = g.D.Described.launch c.args.launch.now in
     let log : Log = c.requires.ran.0 in
     let stand = c.requires.ran.1 in
     let listed = g.L.GroupAccesses.listed c.args.log.now in
     let last = g.L.GroupAccesses.has_last c.args.log.now in
-    let given : IsGiven l c.args.number.group c.args.self.now c.args.runs.now = record { laws = c.laws.ensures; grouped = c.requires.grouped; there = c.requires.there; holds = c.requires.so_far; merged = c.requires.merged } in
-    let finds : Finds l.uniform c.args.number.group c.args.self.now log None
-    = finds_whole l c.args.number.group c.args.self.now last listed log None c.uniform.ensures stand c.in-None.ensures in
-    elim c.if-number.branch [
-      | then-number+in_ok-add-in-None w ↦
-          subst (HoldsGroups l (suc c.args.number.group)) (sym w.self-is)
-          (done_added l c.args.number.group c.args.self.now log c.args.runs.now c.args.spaces.now given c.requires.ran.2 finds last listed stand c.change.new.self w.add.new.self
-          c.in_ok-change-in-None.ensures.changed c.in_ok-change-in-None.ensures.first c.in_ok-change-in-None.ensures.footprint c.in_ok-change-in-None.ensures.runs w.in_ok-add-in-None.ensures.first
-          w.in_ok-add-in-None.ensures.contents w.in_ok-add-in-None.ensures.accesses w.in_ok-add-in-None.ensures.runs)
-      | else-number w ↦
-          subst (HoldsGroups l (suc c.args.number.group)) (sym w.self-is)
-          (done_last l c.args.number.group c.args.self.now log c.args.runs.now c.args.spaces.now given c.requires.ran.2 finds last listed stand c.change.new.self c.in_ok-change-in-None.ensures.changed
-          c.in_ok-change-in-None.ensures.first (λ h. true≢false (sym (c.requires.further h) ∙ w.if-number.false)))
-    ]
+    let before = c.args.self.now in
+    let own = map (λ (space : Overlaid). space.bytes) c.args.spaces.now in
+    let value : List Access → ℕ → Access → ℕ → ℕ
+    = λ kept. value_of (map (λ (row : Bor (List ℕ)). row.now) before.first.items) before.contents.items (λ n b. wrote kept (region.Buffer n) b) own in
+    let given : IsGiven l c.args.number.group before c.args.runs.now = record { laws = c.laws.ensures; grouped = c.requires.grouped; there = c.requires.there; holds = c.requires.so_far; merged = c.requires.merged } in
+    let found : FindsIn c.uniform.result c.args.number.group before last listed None
+    = subst (λ (found : Compared). FindsIn c.uniform.result c.args.number.group before last listed (met_of found)) c.in-Apart.is c.in_ok-met.ensures.met in
+    let finds : Finds l.uniform c.args.number.group before log None = finds_whole l c.args.number.group before last listed log None c.uniform.ensures stand found in
+    let changes : Changes c.args.number.group before c.args.spaces.now listed c.add.new.self.contents.items
+    = λ kept k none w.
+    let updates : AreUpdates (value kept) own 0 listed c.in-Apart.updates.items = subst (λ (found : Compared). KeepsUpdates (value kept) own listed found) c.in-Apart.is (c.in_ok-met.ensures.updates kept k none) in
+    c.in_ok-add-in-Apart.ensures.changed (value kept) w (subst (AreUpdates (value kept) own 0 listed) (sym c.as_slice.ensures.value) updates) in
+    done_added l c.args.number.group before log c.args.runs.now c.args.spaces.now given c.requires.ran.2 finds last listed stand c.add.new.self changes c.in_ok-add-in-Apart.ensures.first
+    (λ h. (c.in_ok-add-in-Apart.ensures.accesses (c.requires.further h), c.in_ok-add-in-Apart.ensures.runs (c.requires.further h)))

@@ -1,0 +1,6 @@
+use Rattle.std.proofs.Common.{◌≡◌, max, drop}
+use Rattle.lower.specs.Tables.{object_count}
+use Rattle.lower.proofs.code_tables.object_count.Given as goal
+
+abbrev pub invariant-loop-instruction : goal.invariant-loop-instruction
+invariant-loop-instruction l = max l.count (object_count (drop l.instruction-index l.code)) ≡ object_count l.code

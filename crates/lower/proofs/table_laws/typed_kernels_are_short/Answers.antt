@@ -1,5 +1,0 @@
-use Rattle.lower.proofs.ShortKernels.{kernels_short}
-use Rattle.lower.proofs.table_laws.typed_kernels_are_short.Goals as goal
-
-pub returns : goal.returns
-returns c = kernels_short

@@ -1,6 +1,0 @@
-use Rattle.std.proofs.Common.{◌≡◌, max, drop}
-use Rattle.lower.specs.Tables.{greatest, names_of, name_count}
-use Rattle.lower.proofs.tables.name_count.Given as goal
-
-abbrev pub invariant-loop-instruction : goal.invariant-loop-instruction
-invariant-loop-instruction l = max l.count (greatest names_of (drop l.instruction-index l.code)) ≡ name_count l.code

@@ -1,7 +1,0 @@
-use Rattle.std.proofs.Common.{◌%◌, arith}
-use Rattle.std.proofs.lemmas.List.{get_or_default}
-use Rattle.lower.specs.Tables.{kinds}
-use Rattle.lower.proofs.tables.register_kind.Goals as goal
-
-pub returns : goal.returns
-returns c = get_or_default kinds (c.args.register % 16) _ _ (omega arith)

@@ -1,0 +1,52 @@
+use Rattle.std.proofs.Common.{◌≡◌, ℕ, ◌<◌, Some, List, length, map, sym, ◌∙◌, subst, arith}
+use Rattle.std.specs.Prelude.{slice_get}
+use Rattle.std.proofs.lemmas.List.{take_all}
+use denote.Bor.{Bor}
+use Rattle.clmodel.specs.declared.access.Access.{Access}
+use Rattle.clmodel.specs.declared.access.Region.TheVariants as region
+use Rattle.joining.specs.Memory.{wrote}
+use Rattle.spaces.specs.Overlay.{Overlaid}
+use Rattle.snapshot_merge.specs.Changes.{value_of, AreUpdates}
+use Rattle.snapshot_merge.proofs.Entries.{entry_at, miss_more}
+use Rattle.snapshot_merge.proofs.Updates.{updates_more}
+use Rattle.snapshot_merge.proofs.changes.Before.compare.Goals as goal
+
+pub loop-place-preserved : goal.loop-place-preserved
+loop-place-preserved g c =
+    let entries = (g.L.GroupAccesses.listed c.args.log.now) in
+    let own = map (λ (space : Overlaid). space.bytes) c.args.self.now.own.now in
+    let value : List Access → ℕ → Access → ℕ → ℕ
+    = λ kept. value_of (map (λ (row : Bor (List ℕ)). row.now) c.args.self.now.first.now) c.args.self.now.lower.now (λ n b. wrote kept (region.Buffer n) b) own in
+    let i = c.loop-place.place in
+    let x = c.get-entry.result in
+    let inside : i < length entries = omega (arith, c.loop-place-test.true, c.len-place-end.ensures) in
+    let at : slice_get entries i ≡ Some x = entry_at entries i x inside c.get-entry.ensures.value in
+    record {
+      miss = λ kept h others. miss_more c.args.uniform entries kept i x at (sym (c.meeting.ensures kept h (others i x at)) ∙ c.in_default.is) (c.loop-place.invariant.miss kept h others);
+      updates = λ kept h.
+          updates_more (value kept) own entries i x c.loop-place.updates.items c.keep_update.new.updates.items c.kept_value-kept.result inside at c.in_ok-keep_update.ensures
+          (c.kept_value-kept.ensures kept h) (c.loop-place.invariant.updates kept h);
+    }
+
+pub returns-in-Some-clause-met : goal.returns-in-Some-clause-met
+returns-in-Some-clause-met g c = λ kept h others.
+    let entries = (g.L.GroupAccesses.listed c.args.log.now) in
+    let i = c.loop-place.place in
+    let x = c.get-entry.result in
+    let at : slice_get entries i ≡ Some x = entry_at entries i x (omega (arith, c.loop-place-test.true, c.len-place-end.ensures)) c.get-entry.ensures.value in (
+      i,
+      at,
+      c.loop-place.invariant.miss kept h others,
+      sym (c.meeting.ensures kept h (others i x at)) ∙ c.in-Some.is,
+      c.is_last.ensures,
+    )
+
+pub returns-clause-met : goal.returns-clause-met
+returns-clause-met g c = λ kept h others. λ k e b q. c.loop-place.invariant.miss kept h others k e (omega (arith, b, c.loop-place-test.false, c.len-place-end.ensures)) q
+
+pub returns-clause-updates : goal.returns-clause-updates
+returns-clause-updates g c = λ kept h.
+    let own = map (λ (space : Overlaid). space.bytes) c.args.self.now.own.now in
+    let value : ℕ → Access → ℕ → ℕ = value_of (map (λ (row : Bor (List ℕ)). row.now) c.args.self.now.first.now) c.args.self.now.lower.now (λ n b. wrote kept (region.Buffer n) b) own in
+    subst (λ ys. AreUpdates value own 0 ys c.loop-place.updates.items)
+    (take_all c.loop-place.place (g.L.GroupAccesses.listed c.args.log.now) (omega (arith, c.loop-place-test.false, c.len-place-end.ensures))) (c.loop-place.invariant.updates kept h)

@@ -1,0 +1,69 @@
+//! What a further group's accesses tell before any of its changes is made.
+
+ghost use Rattle.std.specs.Prelude.{◌≡◌, List, map, IfOk, OnOk};
+ghost use Rattle.clmodel.specs.declared.access.Access.{Access as TheAccess};
+ghost use Rattle.clmodel.specs.declared.access.Region.TheVariants as region;
+ghost use Rattle.joining.specs.Memory as joining;
+ghost use Rattle.shadow.specs.Seen.{IsFootprint};
+ghost use Rattle.snapshot_merge.specs.Changes.{value_of};
+ghost use Rattle.snapshot_merge.specs.Comparing.{met_of, KeepsUpdates, with_update};
+ghost use Rattle.snapshot_merge.specs.Meetings.{AreOthers, IsFirstMet};
+
+use crate::changes::{Before, JoinedUpdate};
+use crate::meetings::{FirstConflict, is_last};
+use shadow::GroupAccesses;
+use std::alloc::{AllocError, Global};
+
+/// What one walk of a further group's accesses finds.
+#[derive(Drop)]
+pub(crate) enum Compared {
+    /// The first access that conflicts with one of a lower group.
+    Conflict(FirstConflict),
+    /// None conflicts. The updates of whose bytes lower groups wrote some, in their order, and what these bytes become:
+    /// 16 bytes for each.
+    Apart(Vec<JoinedUpdate>),
+}
+
+/// Keeps what the bytes of the access at a place become, if it is an update of which something is kept. An error is out of
+/// memory.
+fn keep_update(
+    updates: &mut Vec<JoinedUpdate>,
+    place: usize,
+    kept: Option<u64>,
+) -> Result<(), AllocError>
+    ensures { OnOk result (updates.new.items ≡ with_update updates.old.items place kept) }
+{
+    if let Some(value) = kept {
+        updates.push(JoinedUpdate { place, value })?;
+    }
+    Ok(())
+}
+
+impl Before<'_, '_, '_, '_> {
+    /// The first access of a group that conflicts with those of lower groups, by whether the launch is uniform; or what
+    /// its updates of bytes that lower groups wrote become. Each access is got once. An error is out of memory.
+    pub(crate) fn compare<L: GroupAccesses>(
+        &self,
+        alloc: Global,
+        uniform: bool,
+        log: &L,
+    ) -> Result<Compared, AllocError>
+        ensures met { IfOk result (λ found. (kept : List TheAccess) → IsFootprint self.now.footprint.now kept → AreOthers (L.listed log.now) kept → IsFirstMet uniform (L.has_last log.now) (L.listed log.now) kept (met_of found)) }
+        ensures updates { IfOk result (λ found. (kept : List TheAccess) → IsFootprint self.now.footprint.now kept → KeepsUpdates (value_of (map (λ row. row.now) self.now.first.now) self.now.lower.now (λ n b. joining.wrote kept (region.Buffer n) b) (map (λ space. space.bytes) self.now.own.now)) (map (λ space. space.bytes) self.now.own.now) (L.listed log.now) found) }
+    {
+        let mut updates = Vec::new(alloc);
+        for place in 0..log.len() {
+            let entry = log.get(place);
+            if let Some(meeting) = self.footprint.meeting(uniform, &entry.access) {
+                return Ok(Compared::Conflict(FirstConflict {
+                    entry,
+                    meeting,
+                    last: is_last(log, place),
+                }));
+            }
+            let kept = self.kept_value(&entry.access);
+            keep_update(&mut updates, place, kept)?;
+        }
+        Ok(Compared::Apart(updates))
+    }
+}
