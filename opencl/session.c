@@ -20,7 +20,8 @@ struct session {
     pid_t owner, child;
     int fd;
     bool gone, recording;
-    bool looks; // whether the child may answer while this thread looks for the reply
+    bool looks;            // whether the child may answer while this thread looks for the reply
+    unsigned misses, skip; // how many looks in a row found nothing, and how many replies aren't looked for therefore
     char *in; // what came of a reply
     size_t end, room;
     FILE *record;
@@ -28,9 +29,10 @@ struct session {
 
 enum { MAX_WORDS = 32, COMMAND_ROOM = 4096, REPLY_ROOM = 65536 };
 
-// How long a reply is looked for before the thread sleeps. Small commands are answered within it, and waking a processor
-// that sleeps takes as long as they do.
-enum { LOOK_NANOSECONDS = 50000 };
+// How long a reply is looked for before the thread sleeps. Small commands are answered within it, and waking a
+// processor that sleeps takes as long as they do. Where the child waits for this thread's own processor, looking only
+// delays it: each look in a row that finds nothing doubles how many of the next replies aren't looked for.
+enum { LOOK_NANOSECONDS = 50000, MOST_MISSES = 6 };
 
 // ---- settings and lines that are told ----
 
@@ -169,17 +171,27 @@ static long long nanoseconds(void) {
     return now.tv_sec * 1000000000LL + now.tv_nsec;
 }
 
+static bool is_looked_for(session *s) {
+    if (!s->looks || s->end) return false;
+    if (!s->skip) return true;
+    s->skip--;
+    return false;
+}
+
 // Takes what came of a reply, as `read` does. It looks for its beginning for a while first, so that this side's
 // processor doesn't sleep between small commands.
 static ssize_t receive(session *s) {
     char *to = s->in + s->end;
     size_t room = s->room - s->end;
-    long long last = s->looks && !s->end ? nanoseconds() + LOOK_NANOSECONDS : 0;
-    while (last) {
+    if (!is_looked_for(s)) return read(s->fd, to, room);
+    for (long long last = nanoseconds() + LOOK_NANOSECONDS; nanoseconds() < last;) {
         ssize_t got = recv(s->fd, to, room, MSG_DONTWAIT);
-        if (got >= 0 || errno != EAGAIN) return got;
-        if (nanoseconds() >= last) break;
+        if (got < 0 && errno == EAGAIN) continue;
+        s->misses = 0;
+        return got;
     }
+    s->misses += s->misses < MOST_MISSES;
+    s->skip = 1u << s->misses;
     return read(s->fd, to, room);
 }
 
@@ -196,7 +208,7 @@ static bool grow(session *s) {
 }
 
 // A reply that is longer than there is memory for is read to its end, and is then as one that refuses for want of
-// memory: one so long holds data or a fault's schedule, and neither a read nor a launch with a fault changes the device.
+// memory: one so long holds data or a fault's schedule, and neither a read nor a launch with a fault changes anything.
 static const char *read_line(session *s) {
     size_t seen = 0;
     bool fits = true;
