@@ -311,7 +311,7 @@ impl Device {
             return Err(Refusal::NoSuchKernel);
         };
         let number = found.function.name;
-        let count = found.function.parameters.len();
+        let count = found.function.parameters.as_slice().len();
         let code = code_of(self.alloc, checked, found)?;
         let kernel = Kernel::new(self.alloc, program, number, count)?;
         let compiled = CompiledKernel { kernel, code };

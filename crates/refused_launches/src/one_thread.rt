@@ -4,7 +4,6 @@ ghost use Rattle.clmodel.specs.Next.{launch_of};
 ghost use Rattle.clmodel.specs.Setup.{item_count, group_items};
 ghost use Rattle.item_step.specs.Launches.{setup_of};
 ghost use Rattle.launches.specs.Groups.{HasGroups};
-ghost use Rattle.refused_launches.specs.Merges.{is_stopped};
 ghost use Rattle.snapshot_merge.specs.Launches.{AreResults, list_log};
 ghost use Rattle.spaces_base.specs.Buffers.{bytes_in};
 
@@ -17,7 +16,7 @@ use item_step::{Item, Launch};
 use launches::group_count;
 use replay::replay;
 use shadow_list::ListLog;
-use snapshot_merge::{merge, one_group, run_launch};
+use snapshot_merge::{has_stopped, merge, one_group, run_launch};
 use spaces::Overlay;
 use spaces_base::Buffers;
 use std::alloc::{AllocError, Global};
@@ -66,15 +65,6 @@ fn try_item<R: Print + Eprint>(rt: &R, alloc: Global, launch: &Launch<'_>) -> bo
     is_done(rt, "launches start", Came::Done);
     let came = done_if(ends(rt, &mut item));
     is_done(rt, "launches next and answer without memory", came)
-}
-
-fn has_stopped<G, L>(came: &GroupResult<G, L>) -> bool
-    ensures { result ≡ is_stopped came.now }
-{
-    match came {
-        GroupResult::Done { .. } => false,
-        GroupResult::Stopped { .. } => true,
-    }
 }
 
 /// The results of the groups of a launch, each run by itself, up to and with the first that stops.

@@ -1,2 +1,1 @@
-mod Leading
 mod Names

@@ -90,11 +90,7 @@ fn tell_logs<L: Accesses>(
     told: &mut Told,
 ) -> Result<(), AllocError> {
     for came in results {
-        match came {
-            GroupResult::Done { log, .. } | GroupResult::Stopped { log, .. } => {
-                tell_log(alloc, log, told)?;
-            }
-        }
+        tell_log(alloc, &came.log, told)?;
     }
     Ok(())
 }

@@ -7,28 +7,17 @@ ghost use Rattle.item_step.specs.Launches.{setup_of};
 ghost use Rattle.launches.specs.Groups.{HasGroups};
 ghost use Rattle.snapshot_merge.specs.Launches.{AreResults};
 ghost use Rattle.spaces_base.specs.Buffers.{bytes_in};
-ghost use Rattle.same_logs.specs.Stopping.{is_stopped};
 
 use crate::logs::NewLog;
 use group_run::GroupResult;
 use item_step::Launch;
-use snapshot_merge::{group_count, one_group};
+use snapshot_merge::{group_count, has_stopped, one_group};
 use spaces::Overlay;
 use spaces_base::Buffers;
 use std::alloc::{AllocError, Global};
 
 /// The results of a launch's work-groups.
 pub type Results<'a, L> = Vec<GroupResult<Overlay<'a>, L>>;
-
-/// Whether a group has stopped.
-fn has_stopped<G, L>(came: &GroupResult<G, L>) -> bool
-    ensures { result ≡ is_stopped came.now }
-{
-    match came {
-        GroupResult::Done { .. } => false,
-        GroupResult::Stopped { .. } => true,
-    }
-}
 
 /// The groups of a launch run apart, up to and with the first that stops.
 pub fn run_groups<'a, L: NewLog>(

@@ -8,7 +8,7 @@ use clmodel::text::Bytes;
 use counted_io::pieces::{Piece, write_pieces};
 use counted_io::{Write, WriteFailed};
 use fault_facts::Gathered;
-use group_run::GroupResult;
+use group_run::{GroupEnd, GroupResult};
 use spaces::{Overlay, Space};
 
 const DIGITS: [u8; 16] = *b"0123456789abcdef";
@@ -63,25 +63,15 @@ fn tell_result<L>(
     came: &GroupResult<Overlay<'_>, L>,
     text: &mut Gathered,
 ) -> Result<(), WriteFailed> {
-    match came {
-        GroupResult::Done {
-            group,
-            spaces,
-            runs,
-            ..
-        } => {
-            write_pieces(&[Piece::Number32(*group), Piece::Text(" done\n")], text)?;
+    match &came.end {
+        GroupEnd::Done(spaces) => {
+            write_pieces(&[Piece::Number32(came.group), Piece::Text(" done\n")], text)?;
             tell_spaces(spaces.as_slice(), text)?;
-            tell_runs(runs, text)
+            tell_runs(&came.runs, text)
         }
-        GroupResult::Stopped {
-            group,
-            fault,
-            runs,
-            ..
-        } => {
-            write_pieces(&[Piece::Number32(*group), Piece::Text(" ")], text)?;
-            fault_lines::write(fault, runs, text)
+        GroupEnd::Stopped(fault) => {
+            write_pieces(&[Piece::Number32(came.group), Piece::Text(" ")], text)?;
+            fault_lines::write(fault, &came.runs, text)
         }
     }
 }

@@ -4,7 +4,6 @@ ghost use Rattle.std.specs.Prelude.{◌≡◌, ◌*◌, ◌<◌};
 ghost use Rattle.clmodel.specs.Setup.{item_count, group_items};
 ghost use Rattle.item_step.specs.Launches.{setup_of};
 ghost use Rattle.launches.specs.Groups.{HasGroups};
-ghost use Rattle.tests.specs.Merges.{is_stopped};
 
 use clmodel::access::Clash;
 use clmodel::fault::Fault;
@@ -12,13 +11,12 @@ use clmodel::outcome::Outcome;
 use clmodel::schedule::EventRun;
 use clmodel::setup::{Argument, Range};
 use clmodel::text::{Bytes, Name, Numbers};
-use group_run::GroupResult;
 use host_commands::build::{NotBuilt, build};
 use host_commands::ranges::{group_items, is_bad_dimension, is_bad_group, is_too_many};
 use item_step::{Launch, Setup, is_local_too_large};
 use lower::lower_kernel;
 use shadow_list::ListLog;
-use snapshot_merge::{merge, one_group, run_launch};
+use snapshot_merge::{has_stopped, merge, one_group, run_launch};
 use spaces_base::Buffers;
 use std::alloc::{AllocError, Global};
 use std::test::Fail;
@@ -73,15 +71,6 @@ const ROWS: [(&str, [u8; 4], Expected); 4] = [
         Expected::Clean([3, 6, 2, 9]),
     ),
 ];
-
-fn has_stopped<G, L>(came: &GroupResult<G, L>) -> bool
-    ensures { result ≡ is_stopped came.now }
-{
-    match came {
-        GroupResult::Done { .. } => false,
-        GroupResult::Stopped { .. } => true,
-    }
-}
 
 /// The groups of a launch run apart, up to and with the first that stops, and merged.
 fn merged(

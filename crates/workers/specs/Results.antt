@@ -1,9 +1,8 @@
 -- Results of a launch's work-groups, each run apart (OpenCL 1.2, 3.2, 5.8; own).
-use Rattle.std.specs.Prelude.{◌≡◌, ◌-◌, ℕ, Bool, true, false, Some, List, nat_lt, if◌then◌else◌}
+use Rattle.std.specs.Prelude.{◌≡◌, ◌-◌, ℕ, Some, List, nat_lt, if◌then◌else◌}
 use Rattle.clmodel.specs.Launch.{Launch}
 use Rattle.clmodel.specs.declared.fault.Fault.{Fault}
 use Rattle.group_run.specs.declared.result.GroupResult.{GroupResult}
-use Rattle.group_run.specs.declared.result.GroupResult.TheVariants.{Done, Stopped}
 use Rattle.joining.specs.Parts.{Part, IsPart}
 use Rattle.joining.specs.Steps.{HasGroup}
 use Rattle.shadow.specs.declared.group_accesses.LastingList.{LastingList}
@@ -26,16 +25,6 @@ AreOfRound = AreResultsTo (λ overlay. overlay.bytes) (λ list. list.entries.ite
 abbrev pub IsStopping : Launch → ℕ → Type 0
 IsStopping launch group = (part : Part) × (fault : Fault) × IsPart launch group part × (part.stopped ≡ Some fault)
 
--- the number of the group that came (own)
-abbrev pub number_of : {G L : Type 0} → GroupResult G L → ℕ
-number_of (Done number spaces log runs) = number
-number_of (Stopped number fault log runs) = number
-
 -- the place of a group among so many that follow one another from the first on: a group below the first has a place behind the last, where none of them is (own)
 abbrev pub place_among : ℕ → ℕ → ℕ → ℕ
 place_among first count group = if nat_lt group first then count else group - first
-
--- the group that came has stopped (own)
-abbrev pub has_stopped : {G L : Type 0} → GroupResult G L → Bool
-has_stopped (Done number spaces log runs) = false
-has_stopped (Stopped number fault log runs) = true

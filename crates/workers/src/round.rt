@@ -8,9 +8,9 @@ ghost use Rattle.group_run.specs.Results.{IsResult};
 ghost use Rattle.item_step.specs.Launches.{setup_of};
 ghost use Rattle.launches.specs.Groups.{HasGroups};
 ghost use Rattle.shadow.specs.Lasting.{StandsWith};
-ghost use Rattle.snapshot_merge.specs.Launches.{group_log};
+ghost use Rattle.snapshot_merge.specs.Launches.{group_log, is_stopped};
 ghost use Rattle.spaces_base.specs.Buffers.{bytes_in};
-ghost use Rattle.workers.specs.Results.{IsListed, IsOfGroup, IsStopping, number_of, place_among, has_stopped};
+ghost use Rattle.workers.specs.Results.{IsListed, IsOfGroup, IsStopping, place_among};
 
 use crate::spare::SpareLogs;
 use group_log::GroupLog;
@@ -18,7 +18,7 @@ use group_run::GroupResult;
 use item_step::Launch;
 use joining::one_part;
 use shadow::LastingList;
-use snapshot_merge::one_group;
+use snapshot_merge::{has_stopped, one_group};
 use spaces::Overlay;
 use spaces_base::Buffers;
 use std::alloc::{AllocError, Global};
@@ -85,36 +85,19 @@ fn shortened<'a>(
 ) -> Result<GroupResult<Overlay<'a>, LastingList>, AllocError>
     ensures { (launch : TheLaunch) (group : ℕ) → IsResult (λ overlay. overlay.bytes) group_log launch group came.entry → IfOk result (IsListed launch group) }
 {
-    match came {
-        GroupResult::Done {
-            group,
-            spaces,
-            log,
-            runs,
-        } => {
-            let log = listed(alloc, spares, log)?;
-            Ok(GroupResult::Done {
-                group,
-                spaces,
-                log,
-                runs,
-            })
-        }
-        GroupResult::Stopped {
-            group,
-            fault,
-            log,
-            runs,
-        } => {
-            let log = listed(alloc, spares, log)?;
-            Ok(GroupResult::Stopped {
-                group,
-                fault,
-                log,
-                runs,
-            })
-        }
-    }
+    let GroupResult {
+        group,
+        log,
+        runs,
+        end,
+    } = came;
+    let log = listed(alloc, spares, log)?;
+    Ok(GroupResult {
+        group,
+        log,
+        runs,
+        end,
+    })
 }
 
 impl<'a> Work for Round<'a, '_> {
@@ -126,9 +109,9 @@ impl<'a> Work for Round<'a, '_> {
 
     ghost stops = { λ w n. IsStopping (launch_of (setup_of w.launch.now) (bytes_in w.buffers.now)) (w.first + n) };
 
-    ghost number_of = { λ w came. place_among w.first w.count (number_of came) };
+    ghost number_of = { λ w came. place_among w.first w.count came.group };
 
-    ghost is_stopped = { has_stopped };
+    ghost is_stopped = { is_stopped };
 
     fn group_count(&self) -> u32 {
         self.count
@@ -146,23 +129,16 @@ impl<'a> Work for Round<'a, '_> {
     }
 
     fn number(&self, came: &GroupResult<Overlay<'a>, LastingList>) -> u32 {
-        let group = match came {
-            GroupResult::Done { group, .. } => *group,
-            GroupResult::Stopped { group, .. } => *group,
-        };
-        if group < self.first {
+        if came.group < self.first {
             return self.count;
         }
-        group - self.first
+        came.group - self.first
     }
 
     fn stopped(came: &GroupResult<Overlay<'a>, LastingList>) -> bool
-        ensures { result ≡ has_stopped came.now }
+        ensures { result ≡ is_stopped came.now }
     {
-        match came {
-            GroupResult::Done { .. } => false,
-            GroupResult::Stopped { .. } => true,
-        }
+        has_stopped(came)
     }
 
     fn laws(&self) {

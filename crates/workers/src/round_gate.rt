@@ -1,6 +1,5 @@
-//! The gate as the workers of a round call it, and as one worker does.
+//! The gate as the workers of a round call it.
 
-use snapshot_merge::Around;
 use workers_draw::gate::Gate;
 
 /// A gate that is called with the numbers of a round's groups among all groups of the launch.
@@ -18,21 +17,5 @@ impl<G: Gate> Gate for RoundGate<'_, G> {
 
     fn leave(&self, group: u32) {
         self.gate.leave(self.first.wrapping_add(group));
-    }
-}
-
-/// A gate that is called around each group of a launch.
-#[derive(Drop)]
-pub(crate) struct GateAround<'a, G> {
-    pub(crate) gate: &'a G,
-}
-
-impl<G: Gate> Around for GateAround<'_, G> {
-    fn before(&self, group: u32) {
-        self.gate.enter(group);
-    }
-
-    fn after(&self, group: u32) {
-        self.gate.leave(group);
     }
 }

@@ -5,7 +5,7 @@ ghost use Rattle.std.specs.Prelude.{◌≤◌};
 
 use crate::overlap::Results;
 use clmodel::schedule::{EventRun, Schedule};
-use group_run::GroupResult;
+use group_run::{GroupEnd, GroupResult};
 use shadow::{GroupAccesses, LastingList};
 use spaces::Overlay;
 
@@ -60,11 +60,12 @@ fn changed_bytes_of(buffers: &Vec<Overlay<'_>>) -> usize {
 
 /// How many bytes a result takes, about.
 fn bytes_of(came: &GroupResult<Overlay<'_>, LastingList>) -> usize {
-    let (accesses, changes) = match came {
-        GroupResult::Done { log, spaces, .. } => (log.len(), changed_bytes_of(spaces)),
-        GroupResult::Stopped { log, .. } => (log.len(), 0),
+    let changes = match &came.end {
+        GroupEnd::Done(spaces) => changed_bytes_of(spaces),
+        GroupEnd::Stopped(_) => 0,
     };
-    accesses
+    came.log
+        .len()
         .saturating_mul(ACCESS_BYTES)
         .saturating_add(changes)
         .saturating_add(BYTES_BESIDE)
@@ -92,11 +93,7 @@ fn event_count(runs: &Schedule) -> u64 {
 
 /// Whether the join of such a group takes long beside its run: it keeps more accesses than half of its events.
 fn joins_slowly(came: &GroupResult<Overlay<'_>, LastingList>) -> bool {
-    let (kept, runs) = match came {
-        GroupResult::Done { log, runs, .. } => (log.len(), runs),
-        GroupResult::Stopped { log, runs, .. } => (log.len(), runs),
-    };
-    kept as u64 > event_count(runs) / 2
+    came.log.len() as u64 > event_count(&came.runs) / 2
 }
 
 /// How many groups the first round has, which tells how much the others will keep.

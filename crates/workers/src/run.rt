@@ -1,43 +1,25 @@
 //! The run of a launch by several workers.
 
-ghost use Rattle.std.specs.Prelude.{◌≡◌, ◌*◌, ◌<◌, ◌≤◌, IfOk};
+ghost use Rattle.std.specs.Prelude.{◌≤◌, IfOk};
 ghost use Rattle.clmodel.specs.Next.{launch_of};
 ghost use Rattle.clmodel.specs.Outcome.{Concludes};
-ghost use Rattle.clmodel.specs.Setup.{item_count, group_items};
 ghost use Rattle.item_step.specs.Launches.{setup_of};
 ghost use Rattle.launches.specs.Groups.{HasGroups};
-ghost use Rattle.snapshot_merge.specs.Rounds.{CameOfRound};
 ghost use Rattle.spaces_base.specs.Buffers.{bytes_in};
 
 use crate::overlap::{join_and_run, run_round};
-use crate::round_gate::GateAround;
 use crate::round_size::{first_round, next_round};
 use crate::spare::SpareLogs;
 use clmodel::outcome::Outcome;
 use item_step::Launch;
 use snapshot_merge::{
-    JoinedGroups, RoundEnd, group_count, join_round, joined_groups_conclude, run_launch_around,
+    JoinedGroups, RoundEnd, group_count, join_round, outcome_of, run_launch_around,
 };
 use spaces_base::Buffers;
 use std::alloc::{AllocError, Global};
 use std::sync::Wait;
 use std::thread::Threads;
 use workers_draw::gate::Gate;
-
-/// What a launch comes to, of which all groups are joined or one brought a report.
-fn outcome_of(launch: &Launch<'_>, buffers: &Buffers, end: RoundEnd<'_>, groups: u32) -> Outcome
-    requires whole { HasGroups (setup_of launch.now) }
-    requires some { 0 < group_items (setup_of launch.now).range }
-    requires all { groups * group_items (setup_of launch.now).range ≡ item_count (setup_of launch.now).range }
-    requires end { CameOfRound (launch_of (setup_of launch.now) (bytes_in buffers.now)) groups end }
-    ensures { Concludes (launch_of (setup_of launch.now) (bytes_in buffers.now)) result }
-{
-    joined_groups_conclude();
-    match end {
-        RoundEnd::Goes(joined) => Outcome::Clean(joined.into_contents()),
-        RoundEnd::Ends(outcome) => outcome,
-    }
-}
 
 /// The canonical run of a launch by some workers, in rounds. The calling thread joins the groups of a round in their order while the others
 /// run the next, and then works with them. The logs of groups that are done serve further groups, of all rounds.
@@ -68,7 +50,7 @@ fn run_rounds<G: Gate, R: Threads + Wait + Sync>(
             rt, alloc, launch, buffers, &spares, workers, gate, so_far, results, first, last, end,
         );
         match joined? {
-            RoundEnd::Goes(joined) => so_far = joined,
+            RoundEnd::Continues(joined) => so_far = joined,
             RoundEnd::Ends(outcome) => return Ok(outcome),
         }
         results = next?;
@@ -97,7 +79,7 @@ pub fn run_parallel<G: Gate, R: Threads + Wait + Sync>(
     ensures { IfOk result (Concludes (launch_of (setup_of launch.now) (bytes_in buffers.now))) }
 {
     if workers == 1 {
-        run_launch_around(alloc, launch, buffers, &GateAround { gate })
+        run_launch_around(alloc, launch, buffers, gate)
     } else {
         run_rounds(rt, alloc, launch, buffers, workers, gate)
     }

@@ -1,7 +1,9 @@
-use Rattle.std.proofs.Common.{◌≡◌, ℕ, ◌≤◌, Some, length, ap, sym, ◌∙◌, subst}
+use Rattle.std.proofs.Common.{◌≡◌, ℕ, ◌≤◌, List, Some, length, ap, sym, ◌∙◌, subst}
 use Rattle.clmodel.specs.Tree.{program}
 use Rattle.clmodel.specs.Typing.Sizes.{parameter_limit}
+use Rattle.clmodel.specs.declared.tree.Parameter.{Parameter}
 use Rattle.lower.specs.Lowers.{IsLowered}
+use Rattle.host_commands.specs.Kernels.{new_kernel}
 use Rattle.spaces_base.specs.Tables.{find}
 use Rattle.device.specs.declared.compiled.CompiledKernel.{CompiledKernel}
 use Rattle.device.proofs.Kept.{kept_after_kernel, made_has_few, made_is_compiled}
@@ -11,13 +13,15 @@ pub invariant_of-self : goal.invariant_of-self
 invariant_of-self c =
     let device = c.args.self.now in
     let checked = c.in-Some.checked.now in
+    let function = c.in-Some-kernel.found.function.now in
     let compiled : CompiledKernel = record { kernel = c.in_ok-kernel.kernel; code = c.in_ok-code.code } in
     let found : find device.programs compiled.kernel.program ≡ Some checked =
     ap (λ k. find device.programs k.program) c.in_ok-kernel.ensures ∙ sym c.in-Some.ensures.kept in
     let lowered : IsLowered (program checked.tree) compiled.kernel.function compiled.code =
     subst (λ (n : ℕ). IsLowered (program checked.tree) n compiled.code) (sym (ap (λ k. k.function) c.in_ok-kernel.ensures)) c.in_ok-code.ensures in
     let few : length compiled.kernel.arguments ≤ parameter_limit =
-    made_has_few checked c.in-Some-kernel.found.place c.in-Some-kernel.found.function.now c.args.program compiled.kernel c.in-Some-kernel.ensures.placed c.in_ok-kernel.ensures in
+    made_has_few checked c.in-Some-kernel.found.place function c.args.program compiled.kernel c.in-Some-kernel.ensures.placed
+    (c.in_ok-kernel.ensures ∙ ap (λ (ps : List Parameter). new_kernel c.args.program function.name (length ps)) c.as_slice-count.ensures.value) in
     record {
       kept =
           kept_after_kernel device.programs device.kernels c.insert.new.self c.args.name compiled c.insert.result device.kept (made_is_compiled device.programs compiled checked found lowered few)

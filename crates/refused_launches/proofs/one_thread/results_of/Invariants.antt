@@ -2,7 +2,7 @@ use Rattle.clmodel.specs.Next.{launch_of}
 use Rattle.item_step.specs.Launches.{setup_of}
 use Rattle.snapshot_merge.specs.Launches.{list_log}
 use Rattle.spaces_base.specs.Buffers.{bytes_in}
-use Rattle.refused_launches.proofs.Leading.{Lead}
+use Rattle.snapshot_merge.proofs.Leading.{Lead}
 use Rattle.refused_launches.proofs.one_thread.results_of.Given as goal
 
 abbrev pub invariant-loop-group : goal.invariant-loop-group

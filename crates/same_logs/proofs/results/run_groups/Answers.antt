@@ -7,7 +7,7 @@ use Rattle.joining.specs.Steps.{HasGroup}
 use Rattle.snapshot_merge.specs.Launches.{AreResults}
 use Rattle.snapshot_merge.proofs.Ending.{below_there}
 use Rattle.spaces_base.specs.Buffers.{bytes_in}
-use Rattle.same_logs.proofs.Leading.{Lead, lead_more, lead_stopped, lead_all}
+use Rattle.snapshot_merge.proofs.Leading.{Lead, lead_more, lead_stopped, lead_all}
 use Rattle.same_logs.proofs.results.run_groups.Goals as goal
 
 pub loop-group-init : goal.loop-group-init

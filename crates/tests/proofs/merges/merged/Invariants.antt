@@ -2,7 +2,7 @@ use Rattle.clmodel.specs.Next.{launch_of}
 use Rattle.item_step.specs.Launches.{setup_of}
 use Rattle.snapshot_merge.specs.Launches.{list_log}
 use Rattle.spaces_base.specs.Buffers.{bytes_in}
-use Rattle.tests.proofs.Leading.{Lead}
+use Rattle.snapshot_merge.proofs.Leading.{Lead}
 use Rattle.tests.proofs.merges.merged.Given as goal
 
 abbrev pub invariant-loop-group : goal.invariant-loop-group
