@@ -1,9 +1,14 @@
 #!/bin/sh
-# Runs each script that is named with $CLSIM, and shows the faults and refusals, each with its explanation. Where $SARIF names a file, the
-# explanations are written there as SARIF 2.1.0, which takes Python 3. Status 0 if there are none, else 1, and 2 where there is no
-# such program or the file can't be written.
-if ! command -v "${CLSIM:-}" >/dev/null; then
-    echo "ci.sh: no program: CLSIM=${CLSIM:-}" >&2
+# Runs each script that is named with $CLSIM, or with the clsim on the path, and shows the faults and refusals, each with its explanation.
+# Where $SARIF names a file, the explanations are written there as SARIF 2.1.0, which takes Python 3. Status 0 if there are none, else 1,
+# and 2 where there is no such program, no script is named, or the file can't be written.
+CLSIM=${CLSIM:-clsim}
+if ! command -v "$CLSIM" >/dev/null; then
+    echo "ci.sh: no program: $CLSIM" >&2
+    exit 2
+fi
+if [ $# -eq 0 ]; then
+    echo "ci.sh: no scripts" >&2
     exit 2
 fi
 explained=$(mktemp) || exit 2

@@ -146,7 +146,7 @@ CL_API_ENTRY cl_int CL_API_CALL clEnqueueReadBuffer(cl_command_queue q, cl_mem m
     MEMBER(m);
     if (!to || !n || is_outside(m, offset, n)) return CL_INVALID_VALUE;
     if (m->flags & (CL_MEM_HOST_NO_ACCESS | CL_MEM_HOST_WRITE_ONLY)) return CL_INVALID_OPERATION;
-    return finish(q, CL_COMMAND_READ_BUFFER, ask_read(m->context, m->number, offset, to, n), start, event);
+    return finish(&made, CL_COMMAND_READ_BUFFER, ask_read(m->context, m->number, offset, to, n), event);
 }
 CL_API_ENTRY cl_int CL_API_CALL clEnqueueWriteBuffer(cl_command_queue q, cl_mem m, cl_bool blocking, size_t offset,
                                                      size_t n, const void *from, cl_uint wait_count,
@@ -156,8 +156,7 @@ CL_API_ENTRY cl_int CL_API_CALL clEnqueueWriteBuffer(cl_command_queue q, cl_mem 
     MEMBER(m);
     if (!from || !n || is_outside(m, offset, n)) return CL_INVALID_VALUE;
     if (m->flags & (CL_MEM_HOST_NO_ACCESS | CL_MEM_HOST_READ_ONLY)) return CL_INVALID_OPERATION;
-    return finish(q, CL_COMMAND_WRITE_BUFFER, error_of(ask_write(m->context, m->number, offset, from, n)), start,
-                  event);
+    return finish(&made, CL_COMMAND_WRITE_BUFFER, error_of(ask_write(m->context, m->number, offset, from, n)), event);
 }
 CL_API_ENTRY cl_int CL_API_CALL clEnqueueFillBuffer(cl_command_queue q, cl_mem m, const void *pattern, size_t length,
                                                     size_t offset, size_t n, cl_uint wait_count,
@@ -170,7 +169,7 @@ CL_API_ENTRY cl_int CL_API_CALL clEnqueueFillBuffer(cl_command_queue q, cl_mem m
     char hex[2 * 128 + 1] = "";
     put_digits(hex, pattern, length);
     const char *reply = session_askf(q->context->session, "fill b%u %zu %zu %s\n", m->number, offset, n, hex);
-    return finish(q, CL_COMMAND_FILL_BUFFER, error_of(reply), start, event);
+    return finish(&made, CL_COMMAND_FILL_BUFFER, error_of(reply), event);
 }
 CL_API_ENTRY cl_int CL_API_CALL clEnqueueCopyBuffer(cl_command_queue q, cl_mem m, cl_mem target, size_t offset,
                                                     size_t to, size_t n, cl_uint wait_count, const cl_event *wait_list,
@@ -181,37 +180,67 @@ CL_API_ENTRY cl_int CL_API_CALL clEnqueueCopyBuffer(cl_command_queue q, cl_mem m
     if (!n || is_outside(m, offset, n) || is_outside(target, to, n)) return CL_INVALID_VALUE;
     const char *reply =
         session_askf(q->context->session, "copy b%u %zu b%u %zu %zu\n", m->number, offset, target->number, to, n);
-    return finish(q, CL_COMMAND_COPY_BUFFER, error_of(reply), start, event);
+    return finish(&made, CL_COMMAND_COPY_BUFFER, error_of(reply), event);
 }
 
 // Rectangles go row by row.
 
-static size_t at_of(const size_t *origin, size_t row, size_t slice) {
-    return origin[2] * slice + origin[1] * row + origin[0];
+// A rectangle in a buffer or in the client's memory: `count` rows of `width` bytes, `rows` of them in each slice.
+typedef struct {
+    size_t first, width, rows, count, row, slice; // `row` and `slice` are from one to the next
+} rectangle;
+
+// The first byte of a row. They ascend, and rows have no byte in common.
+static size_t row_at(const rectangle *a, size_t n) { return a->first + n / a->rows * a->slice + n % a->rows * a->row; }
+
+// Takes a rectangle as a client gives it. False where rows would have bytes in common, or a number is too large.
+static bool take_rectangle(rectangle *a, const size_t *origin, const size_t *region, size_t row, size_t slice) {
+    size_t least, z, y, last;
+    if (!row) row = region[0];
+    if (row < region[0] || __builtin_mul_overflow(region[1], row, &least)) return false;
+    if (!slice) slice = least;
+    *a = (rectangle){.width = region[0], .rows = region[1], .row = row, .slice = slice};
+    if (slice < least || __builtin_mul_overflow(region[1], region[2], &a->count) ||
+        __builtin_add_overflow(origin[2], region[2], &z) || __builtin_mul_overflow(z, slice, &z) ||
+        __builtin_add_overflow(origin[1], region[1], &y) || __builtin_mul_overflow(y, row, &y) ||
+        __builtin_add_overflow(z, y, &last) || __builtin_add_overflow(last, origin[0], &last) ||
+        __builtin_add_overflow(last, region[0], &last))
+        return false;
+    a->first = origin[2] * slice + origin[1] * row + origin[0];
+    return true;
 }
-// Reads into `to`, writes `from`, or copies into the buffer `target`. What is outside is found before anything is done.
+static bool leaves(cl_mem m, const rectangle *a) { return is_outside(m, row_at(a, a->count - 1), a->width); }
+
+// Whether two rectangles have a byte in common (OpenCL 1.2, 5.2.2). Each row is looked at once, since rows ascend.
+static bool overlap(const rectangle *a, const rectangle *b) {
+    for (size_t i = 0, j = 0; i < a->count && j < b->count;) {
+        size_t x = row_at(a, i), y = row_at(b, j);
+        if (x + a->width <= y) i++;
+        else if (y + b->width <= x) j++;
+        else return true;
+    }
+    return false;
+}
+
+// Reads into `to`, writes `from`, or copies into the buffer `target`. What is wrong is found before anything is done.
 static cl_int rect(cl_mem m, cl_mem target, const size_t *o, const size_t *p, const size_t *r, size_t row, size_t slice,
                    size_t row2, size_t slice2, char *to, const char *from) {
+    rectangle a, b;
     if (!o || !p || !r || !r[0] || !r[1] || !r[2]) return CL_INVALID_VALUE;
-    if (!row) row = r[0];
-    if (!slice) slice = r[1] * row;
-    if (!row2) row2 = r[0];
-    if (!slice2) slice2 = r[1] * row2;
-    if (row < r[0] || row2 < r[0] || slice < r[1] * row || slice2 < r[1] * row2) return CL_INVALID_VALUE;
-    size_t last = at_of(o, row, slice) + (r[2] - 1) * slice + (r[1] - 1) * row,
-           last2 = at_of(p, row2, slice2) + (r[2] - 1) * slice2 + (r[1] - 1) * row2;
-    if (is_outside(m, last, r[0]) || (target && is_outside(target, last2, r[0]))) return CL_INVALID_VALUE;
-    for (size_t z = 0; z < r[2]; z++)
-        for (size_t y = 0; y < r[1]; y++) {
-            size_t a = at_of(o, row, slice) + z * slice + y * row, b = at_of(p, row2, slice2) + z * slice2 + y * row2;
-            cl_int fault;
-            if (to) fault = ask_read(m->context, m->number, a, to + b, r[0]);
-            else if (from) fault = error_of(ask_write(m->context, m->number, a, from + b, r[0]));
-            else
-                fault = error_of(session_askf(m->context->session, "copy b%u %zu b%u %zu %zu\n", m->number, a,
-                                              target->number, b, r[0]));
-            if (fault) return fault;
-        }
+    if (!take_rectangle(&a, o, r, row, slice) || !take_rectangle(&b, p, r, row2, slice2)) return CL_INVALID_VALUE;
+    if (leaves(m, &a) || (target && leaves(target, &b))) return CL_INVALID_VALUE;
+    if (m == target && a.row != b.row && a.slice != b.slice) return CL_INVALID_VALUE;
+    if (m == target && overlap(&a, &b)) return CL_MEM_COPY_OVERLAP;
+    for (size_t n = 0; n < a.count; n++) {
+        size_t x = row_at(&a, n), y = row_at(&b, n);
+        cl_int fault;
+        if (to) fault = ask_read(m->context, m->number, x, to + y, a.width);
+        else if (from) fault = error_of(ask_write(m->context, m->number, x, from + y, a.width));
+        else
+            fault = error_of(session_askf(m->context->session, "copy b%u %zu b%u %zu %zu\n", m->number, x,
+                                          target->number, y, a.width));
+        if (fault) return fault;
+    }
     return CL_SUCCESS;
 }
 CL_API_ENTRY cl_int CL_API_CALL clEnqueueReadBufferRect(cl_command_queue q, cl_mem m, cl_bool blocking, const size_t *o,
@@ -221,8 +250,8 @@ CL_API_ENTRY cl_int CL_API_CALL clEnqueueReadBufferRect(cl_command_queue q, cl_m
     BEGIN;
     (void)blocking;
     MEMBER(m);
-    return finish(q, CL_COMMAND_READ_BUFFER_RECT,
-                  to ? rect(m, NULL, o, h, r, row, slice, hrow, hslice, to, NULL) : CL_INVALID_VALUE, start, event);
+    return finish(&made, CL_COMMAND_READ_BUFFER_RECT,
+                  to ? rect(m, NULL, o, h, r, row, slice, hrow, hslice, to, NULL) : CL_INVALID_VALUE, event);
 }
 CL_API_ENTRY cl_int CL_API_CALL clEnqueueWriteBufferRect(cl_command_queue q, cl_mem m, cl_bool blocking,
                                                          const size_t *o, const size_t *h, const size_t *r, size_t row,
@@ -232,8 +261,8 @@ CL_API_ENTRY cl_int CL_API_CALL clEnqueueWriteBufferRect(cl_command_queue q, cl_
     BEGIN;
     (void)blocking;
     MEMBER(m);
-    return finish(q, CL_COMMAND_WRITE_BUFFER_RECT,
-                  from ? rect(m, NULL, o, h, r, row, slice, hrow, hslice, NULL, from) : CL_INVALID_VALUE, start, event);
+    return finish(&made, CL_COMMAND_WRITE_BUFFER_RECT,
+                  from ? rect(m, NULL, o, h, r, row, slice, hrow, hslice, NULL, from) : CL_INVALID_VALUE, event);
 }
 CL_API_ENTRY cl_int CL_API_CALL clEnqueueCopyBufferRect(cl_command_queue q, cl_mem m, cl_mem target, const size_t *o,
                                                         const size_t *p, const size_t *r, size_t row, size_t slice,
@@ -242,7 +271,7 @@ CL_API_ENTRY cl_int CL_API_CALL clEnqueueCopyBufferRect(cl_command_queue q, cl_m
     BEGIN;
     MEMBER(m);
     MEMBER(target);
-    return finish(q, CL_COMMAND_COPY_BUFFER_RECT, rect(m, target, o, p, r, row, slice, row2, slice2, NULL, NULL), start,
+    return finish(&made, CL_COMMAND_COPY_BUFFER_RECT, rect(m, target, o, p, r, row, slice, row2, slice2, NULL, NULL),
                   event);
 }
 
@@ -259,10 +288,13 @@ CL_API_ENTRY void *CL_API_CALL clEnqueueMapBuffer(cl_command_queue q, cl_mem m, 
     cl_int fault = waits(q->context, wait_count, wait_list);
     if (fault) return fail(errcode, fault);
     if (!n || is_outside(m, offset, n)) return fail(errcode, CL_INVALID_VALUE);
+    __attribute__((cleanup(drop_made))) cl_event made = event ? begun_event(q, start) : NULL;
+    if (event && !made) return fail(errcode, CL_OUT_OF_HOST_MEMORY);
     mapping *map = calloc(1, sizeof *map);
     void *at = m->host ? (char *)m->host + offset : aligned_alloc(128, (n + 127) / 128 * 128);
     if (!map || !at) {
         free(map);
+        if (!m->host) free(at);
         return fail(errcode, CL_MAP_FAILURE);
     }
     if (!(flags & CL_MAP_WRITE_INVALIDATE_REGION)) fault = ask_read(m->context, m->number, offset, at, n);
@@ -273,8 +305,8 @@ CL_API_ENTRY void *CL_API_CALL clEnqueueMapBuffer(cl_command_queue q, cl_mem m, 
     }
     *map = (mapping){m->mappings, at, offset, n, flags};
     m->mappings = map;
-    fault = finish(q, CL_COMMAND_MAP_BUFFER, CL_SUCCESS, start, event);
-    if (errcode) *errcode = fault;
+    finish(&made, CL_COMMAND_MAP_BUFFER, CL_SUCCESS, event);
+    done(errcode);
     return at;
 }
 CL_API_ENTRY cl_int CL_API_CALL clEnqueueUnmapMemObject(cl_command_queue q, cl_mem m, void *at, cl_uint wait_count,
@@ -285,13 +317,14 @@ CL_API_ENTRY cl_int CL_API_CALL clEnqueueUnmapMemObject(cl_command_queue q, cl_m
     while (*link && (*link)->at != at) link = &(*link)->next;
     if (!*link) return CL_INVALID_VALUE;
     mapping *map = *link;
-    cl_int fault = CL_SUCCESS;
-    if (map->flags & (CL_MAP_WRITE | CL_MAP_WRITE_INVALIDATE_REGION))
-        fault = error_of(ask_write(m->context, m->number, map->offset, at, map->size));
+    if (map->flags & (CL_MAP_WRITE | CL_MAP_WRITE_INVALIDATE_REGION)) {
+        cl_int fault = error_of(ask_write(m->context, m->number, map->offset, at, map->size));
+        if (fault) return fault; // it stays mapped, so that what the client wrote isn't lost
+    }
     *link = map->next;
     if (!m->host) free(at);
     free(map);
-    return finish(q, CL_COMMAND_UNMAP_MEM_OBJECT, fault, start, event);
+    return finish(&made, CL_COMMAND_UNMAP_MEM_OBJECT, CL_SUCCESS, event);
 }
 CL_API_ENTRY cl_int CL_API_CALL clEnqueueMigrateMemObjects(cl_command_queue q, cl_uint n, const cl_mem *list,
                                                            cl_mem_migration_flags flags, cl_uint wait_count,
@@ -300,17 +333,17 @@ CL_API_ENTRY cl_int CL_API_CALL clEnqueueMigrateMemObjects(cl_command_queue q, c
     (void)flags;
     if (!n || !list) return CL_INVALID_VALUE;
     for (cl_uint i = 0; i < n; i++) MEMBER(list[i]);
-    return finish(q, CL_COMMAND_MIGRATE_MEM_OBJECTS, CL_SUCCESS, start, event);
+    return finish(&made, CL_COMMAND_MIGRATE_MEM_OBJECTS, CL_SUCCESS, event);
 }
 CL_API_ENTRY cl_int CL_API_CALL clEnqueueMarkerWithWaitList(cl_command_queue q, cl_uint wait_count,
                                                             const cl_event *wait_list, cl_event *event) {
     BEGIN;
-    return finish(q, CL_COMMAND_MARKER, CL_SUCCESS, start, event);
+    return finish(&made, CL_COMMAND_MARKER, CL_SUCCESS, event);
 }
 CL_API_ENTRY cl_int CL_API_CALL clEnqueueBarrierWithWaitList(cl_command_queue q, cl_uint wait_count,
                                                              const cl_event *wait_list, cl_event *event) {
     BEGIN;
-    return finish(q, CL_COMMAND_BARRIER, CL_SUCCESS, start, event);
+    return finish(&made, CL_COMMAND_BARRIER, CL_SUCCESS, event);
 }
 CL_API_ENTRY cl_int CL_API_CALL clEnqueueMarker(cl_command_queue q, cl_event *event) {
     return event ? clEnqueueMarkerWithWaitList(q, 0, NULL, event) : CL_INVALID_VALUE;

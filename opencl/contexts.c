@@ -1,5 +1,6 @@
 #define _GNU_SOURCE
 #include "objects.h"
+#include <errno.h>
 #include <stdlib.h>
 #include <string.h>
 #include <unistd.h>
@@ -34,14 +35,18 @@ clCreateContext(const cl_context_properties *properties, cl_uint n, const cl_dev
     check_settings();
     cl_context c = make_object(sizeof *c, CONTEXT);
     if (!c) return fail(errcode, CL_OUT_OF_HOST_MEMORY);
+    if (count && !(c->properties = malloc(count * sizeof *properties))) {
+        free_object(c);
+        return fail(errcode, CL_OUT_OF_HOST_MEMORY);
+    }
+    if (count) memcpy(c->properties, properties, count * sizeof *properties);
+    c->property_count = count;
     c->session = session_open();
     if (!c->session) {
+        cl_int fault = errno == ENOMEM ? CL_OUT_OF_HOST_MEMORY : CL_DEVICE_NOT_AVAILABLE;
+        free(c->properties);
         free_object(c);
-        return fail(errcode, CL_DEVICE_NOT_AVAILABLE);
-    }
-    if (count && (c->properties = malloc(count * sizeof *properties))) {
-        memcpy(c->properties, properties, count * sizeof *properties);
-        c->property_count = count;
+        return fail(errcode, fault);
     }
     c->notify = notify;
     c->user = user;
@@ -159,11 +164,29 @@ static cl_event new_event(cl_context c, cl_command_queue q, cl_command_type type
     e->queue = q;
     e->type = type;
     e->status = status;
-    e->start = start;
-    e->end = now();
+    e->start = e->end = start;
     c->uses++;
     if (q) q->uses++;
     return e;
+}
+cl_event begun_event(cl_command_queue q, cl_ulong start) { return new_event(q->context, q, 0, CL_QUEUED, start); }
+void drop_made(cl_event *made) {
+    if (!*made) return;
+    (*made)->references = 0;
+    drop_event(*made);
+    *made = NULL;
+}
+void give_event(cl_event *made, cl_command_type type, cl_int status, cl_event *event) {
+    if (!*made) return;
+    (*made)->type = type;
+    (*made)->status = status;
+    (*made)->end = now();
+    *event = *made;
+    *made = NULL;
+}
+cl_int finish(cl_event *made, cl_command_type type, cl_int status, cl_event *event) {
+    if (!status) give_event(made, type, CL_COMPLETE, event);
+    return status;
 }
 cl_int waits(cl_context c, cl_uint n, const cl_event *list) {
     if ((!n) != (!list)) return CL_INVALID_EVENT_WAIT_LIST;
@@ -177,11 +200,6 @@ cl_int waits(cl_context c, cl_uint n, const cl_event *list) {
         if (list[i]->status < 0) return CL_EXEC_STATUS_ERROR_FOR_EVENTS_IN_WAIT_LIST;
     }
     return CL_SUCCESS;
-}
-cl_int finish(cl_command_queue q, cl_command_type type, cl_int status, cl_ulong start, cl_event *event) {
-    if (event && !(*event = new_event(q->context, q, type, status ? status : CL_COMPLETE, start)))
-        return CL_OUT_OF_HOST_MEMORY;
-    return status;
 }
 CL_API_ENTRY cl_int CL_API_CALL clWaitForEvents(cl_uint n, const cl_event *list) {
     LOCKED;

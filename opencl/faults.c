@@ -250,12 +250,11 @@ static void explain(cl_kernel k, const launch_sizes *s) {
 
 // ---- the whole ----
 
-void report_fault(cl_kernel k, const char *reply, const launch_sizes *s) {
-    char global[80], local[80], *line = strdup(reply); // the reply goes with the next command
+// Tells what a fault's line, which goes with the next command, means to the client.
+static void tell_fault(cl_kernel k, const char *reply, const launch_sizes *s) {
+    char global[80], local[80], *line = strdup(reply);
     unsigned long last = 0;
     bool first = true;
-    faults++;
-    tell("%s", reply);
     if (!line) return;
     sizes_text(global, sizeof global, s->dimensions, s->global);
     sizes_text(local, sizeof local, s->dimensions, s->local);
@@ -274,6 +273,12 @@ void report_fault(cl_kernel k, const char *reply, const launch_sizes *s) {
     explain(k, s);
     if (k->context->notify) k->context->notify(line, NULL, 0, k->context->user);
     free(line);
+}
+
+void report_fault(cl_kernel k, const char *reply, const launch_sizes *s) {
+    faults++;
+    tell("%s", reply);
+    tell_fault(k, reply, s);
     const char *then = setting("CLSIM_ON_FAULT");
     if (then && !strcmp(then, "abort")) abort();
     if (then && !strcmp(then, "exit")) {

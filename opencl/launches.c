@@ -74,7 +74,7 @@ CL_API_ENTRY cl_int CL_API_CALL clEnqueueNDRangeKernel(cl_command_queue q, cl_ke
     if (fault) return fault;
     const char *reply = ask_launch(k, &sizes);
     if (!reply) return CL_DEVICE_NOT_AVAILABLE;
-    if (!strcmp(reply, "clean")) return finish(q, CL_COMMAND_NDRANGE_KERNEL, CL_SUCCESS, start, event);
+    if (!strcmp(reply, "clean")) return finish(&made, CL_COMMAND_NDRANGE_KERNEL, CL_SUCCESS, event);
     if (strncmp(reply, "fault ", 6)) {
         refuse(q->context, "kernel %s: %s", k->form->name, reply);
         return error_of(reply);
@@ -82,7 +82,7 @@ CL_API_ENTRY cl_int CL_API_CALL clEnqueueNDRangeKernel(cl_command_queue q, cl_ke
     report_fault(k, reply, &sizes);
     const char *then = setting("CLSIM_ON_FAULT");
     if (!then || strcmp(then, "go")) return FAULTED;
-    finish(q, CL_COMMAND_NDRANGE_KERNEL, FAULTED, start, event);
+    give_event(&made, CL_COMMAND_NDRANGE_KERNEL, FAULTED, event);
     return CL_SUCCESS;
 }
 CL_API_ENTRY cl_int CL_API_CALL clEnqueueTask(cl_command_queue q, cl_kernel k, cl_uint wait_count,

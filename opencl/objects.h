@@ -77,6 +77,7 @@ struct _cl_program {
     cl_context context;
     unsigned number; // p1, p2 .., 0 before it is built
     char *source, *options;
+    size_t length; // of the source, which may have a byte 0
     prepared form;
     unsigned *tables; // the numbers of the buffers of its tables
     cl_build_status status;
@@ -181,15 +182,24 @@ cl_ulong now(void); // nanoseconds
 // What a wait list comes to: every command is done when its call returns, so it holds what is done, or a user event
 // that isn't.
 cl_int waits(cl_context c, cl_uint n, const cl_event *list);
-// The end of a command: its event, if one is wanted, and its status.
-cl_int finish(cl_command_queue q, cl_command_type type, cl_int status, cl_ulong start, cl_event *event);
+// The event of a command that begins, NULL where memory is refused. It is made before the command is done, which is left
+// undone then.
+cl_event begun_event(cl_command_queue q, cl_ulong start);
+// Lets an event go that wasn't handed out.
+void drop_made(cl_event *made);
+// The end of a command: hands out its event, if one is wanted, with what became of the command.
+void give_event(cl_event *made, cl_command_type type, cl_int status, cl_event *event);
+// The same of a command whose call answers a status, which has an event only where it is done.
+cl_int finish(cl_event *made, cl_command_type type, cl_int status, cl_event *event);
 // What each command of a queue begins with.
 #define BEGIN \
     LOCKED; \
     cl_ulong start = now(); \
     if (!is_a(q, QUEUE)) return CL_INVALID_COMMAND_QUEUE; \
     cl_int waited = waits(q->context, wait_count, wait_list); \
-    if (waited) return waited
+    if (waited) return waited; \
+    __attribute__((cleanup(drop_made))) cl_event made = event ? begun_event(q, start) : NULL; \
+    if (event && !made) return CL_OUT_OF_HOST_MEMORY
 #define MEMBER(m) \
     do { \
         if (!is_a(m, MEMORY)) return CL_INVALID_MEM_OBJECT; \

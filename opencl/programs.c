@@ -33,7 +33,7 @@ COUNTED(cl_program, Program, PROGRAM, CL_INVALID_PROGRAM, drop_program)
 
 static const char binary_head[] = "CLSIM-SOURCE 1\n";
 
-static cl_program new_program(cl_context c, char *source) {
+static cl_program new_program(cl_context c, char *source, size_t length) {
     cl_program p = source ? make_object(sizeof *p, PROGRAM) : NULL;
     if (!p) {
         free(source);
@@ -41,6 +41,7 @@ static cl_program new_program(cl_context c, char *source) {
     }
     p->context = c;
     p->source = source;
+    p->length = length;
     p->status = CL_BUILD_NONE;
     c->uses++;
     return p;
@@ -60,9 +61,11 @@ CL_API_ENTRY cl_program CL_API_CALL clCreateProgramWithSource(cl_context c, cl_u
     for (cl_uint i = 0; i < n; i++) {
         size_t m = lengths && lengths[i] ? lengths[i] : strlen(texts[i]);
         memcpy(source + at, texts[i], m);
+        // a client may count a byte 0 at the end of a string along: it is as a space
+        for (size_t k = at + m; k > at && !source[k - 1]; k--) source[k - 1] = ' ';
         at += m;
     }
-    cl_program p = new_program(c, source);
+    cl_program p = new_program(c, source, all);
     if (!p) return fail(errcode, CL_OUT_OF_HOST_MEMORY);
     done(errcode);
     return p;
@@ -79,7 +82,9 @@ CL_API_ENTRY cl_program CL_API_CALL clCreateProgramWithBinary(cl_context c, cl_u
     bool good = lengths[0] >= head && !memcmp(binaries[0], binary_head, head);
     if (states) states[0] = good ? CL_SUCCESS : CL_INVALID_BINARY;
     if (!good) return fail(errcode, CL_INVALID_BINARY);
-    cl_program p = new_program(c, strndup((const char *)binaries[0] + head, lengths[0] - head));
+    char *source = calloc(1, lengths[0] - head + 1);
+    if (source) memcpy(source, binaries[0] + head, lengths[0] - head);
+    cl_program p = new_program(c, source, lengths[0] - head);
     if (!p) return fail(errcode, CL_OUT_OF_HOST_MEMORY);
     done(errcode);
     return p;
@@ -102,9 +107,11 @@ static cl_int make_tables(cl_program p) {
     for (unsigned i = 0; i < form->table_count; i++) {
         unsigned number = ++c->names;
         cl_int fault = error_of(session_askf(c->session, "buffer b%u %zu\n", number, form->tables[i].size));
-        if (!fault) fault = error_of(ask_write(c, number, 0, form->tables[i].bytes, form->tables[i].size));
+        bool made = !fault;
+        if (made) fault = error_of(ask_write(c, number, 0, form->tables[i].bytes, form->tables[i].size));
         if (fault) {
             refuse(c, "no buffer for the table %s", form->tables[i].name);
+            if (made) session_askf(c->session, "release b%u\n", number);
             for (unsigned k = 0; k < i; k++) session_askf(c->session, "release b%u\n", p->tables[k]);
             free(p->tables);
             p->tables = NULL;
@@ -139,6 +146,10 @@ static cl_int build(cl_program p, const char *options) {
     release_built(p);
     p->status = CL_BUILD_ERROR;
     p->options = strdup(options ? options : "");
+    if (strlen(p->source) != p->length) { // what stands behind it would be left out
+        p->form.log = "source: error: a byte 0 stands in the source\n";
+        return p->options ? CL_BUILD_PROGRAM_FAILURE : CL_OUT_OF_HOST_MEMORY;
+    }
     preparation done = prepare_source(&p->form, p->source, options);
     if (!p->options || done == NO_MEMORY) return CL_OUT_OF_HOST_MEMORY;
     cl_int fault = done == PREPARED ? build_prepared(p) : CL_BUILD_PROGRAM_FAILURE;
@@ -278,10 +289,12 @@ static cl_kernel new_kernel(cl_program p, const kernel_form *form, cl_int *errco
     }
     k->number = ++p->context->names;
     cl_int fault = error_of(session_askf(s, "kernel k%u p%u %s\n", k->number, p->number, form->name));
+    bool made = !fault;
     for (unsigned i = 0; !fault && i < form->table_count; i++)
         fault = error_of(
             session_askf(s, "arg k%u %u buffer b%u\n", k->number, form->count + i, p->tables[form->tables[i]]));
     if (fault) {
+        if (made) session_askf(s, "release k%u\n", k->number);
         free(arguments);
         free_object(k);
         return fail(errcode, fault);
@@ -309,11 +322,18 @@ CL_API_ENTRY cl_int CL_API_CALL clCreateKernelsInProgram(cl_program p, cl_uint r
     if (!is_a(p, PROGRAM)) return CL_INVALID_PROGRAM;
     if (p->status != CL_BUILD_SUCCESS) return CL_INVALID_PROGRAM_EXECUTABLE;
     if (to && room < p->form.kernel_count) return CL_INVALID_VALUE;
-    cl_int fault = CL_SUCCESS;
-    for (unsigned i = 0; to && !fault && i < p->form.kernel_count; i++)
+    for (unsigned i = 0; to && i < p->form.kernel_count; i++) {
+        cl_int fault;
         to[i] = new_kernel(p, &p->form.kernels[i], &fault);
+        if (to[i]) continue;
+        while (i-- > 0) { // all of them, or none
+            to[i]->references = 0;
+            drop_kernel(to[i]);
+        }
+        return fault;
+    }
     if (count) *count = p->form.kernel_count;
-    return fault;
+    return CL_SUCCESS;
 }
 // A value's argument as a script has it, with the sign of its type.
 static cl_int value_command(char *room, size_t size, cl_kernel k, cl_uint index, base_type t, size_t n,

@@ -8,7 +8,6 @@
 #include <stdio.h>
 #include <stdlib.h>
 #include <string.h>
-#include <sys/ioctl.h>
 #include <sys/mman.h>
 #include <sys/socket.h>
 #include <sys/wait.h>
@@ -21,17 +20,19 @@ struct session {
     pid_t owner, child;
     int fd;
     bool gone, recording;
-    bool looks; // whether the child may answer while this thread looks for the reply
-    char *in; // what came of replies
-    size_t begin, end, room;
+    bool looks;            // whether the child may answer while this thread looks for the reply
+    unsigned misses, skip; // how many looks in a row found nothing, and how many replies aren't looked for therefore
+    char *in; // what came of a reply
+    size_t end, room;
     FILE *record;
 };
 
-enum { MAX_WORDS = 32, COMMAND_ROOM = 4096 };
+enum { MAX_WORDS = 32, COMMAND_ROOM = 4096, REPLY_ROOM = 65536 };
 
-// How long a reply is looked for before the thread sleeps. Small commands are answered within it, and waking a processor
-// that sleeps takes as long as they do.
-enum { LOOK_NANOSECONDS = 50000 };
+// How long a reply is looked for before the thread sleeps. Small commands are answered within it, and waking a
+// processor that sleeps takes as long as they do. Where the child waits for this thread's own processor, looking only
+// delays it: each look in a row that finds nothing doubles how many of the next replies aren't looked for.
+enum { LOOK_NANOSECONDS = 50000, MOST_MISSES = 6 };
 
 // ---- settings and lines that are told ----
 
@@ -117,16 +118,22 @@ static bool has_processors(void) {
     return !sched_getaffinity(0, sizeof all, &all) && CPU_COUNT(&all) > 1;
 }
 
+// Gives up a session that couldn't be opened, with an error's number.
+static session *leave(session *s, int fault) {
+    free(s->in);
+    free(s);
+    errno = fault;
+    return NULL;
+}
+
 session *session_open(void) {
     static const char version[] = "clsim 2\n";
     char room[COMMAND_ROOM], *words[MAX_WORDS];
     int ends[2];
     session *s = calloc(1, sizeof *s);
     if (!s) return NULL;
-    if (socketpair(AF_UNIX, SOCK_STREAM | SOCK_CLOEXEC, 0, ends)) {
-        free(s);
-        return NULL;
-    }
+    s->in = malloc(s->room = REPLY_ROOM);
+    if (!s->in || socketpair(AF_UNIX, SOCK_STREAM | SOCK_CLOEXEC, 0, ends)) return leave(s, errno);
     serve_command(room, sizeof room);
     split_words(room, words);
     int fault = start(words, ends[1], ends[1], &s->child);
@@ -134,8 +141,7 @@ session *session_open(void) {
     if (fault) {
         tell("cannot start %s: %s", words[0] ? words[0] : "the simulator", strerror(fault));
         close(ends[0]);
-        free(s);
-        return NULL;
+        return leave(s, fault);
     }
     s->fd = ends[0];
     s->looks = has_processors();
@@ -165,43 +171,74 @@ static long long nanoseconds(void) {
     return now.tv_sec * 1000000000LL + now.tv_nsec;
 }
 
-// Looks for the reply for a while, so that neither side's processor sleeps between small commands.
-static void look(const session *s) {
-    int there = 0;
-    if (!s->looks) return;
-    for (long long last = nanoseconds() + LOOK_NANOSECONDS; !there && nanoseconds() < last;)
-        if (ioctl(s->fd, FIONREAD, &there)) return;
+static bool is_looked_for(session *s) {
+    if (!s->looks || s->end) return false;
+    if (!s->skip) return true;
+    s->skip--;
+    return false;
 }
 
+// Takes what came of a reply, as `read` does. It looks for its beginning for a while first, so that this side's
+// processor doesn't sleep between small commands.
+static ssize_t receive(session *s) {
+    char *to = s->in + s->end;
+    size_t room = s->room - s->end;
+    if (!is_looked_for(s)) return read(s->fd, to, room);
+    for (long long last = nanoseconds() + LOOK_NANOSECONDS; nanoseconds() < last;) {
+        ssize_t got = recv(s->fd, to, room, MSG_DONTWAIT);
+        if (got < 0 && errno == EAGAIN) continue;
+        s->misses = 0;
+        return got;
+    }
+    s->misses += s->misses < MOST_MISSES;
+    s->skip = 1u << s->misses;
+    return read(s->fd, to, room);
+}
+
+// Makes room for more of a reply. Where memory is refused, what came so far is let go.
+static bool grow(session *s) {
+    char *more = realloc(s->in, s->room * 2);
+    if (!more) {
+        s->end = 0;
+        return false;
+    }
+    s->in = more;
+    s->room *= 2;
+    return true;
+}
+
+// A reply that is longer than there is memory for is read to its end, and is then as one that refuses for want of
+// memory: one so long holds data or a fault's schedule, and neither a read nor a launch with a fault changes anything.
 static const char *read_line(session *s) {
     size_t seen = 0;
+    bool fits = true;
     for (;;) {
         char *feed = s->end > seen ? memchr(s->in + seen, '\n', s->end - seen) : NULL;
         if (feed) {
             *feed = 0;
-            return s->in;
+            return fits ? s->in : "refused 16 OutOfMemory";
         }
+        if (s->room - s->end < COMMAND_ROOM) fits = grow(s) && fits;
         seen = s->end;
-        if (s->room - s->end < COMMAND_ROOM) {
-            char *more = realloc(s->in, s->room * 2 + 65536);
-            if (!more) return lose(s, "out of memory");
-            s->in = more;
-            s->room = s->room * 2 + 65536;
-        }
-        ssize_t got = read(s->fd, s->in + s->end, s->room - s->end);
+        ssize_t got = receive(s);
         if (got < 0 && errno == EINTR) continue;
         if (got <= 0) return lose(s, got ? strerror(errno) : "it has ended");
         s->end += (size_t)got;
     }
 }
 
+static void record(session *s, const char *command, size_t length) {
+    if (!s->record || !s->recording) return;
+    if (fwrite(command, 1, length, s->record) == length && !fflush(s->record)) return;
+    tell("the script is not whole: %s", strerror(errno));
+    fclose(s->record);
+    s->record = NULL;
+}
+
 const char *session_ask(session *s, const char *command, size_t length) {
     if (s->gone) return NULL;
     if (getpid() != s->owner) return lose(s, "a forked process can't use it");
-    if (s->record && s->recording) {
-        fwrite(command, 1, length, s->record);
-        fflush(s->record);
-    }
+    record(s, command, length);
     s->end = 0; // the reply before was one line, and nothing came behind it
     while (length) {
         ssize_t sent = send(s->fd, command, length, MSG_NOSIGNAL);
@@ -210,7 +247,6 @@ const char *session_ask(session *s, const char *command, size_t length) {
         command += sent;
         length -= (size_t)sent;
     }
-    look(s);
     return read_line(s);
 }
 
@@ -287,7 +323,9 @@ char *explain_script(const char *script, size_t length) {
         close(ends[1]);
         if (!fault) {
             read = read_all(ends[0]);
-            while (waitpid(child, &status, 0) < 0 && errno == EINTR) {}
+            pid_t ended;
+            while ((ended = waitpid(child, &status, 0)) < 0 && errno == EINTR) {}
+            if (ended < 0) status = 0; // a client that ignores the ends of its children took it along
         }
         close(ends[0]);
     }

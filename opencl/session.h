@@ -6,7 +6,7 @@
 
 typedef struct session session;
 
-// Starts the child. NULL where it can't be started.
+// Starts the child. NULL where it can't be started, and errno says why.
 session *session_open(void);
 // Ends it: the child sees the end of its input, and is waited for.
 void session_close(session *s);

@@ -40,7 +40,7 @@ typedef struct {
     table *tables; // constant memory that the source fills itself
     unsigned table_count;
     const char *mark; // stands before names that aren't the client's own
-    char *log;        // why it can't be built
+    const char *log;  // why it can't be built
 } prepared;
 
 typedef enum { PREPARED, NOT_PREPARED, NO_MEMORY } preparation;

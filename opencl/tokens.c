@@ -142,26 +142,46 @@ static int run_over(char **words, const char *bytes, int out, int err) {
         errno = fault;
         return -1;
     }
-    while (waitpid(child, &status, 0) < 0 && errno == EINTR) {}
+    while (waitpid(child, &status, 0) < 0)
+        // a client that ignores the ends of its children takes the status along: what was told says then how it went
+        if (errno != EINTR) return lseek(err, 0, SEEK_END) > 0;
     return status;
 }
 
-char *preprocess(arena *a, const char *source, const char *options, text *log) {
+static char *preprocess_over(arena *a, const char *source, const char *options, text *log, int out, int err) {
     const char *given = getenv("CLSIM_CPP"),
                *programs[] = {given && *given ? given : "cpp", given && *given ? NULL : "mcpp"};
-    int out = scratch_file("", 0), err = scratch_file("", 0);
-    char *read = NULL;
-    if (out < 0 || err < 0) add(log, "no file in memory can be made for the preprocessor\n");
-    for (int i = 0; out >= 0 && err >= 0 && i < 2 && programs[i]; i++) {
+    for (int i = 0; i < 2 && programs[i]; i++) {
         int status = run_over(cpp_words(a, programs[i], options), source, out, err);
         if (status == -1 && errno == ENOENT && i + 1 < 2 && programs[i + 1]) continue;
+        if (status == -1 && errno == ENOMEM) longjmp(a->failed, 1);
         if (status == -1) addf(log, "cannot start the preprocessor %s: %s\n", programs[i], strerror(errno));
         else if (status) add(log, all_of(a, err));
-        else read = all_of(a, out);
+        else return all_of(a, out);
         break;
     }
-    if (out >= 0) close(out);
-    if (err >= 0) close(err);
+    return NULL;
+}
+
+static void close_both(const int *ends) {
+    for (int i = 0; i < 2; i++)
+        if (ends[i] >= 0) close(ends[i]);
+}
+
+char *preprocess(arena *a, const char *source, const char *options, text *log) {
+    const int ends[] = {scratch_file("", 0), scratch_file("", 0)};
+    jmp_buf outer;
+    memcpy(&outer, &a->failed, sizeof outer);
+    if (setjmp(a->failed)) { // the files are closed where memory is refused, too
+        close_both(ends);
+        memcpy(&a->failed, &outer, sizeof outer);
+        longjmp(a->failed, 1);
+    }
+    char *read = NULL;
+    if (ends[0] < 0 || ends[1] < 0) add(log, "no file in memory can be made for the preprocessor\n");
+    else read = preprocess_over(a, source, options, log, ends[0], ends[1]);
+    close_both(ends);
+    memcpy(&a->failed, &outer, sizeof outer);
     return read;
 }
 

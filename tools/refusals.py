@@ -419,7 +419,7 @@ def ends(row, words, library):
 def task_of_calls(crates, name, library):
     """A program of direct calls, whose output stands in its crate."""
     program = os.path.join(crates, name, "out", name)
-    if not os.access(program, os.X_OK):
+    if not os.path.isfile(program) or not os.access(program, os.X_OK):
         raise BadReport(f"no program: {program}")
     with open(os.path.join(crates, name, "stdout"), "rb") as file:
         output = file.read()

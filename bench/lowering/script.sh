@@ -4,6 +4,10 @@
 #   short   2,900 helpers without statements, which the kernel calls one after the other
 #   blocks  150 helpers, each with 60 nested blocks round one call of the one before
 #   calls   2,400 helpers without statements, of which the kernel calls the first 7,000 times inside 60 nested blocks
+case "$#:$1" in
+  1:chain | 1:short | 1:blocks | 1:calls) ;;
+  *) echo "script.sh: chain, short, blocks or calls" >&2; exit 2 ;;
+esac
 awk -v kind="$1" 'BEGIN {
     count = kind == "blocks" ? 150 : kind == "calls" ? 2400 : 2900
     print "buffer a 4"

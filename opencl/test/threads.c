@@ -98,6 +98,58 @@ static void rectangles(void) {
     OK(clEnqueueReadBuffer(h.queue, m, CL_TRUE, 48, 16, out, 0, NULL, NULL));
     for (int i = 0; i < 16; i++)
         if (out[i] != i) exit(13);
+    // what is outside by numbers that don't fit, and what would be copied onto itself, is found before a byte moves
+    size_t wrapped[] = {0, 0, (size_t)1 << 63}, rows[] = {1, 2, 1}, below[] = {2, 2, 0};
+    if (clEnqueueReadBufferRect(h.queue, m, CL_TRUE, wrapped, zero, rows, 1, 2, 0, 0, out, 0, NULL, NULL) !=
+        CL_INVALID_VALUE)
+        exit(14);
+    if (clEnqueueCopyBufferRect(h.queue, m, m, zero, below, region, 8, 0, 8, 0, 0, NULL, NULL) != CL_MEM_COPY_OVERLAP)
+        exit(15);
+    OK(clEnqueueReadBuffer(h.queue, m, CL_TRUE, 16, 16, out, 0, NULL, NULL));
+    for (int i = 0; i < 16; i++)
+        if (out[i] != i + 16) exit(16);
+    // columns side by side have no byte in common
+    OK(clEnqueueCopyBufferRect(h.queue, m, m, zero, (size_t[]){4, 0, 0}, (size_t[]){4, 6, 1}, 8, 0, 8, 0, 0, NULL,
+                               NULL));
+    OK(clEnqueueReadBuffer(h.queue, m, CL_TRUE, 40, 8, out, 0, NULL, NULL));
+    for (int i = 0; i < 8; i++)
+        if (out[i] != 40 + i % 4) exit(17);
+    OK(clReleaseMemObject(m));
+}
+
+// A byte 0 that a client counts along at the end of a string is as a space; what stands behind another isn't left out.
+static void zeros(void) {
+    static const char ends[] = "__kernel void f(__global int *a) { a[0] = 1; }",
+                      middle[] = "__kernel void f(__global int *a) { a[0] = 1; }\0 float x;";
+    const char *texts[] = {ends, ends + sizeof ends - 1}, *whole = middle;
+    size_t lengths[] = {sizeof ends, 1}, length = sizeof middle;
+    cl_int fault;
+    char log[256];
+    cl_program p = clCreateProgramWithSource(h.context, 2, texts, lengths, &fault);
+    OK(fault);
+    OK(clBuildProgram(p, 0, NULL, "", NULL, NULL));
+    OK(clReleaseProgram(p));
+    p = clCreateProgramWithSource(h.context, 1, &whole, &length, &fault);
+    OK(fault);
+    if (clBuildProgram(p, 0, NULL, "", NULL, NULL) != CL_BUILD_PROGRAM_FAILURE) exit(18);
+    OK(clGetProgramBuildInfo(p, h.device, CL_PROGRAM_BUILD_LOG, sizeof log, log, NULL));
+    if (!strstr(log, "a byte 0 stands in the source")) exit(19);
+    OK(clReleaseProgram(p));
+}
+
+// A call that fails hands out no event.
+static void failures(void) {
+    cl_event event = NULL;
+    cl_int fault, value = 1;
+    cl_mem m = clCreateBuffer(h.context, CL_MEM_READ_WRITE, 4, NULL, &fault);
+    OK(fault);
+    if (clEnqueueWriteBuffer(h.queue, m, CL_TRUE, 1, 4, &value, 0, NULL, &event) != CL_INVALID_VALUE || event) exit(20);
+    if (clEnqueueCopyBuffer(h.queue, m, m, 0, 0, 4, 0, NULL, &event) != CL_MEM_COPY_OVERLAP || event) exit(21);
+    OK(clEnqueueWriteBuffer(h.queue, m, CL_TRUE, 0, 4, &value, 0, NULL, &event));
+    cl_command_type type;
+    OK(clGetEventInfo(event, CL_EVENT_COMMAND_TYPE, sizeof type, &type, NULL));
+    if (type != CL_COMMAND_WRITE_BUFFER) exit(22);
+    OK(clReleaseEvent(event));
     OK(clReleaseMemObject(m));
 }
 
@@ -110,6 +162,8 @@ int main(void) {
     events();
     dead_objects();
     rectangles();
+    zeros();
+    failures();
     OK(clReleaseProgram(program));
     close_host(&h);
     puts("8 threads are right");

@@ -67,7 +67,7 @@ item_depth i =
     omega arith
 
 parameter_depth : (p : ParameterFacts) → depth (parameter_data p) ≤ 1
-parameter_depth p = omega arith
+parameter_depth p = let element : depth (or_null number_data p.element) ≤ 0 = some number_data 0 number_depth p.element in omega arith
 
 memory_depth : (m : Memory) → depth (memory_data m) ≤ 3
 memory_depth m =

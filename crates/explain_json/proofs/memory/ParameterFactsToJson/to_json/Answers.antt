@@ -3,6 +3,7 @@ use Rattle.explain_json.proofs.memory.ParameterFactsToJson.to_json.Goals as goal
 
 pub returns : goal.returns
 returns c = c.finish.ensures _ (
+    c.with-4.ensures _ refl (
     c.with-3.ensures _ refl (
     c.with-2.ensures _ refl (
-    c.with.ensures _ tt c.new.ensures)))
+    c.with.ensures _ tt c.new.ensures))))
