@@ -8,7 +8,7 @@ use clmodel::access::{AccessKind, Clash, Class};
 use clmodel::fault::{Fault, Location};
 use clmodel::text::Name;
 use explain_play::{Played, Touch, event_of};
-use explanation::Memory;
+use explanation::{Memory, NodeKind};
 use marked_play::{Mark, Stand};
 use std::alloc::{AllocError, Global};
 
@@ -318,6 +318,25 @@ fn barriers_of(marks: &[Mark], group: u32) -> u64 {
     count
 }
 
+/// The loop that has no tick left for a turn, if the item stands at one, and how many turns it has made since it was
+/// entered.
+fn loop_reason(context: &Context<'_>, stand: Option<&Stand>) -> Result<String, AllocError> {
+    let alloc = context.alloc;
+    let (Some(stand), Some(spot)) = (stand, context.spot(stand)?) else {
+        return Ok(String::new(alloc));
+    };
+    // the loops that are told are those round it, so its own turns stand behind theirs
+    match (spot.node, stand.turns.as_slice().get(spot.loops.len())) {
+        (NodeKind::Loop, Some(turns)) => {
+            let (line, column) = (spot.script_line, spot.column);
+            format!(in alloc;
+                ", {turns} of them of the loop at {line}:{column} since it was entered"
+            )
+        }
+        _ => Ok(String::new(alloc)),
+    }
+}
+
 /// What a budget went to: each tick is an access, a barrier or a turn of a loop.
 fn budget_reason(
     context: &Context<'_>,
@@ -336,8 +355,10 @@ fn budget_reason(
     let turns = counted(alloc, turns, "turn", "s")?;
     let (ticks, accesses) = (ticks.as_str(), accesses.as_str());
     let (barriers, turns) = (barriers.as_str(), turns.as_str());
+    let of_one = loop_reason(context, played.first.stand.as_ref())?;
+    let of_one = of_one.as_str();
     format!(in alloc;
-        "the budget of {ticks} went to {accesses}, {barriers} and {turns} of loops; a loop without end uses up any budget"
+        "the budget of {ticks} went to {accesses}, {barriers} and {turns} of loops{of_one}; a loop without end uses up any budget"
     )
 }
 

@@ -1,9 +1,10 @@
 -- Events played with their marks.
-use Rattle.std.proofs.Common.{◌≡◌, ℕ, ◌+◌, ◌<◌, ◌≤◌, Bool, true, false, Option, None, Some, List, [], ◌∷◌, ◌++◌, length, take, drop, get_or, replicate, refl, sym, ap, ◌∙◌, subst, append_assoc}
+use Rattle.std.proofs.Common.{◌≡◌, ℕ, ◌+◌, ◌-◌, ◌<◌, ◌≤◌, ◌⊎◌, inl, inr, Bool, true, false, Option, None, Some, List, [], ◌∷◌, ◌++◌, length, take, drop, get_or, replicate, refl, sym, ap, ◌∙◌, subst, append_assoc, arith}
 use Rattle.std.specs.Option.{IfSome, option_and_then}
 use Rattle.std.specs.List.{slice_get}
 use Rattle.std.proofs.lemmas.Bool.{false≢true}
-use Rattle.std.proofs.lemmas.Option.{slice_get_past}
+use Rattle.std.proofs.lemmas.List.{append-nil, replicate-append-replicate}
+use Rattle.std.proofs.lemmas.Option.{slice_get_cases, slice_get_past}
 use Rattle.clmodel.specs.Launch.{Launch}
 use Rattle.clmodel.specs.Outcome.{events_of}
 use Rattle.clmodel.specs.Run.{State, Events, after, next_action, step}
@@ -11,8 +12,8 @@ use Rattle.clmodel.specs.declared.action.Action.{Action}
 use Rattle.clmodel.specs.declared.schedule.Event.{Event}
 use Rattle.clmodel.specs.declared.schedule.EventRun.{EventRun}
 use Rattle.item_step.specs.Running.{Makes}
-use Rattle.replay.proofs.Played.{after_then, after_never, replicate_more, replicate_never, events_more, events_split}
-use Rattle.replay.specs.Items.{Stands, StandsAt, stand_of, stand_in}
+use Rattle.replay.proofs.Played.{after_then, replicate_more, events_more, events_split}
+use Rattle.replay.specs.Items.{IsAsked, IsAskedAt, Stands, StandsAt, acts_of, stand_of, stand_in}
 use Rattle.replay.specs.States.{ActsNext, IsAt, IsPlayed}
 use Rattle.replay.specs.declared.player.Player.{Player}
 use Rattle.replay.specs.declared.slot.Slot.{Slot}
@@ -24,20 +25,32 @@ use Rattle.marked_play.specs.declared.marks.Mark.{Mark}
 -- ---- where an item stands
 
 at_slot :
-    (l : Launch) (s : State) (item : ℕ) (a : Action) (o : Option Slot) → next_action l s item ≡ a → ((i : Slot) → o ≡ Some i → Stands i a)
-    → ActsFrom l s item (option_and_then stand_of o)
-at_slot l s item a None e h = tt
-at_slot l s item a (Some slot.Waiting) e h = tt
-at_slot l s item a (Some (slot.Running r)) e h = (r, refl, refl, subst (Makes r) (sym e) (h (slot.Running r) refl))
-at_slot l s item a (Some slot.Ended) e h = tt
+    (l : Launch) (s : State) (item : ℕ) (a : Action) (o : Option Slot) → item < l.items → (o ≡ None → l.items ≤ item) → next_action l s item ≡ a → ((i : Slot) → o ≡ Some i → Stands i a)
+    → ((i : Slot) → o ≡ Some i → IsAsked i) → ((i : Slot) → o ≡ Some i → acts_of l item i [] ≡ next_action l s item) → ActsFrom l s item (option_and_then stand_of o)
+at_slot l s item a None below past e h asked acts = inr (past refl)
+at_slot l s item a (Some slot.Waiting) below past e h asked acts = absurd (asked slot.Waiting refl)
+at_slot l s item a (Some (slot.Running r)) below past e h asked acts = (r, refl, refl, subst (Makes r) (sym e) (h (slot.Running r) refl))
+at_slot l s item a (Some slot.Ended) below past e h asked acts = inl (sym (acts slot.Ended refl))
+
+-- nothing is at a place behind the end of a list
+missing : {A : Type 0} (xs : List A) (i : ℕ) → slice_get xs i ≡ None → length xs ≤ i
+missing {A} xs i none = behind (slice_get_cases xs i).1
+  where
+    behind : ((x : A) × (i < length xs) × (slice_get xs i ≡ Some x) × (get_or xs i x ≡ x)) ⊎ ((length xs ≤ i) × (slice_get xs i ≡ None)) → length xs ≤ i
+    behind (inl (x, below, some, same)) = let bad : None ≡ Some x = sym none ∙ some in cc
+    behind (inr (past, none)) = past
 
 pub acts_from :
     {D : Type 0} (launch_of : D → Launch) (l : Launch) (p : Player D) (s : State) (item : ℕ) (action : Option Action) (stand : Option Stand)
-    → IsAt launch_of l p s → ActsNext l s item action → IfSome action (StandsAt p.items.items item) → stand ≡ stand_in p.items.items item → ActsFrom l s item stand
-acts_from launch_of l p s item None stand at past stands e =
+    → IsAt launch_of l p s → ActsNext l s item action → IfSome action (λ _. IsAskedAt p.items.items item) → IfSome action (StandsAt p.items.items item)
+    → stand ≡ stand_in p.items.items item → ActsFrom l s item stand
+acts_from launch_of l p s item None stand at past asked stands e =
     let none : slice_get p.items.items item ≡ None = slice_get_past p.items.items item (subst (λ n. n ≤ item) (sym at.tells.many) past) in
-    subst (ActsFrom l s item) (sym (e ∙ ap (option_and_then stand_of) none)) tt
-acts_from launch_of l p s item (Some a) stand at next stands e = subst (ActsFrom l s item) (sym e) (at_slot l s item a (slice_get p.items.items item) next.1 stands)
+    subst (ActsFrom l s item) (sym (e ∙ ap (option_and_then stand_of) none)) (inr past)
+acts_from launch_of l p s item (Some a) stand at next asked stands e =
+    subst (ActsFrom l s item) (sym e)
+    (at_slot l s item a (slice_get p.items.items item) next.0 (λ none. subst (λ n. n ≤ item) at.tells.many (missing p.items.items item none)) next.1 stands asked
+    (λ i there. at.tells.acting item i there [] ∙ ap (l.next item) (append-nil (s.answers item))))
 
 -- ---- marks one behind another
 
@@ -69,10 +82,11 @@ one_marked l z s mark old new at at' true all acts (t, goes, h) then e = let don
 one_marked l z s mark old new at at' false all acts played then e = absurd (false≢true all)
 
 pub one_never :
-    (l : Launch) (z : ℕ) (s : State) (e : Event) (old new : List Mark) (at at' : State → Type 0) (answer : Bool) → answer ≡ false → IsPlayed l s e at answer
-    → AreMarked l z s (e ∷ []) old new at' false
-one_never l z s e old new at at' true ended played = absurd (false≢true (sym ended))
-one_never l z s e old new at at' false ended (never, h) = ap (option_and_then (λ n. Some n)) never
+    (l : Launch) (z : ℕ) (s : State) (e : Event) (old : List Mark) (at at' : State → Type 0) (answer : Bool) → answer ≡ false → IsPlayed l s e at answer
+    → AreMarked l z s (e ∷ []) old old at' false
+one_never l z s e old at at' true ended played = absurd (false≢true (sym ended))
+one_never l z s e old at at' false ended (never, h) =
+    ([], sym (append-nil old), record { end = s; next = e; rest = []; split = refl; led = refl; never = never })
 
 -- events behind those that were marked
 pub more_marked :
@@ -89,8 +103,38 @@ more_marked l z s xs ys m0 m1 m2 at at' true (made, t, e, v, led, h) then = join
       lead_append l z s t u made more led led',
       h',
     )
-more_marked l z s xs ys m0 m1 m2 at at' false (made, t, e, v, led, h) then =
-    after_then l s t xs ys (ap (after l s) (sym v) ∙ lead_after l z s t made led) ∙ then t h
+more_marked l z s xs ys m0 m1 m2 at at' false (made, t, e, v, led, h) then = join (then t h)
+  where
+    join : AreMarked l z t ys m1 m2 at' false → AreMarked l z s (xs ++ ys) m0 m2 at' false
+    join (more, e', up) = (
+      made ++ more,
+      e' ∙ ap (λ m. m ++ more) e ∙ append_assoc m0 made more,
+      record {
+        end = up.end;
+        next = up.next;
+        rest = up.rest;
+        split = ap (λ es. es ++ ys) (sym v) ∙ ap (λ es. events_in made ++ es) up.split ∙ sym (append_assoc (events_in made) (events_in more) (up.next ∷ up.rest))
+            ∙ ap (λ es. es ++ up.next ∷ up.rest) (sym (events_append made more));
+        led = lead_append l z s t up.end made more led up.led;
+        never = up.never;
+      },
+    )
+
+-- events behind one that isn't possible
+stays_unmarked :
+    (l : Launch) (z : ℕ) (s : State) (xs ys : Events) (old new : List Mark) (at at' : State → Type 0) → AreMarked l z s xs old new at false → AreMarked l z s (xs ++ ys) old new at' false
+stays_unmarked l z s xs ys old new at at' (made, e, up) = (
+  made,
+  e,
+  record {
+    end = up.end;
+    next = up.next;
+    rest = up.rest ++ ys;
+    split = ap (λ es. es ++ ys) up.split ∙ append_assoc (events_in made) (up.next ∷ up.rest) ys;
+    led = up.led;
+    never = up.never;
+  },
+)
 
 -- the same list of events, written another way
 pub marked_as :
@@ -112,11 +156,17 @@ item_marked l z s e i m0 m1 m2 at at' true all h then =
 item_marked l z s e i m0 m1 m2 at at' false all h then = absurd (false≢true all)
 
 pub item_unmarked :
-    (l : Launch) (z : ℕ) (s : State) (e : Event) (i n : ℕ) (m0 m1 m2 m3 : List Mark) (at at' at'' : State → Type 0) (answer : Bool) → answer ≡ false → i < n
-    → AreMarked l z s (replicate i e) m0 m1 at true → ((t : State) → at t → AreMarked l z t (e ∷ []) m1 m2 at' answer) → AreMarked l z s (replicate n e) m0 m3 at'' false
-item_unmarked l z s e i n m0 m1 m2 m3 at at' at'' true ended below h then = absurd (false≢true (sym ended))
-item_unmarked l z s e i n m0 m1 m2 m3 at at' at'' false ended below (made, t, same, v, led, h) then =
-    replicate_never l s t e i n below (ap (after l s) (sym v) ∙ lead_after l z s t made led) (then t h)
+    (l : Launch) (z : ℕ) (s : State) (e : Event) (i n : ℕ) (m0 m1 m2 : List Mark) (at at' at'' : State → Type 0) (answer : Bool) → answer ≡ false → i < n
+    → AreMarked l z s (replicate i e) m0 m1 at true → ((t : State) → at t → AreMarked l z t (e ∷ []) m1 m2 at' answer) → AreMarked l z s (replicate n e) m0 m2 at'' false
+item_unmarked l z s e i n m0 m1 m2 at at' at'' true ended below h then = absurd (false≢true (sym ended))
+item_unmarked l z s e i n m0 m1 m2 at at' at'' false ended below h then =
+    marked_as l z s ((replicate i e ++ e ∷ []) ++ replicate (n - i - 1) e) (replicate n e) m0 m2 at'' false all
+    (stays_unmarked l z s (replicate i e ++ e ∷ []) (replicate (n - i - 1) e) m0 m2 at' at'' (more_marked l z s (replicate i e) (e ∷ []) m0 m1 m2 at at' false h then))
+  where
+    all : (replicate i e ++ e ∷ []) ++ replicate (n - i - 1) e ≡ replicate n e
+    all =
+        let count : (i + 1) + (n - i - 1) ≡ n = omega (arith, below) in
+        ap (λ es. es ++ replicate (n - i - 1) e) (sym (replicate_more e i)) ∙ replicate-append-replicate (i + 1) (n - i - 1) e ∙ ap (λ k. replicate k e) count
 
 pub run_marked :
     (l : Launch) (z : ℕ) (s : State) (runs : List EventRun) (i : ℕ) (d : EventRun) (m0 m1 m2 : List Mark) (at at' : State → Type 0) (answer : Bool) → answer ≡ true → i < length runs
@@ -128,14 +178,14 @@ run_marked l z s runs i d m0 m1 m2 at at' true all below h then =
 run_marked l z s runs i d m0 m1 m2 at at' false all below h then = absurd (false≢true all)
 
 pub run_unmarked :
-    (l : Launch) (z : ℕ) (s : State) (runs : List EventRun) (i : ℕ) (d : EventRun) (m0 m1 m2 m3 : List Mark) (at at' at'' : State → Type 0) (answer : Bool) → answer ≡ false → i < length runs
+    (l : Launch) (z : ℕ) (s : State) (runs : List EventRun) (i : ℕ) (d : EventRun) (m0 m1 m2 : List Mark) (at at' at'' : State → Type 0) (answer : Bool) → answer ≡ false → i < length runs
     → AreMarked l z s (events_of (take i runs)) m0 m1 at true → ((t : State) → at t → AreMarked l z t (events_of (get_or runs i d ∷ [])) m1 m2 at' answer)
-    → AreMarked l z s (events_of runs) m0 m3 at'' false
-run_unmarked l z s runs i d m0 m1 m2 m3 at at' at'' true ended below h then = absurd (false≢true (sym ended))
-run_unmarked l z s runs i d m0 m1 m2 m3 at at' at'' false ended below (made, t, same, v, led, h) then =
-    ap (after l s) (events_split runs i d below)
-    ∙ after_never l s (events_of (take i runs) ++ events_of (get_or runs i d ∷ [])) (events_of (drop (i + 1) runs))
-    (after_then l s t (events_of (take i runs)) (events_of (get_or runs i d ∷ [])) (ap (after l s) (sym v) ∙ lead_after l z s t made led) ∙ then t h)
+    → AreMarked l z s (events_of runs) m0 m2 at'' false
+run_unmarked l z s runs i d m0 m1 m2 at at' at'' true ended below h then = absurd (false≢true (sym ended))
+run_unmarked l z s runs i d m0 m1 m2 at at' at'' false ended below h then =
+    marked_as l z s ((events_of (take i runs) ++ events_of (get_or runs i d ∷ [])) ++ events_of (drop (i + 1) runs)) (events_of runs) m0 m2 at'' false (sym (events_split runs i d below))
+    (stays_unmarked l z s (events_of (take i runs) ++ events_of (get_or runs i d ∷ [])) (events_of (drop (i + 1) runs)) m0 m2 at' at''
+    (more_marked l z s (events_of (take i runs)) (events_of (get_or runs i d ∷ [])) m0 m1 m2 at at' false h then))
 
 -- what was marked, by the answer
 pub marked :
@@ -147,4 +197,6 @@ marked l z s xs old new at false all h = absurd (false≢true all)
 pub unmarked :
     (l : Launch) (z : ℕ) (s : State) (xs : Events) (old new : List Mark) (at : State → Type 0) (answer : Bool) → answer ≡ false → AreMarked l z s xs old new at answer → after l s xs ≡ None
 unmarked l z s xs old new at true ended h = absurd (false≢true (sym ended))
-unmarked l z s xs old new at false ended h = h
+unmarked l z s xs old new at false ended (made, e, up) =
+    ap (after l s) up.split ∙ after_then l s up.end (events_in made) (up.next ∷ up.rest) (lead_after l z s up.end made up.led)
+    ∙ ap (option_and_then (λ n. after l n up.rest)) up.never

@@ -1,11 +1,12 @@
 -- Events played with where their items stand, and with the numbers that their accesses find and leave (own; the events are those of OpenCL 1.2,
 -- sections 3.2 and 6.12.8).
-use Rattle.std.specs.Prelude.{◌≡◌, ℕ, ◌*◌, ⊤, Bool, true, false, Option, None, Some, List, [], ◌∷◌, ◌++◌, map}
+use Rattle.std.specs.Prelude.{◌≡◌, ℕ, ◌*◌, ◌≤◌, ◌⊎◌, Bool, true, false, Option, None, Some, List, [], ◌∷◌, ◌++◌, map}
 use Rattle.std.specs.Option.{IfSome}
 use Rattle.clmodel.specs.Cells.{byte_count, number}
 use Rattle.clmodel.specs.Launch.{Launch}
-use Rattle.clmodel.specs.Run.{State, Events, Memory, after, next_action, step}
+use Rattle.clmodel.specs.Run.{State, Events, Memory, next_action, step}
 use Rattle.clmodel.specs.declared.access.Access.{Access}
+use Rattle.clmodel.specs.declared.action.Action.TheVariants as action
 use Rattle.clmodel.specs.declared.schedule.Event.{Event}
 use Rattle.clmodel.specs.declared.schedule.Event.TheVariants as event
 use Rattle.item_step.specs.Running.{Running, Makes}
@@ -25,10 +26,10 @@ abbrev pub item_of : ℕ → Event → ℕ
 item_of size (event.Item item) = item
 item_of size (event.Release group) = group * size
 
--- a machine stands at a place after these turns of loops, where one is told, and the instruction there makes the item's next action, whatever
--- follows it (own)
+-- a machine stands at a place after these turns of loops, and the instruction there makes the item's next action, whatever follows it; no place
+-- is told of an item that is at its end, and where there is no such item (own)
 abbrev pub ActsFrom : Launch → State → ℕ → Option Stand → Type 0
-ActsFrom launch state item None = ⊤
+ActsFrom launch state item None = (next_action launch state item ≡ action.End) ⊎ (launch.items ≤ item)
 ActsFrom launch state item (Some stand) =
     (running : Running) × (running.state.place ≡ stand.place) × (running.state.counters ≡ stand.turns) × Makes running (next_action launch state item)
 
@@ -54,9 +55,18 @@ Lead launch size state (mark ∷ marks) end =
     ActsFrom launch state (item_of size mark.event) mark.stand × (next : State) × (step launch state mark.event ≡ Some next) × IsCounted state next mark
     × Lead launch size next marks end
 
+-- the marks of the events before the first that isn't possible in its turn (own)
+pub record LeadUpTo (launch : Launch) (size : ℕ) (state : State) (events : Events) (made : List Mark) : Type 0 where
+  pub end : State
+  pub next : Event
+  pub rest : Events
+  pub split : events ≡ events_in made ++ next ∷ rest
+  pub led : Lead launch size state made end
+  pub never : step launch end next ≡ None
+
 -- events were played one after another, their marks were added, and what is kept tells of the state that they lead to;
--- or one of them isn't possible in its turn (own)
+-- or one of them isn't possible in its turn, and the marks of those before it were added (own)
 abbrev pub AreMarked : Launch → ℕ → State → Events → List Mark → List Mark → (State → Type 0) → Bool → Type 0
 AreMarked launch size state events old new at true =
     (made : List Mark) × (end : State) × (new ≡ old ++ made) × (events_in made ≡ events) × Lead launch size state made end × at end
-AreMarked launch size state events old new at false = after launch state events ≡ None
+AreMarked launch size state events old new at false = (made : List Mark) × (new ≡ old ++ made) × LeadUpTo launch size state events made

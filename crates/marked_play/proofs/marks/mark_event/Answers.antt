@@ -13,7 +13,7 @@ play-requires g c =
 
 pub returns-then-not-branch : goal.returns-then-not-branch
 returns-then-not-branch g c = λ l s at.
-    one_never l c.args.group_size s c.args.event c.args.marks.now.items c.args.marks.now.items (IsAt {D = g.row.D.Denot} g.D.Described.launch l c.play.new.self)
+    one_never l c.args.group_size s c.args.event c.args.marks.now.items (IsAt {D = g.row.D.Denot} g.D.Described.launch l c.play.new.self)
     (Follows {D = g.row.D.Denot} g.D.Described.launch l c.play.new.self c.args.replica.now) c.in_ok-play.field-0 c.if-not-branch.true
     (c.in_ok-play.ensures.played l s (c.deed_before.ensures.same l s (c.stand_before.ensures.same l s at.0)))
 

@@ -17,7 +17,7 @@ mark_event-requires g c =
 
 pub returns-then-not-branch : goal.returns-then-not-branch
 returns-then-not-branch g c = λ l s at.
-    item_unmarked l c.args.group_size s (event.Item c.args.item) c.loop.counter c.args.count c.args.marks.now.items c.loop.marks.items c.mark_event.new.marks.items c.mark_event.new.marks.items
+    item_unmarked l c.args.group_size s (event.Item c.args.item) c.loop.counter c.args.count c.args.marks.now.items c.loop.marks.items c.mark_event.new.marks.items
     (Follows {D = g.row.D.Denot} g.D.Described.launch l c.loop.player c.loop.replica) (Follows {D = g.row.D.Denot} g.D.Described.launch l c.mark_event.new.player c.mark_event.new.replica)
     (Follows {D = g.row.D.Denot} g.D.Described.launch l c.mark_event.new.player c.mark_event.new.replica) c.in_ok-mark_event.field-0 c.if-not-branch.true c.loop-test.true (c.loop.invariant l s at)
     (λ t h. c.in_ok-mark_event.ensures l t h)

@@ -18,7 +18,7 @@ mark_run-requires g c =
 
 pub returns-then-not-branch : goal.returns-then-not-branch
 returns-then-not-branch g c = λ l s at.
-    run_unmarked l c.args.group_size s c.args.runs.now c.loop-run.run-index _ c.args.marks.now.items c.loop-run.marks.items c.mark_run.new.marks.items c.mark_run.new.marks.items
+    run_unmarked l c.args.group_size s c.args.runs.now c.loop-run.run-index _ c.args.marks.now.items c.loop-run.marks.items c.mark_run.new.marks.items
     (Follows {D = g.row.D.Denot} g.D.Described.launch l c.loop-run.player c.loop-run.replica) (Follows {D = g.row.D.Denot} g.D.Described.launch l c.mark_run.new.player c.mark_run.new.replica)
     (Follows {D = g.row.D.Denot} g.D.Described.launch l c.mark_run.new.player c.mark_run.new.replica) c.in_ok-mark_run.field-0 c.if-not-branch.true (omega (arith, c.loop-run-test.true))
     (c.loop-run.invariant l s at) (λ t h. c.in_ok-mark_run.ensures l t h)

@@ -1,4 +1,4 @@
-use Rattle.std.proofs.Common.{◌≡◌, IfOk, ap, sym, ◌∙◌, subst}
+use Rattle.std.proofs.Common.{◌≡◌, ◌*◌, ◌≤◌, IfOk, ap, arith, inr, sym, ◌∙◌, subst}
 use Rattle.clmodel.specs.Launch.{Launch}
 use Rattle.clmodel.specs.Run.{State}
 use Rattle.replay.specs.States.{IsAt}
@@ -18,3 +18,8 @@ returns-in-Some-clause-acts g c =
     subst
     (λ i. IfOk c.stand_of-in-Some.result (λ stand. (launch : Launch) (state : State) → IsAt {D = g.row.D.Denot} g.D.Described.launch launch c.args.player.now state → ActsFrom launch state i stand))
     item c.stand_of-in-Some.ensures.acts
+
+pub returns-in-None-clause-acts : goal.returns-in-None-clause-acts
+returns-in-None-clause-acts g c = λ launch state at.
+    let past : launch.items ≤ c.in-Release.group * c.args.group_size = omega (arith, at.runnable.numbered, c.in-None.ensures) in
+    inr (subst (λ i. launch.items ≤ i) (ap (item_of c.args.group_size) (sym c.in-Release.is)) past)
