@@ -1,5 +1,5 @@
 -- The kernel of a name among functions, with one function more.
-use Rattle.std.proofs.Common.{◌≡◌, ℕ, ◌+◌, ◌<◌, ◌==◌, ◌&&◌, Bool, true, false, cond, Some, is_some, List, [], ◌∷◌, ◌++◌, length, take, get_or, map, refl, ap, sym, ◌∙◌}
+use Rattle.std.proofs.Common.{◌≡◌, ℕ, ◌+◌, ◌<◌, ◌==◌, ◌&&◌, Bool, true, false, cond, Some, List, [], ◌∷◌, ◌++◌, length, take, get_or, map, refl, ap, sym, ◌∙◌}
 use Rattle.std.proofs.lemmas.List.{take_more}
 use Rattle.std.proofs.lemmas.Bool.{eqb-true, and_parts}
 use Rattle.clmodel.specs.Setup.{kernel_in, functions_before}
@@ -32,7 +32,3 @@ named (ThenFunc fs g) number f h = by (g.is_kernel && (g.name == number)) refl (
     by : (b : Bool) → (g.is_kernel && (g.name == number)) ≡ b → (kernel_in fs number ≡ Some f → f.name ≡ number) → cond b (Some g) (kernel_in fs number) ≡ Some f → f.name ≡ number
     by true passes rest found = let same : g ≡ f = cc in ap (λ k. k.name) (sym same) ∙ eqb-true g.name number (and_parts g.is_kernel (g.name == number) passes).1
     by false fails rest found = rest found
-
--- and is found by its own name
-pub found_there : (fs : Funcs) (number : ℕ) (f : Func) → Some f ≡ kernel_in fs number → is_some (kernel_in fs f.name) ≡ true
-found_there fs number f is = ap (λ n. is_some (kernel_in fs n)) (named fs number f (sym is)) ∙ ap is_some (sym is)

@@ -1,12 +1,11 @@
 //! The names of a program, and its kernels by them.
 #![tactic(auto)]
 
-ghost use Rattle.std.specs.Prelude.{◌≡◌, ◌<◌, ◌==◌, ◌&&◌, length, take, position, is_some, true, IfSome};
+ghost use Rattle.std.specs.Prelude.{◌≡◌, ◌<◌, ◌==◌, ◌&&◌, length, take, position, IfSome};
 ghost use Rattle.std.specs.Option.{option_map};
 ghost use Rattle.clmodel.specs.Setup as setup;
 ghost use Rattle.clmodel.specs.Tree.{program, func, funcs};
 
-use crate::text::Name;
 use crate::tree::{Function, Tree};
 
 /// A function of a program, with its place among the functions.
@@ -39,13 +38,6 @@ fn kernel_among(functions: &[Function], number: usize) -> Option<PlacedFunction<
     None
 }
 
-/// The place of a name among others.
-fn place_of(names: &[Name], name: &[u8]) -> Option<usize>
-    ensures { result ≡ position (setup.same_text name.now) names.now }
-{
-    names.iter().position(|other| name == other.as_slice())
-}
-
 impl Tree {
     /// The kernel of a name's number, with its place: the last function of the name that is one (OpenCL 1.2, section 6.7.1). None where
     /// the program has no such kernel.
@@ -57,15 +49,10 @@ impl Tree {
         kernel_among(self.functions.as_slice(), number)
     }
 
-    /// The number of the name of a kernel. None where the program has no kernel of this name.
-    pub fn kernel_number(&self, name: &[u8]) -> Option<u32>
-        ensures number { result ≡ setup.kernel_number (program self.now) name.now }
-        ensures there { IfSome result (λ number. is_some (setup.kernel_in (program self.now).functions number) ≡ true) }
+    /// The number of a name: its place among the names of the program. None where no name of the program is these bytes.
+    pub fn name_number(&self, name: &[u8]) -> Option<usize>
+        ensures { result ≡ position (setup.same_text name.now) (program self.now).names }
     {
-        let number = place_of(self.names.as_slice(), name)?;
-        match self.kernel(number) {
-            None => None,
-            Some(found) => Some(found.function.name),
-        }
+        self.names.iter().position(|other| name == other.as_slice())
     }
 }

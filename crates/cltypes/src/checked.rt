@@ -1,15 +1,14 @@
 //! Trees that were checked, and their kernels by name.
 #![tactic(auto)]
 
-ghost use Rattle.std.specs.Prelude.{◌≡◌, IfSome, position};
+ghost use Rattle.std.specs.Prelude.{◌≡◌, IfSome};
 ghost use Rattle.std.specs.Option.{option_map};
-ghost use Rattle.clmodel.specs.Setup.{kernel_number, same_text};
+ghost use Rattle.clmodel.specs.Setup.{kernel_number};
 ghost use Rattle.clmodel.specs.Tree.{program};
 ghost use Rattle.clmodel.specs.Typing.{IsTypedProgram};
 ghost use Rattle.cltypes.specs.Kernels.{IsKernel};
 
 use clmodel::lookup::PlacedFunction;
-use clmodel::text::Name;
 use clmodel::tree::Tree;
 
 /// A tree whose types were checked.
@@ -19,13 +18,6 @@ pub struct Checked {
     pub ghost typed: { ∥ IsTypedProgram (program tree) ∥₁ },
 }
 
-/// The number of a name, by its place among others.
-fn number_of(names: &[Name], name: &[u8]) -> Option<usize>
-    ensures { result ≡ position (same_text name.now) names.now }
-{
-    names.iter().position(|other| name == other.as_slice())
-}
-
 impl Checked {
     /// The kernel of a name, with its place: the last function of the name that is one (OpenCL 1.2, section 6.7.1). None where the program
     /// has no such kernel. Whoever needs more of the kernel hands on what was found.
@@ -33,7 +25,7 @@ impl Checked {
         ensures named { option_map (λ found. found.function.now.name) result ≡ kernel_number (program self.now.tree) name.now }
         ensures placed { IfSome result (λ found. IsKernel self.now.tree found.place found.function.now) }
     {
-        let number = number_of(self.tree.names.as_slice(), name)?;
+        let number = self.tree.name_number(name)?;
         self.tree.kernel(number)
     }
 }

@@ -30,7 +30,7 @@ pub record IsPrepared (m : Machine) (kernel : List ℕ) (range : Range) (launch 
   pub setup : launches.setup_of launch ≡ setup_of m (kernel_of m kernel) range
   pub groups : HasGroups (launches.setup_of launch)
 
--- such a launch, with the names of its buffers
+-- such a launch, with the names of its buffers, in the order of its global arguments (own)
 pub record IsStarted (m : Machine) (kernel : List ℕ) (range : Range) (started : Started) : Type 0 where
   pub prepared : IsPrepared m kernel range started.launch
   pub names : started.names.items ≡ buffer_names (setup_of m (kernel_of m kernel) range)
