@@ -51,7 +51,8 @@ is_called n = is_open_round (next_mark n)
 abbrev pub is_indexed : Near → Bool
 is_indexed n = is_open_square (next_mark n)
 
--- of a token that no program has: by its own word, by those of the two in front of it, which may have been read as names, or by what stands round it
+-- of a token that no program has: by its own word, by those of the two in front of it, which may have been read as
+-- names, or by what stands round it
 abbrev pub unexpected_said : Near → List ℕ
 unexpected_said n = unwrap_or (word_said (here_word n)) (unwrap_or (word_said (last_word n 0)) (unwrap_or (word_said (last_word n 1)) (token_said n)))
 

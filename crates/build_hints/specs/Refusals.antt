@@ -37,7 +37,8 @@ abbrev pub hint_lines : Option (List ℕ) → List ℕ
 hint_lines None = []
 hint_lines (Some hint) = hint_line hint
 
--- A text tells a fault: its place in the file that is named, what it says, its line with carets, and the line of its hint.
+-- A text tells a fault: its place in the file that is named, what it says, its line with carets, and the line of its
+-- hint.
 pub record TellsRefusal (name source : List ℕ) (first_line : ℕ) (fault : Refused) (text : List ℕ) : Type 0 where
   pub refusal : Refusal
   pub is : IsRefusal source first_line fault refusal

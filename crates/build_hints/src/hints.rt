@@ -116,8 +116,8 @@ fn is_indexed(place: Place<'_>) -> bool
     matches!(next_mark(place), Mark::OpenSquare)
 }
 
-/// A hint at the first token that no program has: by its own word and by those of the two in front of it, which may have
-/// been read as names, or by what stands round it.
+/// A hint at the first token that no program has: by its own word and by those of the two in front of it, which may
+/// have been read as names, or by what stands round it.
 fn unexpected_hint(place: Place<'_>) -> &'static str
     ensures { result.now ≡ hints.unexpected_said (near_of place.entry) }
 {

@@ -111,8 +111,8 @@ fn push_maybe_hint(hint: Option<&'static str>, out: &mut String) -> Result<(), A
 }
 
 /// A fault of a source as text: where it lies and what it is, the line with a caret, and a hint. The source begins at
-/// this line of the file that is named. A place past the end stands for the end. An error is out of memory. It takes the
-/// time of the source.
+/// this line of the file that is named. A place past the end stands for the end. An error is out of memory. It takes
+/// the time of the source.
 pub fn refusal_text(
     alloc: Global,
     name: &str,

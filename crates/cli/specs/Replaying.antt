@@ -33,7 +33,8 @@ pub record Leads (old : Machine) (commands : List Command) (new : Machine) : Typ
   pub plays : Plays old commands replies new
   pub had_memory : All HadMemory replies
 
--- the command of a ticket, counted from 0, launches a kernel over a range, and the commands before it lead a new device there
+-- the command of a ticket, counted from 0, launches a kernel over a range, and the commands before it lead a new device
+-- there
 pub record ComesTo (commands : List Command) (ticket : ℕ) (kernel : List ℕ) (range : Range) (m : Machine) : Type 0 where
   pub launch : slice_get commands ticket ≡ Some (command.Launch kernel range)
   pub leads : Leads (opening 100000) (take ticket commands) m

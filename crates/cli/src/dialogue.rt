@@ -74,8 +74,8 @@ fn take_turns<T: Threads + Wait + Sync, P: Peer>(
 
 /// Hears the commands of a peer, any number of them, does them on a new device, and tells the line of each reply before
 /// the next command is heard. A bad line ends it at once: `BadLine` has its number, and the commands before it are
-/// answered. `OutOfMemory` comes where memory is refused for a command's text or a reply's line. The faults of schedules
-/// and kernels never come, nor does `Second` in `Read`.
+/// answered. `OutOfMemory` comes where memory is refused for a command's text or a reply's line. The faults of
+/// schedules and kernels never come, nor does `Second` in `Read`.
 pub fn serve<T: Threads + Wait + Sync, P: Peer>(
     rt: &T,
     alloc: Global,

@@ -19,7 +19,8 @@ use fault_lines::read;
 use replay::replay;
 use std::alloc::{AllocError, Global};
 
-/// What a schedule file tells: the number of a launch among a script's commands, from 0, a fault, and events that lead there.
+/// What a schedule file tells: the number of a launch among a script's commands, from 0, a fault, and events that lead
+/// there.
 #[derive(Drop)]
 struct Task {
     ticket: u64,
@@ -168,12 +169,13 @@ fn tell<W: Write>(yes: bool, writer: &mut W) -> Result<(), WriteFailed>
     writer.flush()
 }
 
-/// Reads a script, then a schedule file, and replays that file: the commands before its ticket are performed on a new device with the
-/// default budget, the launch of the ticket is prepared, and its schedule is played, event by event. Writes the line `yes` where it leads to
-/// a state that shows the file's fault, else `no`, and answers which.
+/// Reads a script, then a schedule file, and replays that file: the commands before its ticket are performed on a new
+/// device with the default budget, the launch of the ticket is prepared, and its schedule is played, event by event.
+/// Writes the line `yes` where it leads to a state that shows the file's fault, else `no`, and answers which.
 ///
-/// No fault is a `NoSuchKernel`; after `Write` a beginning of the line was written, after the others nothing. `OutOfMemory` comes also
-/// where memory is refused to a command before the launch, since another launch would be replayed then.
+/// No fault is a `NoSuchKernel`; after `Write` a beginning of the line was written, after the others nothing.
+/// `OutOfMemory` comes also where memory is refused to a command before the launch, since another launch would be
+/// replayed then.
 pub fn replay_files<R: Read, S: Read, W: Write>(
     alloc: Global,
     script: &mut R,

@@ -274,8 +274,8 @@ fn answer_all<T: Threads + Wait + Sync, W: Write>(
     Ok(end)
 }
 
-/// Performs the commands in order through the queue of a new device, and writes a line for each reply. The queue and the box of all
-/// requests are made before anything is written.
+/// Performs the commands in order through the queue of a new device, and writes a line for each reply. The queue and
+/// the box of all requests are made before anything is written.
 fn perform<T: Threads + Wait + Sync, W: Write>(
     rt: &T,
     alloc: Global,
@@ -292,8 +292,8 @@ fn perform<T: Threads + Wait + Sync, W: Write>(
     Ok(answer_all(rt, &mut desk, request, commands, writer)?)
 }
 
-/// Reads a script, hands its commands to the queue of a new device, each for the next ticket, and writes a line for each reply, in order
-/// and nothing else.
+/// Reads a script, hands its commands to the queue of a new device, each for the next ticket, and writes a line for
+/// each reply, in order and nothing else.
 pub fn run<T: Threads + Wait + Sync, R: Read, W: Write>(
     rt: &T,
     alloc: Global,

@@ -89,7 +89,8 @@ width_of (Fetch _ _) = Four
 abbrev pub size_of : Operation → ℕ
 size_of operation = byte_count (width_of operation)
 
--- whether the bytes must be set: a load and an atomic operation read them (6.12.11, own in what reading an unset one is)
+-- whether the bytes must be set: a load and an atomic operation read them (6.12.11, own in what reading an unset one
+-- is)
 abbrev pub reads : Operation → Bool
 reads (Load _) = true
 reads (Store _ _) = false
@@ -105,7 +106,8 @@ pub record Outcome : Type 0 where
 abbrev pub found : Operation → Cells → ℕ → Option ℕ
 found operation cells first = if reads operation then number cells first (size_of operation) else Some 0
 
--- the answer to an operation that found a number: a load and a fetch give it (6.12.11: "returns old"), and what an update returns goes unused (own)
+-- the answer to an operation that found a number: a load and a fetch give it (6.12.11: "returns old"), and what an
+-- update returns goes unused (own)
 abbrev pub answer_to : Operation → ℕ → Answer
 answer_to (Load _) x = Value x
 answer_to (Store _ _) x = Done

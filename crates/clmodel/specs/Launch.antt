@@ -21,9 +21,9 @@ use Rattle.clmodel.specs.declared.action.Answer.{Answer}
 use Rattle.clmodel.specs.declared.fault.Location.{Location}
 use Rattle.clmodel.specs.declared.fault.Location.TheVariants as location
 
--- A launch of `items` items, `group_size` to a group (3.2, 5.8). `next` gives an item's action once the listed answers are used up, one
--- for each earlier action. The names are those that a reply gives to buffers, to local objects, and to what the source names. In a uniform
--- launch two stores that leave the same byte don't conflict (own).
+-- A launch of `items` items, `group_size` to a group (3.2, 5.8). `next` gives an item's action once the listed answers
+-- are used up, one for each earlier action. The names are those that a reply gives to buffers, to local objects, and to
+-- what the source names. In a uniform launch two stores that leave the same byte don't conflict (own).
 pub record Launch : Type 0 where
   pub items : ℕ
   pub group_size : ℕ
@@ -100,8 +100,8 @@ class_number class.UnsignedMin = 5
 class_number class.SignedMax = 6
 class_number class.UnsignedMax = 7
 
--- How two kinds conflict (own, on 3.3.1 and 6.12.11): loads don't, nor updates of one class; what updates of two classes leave, and the old
--- number that a fetch gives, depends on their order.
+-- How two kinds conflict (own, on 3.3.1 and 6.12.11): loads don't, nor updates of one class; what updates of two
+-- classes leave, and the old number that a fetch gives, depends on their order.
 abbrev pub clash : AccessKind → AccessKind → Option Clash
 clash kind.Load kind.Load = None
 clash (kind.Update c) (kind.Update d) = if class_number c == class_number d then None else Some Order
@@ -122,7 +122,8 @@ within_group uniform = record { one_group = true; uniform = uniform }
 abbrev pub across_groups : Bool → Rule
 across_groups uniform = record { one_group = false; uniform = uniform }
 
--- by which rule two accesses of a launch are judged: by whether their items are of one group (3.2), and whether the launch is uniform
+-- by which rule two accesses of a launch are judged: by whether their items are of one group (3.2), and whether the
+-- launch is uniform
 abbrev pub rule_of : Launch → Access → Access → Rule
 rule_of launch x y = record { one_group = group_of launch x.item == group_of launch y.item; uniform = launch.uniform }
 

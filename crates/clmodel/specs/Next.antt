@@ -1,4 +1,5 @@
--- What an item does next: plain evaluation of the kernel's tree, as a tree of actions (OpenCL 1.2, 6.3 to 6.12; C99 6.5 and 6.8).
+-- What an item does next: plain evaluation of the kernel's tree, as a tree of actions (OpenCL 1.2, 6.3 to 6.12; C99 6.5
+-- and 6.8).
 use Rattle.std.specs.Prelude.{ℕ, ◌+◌, pos, Option, None, Some, List, [], ◌∷◌, map, slice_index_or}
 use Rattle.clnum.specs.Operations.{wrapped}
 use Rattle.clmodel.specs.Launch.{Launch}
@@ -45,7 +46,8 @@ here_of setup item = record { range = setup.range; item = item }
 abbrev pub at_the_end : Follows
 at_the_end = record { next = λ _. finish; broken = λ _. finish; continued = λ _. finish; returned = λ _. finish }
 
--- What an item of a launch does: a kernel's body with the helpers before it. A loop makes at most as many turns as the budget has ticks.
+-- What an item of a launch does: a kernel's body with the helpers before it. A loop makes at most as many turns as the
+-- budget has ticks.
 abbrev pub run_of : Setup → ℕ → Funcs → Option Func → Continuation
 run_of setup item earlier None = finish
 run_of setup item earlier (Some f) =

@@ -23,7 +23,8 @@ use Rattle.clmodel.specs.declared.schedule.Event.TheVariants.{Item, Release}
 abbrev pub Memory : Type 0
 Memory = Region → Cells
 
--- A state of a launch (3.2, 3.3; log and intervals own). The log has the newest access first. An interval is that of a group.
+-- A state of a launch (3.2, 3.3; log and intervals own). The log has the newest access first. An interval is that of a
+-- group.
 pub record State : Type 0 where
   pub memory : Memory
   pub answers : ℕ → List Answer

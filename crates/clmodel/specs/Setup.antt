@@ -57,7 +57,8 @@ abbrev pub global_id : Range → ℕ → ℕ → ℕ
 global_id range item dimension =
     slice_index range.offset dimension + group_id range item dimension * slice_index_or range.local dimension 1 + local_id range item dimension
 
--- what a work-item function gives an item in a dimension: an id or an offset is 0 where there is no such dimension, a size or a count 1
+-- what a work-item function gives an item in a dimension: an id or an offset is 0 where there is no such dimension, a
+-- size or a count 1
 abbrev pub work_item_value : Range → ℕ → WorkItemFunction → ℕ → ℕ
 work_item_value range item work_item.GlobalId dimension = global_id range item dimension
 work_item_value range item work_item.LocalId dimension = local_id range item dimension
@@ -91,9 +92,10 @@ buffer_names setup = names_among [] setup.arguments
 abbrev pub local_limit : ℕ
 local_limit = 32768
 
--- A place for an object in the local memory of a group: the number of its name, and its size in bytes (6.5.2). There is one for each parameter and for
--- each variable and array, private ones too, of the outermost block: most are of no bytes, and are there for the numbers alone: that of a
--- local array's object is the number of variables in scope before it (own).
+-- A place for an object in the local memory of a group: the number of its name, and its size in bytes (6.5.2). There is
+-- one for each parameter and for each variable and array, private ones too, of the outermost block: most are of no
+-- bytes, and are there for the numbers alone: that of a local array's object is the number of variables in scope before
+-- it (own).
 pub record LocalObject : Type 0 where
   pub name : ℕ
   pub size : ℕ
@@ -142,8 +144,8 @@ abbrev pub functions_before : Funcs → ℕ → Funcs
 functions_before NoFunc name = NoFunc
 functions_before (ThenFunc fs f) name = if f.is_kernel && (f.name == name) then fs else functions_before fs name
 
--- The local objects of a kernel with these arguments, by their numbers: a place for each parameter, and then one for each declaration of its outermost
--- block, most of no bytes (6.5.2).
+-- The local objects of a kernel with these arguments, by their numbers: a place for each parameter, and then one for
+-- each declaration of its outermost block, most of no bytes (6.5.2).
 abbrev pub objects_of : Option Func → List (Option Argument) → List LocalObject
 objects_of None arguments = []
 objects_of (Some f) arguments = parameter_objects f.parameters arguments ++ body_objects f.body

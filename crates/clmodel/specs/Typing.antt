@@ -16,6 +16,7 @@ pub mod Samples
 unfoldable pub IsTypedProgram : Program → Type 0
 IsTypedProgram program = AreTypedFunctions (names program.functions) program.functions
 
--- the fault that is answered of one that doesn't: the first in the order of the text, children before parents; of one node the lowest number
+-- the fault that is answered of one that doesn't: the first in the order of the text, children before parents; of one
+-- node the lowest number
 unfoldable pub IsTypeFault : Program → TypeFault → Type 0
 IsTypeFault program fault = (place : ℕ) × IsLeast (program_faults program) place fault

@@ -30,8 +30,8 @@ impl Width {
     }
 }
 
-/// A class of atomic updates (OpenCL 1.2, section 6.12.11). Add stands for add, sub, inc and dec; the least and the greatest
-/// are taken by the sign of the pointer's element type.
+/// A class of atomic updates (OpenCL 1.2, section 6.12.11). Add stands for add, sub, inc and dec; the least and the
+/// greatest are taken by the sign of the pointer's element type.
 #[derive(Clone, Copy, PartialEq, Eq)]
 pub enum Class {
     Add,
@@ -64,8 +64,8 @@ pub enum AccessKind {
     Fetch,
 }
 
-/// An object that a pointer of a work-item points into (OpenCL 1.2, section 3.3): a buffer, by its place among the launch's
-/// buffers, or a local object, by its place among the kernel's.
+/// An object that a pointer of a work-item points into (OpenCL 1.2, section 3.3): a buffer, by its place among the
+/// launch's buffers, or a local object, by its place among the kernel's.
 #[derive(Clone, Copy, PartialEq, Eq)]
 pub enum Object {
     Buffer(u32),
@@ -91,8 +91,8 @@ pub enum Region {
     Local { group: u32, number: u32 },
 }
 
-/// What an access does at its bytes. A store writes the low bytes of its value. An update acts on 4 bytes, and so does a fetch, which
-/// answers their old number.
+/// What an access does at its bytes. A store writes the low bytes of its value. An update acts on 4 bytes, and so does
+/// a fetch, which answers their old number.
 #[derive(Clone, Copy, PartialEq, Eq)]
 pub enum Operation {
     Load(Width),
@@ -136,8 +136,8 @@ impl Operation {
     }
 }
 
-/// What is kept of an access: the item, the bytes that it touched, its kind, the value of a store, and the interval of its group in which it
-/// was made.
+/// What is kept of an access: the item, the bytes that it touched, its kind, the value of a store, and the interval of
+/// its group in which it was made.
 #[derive(Clone, Copy, PartialEq, Eq)]
 pub struct Access {
     pub item: u32,
@@ -150,8 +150,8 @@ pub struct Access {
     pub interval: u32,
 }
 
-/// The rule by which two accesses of different items are judged: whether a barrier can order them (OpenCL 1.2, sections 3.3.1
-/// and 6.12.8), and whether stores of the same byte may meet.
+/// The rule by which two accesses of different items are judged: whether a barrier can order them (OpenCL 1.2, sections
+/// 3.3.1 and 6.12.8), and whether stores of the same byte may meet.
 #[derive(Clone, Copy, PartialEq, Eq)]
 pub struct Rule {
     /// Whether both items are of one group, whose barriers order accesses of two intervals.

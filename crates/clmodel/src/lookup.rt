@@ -39,8 +39,8 @@ fn kernel_among(functions: &[Function], number: usize) -> Option<PlacedFunction<
 }
 
 impl Tree {
-    /// The kernel of a name's number, with its place: the last function of the name that is one (OpenCL 1.2, section 6.7.1). None where
-    /// the program has no such kernel.
+    /// The kernel of a name's number, with its place: the last function of the name that is one (OpenCL 1.2, section
+    /// 6.7.1). None where the program has no such kernel.
     pub fn kernel(&self, number: usize) -> Option<PlacedFunction<'_>>
         ensures kernel { option_map (λ found. func found.function.now) result ≡ setup.kernel_in (program self.now).functions number }
         ensures before { IfSome result (λ found. funcs (take found.place self.now.functions.items) ≡ setup.functions_before (program self.now).functions number) }
@@ -49,7 +49,8 @@ impl Tree {
         kernel_among(self.functions.as_slice(), number)
     }
 
-    /// The number of a name: its place among the names of the program. None where no name of the program is these bytes.
+    /// The number of a name: its place among the names of the program. None where no name of the program is these
+    /// bytes.
     pub fn name_number(&self, name: &[u8]) -> Option<usize>
         ensures { result ≡ position (setup.same_text name.now) (program self.now).names }
     {

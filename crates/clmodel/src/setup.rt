@@ -18,9 +18,9 @@ use clnum::Builtin;
 /// The most bytes of local memory that a work-group may have (OpenCL 1.2, section 4.2, `CL_DEVICE_LOCAL_MEM_SIZE`).
 pub const LOCAL_LIMIT: u64 = 32768;
 
-/// An index space (OpenCL 1.2, section 3.2): in each dimension the number of work-items, the number in a work-group, and the
-/// offset that is added to the global ids. And whether the launch is uniform: two stores of different items that leave the same byte don't
-/// conflict there.
+/// An index space (OpenCL 1.2, section 3.2): in each dimension the number of work-items, the number in a work-group,
+/// and the offset that is added to the global ids. And whether the launch is uniform: two stores of different items
+/// that leave the same byte don't conflict there.
 #[derive(Drop)]
 pub struct Range {
     pub global: Numbers,
@@ -29,8 +29,8 @@ pub struct Range {
     pub uniform: bool,
 }
 
-/// An argument of a kernel: a buffer for a pointer to global or constant memory, a number for an integer, a size in bytes for a
-/// pointer to local memory.
+/// An argument of a kernel: a buffer for a pointer to global or constant memory, a number for an integer, a size in
+/// bytes for a pointer to local memory.
 #[derive(Drop)]
 pub enum Argument {
     Buffer(Name),
@@ -107,7 +107,8 @@ pub enum BuiltIn {
     Atomic(AtomicFunction),
 }
 
-/// What a name means without a declaration: a built-in function, the barrier, or what a barrier fences (OpenCL 1.2, section 6.12.8).
+/// What a name means without a declaration: a built-in function, the barrier, or what a barrier fences (OpenCL 1.2,
+/// section 6.12.8).
 #[derive(Clone, Copy)]
 pub enum Predefined {
     Function(BuiltIn),

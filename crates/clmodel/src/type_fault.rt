@@ -6,8 +6,8 @@ ghost use Rattle.clmodel.specs.Typing.Least.{number, offset};
 
 use std::alloc::AllocError;
 
-/// A fault of a tree's types (OpenCL 1.2, sections 6.1 to 6.12). Each has the byte number of the name, expression, statement or number
-/// that it is about, but out of memory.
+/// A fault of a tree's types (OpenCL 1.2, sections 6.1 to 6.12). Each has the byte number of the name, expression,
+/// statement or number that it is about, but out of memory.
 #[derive(Clone, Copy, Debug, PartialEq, Eq)]
 pub enum TypeFault {
     /// 1: a name that isn't in scope

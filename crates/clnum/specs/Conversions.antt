@@ -30,7 +30,8 @@ unsigned_of Ulong = Ulong
 abbrev pub holds_all : IntType → IntType → Bool
 holds_all wide narrow = int_le (least wide) (least narrow) && int_le (greatest narrow) (greatest wide)
 
--- a type of a greater rank than int stays; another becomes int, or unsigned int where int has not each of its numbers (C99 6.3.1.1, paragraph 2)
+-- a type of a greater rank than int stays; another becomes int, or unsigned int where int has not each of its numbers
+-- (C99 6.3.1.1, paragraph 2)
 unfoldable pub promoted : IntType → IntType
 promoted kind = if nat_lt (rank Int) (rank kind) then kind else (if holds_all Int kind then Int else Uint)
 

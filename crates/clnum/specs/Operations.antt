@@ -1,4 +1,5 @@
--- What the operators on integers give (OpenCL 1.2, 6.3): a formula over whole numbers, followed by `wrap`, or a fault of division.
+-- What the operators on integers give (OpenCL 1.2, 6.3): a formula over whole numbers, followed by `wrap`, or a fault
+-- of division.
 use Rattle.std.specs.Prelude.{ℕ, ◌^◌, ℤ, pos, negsuc, ◌+ℤ◌, ◌-ℤ◌, ◌*ℤ◌, int_div, int_le, int_lt, Bool, not, ◌&&◌, bit_and, bit_or, bit_xor, if◌then◌else◌, Result, Ok, Err}
 use Rattle.std.specs.Int.{int_div_euclid}
 use Rattle.std.specs.Ordering.{int_eq}
@@ -40,7 +41,8 @@ comparison test a b = let kind = common a.kind b.kind in truth (test (wrap kind 
 abbrev pub bitwise : (ℕ → ℕ → ℕ) → Integer → Integer → Integer
 bitwise formula a b = let kind = common a.kind b.kind in wrapped kind (pos (formula (bits_of kind a.number) (bits_of kind b.number)))
 
--- a formula on a number and a power of two, whose exponent is the count modulo the width of the promoted left operand (6.3.j)
+-- a formula on a number and a power of two, whose exponent is the count modulo the width of the promoted left operand
+-- (6.3.j)
 abbrev pub shift : (ℤ → ℕ → ℤ) → Integer → Integer → Integer
 shift formula a count = let kind = promoted a.kind in wrapped kind (formula a.number (2 ^ residue (bits kind) count.number))
 
@@ -61,7 +63,8 @@ remainder_of x y = x -ℤ (int_div x y *ℤ y)
 abbrev pub division : (ℤ → ℤ → ℤ) → Integer → Integer → Result Integer ArithFault
 division formula a b = let kind = common a.kind b.kind in divided formula kind (wrap kind a.number) (wrap kind b.number)
 
--- the operators on two numbers (6.3.a, 6.3.d to 6.3.f and 6.3.j); `int_div` rounds toward zero, `int_div_euclid` by a power of two rounds down
+-- the operators on two numbers (6.3.a, 6.3.d to 6.3.f and 6.3.j); `int_div` rounds toward zero, `int_div_euclid` by a
+-- power of two rounds down
 unfoldable pub binary_value : BinaryOperator → Integer → Integer → Result Integer ArithFault
 binary_value Add a b = Ok (arithmetic (λ x y. x +ℤ y) a b)
 binary_value Subtract a b = Ok (arithmetic (λ x y. x -ℤ y) a b)

@@ -11,8 +11,8 @@ use crate::operations::shift_count;
 use crate::operators::Builtin;
 use crate::values::Value;
 
-/// What a built-in function gives on its arguments (OpenCL 1.2, section 6.12.3), which are not promoted. None where they
-/// do not fit it: `abs`, `clz` and `popcount` take one, and `min`, `max` and `rotate` two of one type.
+/// What a built-in function gives on its arguments (OpenCL 1.2, section 6.12.3), which are not promoted. None where
+/// they do not fit it: `abs`, `clz` and `popcount` take one, and `min`, `max` and `rotate` two of one type.
 pub fn builtin(function: Builtin, arguments: &[Value]) -> Option<Value>
     ensures { result ≡ builtins.builtin_value function arguments.now }
 {
@@ -54,14 +54,14 @@ fn of_two(function: Builtin, a: Value, b: Value) -> Option<Value>
     }
 }
 
-// How many of a value's highest bits are zero.
+/// How many of a value's highest bits are zero.
 fn leading_zeros(value: Value) -> u32
     ensures { result ≡ count_leading_zeros (bits value.kind) (bits_of value.kind value.number) }
 {
     value.to_bits().leading_zeros() - (64 - value.kind().bits())
 }
 
-// The bits of a value turned left by a count modulo its width.
+/// The bits of a value turned left by a count modulo its width.
 fn rotate(value: Value, count: Value) -> Value
     ensures { let kind = value.kind in
         let by = residue (bits kind) count.number in

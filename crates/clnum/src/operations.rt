@@ -11,8 +11,8 @@ use crate::int_type::IntType;
 use crate::operators::{ArithFault, BinaryOperator, UnaryOperator};
 use crate::values::{Value, bits_of};
 
-/// A value in another type (OpenCL 1.2, section 6.2.3; C99 6.3.1.3): the number of that type that differs by a multiple of
-/// 2 to its width.
+/// A value in another type (OpenCL 1.2, section 6.2.3; C99 6.3.1.3): the number of that type that differs by a multiple
+/// of 2 to its width.
 pub fn convert(value: Value, kind: IntType) -> Value
     ensures { result ≡ converted value kind }
 {
@@ -37,14 +37,14 @@ pub fn unary(operator: UnaryOperator, value: Value) -> Value
     }
 }
 
-// The int 1 or 0.
+/// The int 1 or 0.
 fn truth(holds: bool) -> Value
     ensures { result ≡ operations.truth holds }
 {
     Value::new(IntType::Int, if holds { 1 } else { 0 })
 }
 
-// Two numbers brought to their common type.
+/// Two numbers brought to their common type.
 #[derive(Clone, Copy)]
 struct Pair {
     kind: IntType,
@@ -97,7 +97,7 @@ pub fn binary(operator: BinaryOperator, left: Value, right: Value) -> Result<Val
     }
 }
 
-// The quotient of two numbers of a type, rounded toward zero.
+/// The quotient of two numbers of a type, rounded toward zero.
 fn divide(kind: IntType, x: i128, y: i128) -> Result<Value, ArithFault>
     requires left { IsIn kind x }
     requires right { IsIn kind y }
@@ -113,7 +113,7 @@ fn divide(kind: IntType, x: i128, y: i128) -> Result<Value, ArithFault>
     Ok(Value::wrapped(kind, quotient))
 }
 
-// What is left of x after its quotient by y, with the sign of x.
+/// What is left of x after its quotient by y, with the sign of x.
 fn remainder(kind: IntType, x: i128, y: i128) -> Result<Value, ArithFault>
     requires left { IsIn kind x }
     requires right { IsIn kind y }
@@ -129,7 +129,7 @@ fn remainder(kind: IntType, x: i128, y: i128) -> Result<Value, ArithFault>
     Ok(Value::wrapped(kind, x.wrapping_sub(quotient.wrapping_mul(y))))
 }
 
-// x / y without 128-bit division: only the quotient by -1 can leave 64 bits.
+/// x / y without 128-bit division: only the quotient by -1 can leave 64 bits.
 fn quotient(kind: IntType, x: i128, y: i128) -> i128
     requires left { IsIn kind x }
     requires right { IsIn kind y }
@@ -145,7 +145,7 @@ fn quotient(kind: IntType, x: i128, y: i128) -> i128
     }
 }
 
-// Whether a number is in a type's range.
+/// Whether a number is in a type's range.
 fn is_in(kind: IntType, number: i128) -> bool
     ensures { result ≡ operations.is_in kind number }
 {

@@ -105,7 +105,7 @@ impl Value {
     }
 }
 
-// The lowest 64 bits of a number.
+/// The lowest 64 bits of a number.
 fn lowest_bits(number: i128) -> u64
     ensures { result ≡ residue (2 ^ 64) number }
 {
@@ -126,7 +126,7 @@ pub(crate) fn bits_of(kind: IntType, number: i128) -> u64
     }
 }
 
-// The number of a type that differs from a number by a multiple of 2 to the type's width.
+/// The number of a type that differs from a number by a multiple of 2 to the type's width.
 fn wrapped_number(kind: IntType, number: i128) -> i128
     ensures { result ≡ integer.wrap kind number }
 {

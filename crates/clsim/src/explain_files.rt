@@ -1,7 +1,7 @@
 //! Files explained: a script is read, with a schedule file where one is named, and the explanation is written.
 //!
-//! What is explained, and which answer is given, `explaining` defines. A reader's failure is told apart from its faults,
-//! which become those of the other commands.
+//! What is explained, and which answer is given, `explaining` defines. A reader's failure is told apart from its
+//! faults, which become those of the other commands.
 #![tactic(auto)]
 
 ghost use Rattle.std.specs.Prelude.{◌≡◌, IfOk, IfErr};

@@ -92,8 +92,8 @@ fn dump_kernel<R: Files + Print + AllocGlobal>(
     dump_file(rt.alloc(), &mut reader, kernel, &mut writer)
 }
 
-/// Replays a schedule file on the script of a file, with the answer on standard output. The schedule file is opened once the script was
-/// read and found good.
+/// Replays a schedule file on the script of a file, with the answer on standard output. The schedule file is opened
+/// once the script was read and found good.
 fn replay_schedule<R: Files + Print + AllocGlobal>(
     rt: &R,
     script: &str,
@@ -233,8 +233,8 @@ fn ask<R: Env + Files + io::Input + Print + Eprint + AllocGlobal + Threads + Wai
     Ok(perform(rt, texts.as_slice()))
 }
 
-/// Does what the command line asks for, and gives the status of the process: where anything is told on standard error, it is 2,
-/// whatever that takes.
+/// Does what the command line asks for, and gives the status of the process: where anything is told on standard error,
+/// it is 2, whatever that takes.
 fn end<R: Env + Files + io::Input + Print + Eprint + AllocGlobal + Threads + Wait + Sync>(
     rt: &R,
 ) -> ExitCode

@@ -18,8 +18,8 @@ use Rattle.clsyntax_terms.specs.Grammar.{Placed, put, start, Head, Prefix, infix
 use Rattle.clsyntax_terms.specs.Machine.{Frame, After, Before, Conditional, Chosen, InRound, InElement, InAddress, InCall, InPart, InBehind, InStep, InAssign, InDeclare, InReturn, InIf, InWhile, InDo, InInitial, InCondition, InFinal, Then, Otherwise, Turns, DoTurns, ForTurns, InItems, InBlock, InBody, InHead, InProgram, Purpose, ForParameter, ForDeclaration, takes_size, nesting_of, Mode, Operand, ExpressionRead, Named, Opened, CastType, AfterAnd, AndName, CallOpen, Optional, Item, Begin, Aim, BeginName, TargetRead, Ended, Closing, StatementRead, AfterIf, AfterWhile, AfterFor, AfterDo, AfterSpace, AfterConst, AfterElement, AfterTyping, Declared, ArrayNamed, ArrayOpened, ArraySized, ArrayClosed, Top, AfterKernel, AfterReturning, AfterName, HeadOpen, WantParameter, AfterParameter, HeadDone, State, in_mode, Moved, step}
 use Rattle.clsyntax.proofs.Levels.{reach}
 
--- What the innermost frame waits for, and its nesting. An item is a statement or a declaration; a simple statement may be a
--- statement, or a part of a `for`. A bool: whether size_t is a parameter's type.
+-- What the innermost frame waits for, and its nesting. An item is a statement or a declaration; a simple statement may
+-- be a statement, or a part of a `for`. A bool: whether size_t is a parameter's type.
 pub data Need : Type 0 where
   AnExpr : (n : ℕ) → Need
   SomeArguments : (n : ℕ) → Need

@@ -66,7 +66,8 @@ pub record IsUnexpected (length : ℕ) (ts : List Token) (at : ℕ) : Type 0 whe
   pub within : IsWithin placed
   pub ends : Ends (tokens placed) rest
 
--- The tokens before the offset begin a program within the limit; so they do with the next one, which is nested too deep.
+-- The tokens before the offset begin a program within the limit; so they do with the next one, which is nested too
+-- deep.
 pub record IsTooDeep (ts : List Token) (at : ℕ) : Type 0 where
   pub placed : List Placed
   pub deep : Placed

@@ -54,7 +54,8 @@ is_decimal Decimal = true
 is_decimal Octal = false
 is_decimal Hexadecimal = false
 
--- a type that a number may have: with `u` an unsigned one, without it a decimal number a signed one, with `l` a long one
+-- a type that a number may have: with `u` an unsigned one, without it a decimal number a signed one, with `l` a long
+-- one
 abbrev pub may_have : Base → Suffix → IntType → Bool
 may_have base suffix kind =
     (if suffix.is_unsigned then not (is_signed kind) else (is_signed kind || not (is_decimal base)))

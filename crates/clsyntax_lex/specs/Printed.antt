@@ -18,8 +18,8 @@ suffix_text types.Long = codes "l"
 suffix_text types.Ulong = codes "ul"
 suffix_text _ = []
 
--- The text of a token: a name by its number in a table of names, a number in decimal digits, and a word or symbol in its first spelling.
--- The words that stand nowhere in the grammar are alike, and all printed as the first of them.
+-- The text of a token: a name by its number in a table of names, a number in decimal digits, and a word or symbol in
+-- its first spelling. The words that stand nowhere in the grammar are alike, and all printed as the first of them.
 abbrev pub spelled : List (List ℕ) → TokenKind → List ℕ
 spelled names (kinds.Name number) = unwrap_or (slice_get names number) []
 spelled names (kinds.Number value) = decimal (nat_abs value.number) ++ suffix_text value.kind

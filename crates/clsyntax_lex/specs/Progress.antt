@@ -6,7 +6,8 @@ use Rattle.clsyntax_lex.specs.declared.token.SyntaxFault.TheVariants.{OutOfMemor
 use Rattle.clsyntax_lex.specs.Tokens.{IsNumberedBelow}
 use Rattle.clsyntax_lex.specs.Lexing.{lexemes_from, completed}
 
--- From the offset `at` on, of whose bytes `len` are taken, what the tokens and names so far are completed to stays the same.
+-- From the offset `at` on, of whose bytes `len` are taken, what the tokens and names so far are completed to stays the
+-- same.
 pub record Advances (at : ℕ) (rest : List ℕ) (tokens : List Token) (names : List (List ℕ)) (new_tokens : List Token) (new_names : List (List ℕ)) (len : ℕ) : Type 0 where
   pub positive : 0 < len
   pub within : len ≤ length rest

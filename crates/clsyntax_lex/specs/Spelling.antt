@@ -37,7 +37,8 @@ IsFirstDigit Decimal b = b ≢ 48
 IsFirstDigit Octal b = b ≡ 48
 IsFirstDigit Hexadecimal b = Unit {0}
 
--- digits with their prefix and a whole suffix, and the value in the first type that it may have and that holds it (C99 6.4.4.1)
+-- digits with their prefix and a whole suffix, and the value in the first type that it may have and that holds it (C99
+-- 6.4.4.1)
 pub record IsNumber (text : List ℕ) (value : Integer) : Type 0 where
   pub base : Base
   pub prefix : List ℕ
@@ -93,8 +94,8 @@ abbrev pub HasName : List Placed → List ℕ → Type 0
 HasName [] text = ⊥
 HasName (p ∷ ps) text = (p.lexeme ≡ Named text) ⊎ HasName ps text
 
--- The table of names begins with the built-in ones and has no text twice. A name's number is its place there, and behind the
--- built-in names stand those of the source alone.
+-- The table of names begins with the built-in ones and has no text twice. A name's number is its place there, and
+-- behind the built-in names stand those of the source alone.
 pub record IsNameTable (names : List (List ℕ)) (lexemes : List Placed) : Type 0 where
   pub begins : (others : List (List ℕ)) × (names ≡ built_in_names ++ others)
   pub distinct : IsDistinct bytes_eq names

@@ -1,4 +1,5 @@
--- The words and symbols of OpenCL C (OpenCL 1.2, section 6.1.9; C99 6.4.1 and 6.4.6), and the names of the built-in functions.
+-- The words and symbols of OpenCL C (OpenCL 1.2, section 6.1.9; C99 6.4.1 and 6.4.6), and the names of the built-in
+-- functions.
 use Rattle.std.specs.Prelude.{ℕ, List, [], ◌∷◌, map, codes}
 use Rattle.std.specs.Borrow.{Bor}
 use Rattle.clnum.specs.declared.int_type.IntType.TheVariants as types

@@ -14,13 +14,15 @@ pub fn one_lexing()
     ensures { (source : List ℕ) (a b : Result Text SyntaxFault) → Lexes source a → Lexes source b → a ≡ b }
 {}
 
-/// The limit of length changes nothing of what is read: a source's tokens and names are those that it has as bytes of any length.
+/// The limit of length changes nothing of what is read: a source's tokens and names are those that it has as bytes of
+/// any length.
 pub fn length_changes_nothing()
     ensures { (source : List ℕ) (text : Text) → Lexes source (Ok text) → LexesAtAnyLength source (Ok text) }
 {}
 
-/// A source without a fault, however long, is its tokens with white space and comments round them. The bytes of each token spell
-/// it, and no longer front of what stands there is a token. A name's number is the place of its text in the table of names.
+/// A source without a fault, however long, is its tokens with white space and comments round them. The bytes of each
+/// token spell it, and no longer front of what stands there is a token. A name's number is the place of its text in the
+/// table of names.
 pub fn tokens_are_spelled()
     ensures { (source : List ℕ) (text : Text) → LexesAtAnyLength source (Ok text) → IsReading source text }
 {}
@@ -30,9 +32,9 @@ pub fn tokens_are_writable()
     ensures { (source : List ℕ) (text : Text) → LexesAtAnyLength source (Ok text) → All IsWritable (kinds_of text.tokens) }
 {}
 
-/// Printed tokens are read back. They need not be those of a source, however long, but have the same names in the same order, and
-/// only numbers that can be written. What they are printed as, each token with a space behind it, is read as these tokens with the
-/// same table of names.
+/// Printed tokens are read back. They need not be those of a source, however long, but have the same names in the same
+/// order, and only numbers that can be written. What they are printed as, each token with a space behind it, is read as
+/// these tokens with the same table of names.
 pub fn printed_tokens_are_read_back()
     ensures { (source : List ℕ) (text : Text) (tokens : List TokenKind) → LexesAtAnyLength source (Ok text) → All IsWritable tokens
         → names_in tokens ≡ names_in (kinds_of text.tokens) → ReadsAs (text_of text.names tokens) tokens text.names }

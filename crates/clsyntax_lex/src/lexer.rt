@@ -23,7 +23,7 @@ struct Progress<'a> {
 }
 
 impl<'a> Progress<'a> {
-    // Takes a piece from the front of the rest, which begins at this offset, and answers how many bytes it has.
+    /// Takes a piece from the front of the rest, which begins at this offset, and answers how many bytes it has.
     fn take_piece(&mut self, rest: &'a [u8], at: usize) -> Result<usize, SyntaxFault>
         requires nonempty { 0 < length rest.now }
         requires short { at + length rest.now ≤ 65536 }
@@ -58,8 +58,8 @@ impl<'a> Progress<'a> {
 
 /// The tokens of a source of at most 65,536 bytes (OpenCL 1.2, section 6; C99 6.4).
 ///
-/// A longer source is TooLong at that offset. Else the fault is the first in text order: BadByte at a byte that begins no token
-/// or can't follow a number, NumberTooLarge at the beginning of a number that no type can hold.
+/// A longer source is TooLong at that offset. Else the fault is the first in text order: BadByte at a byte that begins
+/// no token or can't follow a number, NumberTooLarge at the beginning of a number that no type can hold.
 pub fn lex(alloc: Global, source: &[u8]) -> Result<Tokens, SyntaxFault>
     ensures exact { LexesUnlessMemory source.now result }
 {

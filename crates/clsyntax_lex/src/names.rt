@@ -33,7 +33,7 @@ impl<'a> NameTable<'a> {
         NameTable::of_entries(alloc, &PREDEFINED)
     }
 
-    // The table of the texts of these entries.
+    /// The table of the texts of these entries.
     fn of_entries(alloc: Global, given: &'a [(&'a [u8], Predefined)]) -> Result<Self, AllocError>
         ensures { IfOk result (λ table. table ≡ fold (λ names entry. with_text names entry.0.now) [] given.now) }
     {

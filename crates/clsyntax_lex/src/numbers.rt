@@ -137,7 +137,8 @@ pub(crate) fn suffix_of(bytes: &[u8]) -> Suffix
     }
 }
 
-// Whether a number may have this type: with `u` an unsigned one, without it a decimal number a signed one, with `l` a long one.
+/// Whether a number may have this type: with `u` an unsigned one, without it a decimal number a signed one, with `l` a
+/// long one.
 fn may_have(base: Base, suffix: Suffix, kind: IntType) -> bool
     ensures { result ≡ numbers.may_have base suffix kind }
 {
@@ -149,7 +150,7 @@ fn may_have(base: Base, suffix: Suffix, kind: IntType) -> bool
     fits_sign && (!suffix.is_long || kind.bits() == 64)
 }
 
-// The least number that is too large for a type.
+/// The least number that is too large for a type.
 fn bound(kind: IntType) -> u128
     ensures { result ≡ numbers.bound kind }
 {
@@ -165,7 +166,7 @@ fn bound(kind: IntType) -> u128
     }
 }
 
-// Whether a number may have this type and lies below its bound.
+/// Whether a number may have this type and lies below its bound.
 fn is_type_of(base: Base, suffix: Suffix, kind: IntType, number: u128) -> bool
     ensures value { result ≡ (numbers.may_have base suffix kind && nat_lt number (numbers.bound kind)) }
     ensures in_range { OnTrue result (IsIn kind (pos number)) }
@@ -173,7 +174,7 @@ fn is_type_of(base: Base, suffix: Suffix, kind: IntType, number: u128) -> bool
     may_have(base, suffix, kind) && number < bound(kind)
 }
 
-// The number in the first of these types that it may have and that holds it.
+/// The number in the first of these types that it may have and that holds it.
 fn first_holding(base: Base, suffix: Suffix, kinds: &[IntType], number: u128) -> Option<Value>
     ensures { result ≡ numbers.first_holding base suffix kinds.now number }
 {

@@ -43,14 +43,14 @@ fn is_name_part(byte: u8) -> bool
     byte.is_ascii_alphanumeric() || byte == b'_'
 }
 
-// How many bytes of a name stand in front.
+/// How many bytes of a name stand in front.
 fn name_len(bytes: &[u8]) -> usize
     ensures { result ≡ prefix_len pieces.is_name_part bytes.now }
 {
     bytes.iter().take_while(|byte| is_name_part(**byte)).count()
 }
 
-// A name in full length, or a reserved word.
+/// A name in full length, or a reserved word.
 fn word_piece(bytes: &[u8]) -> Piece
     ensures { result ≡ pieces.word_piece bytes.now }
 {
@@ -61,7 +61,7 @@ fn word_piece(bytes: &[u8]) -> Piece
     }
 }
 
-// A number with its suffix.
+/// A number with its suffix.
 #[tactic(auto, unfolding(crate::specs::Pieces::number_piece))]
 fn number_piece(bytes: &[u8]) -> Piece
     ensures { result ≡ pieces.number_piece bytes.now }
@@ -71,7 +71,7 @@ fn number_piece(bytes: &[u8]) -> Piece
     number_in(base, rest, bytes)
 }
 
-// The number at the front of bytes, whose digits begin the rest.
+/// The number at the front of bytes, whose digits begin the rest.
 fn number_in(base: Base, rest: &[u8], bytes: &[u8]) -> Piece
     requires { length rest.now ≤ length bytes.now }
     ensures { result ≡ pieces.number_in base rest.now bytes.now }
@@ -83,7 +83,7 @@ fn number_in(base: Base, rest: &[u8], bytes: &[u8]) -> Piece
     number_of_len(bytes, base.digits_at() + count + suffix.len, value)
 }
 
-// A number of n bytes, behind which no letter, digit or underscore stands.
+/// A number of n bytes, behind which no letter, digit or underscore stands.
 fn number_of_len(bytes: &[u8], len: usize, value: Option<Value>) -> Piece
     ensures { result ≡ pieces.number_of_len bytes.now len value }
 {
@@ -94,7 +94,7 @@ fn number_of_len(bytes: &[u8], len: usize, value: Option<Value>) -> Piece
     }
 }
 
-// How far the next `*/` goes, with it.
+/// How far the next `*/` goes, with it.
 #[tactic(auto, unfolding(crate::specs::Pieces::closed_after))]
 fn closed_after(bytes: &[u8]) -> Option<usize>
     ensures value { result ≡ pieces.closed_after bytes.now }
@@ -109,7 +109,7 @@ fn closed_after(bytes: &[u8]) -> Option<usize>
     None
 }
 
-// A comment between `/*` and the next `*/`.
+/// A comment between `/*` and the next `*/`.
 fn block_comment_piece(bytes: &[u8]) -> Piece
     requires { 2 ≤ length bytes.now }
     ensures { result ≡ pieces.block_comment_piece bytes.now }
@@ -127,7 +127,7 @@ fn is_in_line(byte: u8) -> bool
     byte != b'\n'
 }
 
-// How many bytes a comment has that goes up to the end of its line.
+/// How many bytes a comment has that goes up to the end of its line.
 fn line_comment_len(bytes: &[u8]) -> usize
     ensures { result ≡ pieces.line_comment_len bytes.now }
 {

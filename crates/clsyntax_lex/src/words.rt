@@ -125,7 +125,7 @@ pub(crate) fn symbol(bytes: &[u8]) -> Option<(TokenKind, usize)>
     entry_in_front(&SYMBOLS, bytes)
 }
 
-// The entry of a text.
+/// The entry of a text.
 fn entry_of(table: &[(&[u8], TokenKind)], text: &[u8]) -> Option<TokenKind>
     ensures { result ≡ word_in (entries table.now) text.now }
 {
@@ -137,7 +137,7 @@ fn entry_of(table: &[(&[u8], TokenKind)], text: &[u8]) -> Option<TokenKind>
     None
 }
 
-// The first entry with which the bytes begin, and how many bytes it has.
+/// The first entry with which the bytes begin, and how many bytes it has.
 fn entry_in_front(table: &[(&[u8], TokenKind)], bytes: &[u8]) -> Option<(TokenKind, usize)>
     ensures { result ≡ symbol_in (entries table.now) bytes.now }
 {

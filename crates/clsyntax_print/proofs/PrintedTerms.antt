@@ -57,7 +57,8 @@ pub record Front (g : Goal) (ts : List Token) (qs : List Placed) : Type 0 where
 pub behind_one : {k : TokenKind} {ks : Kinds} {ts : List Token} (n : ℕ) (f : First k ks ts) (ps : List Placed) → tokens ps ≡ f.rest → tokens (put n k f.at ∷ ps) ≡ ts
 behind_one {k = k} n f ps e = ap (λ z. token_of k f.at ∷ z) e ∙ sym f.same
 
--- What tokens that begin with a tree's stand for: a tree with the same plain form, however the tokens behind it are placed.
+-- What tokens that begin with a tree's stand for: a tree with the same plain form, however the tokens behind it are
+-- placed.
 pub record Again (A : Type 0) (G : A → Goal) (Same : A → Type 0) (rest : Kinds) (ts : List Token) : Type 0 where
   pub tree : A
   pub after : List Token

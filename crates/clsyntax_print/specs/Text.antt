@@ -13,7 +13,8 @@ use Rattle.clsyntax_print.specs.Printing.{plain_funcs, printed}
 abbrev pub printed_text : Program → List ℕ
 printed_text p = text_of p.names (printed p.functions)
 
--- The bytes, however many and however deep their tokens are nested, have tokens and names that are the program, offsets aside (own).
+-- The bytes, however many and however deep their tokens are nested, have tokens and names that are the program, offsets
+-- aside (own).
 pub record StandsFor (bytes : List ℕ) (p : Program) : Type 0 where
   pub text : Text
   pub lexed : LexesAtAnyLength bytes (Ok text)
@@ -29,7 +30,8 @@ pub record StandsFor (bytes : List ℕ) (p : Program) : Type 0 where
 abbrev pub IsOfGrammar : Program → Type 0
 IsOfGrammar p = (bytes : List ℕ) × StandsFor bytes p
 
--- The bytes stand for the program, and are a source of it where they are within the limits of length and nesting of a source.
+-- The bytes stand for the program, and are a source of it where they are within the limits of length and nesting of a
+-- source.
 pub record IsReadBack (bytes : List ℕ) (p : Program) : Type 0 where
   pub stands : StandsFor bytes p
   pub source : length bytes ≤ 65536 → IsWithin stands.placed → IsSource bytes (Ok stands.again)

@@ -21,7 +21,8 @@ pub record Passed (names : List (List ℕ)) (old new : Sink) (tokens rest : Kind
   pub split : text_of names tokens ≡ text ++ text_of names rest
   pub wrote : Wrote old new text
 
--- The tokens that stand before others were written; or a call failed, and a beginning of the text of all of them was written.
+-- The tokens that stand before others were written; or a call failed, and a beginning of the text of all of them was
+-- written.
 abbrev pub Passes : {A E : Type 0} → List (List ℕ) → Sink → Result A E → Sink → Kinds → Kinds → Type 0
 Passes names old (Ok v) new tokens rest = Passed names old new tokens rest
 Passes names old (Err e) new tokens rest = Stopped old new (text_of names tokens)

@@ -14,8 +14,8 @@ use clmodel::tree::Expression;
 use clsyntax_lex::token::TokenKind;
 use counted_io::{Write, WriteFailed};
 
-/// Writes an expression where one of a level is wanted: round brackets stand around it where its outermost operator binds less
-/// tightly.
+/// Writes an expression where one of a level is wanted: round brackets stand around it where its outermost operator
+/// binds less tightly.
 #[cycle(expressions)]
 pub(crate) fn write_expression<W: Write>(
     wanted: u32,

@@ -9,8 +9,8 @@ ghost use Rattle.clsyntax_print.specs.Text.{StandsFor};
 
 use clsyntax_lex::laws::length_changes_nothing;
 
-/// The tokens that a program's tree is printed as, wherever they begin, are a program with the same tree, offsets aside. They have
-/// the program's names and numbers, in their order. The limit of nesting is set aside.
+/// The tokens that a program's tree is printed as, wherever they begin, are a program with the same tree, offsets
+/// aside. They have the program's names and numbers, in their order. The limit of nesting is set aside.
 pub fn printed_again()
     ensures tree { IsPrinted }
     ensures words { HasWords }

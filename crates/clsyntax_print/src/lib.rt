@@ -26,9 +26,10 @@ pub enum PrintFault {
     Write,
 }
 
-/// Prints a program as OpenCL C: its tokens with a space behind each, and only the round brackets that it needs (C99 6.4 to 6.9).
-/// A tree that some text stands for, of any length and nesting, is printed as a text that stands for the same tree, but for offsets;
-/// and this text is read back as that tree where it has at most 65,536 bytes and is nested at most 64 deep. Takes no memory.
+/// Prints a program as OpenCL C: its tokens with a space behind each, and only the round brackets that it needs (C99
+/// 6.4 to 6.9). A tree that some text stands for, of any length and nesting, is printed as a text that stands for the
+/// same tree, but for offsets; and this text is read back as that tree where it has at most 65,536 bytes and is nested
+/// at most 64 deep. Takes no memory.
 ///
 /// `Write` comes where the writer fails; then a beginning of the text may have been written.
 pub fn print<W: Write>(tree: &Tree, writer: &mut W) -> Result<(), PrintFault>

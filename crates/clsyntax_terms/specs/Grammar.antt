@@ -1,4 +1,5 @@
--- The grammar of programs, as a relation between tokens and what they stand for (OpenCL 1.2, 6.1 to 6.9; C99 6.5 to 6.9).
+-- The grammar of programs, as a relation between tokens and what they stand for (OpenCL 1.2, 6.1 to 6.9; C99 6.5 to
+-- 6.9).
 use Rattle.std.specs.Prelude.{◌≡◌, ◌≢◌, ℕ, suc, ◌≤◌, List, [], ◌∷◌, ◌++◌, Bool, true, false, not, Option, None, Some}
 use Rattle.clnum.specs.Integer as whole
 use Rattle.clnum.specs.declared.int_type.IntType.{IntType}
@@ -145,10 +146,10 @@ IsNoElse [] = Unit {0}
 IsNoElse (p ∷ ps) = p.token.kind ≢ kinds.Else
 
 -- What tokens stand for. n is the nesting where it begins. An expression is of a level: its outermost operator binds at
--- least so tightly (0: any expression; 1: one without `?`; tight: an operand); m is n and the operators in it outside its
--- brackets. n of arguments is that outside of their brackets. A type may be size_t or not. Simple: a statement but its
--- semicolon. Initial, Condition, Final: the parts of a `for` between its brackets, each with the token that ends it.
--- Returning: what stands before a function's name.
+-- least so tightly (0: any expression; 1: one without `?`; tight: an operand); m is n and the operators in it outside
+-- its brackets. n of arguments is that outside of their brackets. A type may be size_t or not. Simple: a statement but
+-- its semicolon. Initial, Condition, Final: the parts of a `for` between its brackets, each with the token that ends
+-- it. Returning: what stands before a function's name.
 pub data Goal : Type 0 where
   Before : (n : ℕ) → Prefix → Goal
   Expr : (l n : ℕ) → Term → (m : ℕ) → Goal

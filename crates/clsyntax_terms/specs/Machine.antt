@@ -70,7 +70,8 @@ abbrev pub nesting_of : Purpose → ℕ
 nesting_of (ForParameter u) = 1
 nesting_of (ForDeclaration at n) = n
 
--- What was read last, and so what may come. n is the nesting of the next token; with an opened bracket, that outside of it.
+-- What was read last, and so what may come. n is the nesting of the next token; with an opened bracket, that outside of
+-- it.
 pub data Mode : Type 0 where
   -- an operand is wanted; one was read, which begins at an offset
   Operand : (n : ℕ) → Mode
@@ -89,7 +90,8 @@ pub data Mode : Type 0 where
   Begin : (n : ℕ) → Mode
   Initial : (n : ℕ) → Mode
   Final : (n : ℕ) → Mode
-  -- a target is wanted; a first name was read; a target; a statement but its semicolon, simple or not; a whole statement
+  -- a target is wanted; a first name was read; a target; a statement but its semicolon, simple or not; a whole
+  -- statement
   Aim : (n : ℕ) → Mode
   BeginName : (is_step : Bool) → (n at name : ℕ) → Mode
   TargetRead : (is_step : Bool) → (n at : ℕ) → Target → Mode
@@ -107,7 +109,8 @@ pub data Mode : Type 0 where
   AfterElement : Purpose → AddressSpace → (is_const : Bool) → IntType → Mode
   AfterTyping : Purpose → VariableType → Mode
   Declared : (n at : ℕ) → VariableType → (name_at name : ℕ) → Mode
-  -- a local array's name was read; the bracket of an array's length; all of a declaration but `];`, or but its semicolon
+  -- a local array's name was read; the bracket of an array's length; all of a declaration but `];`, or but its
+  -- semicolon
   ArrayNamed : (n at : ℕ) → (is_local : Bool) → IntType → (name_at name : ℕ) → Mode
   ArrayOpened : (n at : ℕ) → (is_local : Bool) → IntType → (name_at name : ℕ) → Mode
   ArraySized : (n : ℕ) → Stmt → Mode
@@ -151,8 +154,8 @@ pub record Folded : Type 0 where
 abbrev pub folded : ℕ → Term → List Frame → Folded
 folded from e fs = record { from = from; term = e; rest = fs }
 
--- An expression takes the prefixes before it, the operators that bind at least so tightly as the next token asks, and where
--- that asks nothing, a choice.
+-- An expression takes the prefixes before it, the operators that bind at least so tightly as the next token asks, and
+-- where that asks nothing, a choice.
 abbrev pub close : ℕ → ℕ → Term → List Frame → Folded
 close k from e (After b op d ∷ fs) = if nat_lt (level op) k then folded from e (After b op d ∷ fs) else close k b (Binary b op d e) fs
 close k from e (Before b p ∷ fs) = close k b (prefixed_by p b e) fs

@@ -6,8 +6,8 @@ ghost use Rattle.std.specs.Prelude.{◌≡◌, suc, ◌<◌, MatchOption};
 /// How deep tokens may be nested.
 pub const LIMIT: u32 = 64;
 
-/// How deep a token is nested: how many blocks, controlled statements, brackets and operators are open at it. The parser makes none
-/// above LIMIT + 1, and a token of that nesting is too deep.
+/// How deep a token is nested: how many blocks, controlled statements, brackets and operators are open at it. The
+/// parser makes none above LIMIT + 1, and a token of that nesting is too deep.
 #[derive(Clone, Copy)]
 pub struct Nesting(pub u32);
 

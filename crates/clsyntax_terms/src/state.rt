@@ -1,4 +1,5 @@
-//! What the parser holds between two tokens. A `nesting` is that of the next token, with something open that outside of it.
+//! What the parser holds between two tokens. A `nesting` is that of the next token, with something open that outside of
+//! it.
 #![tactic(auto)]
 
 ghost use Rattle.std.specs.Prelude.{◌≡◌, [], ◌∷◌, suc, IfOk, MatchOption};
@@ -503,8 +504,8 @@ impl Stack {
         Ok(Stack { alloc, frames })
     }
 
-    /// The frame in front, and the stack without it. One that doesn't fit is let go by `drop(frame)`: else the drop of each variant
-    /// is written into the function that took it, and proved there.
+    /// The frame in front, and the stack without it. One that doesn't fit is let go by `drop(frame)`: else the drop of
+    /// each variant is written into the function that took it, and proved there.
     pub fn pop(self) -> Option<(Frame, Stack)>
         ensures { MatchOption result (opened self ≡ []) (λ popped. opened self ≡ frame_of popped.0 ∷ opened popped.1) }
     {

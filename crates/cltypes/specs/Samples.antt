@@ -1,4 +1,5 @@
--- Statements in a kernel and whole texts, each with its first fault; the offsets of statements count from the first one's start.
+-- Statements in a kernel and whole texts, each with its first fault; the offsets of statements count from the first
+-- one's start.
 use Prim.Native.Nat.{zero, suc}
 use Rattle.std.specs.Prelude.{◌≡◌, ℕ, ◌+◌, pos, Bool, true, false, List, [], ◌∷◌, map, Option, None, Some}
 use Rattle.clnum.specs.declared.int_type.IntType.{IntType}

@@ -19,8 +19,8 @@ pub struct Checked {
 }
 
 impl Checked {
-    /// The kernel of a name, with its place: the last function of the name that is one (OpenCL 1.2, section 6.7.1). None where the program
-    /// has no such kernel. Whoever needs more of the kernel hands on what was found.
+    /// The kernel of a name, with its place: the last function of the name that is one (OpenCL 1.2, section 6.7.1).
+    /// None where the program has no such kernel. Whoever needs more of the kernel hands on what was found.
     pub fn kernel(&self, name: &[u8]) -> Option<PlacedFunction<'_>>
         ensures named { option_map (λ found. found.function.now.name) result ≡ kernel_number (program self.now.tree) name.now }
         ensures placed { IfSome result (λ found. IsKernel self.now.tree found.place found.function.now) }

@@ -13,9 +13,9 @@ use crate::size::{BYTE_LIMIT, LOOP_LIMIT, NODE_LIMIT, PARAMETER_LIMIT, Size};
 use clmodel::tree::Function;
 use clmodel::type_fault::TypeFault;
 
-/// The first fault behind the body of a function whose body has this size, at the function's name: a value that isn't always given
-/// (MissingReturn), then for a kernel loops nested too deep (TooManyLoops), then private arrays of too many bytes or too many nodes (TooLarge),
-/// and then for each function too many parameters (TooLarge).
+/// The first fault behind the body of a function whose body has this size, at the function's name: a value that isn't
+/// always given (MissingReturn), then for a kernel loops nested too deep (TooManyLoops), then private arrays of too
+/// many bytes or too many nodes (TooLarge), and then for each function too many parameters (TooLarge).
 pub fn end_fault(function: &Function, size: Size) -> Option<TypeFault>
     ensures { (s : counted.Size) → size ≡ capped s → result ≡ first (end_faults (func function.now) s) }
 {

@@ -51,7 +51,8 @@ fn signature(alloc: Global, function: &Function) -> Result<Signature, AllocError
     })
 }
 
-/// Ends a function whose body has no fault: the first fault behind the body is the answer, and Err(OutOfMemory) may come at any time.
+/// Ends a function whose body has no fault: the first fault behind the body is the answer, and Err(OutOfMemory) may
+/// come at any time.
 fn end_function(
     context: &mut Context,
     summaries: &mut Summaries,
@@ -67,8 +68,8 @@ fn end_function(
     ended(end_fault(function, size))
 }
 
-/// Checks a function which those of the context and of the summaries stand before: the first of its faults is the answer, and
-/// Err(OutOfMemory) may come at any time. What comes behind it sees it.
+/// Checks a function which those of the context and of the summaries stand before: the first of its faults is the
+/// answer, and Err(OutOfMemory) may come at any time. What comes behind it sees it.
 pub(crate) fn check_function(
     alloc: Global,
     context: &mut Context,

@@ -3,8 +3,9 @@
 //! `check` succeeds only on typed programs, and then hands back the same tree inside `Checked`. It answers a fault only
 //! where that is the least fault of the program. On a typed program its only error is out of memory.
 //!
-//! What the bodies of functions hold, with the bodies of the functions that they call in place of the calls, is counted up
-//! to one above the limits (this project's own): the depth of loops, the bytes of private arrays, the number of nodes.
+//! What the bodies of functions hold, with the bodies of the functions that they call in place of the calls, is counted
+//! up to one above the limits (this project's own): the depth of loops, the bytes of private arrays, the number of
+//! nodes.
 #![tactic(auto)]
 
 ghost use Rattle.std.specs.Prelude.{◌≡◌, IfOk, IfErr};
@@ -59,8 +60,8 @@ fn check_functions(alloc: Global, functions: &[Function]) -> Result<(), TypeFaul
     Ok(())
 }
 
-/// Checks the types of a tree. The fault is the first one in the order of the text, children before parents, and of one place the
-/// one of the least number; Err(OutOfMemory) may come at any time, and nothing else for a typed program.
+/// Checks the types of a tree. The fault is the first one in the order of the text, children before parents, and of one
+/// place the one of the least number; Err(OutOfMemory) may come at any time, and nothing else for a typed program.
 pub fn check(alloc: Global, tree: Tree) -> Result<Checked, TypeFault>
     ensures typed { IfOk result (λ checked. (checked.tree ≡ tree) × IsTypedProgram (program tree)) }
     ensures fault { IfErr result (IsFaultOf (program tree)) }

@@ -36,8 +36,8 @@ fn returns(statement: &Statement) -> bool
     }
 }
 
-/// Whether statements one after the other always return: whether one of them is `return`, a block that always returns, or an `if` with
-/// an `else` both of whose parts do.
+/// Whether statements one after the other always return: whether one of them is `return`, a block that always returns,
+/// or an `if` with an `else` both of whose parts do.
 #[cycle(returns)]
 pub(crate) fn always_returns(body: &[Statement]) -> bool
     ensures { result ≡ row_returns (statements body.now) }

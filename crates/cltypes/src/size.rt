@@ -19,11 +19,12 @@ pub(crate) const BYTE_LIMIT: u32 = 4096;
 /// How many nodes the body of a kernel may have.
 pub const NODE_LIMIT: u32 = 20_000;
 
-/// How many parameters a function may have (OpenCL 1.2, table 4.3, bounds their bytes; the limit is this project's own).
+/// How many parameters a function may have (OpenCL 1.2, table 4.3, bounds their bytes; the limit is this project's
+/// own).
 pub(crate) const PARAMETER_LIMIT: usize = 13_000;
 
-/// How deep the loops of a body are nested, how many bytes its private arrays have, and how many nodes it has; a count above its
-/// limit is one more than the limit.
+/// How deep the loops of a body are nested, how many bytes its private arrays have, and how many nodes it has; a count
+/// above its limit is one more than the limit.
 #[derive(Clone, Copy)]
 pub struct Size {
     pub loops: u32,

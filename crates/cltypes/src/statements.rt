@@ -94,7 +94,8 @@ pub(crate) fn ended(fault: Option<TypeFault>) -> Result<(), TypeFault>
     }
 }
 
-/// Declares a variable, with its initialiser if it has one, or answers the first fault. Err(OutOfMemory) may come at any time.
+/// Declares a variable, with its initialiser if it has one, or answers the first fault. Err(OutOfMemory) may come at
+/// any time.
 fn check_declaration(
     context: &mut Context,
     kind: VariableType,
@@ -165,7 +166,8 @@ fn declare(
     Ok(())
 }
 
-/// Checks a statement or a declaration, which what follows it sees, or answers its first fault. Err(OutOfMemory) may come at any time.
+/// Checks a statement or a declaration, which what follows it sees, or answers its first fault. Err(OutOfMemory) may
+/// come at any time.
 #[cycle(statements)]
 fn check_statement(context: &mut Context, statement: &Statement) -> Result<(), TypeFault>
     ensures first { Ends result (first (faults context.old (stmt statement.now))) }
@@ -360,7 +362,8 @@ fn check_part(context: &mut Context, part: &Option<Box<Statement>>) -> Result<()
     }
 }
 
-/// Checks the third part of a `for`, in a scope of its own, which is left behind it. Err(OutOfMemory) may come at any time.
+/// Checks the third part of a `for`, in a scope of its own, which is left behind it. Err(OutOfMemory) may come at any
+/// time.
 #[cycle(statements)]
 fn check_third(context: &mut Context, part: &Option<Box<Statement>>) -> Result<(), TypeFault>
     ensures first { Ends result (first (part_faults (enter context.old) (held part.now))) }
@@ -408,7 +411,8 @@ fn check_for(
     Ok(())
 }
 
-/// Checks the statements of a block in a scope of their own, which is left behind them. Err(OutOfMemory) may come at any time.
+/// Checks the statements of a block in a scope of their own, which is left behind them. Err(OutOfMemory) may come at
+/// any time.
 #[cycle(statements)]
 fn check_block(context: &mut Context, body: &[Statement]) -> Result<(), TypeFault>
     ensures first { Ends result (first (row_faults (enter context.old) (statements body.now))) }

@@ -50,8 +50,8 @@ impl Summaries {
         }
     }
 
-    /// Adds the function that comes next in the text, and answers the size of its body. Of functions of one name the first stays. Err
-    /// where memory is wanting: nothing changes then.
+    /// Adds the function that comes next in the text, and answers the size of its body. Of functions of one name the
+    /// first stays. Err where memory is wanting: nothing changes then.
     pub fn add(&mut self, function: &Function) -> Result<Size, AllocError>
         ensures size { IfOk result (λ size. (fs : Funcs) → IsSummary self.old fs → size ≡ capped (size_of fs (func function.now))) }
         ensures added { OnOk result ((fs : Funcs) → IsSummary self.old fs → IsSummary self.new (ThenFunc fs (func function.now))) }

@@ -29,8 +29,9 @@ fn last_holder(scopes: &[Scope], name: u32) -> Option<&Scope>
     scopes.iter().rev().find(|scope| scope.contains_key(&name))
 }
 
-/// What is known at a place of a program: the names of all its functions, the functions before this one, this function, whether the
-/// place is in a loop, and the variables of each scope around it. Names are their places in a tree's table of names.
+/// What is known at a place of a program: the names of all its functions, the functions before this one, this function,
+/// whether the place is in a loop, and the variables of each scope around it. Names are their places in a tree's table
+/// of names.
 #[derive(Drop)]
 pub struct Context {
     alloc: Global,
@@ -109,8 +110,8 @@ impl Context {
         self.outer.clear();
     }
 
-    /// Ends the text of the function, which no function before it has the name of: those behind it can call it. Err where memory is
-    /// wanting: nothing changes then but the signature of this function, which is lost.
+    /// Ends the text of the function, which no function before it has the name of: those behind it can call it. Err
+    /// where memory is wanting: nothing changes then but the signature of this function, which is lost.
     pub fn end(&mut self) -> Result<(), AllocError>
         requires { typing.signature_of self.old.before self.old.current ≡ None }
         ensures ended { OnOk result (self.new ≡ ended self.old) }
@@ -192,8 +193,8 @@ impl Context {
         }
     }
 
-    /// Whether a variable of this name may be declared here: neither the innermost scope has one, nor has a function of the text,
-    /// a built-in one or a fence this name.
+    /// Whether a variable of this name may be declared here: neither the innermost scope has one, nor has a function of
+    /// the text, a built-in one or a fence this name.
     pub fn is_free(&self, name: u32) -> bool
         ensures { result ≡ is_free self.now name }
     {
@@ -207,8 +208,8 @@ impl Context {
         !is_reserved(name) && !self.before.contains_key(&name)
     }
 
-    /// Declares a variable or an array in the innermost scope, where its name is free. Err where memory is wanting: nothing changes
-    /// then.
+    /// Declares a variable or an array in the innermost scope, where its name is free. Err where memory is wanting:
+    /// nothing changes then.
     pub fn bind(&mut self, name: u32, declared: Declaration) -> Result<(), AllocError>
         requires { is_free self.old name ≡ true }
         ensures bound { OnOk result (self.new ≡ bind self.old name declared) }
@@ -218,7 +219,8 @@ impl Context {
         Ok(())
     }
 
-    /// Enters a block: a new scope with no variables, inside the others. Err where memory is wanting: nothing changes then.
+    /// Enters a block: a new scope with no variables, inside the others. Err where memory is wanting: nothing changes
+    /// then.
     pub fn enter(&mut self) -> Result<(), AllocError>
         ensures entered { OnOk result (self.new ≡ enter self.old) }
         ensures err { OnErr result (self.new ≡ self.old) }
@@ -229,7 +231,8 @@ impl Context {
         Ok(())
     }
 
-    /// Leaves a block: the variables of the innermost scope are forgotten, and the scope around it is the innermost one.
+    /// Leaves a block: the variables of the innermost scope are forgotten, and the scope around it is the innermost
+    /// one.
     pub fn leave(&mut self)
         ensures { self.new ≡ left self.old }
     {

@@ -262,7 +262,8 @@ fn check_choice(
     )
 }
 
-/// The least of the faults that the arguments of a call have as such, and the type of the first one; or the first fault inside them.
+/// The least of the faults that the arguments of a call have as such, and the type of the first one; or the first fault
+/// inside them.
 #[cycle(expressions)]
 fn check_arguments(
     names: Names<'_>,

@@ -48,8 +48,8 @@ pub struct TypedOperand {
     pub at: u32,
 }
 
-/// Arguments that have no fault inside: the least of those that they have as the arguments of what is called, and the type of the
-/// first one.
+/// Arguments that have no fault inside: the least of those that they have as the arguments of what is called, and the
+/// type of the first one.
 #[derive(Clone, Copy)]
 pub struct Arguments {
     pub fault: Option<TypeFault>,
@@ -281,8 +281,8 @@ fn argument_count(function: BuiltIn) -> usize
     }
 }
 
-/// A function of the text with this signature, called at `at` with n arguments: no kernel, at a spot that takes it, and an
-/// argument for each parameter.
+/// A function of the text with this signature, called at `at` with n arguments: no kernel, at a spot that takes it, and
+/// an argument for each parameter.
 fn helper_fault(spot: Spot, signature: &Signature, at: u32, arguments: usize) -> Option<TypeFault>
     ensures { result ≡ least (helper_faults (spot_of spot) (signature_of signature.now) at arguments) }
 {

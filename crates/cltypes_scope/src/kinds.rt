@@ -1,4 +1,5 @@
-//! The types of expressions from those of their parts, where these have no fault (OpenCL 1.2, sections 6.2.6, 6.3 and 6.12; C99 6.3.1).
+//! The types of expressions from those of their parts, where these have no fault (OpenCL 1.2, sections 6.2.6, 6.3 and
+//! 6.12; C99 6.3.1).
 #![tactic(auto)]
 
 ghost use Rattle.std.specs.Prelude.{◌≡◌};

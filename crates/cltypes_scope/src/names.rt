@@ -21,8 +21,8 @@ pub struct Identifier {
     pub name: u32,
 }
 
-/// What is known at a place of a program, and whether the place is in the arguments of a barrier, where the names of fences stand for
-/// numbers (OpenCL 1.2, section 6.12.8).
+/// What is known at a place of a program, and whether the place is in the arguments of a barrier, where the names of
+/// fences stand for numbers (OpenCL 1.2, section 6.12.8).
 #[derive(Clone, Copy)]
 pub struct Names<'a> {
     pub context: &'a Context,

@@ -57,8 +57,8 @@ pub fn check_call(
     check_call_in(names(context), spot, called, arguments)
 }
 
-/// The type of what is assigned, or initialises a variable, and where it begins; or its first fault. A function of the text can be
-/// called there.
+/// The type of what is assigned, or initialises a variable, and where it begins; or its first fault. A function of the
+/// text can be called there.
 pub fn check_value(context: &Context, value: &Expression) -> Result<TypedOperand, TypeFault>
     ensures { Checks result (first (value_faults context.now (term value.now))) (operand_of context.now (term value.now)) }
 {

@@ -2,7 +2,8 @@
 use Rattle.std.specs.Prelude.{◌≡◌, ℕ, ◌+◌, ◌-◌, ◌^◌, ◌≤◌, min, Option, List, ◌++◌, Result, MatchResult}
 use Rattle.std.specs.Io.KnownBytes.{Appends}
 
--- the bytes that were written, where they are known, those at their end that are held back still, and the count of failed calls
+-- the bytes that were written, where they are known, those at their end that are held back still, and the count of
+-- failed calls
 pub record Sink : Type 0 where
   pub written : Option (List ℕ)
   pub held : List ℕ

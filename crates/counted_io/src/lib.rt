@@ -27,7 +27,8 @@ pub enum ReadFault {
 
 /// A writer whose failed calls are counted.
 pub trait Write {
-    // The bytes that were written, where they are known, those of them that are held back, and the count of failed calls.
+    // The bytes that were written, where they are known, those of them that are held back, and the count of failed
+    // calls.
     ghost sink: { Self → Sink };
 
     /// Writes the bytes. Where it fails a beginning of them may be written.

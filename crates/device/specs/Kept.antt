@@ -15,13 +15,14 @@ use Rattle.regcode.specs.Listing.{Listing}
 use Rattle.regcode.specs.Machine.{acts}
 use Rattle.device.specs.declared.compiled.CompiledKernel.{CompiledKernel}
 
--- for each launch of a program's kernel, by the number of its name, each item and each list of answers, code makes the action that
--- comes next in the kernel's text
+-- for each launch of a program's kernel, by the number of its name, each item and each list of answers, code makes the
+-- action that comes next in the kernel's text
 abbrev pub ActsAs : Program → ℕ → Listing → Type 0
 ActsAs program number code =
     (setup : Setup) → setup.program ≡ program → setup.kernel ≡ number → (item : ℕ) (answers : List Answer) → acts code setup item answers ≡ next setup item answers
 
--- a kernel's program is there, its code acts as the program's kernel, and it has no more arguments than a function may have parameters
+-- a kernel's program is there, its code acts as the program's kernel, and it has no more arguments than a function may
+-- have parameters
 pub record IsCompiled (programs : Table Checked) (compiled : CompiledKernel) : Type 0 where
   pub there : is_some (find programs compiled.kernel.program) ≡ true
   pub acts_as : (checked : Checked) → find programs compiled.kernel.program ≡ Some checked → ActsAs (program checked.tree) compiled.kernel.function compiled.code

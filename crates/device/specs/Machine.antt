@@ -29,8 +29,8 @@ use Rattle.host_commands.specs.declared.command.Reply.{Reply}
 use Rattle.host_commands.specs.declared.command.Reply.TheVariants as reply
 use Rattle.device.specs.declared.Device.{Device}
 
--- what is known between two commands: the ticks that an item of a launch may make, and the buffers with their bytes, the programs
--- and the kernels by their names
+-- what is known between two commands: the ticks that an item of a launch may make, and the buffers with their bytes,
+-- the programs and the kernels by their names
 pub record Machine : Type 0 where
   pub budget : ℕ
   pub buffers : Table (List ℕ)
@@ -170,8 +170,9 @@ Built old name (Err f) r new = (r ≡ reply.Refused (BuildFailed f)) × (new ≡
 abbrev pub IsReported : Launch → Events → Fault → Type 0
 IsReported launch events fault = (end : State) × RunsIntoFault launch events end fault
 
--- A launch that isn't refused: it is clean, whatever the order in which its items go on, and its buffers hold from then on what
--- every order leaves in them; or the schedule leads to a state that shows the fault, which is the canonical run's report, and no buffer changes.
+-- A launch that isn't refused: it is clean, whatever the order in which its items go on, and its buffers hold from then
+-- on what every order leaves in them; or the schedule leads to a state that shows the fault, which is the canonical
+-- run's report, and no buffer changes.
 abbrev pub Launches : Machine → Setup → Reply → Machine → Type 0
 Launches old setup reply.Clean new =
     (contents : List (List ℕ)) × CleanWith (launch_of setup (bytes_of old)) (map (λ bytes. map Some bytes) contents)

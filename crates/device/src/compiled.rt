@@ -60,8 +60,8 @@ pub(crate) fn has_program(kernels: &Table<CompiledKernel>, program: &Name) -> bo
         .any(|compiled| program == compiled.kernel.program())
 }
 
-/// Sets the argument of an index of the kernel of a name, over an earlier one, if there are such a kernel and such a parameter
-/// (OpenCL 1.2, section 5.7.2). Its code stays.
+/// Sets the argument of an index of the kernel of a name, over an earlier one, if there are such a kernel and such a
+/// parameter (OpenCL 1.2, section 5.7.2). Its code stays.
 pub(crate) fn set_argument(
     kernels: &mut Table<CompiledKernel>,
     name: &Name,

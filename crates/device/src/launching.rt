@@ -59,9 +59,9 @@ impl Device {
         })
     }
 
-    /// The launch of a kernel over a range, which runs the kernel's function with the arguments that were set, and by the device's
-    /// budget; nothing is run. The refusals are those of a launch, in their order (OpenCL 1.2, section 5.8); out of memory may come in
-    /// place of any answer.
+    /// The launch of a kernel over a range, which runs the kernel's function with the arguments that were set, and by
+    /// the device's budget; nothing is run. The refusals are those of a launch, in their order (OpenCL 1.2, section
+    /// 5.8); out of memory may come in place of any answer.
     pub fn prepare<'a>(&'a self, name: &Name, range: &'a Range) -> Result<Launch<'a>, Refusal>
         ensures prepared { IfOk result (IsPrepared (machine_of self.now) name.now range.now) }
         ensures refused { IfErr result (IsRefusal (machine_of self.now) (Command.Launch name.now range.now)) }
@@ -70,9 +70,9 @@ impl Device {
         Ok(prepared.launch(self.alloc, range)?)
     }
 
-    /// The launch of a kernel over a range, with the names of its buffers. A launch copies these names, at most 64, here and in
-    /// `Launch::new`. What the buffers hold isn't copied here: whoever runs the launch makes one copy of each, in which the groups are
-    /// joined, and a clean outcome hands it on.
+    /// The launch of a kernel over a range, with the names of its buffers. A launch copies these names, at most 64,
+    /// here and in `Launch::new`. What the buffers hold isn't copied here: whoever runs the launch makes one copy of
+    /// each, in which the groups are joined, and a clean outcome hands it on.
     fn start<'a>(&'a self, name: &Name, range: &'a Range) -> Result<Started<'a>, Refusal>
         ensures started { IfOk result (IsStarted (machine_of self.now) name.now range.now) }
         ensures refused { IfErr result (IsRefusal (machine_of self.now) (Command.Launch name.now range.now)) }

@@ -411,9 +411,10 @@ impl Device {
         }
     }
 
-    /// One step of the machine, where 1 to 16 workers run the groups of a launch, between two calls of the gate (OpenCL 1.2, sections 3.2
-    /// and 5.8). The calling thread is one of the workers, and a thread that can't be started is done without. A launch answers what it
-    /// answers in `apply`, or out of memory, however many workers there are and whatever the gate does.
+    /// One step of the machine, where 1 to 16 workers run the groups of a launch, between two calls of the gate (OpenCL
+    /// 1.2, sections 3.2 and 5.8). The calling thread is one of the workers, and a thread that can't be started is done
+    /// without. A launch answers what it answers in `apply`, or out of memory, however many workers there are and
+    /// whatever the gate does.
     pub fn apply_with<G: Gate, T: Threads + Wait + Sync>(
         &mut self,
         rt: &T,

@@ -29,7 +29,8 @@ impl Machine<Command, Reply> for Device {
     }
 }
 
-/// Who does the commands of a queue over a device, in the order of their tickets (OpenCL 1.2, section 3.2.1): a launch runs by 1 to 16 workers.
+/// Who does the commands of a queue over a device, in the order of their tickets (OpenCL 1.2, section 3.2.1): a launch
+/// runs by 1 to 16 workers.
 #[derive(Drop)]
 pub struct Driver {
     driver: host_queue::Driver<Device, Command, Reply>,
@@ -38,7 +39,8 @@ pub struct Driver {
     ghost counted: { (1 ≤ workers) × (workers ≤ 16) },
 }
 
-/// A queue over a device, with 1 to 16 workers for its launches, and so many clients, who are numbered from 0. An error is out of memory.
+/// A queue over a device, with 1 to 16 workers for its launches, and so many clients, who are numbered from 0. An error
+/// is out of memory.
 pub fn open(
     alloc: Global,
     device: Device,
@@ -62,8 +64,8 @@ pub fn open(
 }
 
 impl Driver {
-    /// Answers the next ticket, if its request is there; the workers of a launch call the gate (own). What it answers, and when, is as of
-    /// `host_queue::Driver::drive_one`, however many workers there are and whatever the gate does.
+    /// Answers the next ticket, if its request is there; the workers of a launch call the gate (own). What it answers,
+    /// and when, is as of `host_queue::Driver::drive_one`, however many workers there are and whatever the gate does.
     pub fn drive_with<G: Gate, T: Threads + Wait + Sync>(
         &mut self,
         rt: &T,
@@ -107,8 +109,8 @@ impl Driver {
         self.drive_with(rt, queue, &OpenGate)
     }
 
-    /// Does the command of the only client at once; the workers of a launch call the gate (own). What it answers, and when, is as of
-    /// `host_queue::Driver::answer`, however many workers there are and whatever the gate does.
+    /// Does the command of the only client at once; the workers of a launch call the gate (own). What it answers, and
+    /// when, is as of `host_queue::Driver::answer`, however many workers there are and whatever the gate does.
     pub fn answer_with<G: Gate, T: Threads + Wait + Sync>(
         &mut self,
         rt: &T,
@@ -141,8 +143,8 @@ impl Driver {
     }
 }
 
-/// Answers all that remains, and hands the device back, as `host_queue::close` does. Replies that were not collected are dropped. The list has
-/// each ticket of each client that is handed in; it has no more where all clients are.
+/// Answers all that remains, and hands the device back, as `host_queue::close` does. Replies that were not collected
+/// are dropped. The list has each ticket of each client that is handed in; it has no more where all clients are.
 pub fn close<W: Wait>(
     rt: &W,
     queue: Queue<Device, Command, Reply>,

@@ -188,9 +188,9 @@ fn parts_of(alloc: Global, file: File<'_>) -> Result<(Fault, Schedule), AllocErr
     Ok((fault, schedule))
 }
 
-/// Reads a schedule file: a line `ticket T`, which tells the number of a launch among a script's commands, and a line with a fault
-/// and its schedule, as `write` writes it, but that runs may be split. Names are of any length up to a source's. Every other text is
-/// `BadText`.
+/// Reads a schedule file: a line `ticket T`, which tells the number of a launch among a script's commands, and a line
+/// with a fault and its schedule, as `write` writes it, but that runs may be split. Names are of any length up to a
+/// source's. Every other text is `BadText`.
 pub fn read(alloc: Global, bytes: &[u8]) -> Result<(u64, Fault, Schedule), ReadFault>
     ensures found { IfOk result (λ file. IsScheduleFile bytes.now file.0 file.1 file.2) }
     ensures only { (ticket : ℕ) (fault : Fault) (runs : List EventRun) → IsScheduleFile bytes.now ticket fault runs →

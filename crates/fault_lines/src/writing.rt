@@ -394,8 +394,8 @@ fn write_fault<W: Write>(fault: &Fault, writer: &mut W) -> Result<(), WriteFaile
     write_details(fault, writer)
 }
 
-/// Writes a fault and the schedule after which a launch shows it, as a line with its line feed. Where it fails a beginning of the
-/// line is written.
+/// Writes a fault and the schedule after which a launch shows it, as a line with its line feed. Where it fails a
+/// beginning of the line is written.
 pub fn write<W: Write>(
     fault: &Fault,
     schedule: &Schedule,

@@ -1,5 +1,5 @@
--- The value of a constant expression (C99 6.6): one of numbers, operators, casts, choices and functions of integers, whose evaluation meets no
--- fault. What isn't evaluated needn't be constant (own).
+-- The value of a constant expression (C99 6.6): one of numbers, operators, casts, choices and functions of integers,
+-- whose evaluation meets no fault. What isn't evaluated needn't be constant (own).
 use Rattle.std.specs.Prelude.{pos, Bool, true, false, not, if◌then◌else◌, Option, None, Some, List, [], ◌∷◌, ◌++◌, Result, Ok, Err}
 use Rattle.std.specs.Ordering.{int_eq}
 use Rattle.clnum.specs.Builtins.{builtin_value}

@@ -34,8 +34,8 @@ pub fn cast(target: IntType, operand: Option<Value>) -> Option<Value>
     }
 }
 
-/// An operator on two integers. One that would fault has no value, and the right operand of `&&` and `||` isn't asked for where the left one
-/// settles the value (OpenCL 1.2, section 6.3.g).
+/// An operator on two integers. One that would fault has no value, and the right operand of `&&` and `||` isn't asked
+/// for where the left one settles the value (OpenCL 1.2, section 6.3.g).
 pub fn infix(operator: InfixOperator, left: Option<Value>, right: Option<Value>) -> Option<Value>
     ensures { result ≡ constants.infix_constant operator left right }
 {
@@ -89,7 +89,8 @@ fn truth(value: Option<Value>) -> Option<Value>
     }
 }
 
-/// A choice: the value of the chosen branch in the common type of both. The other one isn't asked for (OpenCL 1.2, section 6.3.i).
+/// A choice: the value of the chosen branch in the common type of both. The other one isn't asked for (OpenCL 1.2,
+/// section 6.3.i).
 pub fn choice(condition: Option<Value>, chosen: Known, otherwise: Known) -> Option<Value>
     ensures { result ≡ constants.choice_constant condition chosen.constant (base_type chosen.kind) otherwise.constant (base_type otherwise.kind) }
 {

@@ -35,7 +35,8 @@ pub struct Report {
     pub replies: Vec<Reply>,
 }
 
-/// Makes a buffer of the client's own, writes the client's number and 1 to each byte and reads it, and reads behind its end.
+/// Makes a buffer of the client's own, writes the client's number and 1 to each byte and reads it, and reads behind its
+/// end.
 fn commands_of(alloc: Global, number: u8) -> Result<Vec<Command>, AllocError> {
     let text = [b'b', b'0'.wrapping_add(number)];
     let mut commands = Vec::new(alloc);

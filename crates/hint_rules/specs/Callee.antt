@@ -21,7 +21,8 @@ closed_with closed marks.OpenRound = closed - 1
 closed_with closed marks.CloseRound = one_more closed
 closed_with closed _ = closed
 
--- among the first n tokens, behind which so many round brackets are closed: the last one that stays open, and the token in front of it
+-- among the first n tokens, behind which so many round brackets are closed: the last one that stays open, and the token
+-- in front of it
 unfoldable pub callee_before : List Token → ℕ → ℕ → Option Token
 callee_before tokens closed zero = None
 callee_before tokens closed (suc n) =

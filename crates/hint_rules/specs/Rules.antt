@@ -102,7 +102,8 @@ rows table = map (λ rule. (rule.0, rule.1.now)) table
 abbrev pub all_rules : Rules
 all_rules = map (λ rule. (rule.0, rule.1.now)) RULES
 
--- A rule fits a place where the token at it, the last one and the one in front of that are what it looks for, in its part of a source.
+-- A rule fits a place where the token at it, the last one and the one in front of that are what it looks for, in its
+-- part of a source.
 abbrev pub meets : Looked → Setting → Bool
 meets looked p = fits looked.3 p.here && fits looked.2 p.seen.tail.last && fits looked.1 p.seen.tail.second && is_in looked.0 p.seen
 

@@ -1,4 +1,5 @@
--- What a buffer may be filled with (OpenCL 1.2, 5.2.3, the errors of clEnqueueFillBuffer; that a count of 0 is bad is our own).
+-- What a buffer may be filled with (OpenCL 1.2, 5.2.3, the errors of clEnqueueFillBuffer; that a count of 0 is bad is
+-- our own).
 use Rattle.std.specs.Prelude.{ℕ, ◌%◌, ◌==◌, Bool, not, ◌||◌, List, length}
 
 -- how many bytes a pattern may have

@@ -14,8 +14,8 @@ use Rattle.clmodel.specs.declared.tree.AddressSpace.{AddressSpace}
 use Rattle.clmodel.specs.declared.tree.AddressSpace.TheVariants as space
 use Rattle.spaces_base.specs.Tables.{is}
 
--- A kernel: the name of its program, its function by the number of its name, and an argument for each parameter, or None where it
--- wasn't given.
+-- A kernel: the name of its program, its function by the number of its name, and an argument for each parameter, or
+-- None where it wasn't given.
 pub record KernelState : Type 0 where
   pub program : List ℕ
   pub function : ℕ
@@ -52,8 +52,8 @@ is_local space.Constant = false
 abbrev pub is_in_range : IntType → ℤ → Bool
 is_in_range kind n = int_le (least kind) n && int_le n (greatest kind)
 
--- an argument is of the kind that a parameter wants: a buffer for a pointer to global or constant memory, a size of 1 to 32,768
--- for one to local memory, a number of its type for an integer
+-- an argument is of the kind that a parameter wants: a buffer for a pointer to global or constant memory, a size of 1
+-- to 32,768 for one to local memory, a number of its type for an integer
 abbrev pub suits : VariableType → Argument → Bool
 suits (variable_type.Pointer p) (argument.Buffer name) = not (is_local p.space)
 suits (variable_type.Pointer p) (argument.Local size) = is_local p.space && nat_le 1 size && nat_le size local_limit

@@ -1,4 +1,5 @@
--- Which index spaces a launch may have (OpenCL 1.2, 5.8, the errors of clEnqueueNDRangeKernel; the counts of items are our own).
+-- Which index spaces a launch may have (OpenCL 1.2, 5.8, the errors of clEnqueueNDRangeKernel; the counts of items are
+-- our own).
 use Rattle.std.specs.Prelude.{◌≡◌, ◌+◌, ◌-◌, ◌%◌, ◌^◌, ◌==◌, Bool, false, not, ◌||◌, nat_lt, length}
 use Rattle.std.specs.List.{list_any, zip}
 use Rattle.clmodel.specs.Setup.{product, group_items}

@@ -20,22 +20,24 @@ pub enum Command {
         name: Name,
         size: u64,
     },
-    /// Writes bytes into a buffer from an offset on, in place of those that were there (section 5.2.2, clEnqueueWriteBuffer).
+    /// Writes bytes into a buffer from an offset on, in place of those that were there (section 5.2.2,
+    /// clEnqueueWriteBuffer).
     Write {
         buffer: Name,
         offset: u64,
         bytes: Bytes,
     },
-    /// Repeats a pattern over `count` bytes of a buffer from an offset on, in place of those that were there (section 5.2.3,
-    /// clEnqueueFillBuffer). The pattern has 1, 2, 4, 8, 16, 32, 64 or 128 bytes, and offset and count are multiples of its length.
+    /// Repeats a pattern over `count` bytes of a buffer from an offset on, in place of those that were there (section
+    /// 5.2.3, clEnqueueFillBuffer). The pattern has 1, 2, 4, 8, 16, 32, 64 or 128 bytes, and offset and count are
+    /// multiples of its length.
     Fill {
         buffer: Name,
         offset: u64,
         count: u64,
         pattern: Bytes,
     },
-    /// Copies `count` bytes of a buffer from an offset on into a buffer, which may be the same, from an offset of its own on (section
-    /// 5.2.2, clEnqueueCopyBuffer).
+    /// Copies `count` bytes of a buffer from an offset on into a buffer, which may be the same, from an offset of its
+    /// own on (section 5.2.2, clEnqueueCopyBuffer).
     Copy {
         source: Name,
         offset: u64,

@@ -13,8 +13,8 @@ fn is_pattern_size(size: usize) -> bool
     matches!(size, 1 | 2 | 4 | 8 | 16 | 32 | 64 | 128)
 }
 
-/// Whether the pattern has not 1, 2, 4, 8, 16, 32, 64 or 128 bytes, the count is 0, or the offset or the count is no multiple of the
-/// pattern's length. Any other pattern's length divides 256.
+/// Whether the pattern has not 1, 2, 4, 8, 16, 32, 64 or 128 bytes, the count is 0, or the offset or the count is no
+/// multiple of the pattern's length. Any other pattern's length divides 256.
 pub fn is_bad_fill(offset: u64, count: u64, pattern: &[u8]) -> bool
     ensures value { result ≡ is_bad_fill offset count pattern.now }
     ensures some { result ≡ false → 0 < length pattern.now }

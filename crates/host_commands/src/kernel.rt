@@ -131,8 +131,8 @@ fn is_in_range(kind: IntType, number: i128) -> bool
     Value::wrapped(kind, number).number() == number
 }
 
-/// Whether an argument is of the kind that a parameter wants: a buffer for a pointer to global or constant memory, a size for one to
-/// local memory, a number of its type for an integer.
+/// Whether an argument is of the kind that a parameter wants: a buffer for a pointer to global or constant memory, a
+/// size for one to local memory, a number of its type for an integer.
 pub fn suits(kind: VariableType, argument: &Argument) -> bool
     ensures { result ≡ suits kind argument.now }
 {

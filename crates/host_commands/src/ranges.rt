@@ -61,7 +61,8 @@ pub fn is_too_many(range: &Range) -> bool
     range.global.product() > MAX_ITEMS
 }
 
-/// How many items a group has, 1 to 256: the product of the local sizes. The launch's items, at most 65,536, are a multiple of it.
+/// How many items a group has, 1 to 256: the product of the local sizes. The launch's items, at most 65,536, are a
+/// multiple of it.
 #[tactic(auto, using(crate::proofs::Sizes::sizes))]
 pub fn group_items(range: &Range) -> u32
     requires { IsLaunchable range.now }

@@ -10,7 +10,8 @@ abbrev pub Begins : {A : Type 0} → List A → List A → Type 0
 Begins {A} xs ys = (i : ℕ) (x : A) → get_elem? xs i ≡ some x → get_elem? ys i ≡ some x
 
 module _ {D C R : Type 0} (step : D → C → R → D → Type 0) where
-  -- the commands were done in the order in which they were enqueued, each on what the one before left: `at n` is the machine before the command n (3.2.1, 5.11)
+  -- the commands were done in the order in which they were enqueued, each on what the one before left: `at n` is the
+  -- machine before the command n (3.2.1, 5.11)
   pub record Passes (start : D) (log : List (Entry C R)) (at : ℕ → D) : Type 0 where
     pub first : at 0 ≡ start
     pub each : (i : ℕ) (x : Entry C R) → get_elem? log i ≡ some x → step (at i) x.command x.reply (at (suc i))

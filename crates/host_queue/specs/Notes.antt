@@ -1,5 +1,5 @@
--- How seats come, tell, leave and learn: how one view is cut in two, and two are put together. All of it is own: the standard doesn't say
--- how a queue is kept.
+-- How seats come, tell, leave and learn: how one view is cut in two, and two are put together. All of it is own: the
+-- standard doesn't say how a queue is kept.
 use Rattle.std.specs.Prelude.{◌+◌, ◌-◌, []}
 use Rattle.host_queue.specs.declared.view.View.{View}
 use Rattle.host_queue.specs.Views.{newcomer}

@@ -1,6 +1,8 @@
--- The rule of the table. All of it is own: the standard says that a queue's commands are done in order (3.2.1, 5.11 of OpenCL 1.2), and not how it is kept.
--- Word 16 counts the draws. Word n + 32 is that of the ticket n: 0 empty, 1 placed, 2 taken, 3 answered, 4 collected. The slot n is the ticket's.
--- Nobody changes another word: these keep the count of draws out of the cache lines of the tickets' words, and of word 0, which is loaded where a seat is cut or joined.
+-- The rule of the table. All of it is own: the standard says that a queue's commands are done in order (3.2.1, 5.11 of
+-- OpenCL 1.2), and not how it is kept. Word 16 counts the draws. Word n + 32 is that of the ticket n: 0 empty, 1
+-- placed, 2 taken, 3 answered, 4 collected. The slot n is the ticket's. Nobody changes another word: these keep the
+-- count of draws out of the cache lines of the tickets' words, and of word 0, which is loaded where a seat is cut or
+-- joined.
 use Rattle.std.specs.Prelude.{◌≡◌, ◌≢◌, ℕ, ◌+◌, ◌<◌, ◌≤◌, List, [], ◌∷◌, length, slice_index_or, Option, Some, None}
 use mathlib.Core.Option.{some}
 use mathlib.Core.Option as maybe

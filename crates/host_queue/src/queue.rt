@@ -25,14 +25,17 @@ use std::sync::Wait;
 /// How many tickets a queue gives, from 0 to 4,095.
 pub const TICKETS: usize = 4096;
 
-// The word that counts the draws, which each submit of any client writes. It isn't word 0, which each split and each join of a seat loads: a word that
-// all of them load must not be one that others write. It begins 128 bytes after word 0, so the two are never in one cache line, nor in one pair of lines.
+/// The word that counts the draws, which each submit of any client writes. It isn't word 0, which each split and each
+/// join of a seat loads: a word that all of them load must not be one that others write. It begins 128 bytes after word
+/// 0, so the two are never in one cache line, nor in one pair of lines.
 const DRAWS: usize = 16;
 
-// The word of ticket 0. The tickets' words come one after the other, and none is in the cache lines of the count of draws.
+/// The word of ticket 0. The tickets' words come one after the other, and none is in the cache lines of the count of
+/// draws.
 const FIRST: usize = 32;
 
-/// What the threads share: a place for each ticket's request. It is an in-order command queue (OpenCL 1.2, sections 3.2.1 and 5.1).
+/// What the threads share: a place for each ticket's request. It is an in-order command queue (OpenCL 1.2, sections
+/// 3.2.1 and 5.1).
 #[derive(Drop)]
 pub struct Queue<D: Machine<C, R>, C: Drop, R: Drop> {
     pub table: Rows<D, C, R>,
@@ -74,9 +77,10 @@ pub struct Full<C: Drop, R: Drop> {
 }
 
 impl<D: Machine<C, R>, C: Drop, R: Drop> Client<D, C, R> {
-    /// Enqueues a command, the request in its box (OpenCL 1.2, sections 3.2.1 and 5.1): the ticket says its place in the order of all commands. The ticket is
-    /// below 4,096, above each that this client drew before, and not below the number of tickets that it knows to be answered. No other thread
-    /// is waited for, and no memory is asked for. `Full` comes only where all 4,096 tickets are drawn, with the same box.
+    /// Enqueues a command, the request in its box (OpenCL 1.2, sections 3.2.1 and 5.1): the ticket says its place in
+    /// the order of all commands. The ticket is below 4,096, above each that this client drew before, and not below the
+    /// number of tickets that it knows to be answered. No other thread is waited for, and no memory is asked for.
+    /// `Full` comes only where all 4,096 tickets are drawn, with the same box.
     pub fn submit(
         &mut self,
         queue: &Queue<D, C, R>,
@@ -117,8 +121,9 @@ impl<D: Machine<C, R>, C: Drop, R: Drop> Client<D, C, R> {
 }
 
 impl<D: Machine<C, R>, C: Drop, R: Drop> Client<D, C, R> {
-    /// The request of a ticket that this client drew, in the box that was submitted and with the reply: the one that stands in the history at the ticket. The ticket
-    /// comes back where it isn't answered yet. No other thread is waited for, and no memory is asked for.
+    /// The request of a ticket that this client drew, in the box that was submitted and with the reply: the one that
+    /// stands in the history at the ticket. The ticket comes back where it isn't answered yet. No other thread is
+    /// waited for, and no memory is asked for.
     pub fn poll(
         &mut self,
         queue: &Queue<D, C, R>,
@@ -173,7 +178,8 @@ pub struct Driver<D: Machine<C, R>, C: Drop, R: Drop> {
 }
 
 impl<D: Machine<C, R>, C: Drop, R: Drop> Client<D, C, R> {
-    /// The same for a ticket below the count of `answered`, whose request always comes. `answered` keeps its count and what it knows.
+    /// The same for a ticket below the count of `answered`, whose request always comes. `answered` keeps its count and
+    /// what it knows.
     pub fn poll_known(
         &mut self,
         queue: &Queue<D, C, R>,
@@ -200,7 +206,7 @@ impl<D: Machine<C, R>, C: Drop, R: Drop> Client<D, C, R> {
     }
 }
 
-// Does the command of a request, and answers the request with the reply.
+/// Does the command of a request, and answers the request with the reply.
 fn served<'a, D: Machine<C, R>, C: Drop, R: Drop, F: FnOnce(&mut D, C) -> R>(
     request: Request<C, R>,
     by: (&'a mut D, F),
@@ -219,7 +225,7 @@ fn served<'a, D: Machine<C, R>, C: Drop, R: Drop, F: FnOnce(&mut D, C) -> R>(
     (Request::Answered(reply), machine)
 }
 
-// Does the command in the box, and leaves the reply in it.
+/// Does the command in the box, and leaves the reply in it.
 fn serve<D: Machine<C, R>, C: Drop, R: Drop, F: FnOnce(&mut D, C) -> R>(
     machine: &mut D,
     request: &mut Request<C, R>,
@@ -234,8 +240,8 @@ fn serve<D: Machine<C, R>, C: Drop, R: Drop, F: FnOnce(&mut D, C) -> R>(
 }
 
 impl<D: Machine<C, R>, C: Drop, R: Drop> Driver<D, C, R> {
-    /// Answers the next ticket, if its request is there, with the command done as `how` does it. None where the request isn't there, or where all
-    /// 4,096 tickets are answered; then nothing changed.
+    /// Answers the next ticket, if its request is there, with the command done as `how` does it. None where the request
+    /// isn't there, or where all 4,096 tickets are answered; then nothing changed.
     pub fn drive_by<F: FnOnce(&mut D, C) -> R + Drop>(
         &mut self,
         queue: &Queue<D, C, R>,
@@ -271,7 +277,8 @@ impl<D: Machine<C, R>, C: Drop, R: Drop> Driver<D, C, R> {
         })
     }
 
-    /// Answers the next ticket, if its request is there. None where it isn't, or where all 4,096 tickets are answered; then nothing changed.
+    /// Answers the next ticket, if its request is there. None where it isn't, or where all 4,096 tickets are answered;
+    /// then nothing changed.
     pub fn drive_one(&mut self, queue: &Queue<D, C, R>) -> Option<Answered<D, C, R>>
         requires one { self.old.seat.table_id ≡ queue.now.table.shared.table_id }
         ensures one { self.new.seat.table_id ≡ self.old.seat.table_id }
@@ -291,8 +298,9 @@ impl<D: Machine<C, R>, C: Drop, R: Drop> Driver<D, C, R> {
 }
 
 impl<D: Machine<C, R>, C: Drop, R: Drop> Driver<D, C, R> {
-    // Hears of the tickets of the only client, and looks at how many are drawn.
-    // The client lends its right to draw for the look: while the driver has all these rights, the count of draws is that of the tickets.
+    /// Hears of the tickets of the only client, and looks at how many are drawn.
+    /// The client lends its right to draw for the look: while the driver has all these rights, the count of draws is
+    /// that of the tickets.
     fn hear(&mut self, queue: &Queue<D, C, R>, client: &mut Client<D, C, R>)
         requires one { (self.old.seat.table_id ≡ queue.now.table.shared.table_id) × (client.old.seat.table_id ≡ queue.now.table.shared.table_id) }
         requires alone { (self.old.seat.me.0.admitted ≡ 1) × (self.old.seat.me.0.share ≡ 0) }
@@ -310,8 +318,8 @@ impl<D: Machine<C, R>, C: Drop, R: Drop> Driver<D, C, R> {
         shared.join_seat::<Learn>(&mut client.seat, back);
     }
 
-    /// Does the command of the only client at once, as `how` does it: submits it, drives it, and collects the reply. `Full` comes only where all 4,096
-    /// tickets are answered, with the same box; then nothing changed.
+    /// Does the command of the only client at once, as `how` does it: submits it, drives it, and collects the reply.
+    /// `Full` comes only where all 4,096 tickets are answered, with the same box; then nothing changed.
     pub fn answer_by<F: FnOnce(&mut D, C) -> R + Drop>(
         &mut self,
         queue: &Queue<D, C, R>,
@@ -346,8 +354,8 @@ impl<D: Machine<C, R>, C: Drop, R: Drop> Driver<D, C, R> {
         }
     }
 
-    /// Does the command of the only client at once, for a program on one thread: submits it, drives it, and collects the reply. `Full` comes only
-    /// where all 4,096 tickets are answered, with the same box; then nothing changed.
+    /// Does the command of the only client at once, for a program on one thread: submits it, drives it, and collects
+    /// the reply. `Full` comes only where all 4,096 tickets are answered, with the same box; then nothing changed.
     pub fn answer(
         &mut self,
         queue: &Queue<D, C, R>,
@@ -377,7 +385,7 @@ impl<D: Machine<C, R>, C: Drop, R: Drop> Driver<D, C, R> {
 }
 
 impl<D: Machine<C, R>, C: Drop, R: Drop> Client<D, C, R> {
-    // Takes in what the other knows, and looks.
+    /// Takes in what the other knows, and looks.
     fn learn_from(&mut self, queue: &Queue<D, C, R>, other: &mut Client<D, C, R>)
         requires one { (self.old.seat.table_id ≡ queue.now.table.shared.table_id) × (other.old.seat.table_id ≡ queue.now.table.shared.table_id) }
         ensures one { (self.new.seat.table_id ≡ self.old.seat.table_id) × (other.new.seat.table_id ≡ other.old.seat.table_id) }
@@ -393,8 +401,8 @@ impl<D: Machine<C, R>, C: Drop, R: Drop> Client<D, C, R> {
         shared.load::<Look<D>>(&mut self.seat, DRAWS);
     }
 
-    /// Two different clients tell each other what they know: both then know the longer of their two histories, and each draws above what the
-    /// other drew. No other thread is waited for.
+    /// Two different clients tell each other what they know: both then know the longer of their two histories, and each
+    /// draws above what the other drew. No other thread is waited for.
     pub fn agree(&mut self, queue: &Queue<D, C, R>, other: &mut Client<D, C, R>)
         requires one { (self.old.seat.table_id ≡ queue.now.table.shared.table_id) × (other.old.seat.table_id ≡ queue.now.table.shared.table_id) }
         requires two { self.old.seat.me.0.name ≢ other.old.seat.me.0.name }
@@ -415,7 +423,7 @@ impl<D: Machine<C, R>, C: Drop, R: Drop> Client<D, C, R> {
 }
 
 impl<D: Machine<C, R>, C: Drop, R: Drop> Driver<D, C, R> {
-    // A new client, with the next number.
+    /// A new client, with the next number.
     fn admit(&mut self, queue: &Queue<D, C, R>) -> Client<D, C, R>
         requires one { self.old.seat.table_id ≡ queue.now.table.shared.table_id }
         requires room { 0 < self.old.seat.me.0.credit }
@@ -430,7 +438,7 @@ impl<D: Machine<C, R>, C: Drop, R: Drop> Driver<D, C, R> {
         }
     }
 
-    // So many new clients, numbered from 0.
+    /// So many new clients, numbered from 0.
     fn admit_all(
         &mut self,
         alloc: Global,
@@ -451,7 +459,8 @@ impl<D: Machine<C, R>, C: Drop, R: Drop> Driver<D, C, R> {
     }
 }
 
-/// A queue over the machine, with 0 to 16 clients, who are numbered from 0, and the driver, who has the machine. An error is out of memory.
+/// A queue over the machine, with 0 to 16 clients, who are numbered from 0, and the driver, who has the machine. An
+/// error is out of memory.
 pub fn open<D: Machine<C, R>, C: Drop, R: Drop>(
     alloc: Global,
     machine: D,
@@ -479,7 +488,7 @@ pub fn open<D: Machine<C, R>, C: Drop, R: Drop>(
     Ok((queue, list, driver))
 }
 
-// How many tickets so many draws gave.
+/// How many tickets so many draws gave.
 fn tickets_of(draws: u64) -> u64
     ensures all { draws ≤ 4096 → result ≡ draws }
     ensures most { 4096 ≤ draws → result ≡ 4096 }
@@ -489,7 +498,7 @@ fn tickets_of(draws: u64) -> u64
 }
 
 impl<D: Machine<C, R>, C: Drop, R: Drop> Driver<D, C, R> {
-    // Answers until at least so many tickets are answered.
+    /// Answers until at least so many tickets are answered.
     fn drive_to<W: Wait>(&mut self, rt: &W, queue: &Queue<D, C, R>, count: u64)
         requires one { self.old.seat.table_id ≡ queue.now.table.shared.table_id }
         ensures one { self.new.seat.table_id ≡ self.old.seat.table_id }
@@ -507,7 +516,7 @@ impl<D: Machine<C, R>, C: Drop, R: Drop> Driver<D, C, R> {
         unreachable!()
     }
 
-    // Answers all that was drawn.
+    /// Answers all that was drawn.
     fn drive_rest<W: Wait>(&mut self, rt: &W, queue: &Queue<D, C, R>)
         requires one { self.old.seat.table_id ≡ queue.now.table.shared.table_id }
         ensures known { Begins self.old.seat.me.0.known self.new.seat.me.0.known }
@@ -519,7 +528,8 @@ impl<D: Machine<C, R>, C: Drop, R: Drop> Driver<D, C, R> {
         self.drive_to(rt, queue, count);
     }
 
-    // A client leaves: its tickets are answered, and its list and its commands are in the driver's list. Answers the count of draws.
+    /// A client leaves: its tickets are answered, and its list and its commands are in the driver's list. Answers the
+    /// count of draws.
     fn dismiss(&mut self, queue: &Queue<D, C, R>, client: Client<D, C, R>) -> u64
         requires one { (self.old.seat.table_id ≡ queue.now.table.shared.table_id) × (client.seat.table_id ≡ queue.now.table.shared.table_id) }
         requires answered { client.next ≤ length self.old.seat.me.0.known }
@@ -540,7 +550,7 @@ impl<D: Machine<C, R>, C: Drop, R: Drop> Driver<D, C, R> {
         shared.load::<Look<D>>(&mut self.seat, DRAWS)
     }
 
-    // Answers a client's tickets, and lets it leave.
+    /// Answers a client's tickets, and lets it leave.
     fn part_from<W: Wait>(&mut self, rt: &W, queue: &Queue<D, C, R>, client: Client<D, C, R>)
         requires one { (self.old.seat.table_id ≡ queue.now.table.shared.table_id) × (client.seat.table_id ≡ queue.now.table.shared.table_id) }
         ensures one { self.new.seat.table_id ≡ self.old.seat.table_id }
@@ -553,7 +563,7 @@ impl<D: Machine<C, R>, C: Drop, R: Drop> Driver<D, C, R> {
         self.dismiss(queue, client);
     }
 
-    // Parts from all clients.
+    /// Parts from all clients.
     fn part_from_all<W: Wait>(
         &mut self,
         rt: &W,

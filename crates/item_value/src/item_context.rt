@@ -8,7 +8,8 @@ use clmodel::setup::Argument;
 use clmodel::text::Name;
 use regcode::Register;
 
-/// The item's place in its range, the names of the launch's buffers, the kernel's arguments, and the code's table of registers.
+/// The item's place in its range, the names of the launch's buffers, the kernel's arguments, and the code's table of
+/// registers.
 #[derive(Clone, Copy)]
 pub struct ItemContext<'a> {
     pub position: ItemPosition<'a>,

@@ -7,7 +7,8 @@ ghost use Rattle.item_value.specs.Arrays.{all_present, keeping};
 use std::alloc::{AllocError, Global};
 use std::marker::Model;
 
-/// A private array of an item: of each element the low bits of its number, if it is set. It has room for the longest that is declared there.
+/// A private array of an item: of each element the low bits of its number, if it is set. It has room for the longest
+/// that is declared there.
 #[derive(Drop)]
 pub struct PrivateArray {
     elements: Vec<Option<u64>>,

@@ -242,7 +242,8 @@ both_wrote l g a b u ready over none p byte h k =
 pub three_numbers : (c : Class) (k : ℕ) (o p q : Option ℕ) (s a b : ℕ) → o ≡ Some s → p ≡ Some a → q ≡ Some b → joined_numbers c k o p q ≡ Some (byte_of k (joined_number c s a b))
 three_numbers c k o p q s a b h i j = ap₂ (λ x y. joined_numbers c k x y q) h i ∙ ap (joined_numbers c k (Some s) (Some a)) j
 
--- the numbers of a word before, and after the operands of each, where there is one that the groups below updated it with
+-- the numbers of a word before, and after the operands of each, where there is one that the groups below updated it
+-- with
 pub three_words : (c : Class) (n : ℕ) (us vs : List ℕ) (first lower own : Cells) → Updated c us first lower (n * 4) → true ≡ some_operand us → Updated c vs first own (n * 4)
     → (s : ℕ) × (number first (n * 4) 4 ≡ Some s) × (number lower (n * 4) 4 ≡ Some (folded c us s)) × (number own (n * 4) 4 ≡ Some (folded c vs s))
 three_words c n [] vs first lower own r some_us u = absurd (true≢false some_us)

@@ -1,4 +1,5 @@
--- Words that groups update by one class: what two groups' updates leave, joined, is what they leave one after the other.
+-- Words that groups update by one class: what two groups' updates leave, joined, is what they leave one after the
+-- other.
 use Rattle.std.proofs.Common.{◌≡◌, ℕ, ◌+◌, ◌-◌, ◌%◌, ◌^◌, ◌<◌, Some, sym, ap, ap₂, ◌∙◌, subst, arith, List, [], ◌∷◌, ◌++◌, bit_and, bit_or, bit_xor}
 use Rattle.std.specs.Int.Bits.{and_self, or_self, xor_self, xor_zero_r}
 use Rattle.std.proofs.lemmas.Nat.{and_comm, or_comm, xor_comm}

@@ -10,7 +10,8 @@ use Rattle.clmodel.specs.declared.access.Clash.{Clash}
 use Rattle.clmodel.specs.declared.access.Conflict as conflict_type
 use Rattle.clmodel.specs.declared.schedule.Event.TheVariants.{Item, Release}
 
--- a group's log up to and with its first access that conflicts with one of the lower groups, the newest first: its first crossing (own)
+-- a group's log up to and with its first access that conflicts with one of the lower groups, the newest first: its
+-- first crossing (own)
 abbrev pub crossing : Launch → List Access → List Access → Option (List Access)
 crossing launch lower [] = None
 crossing launch lower (x ∷ earlier) =
@@ -29,7 +30,8 @@ lower_first None own = own
 lower_first (Some lower) None = Some lower
 lower_first (Some lower) (Some own) = if nat_le lower.byte own.byte then Some lower else Some own
 
--- an access's conflict with all accesses before it is the first of that with the lower groups and that with its own (own)
+-- an access's conflict with all accesses before it is the first of that with the lower groups and that with its own
+-- (own)
 abbrev pub LowerFirst : Type 0
 LowerFirst =
     (judge : Access → Access → ℕ → Option Clash) (x : Access) (own lower : List Access) (byte count : ℕ)

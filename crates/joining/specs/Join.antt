@@ -1,4 +1,5 @@
--- How the runs of groups, each on the launch's first memory, are joined in the order of the groups (OpenCL 1.2, 3.2; own).
+-- How the runs of groups, each on the launch's first memory, are joined in the order of the groups (OpenCL 1.2, 3.2;
+-- own).
 use Rattle.std.specs.Prelude.{◌≡◌, Option, None, Some, List, [], ◌∷◌, ◌++◌, length}
 use Rattle.std.specs.Option.{option_map}
 use Rattle.clmodel.specs.Launch.{Launch}
@@ -10,7 +11,8 @@ use Rattle.joining.specs.Parts.{Part, AreParts, IsGrouped}
 use Rattle.joining.specs.Memory.{joined_memory}
 use Rattle.joining.specs.Crossings.{crossing, up_to}
 
--- what the groups so far come to: their events, the log of their accesses, the memory that they leave, and the first report (own)
+-- what the groups so far come to: their events, the log of their accesses, the memory that they leave, and the first
+-- report (own)
 pub record Joined : Type 0 where
   pub events : Events
   pub log : List Access

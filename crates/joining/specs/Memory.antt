@@ -56,14 +56,15 @@ joined_numbers class k (Some s) (Some a) None = None
 joined_numbers class k (Some s) None b = None
 joined_numbers class k None a b = None
 
--- a byte that lower groups and a further group wrote: by updates of a class it is that of the joined number, else it is the further group's (own)
+-- a byte that lower groups and a further group wrote: by updates of a class it is that of the joined number, else it is
+-- the further group's (own)
 abbrev pub joined_update : Option Class → Cells → Cells → Cells → ℕ → Option ℕ
 joined_update None first lower own byte = own byte
 joined_update (Some class) first lower own byte =
     let word = byte / 4 * 4 in joined_numbers class (byte % 4) (number first word 4) (number lower word 4) (number own word 4)
 
--- The memory that a further group's run leaves, joined to that of the lower groups: a byte that it alone wrote is its own, one that both
--- wrote is joined by its class, and the rest is that of the lower groups (own).
+-- The memory that a further group's run leaves, joined to that of the lower groups: a byte that it alone wrote is its
+-- own, one that both wrote is joined by its class, and the rest is that of the lower groups (own).
 unfoldable pub joined_memory : Memory → Memory → List Access → Memory → List Access → Memory
 joined_memory first lower lower_log own own_log region byte =
     if wrote own_log region byte

@@ -11,7 +11,8 @@ pub record IsGrouped (launch : Launch) : Type 0 where
   pub some : 0 < launch.group_size
   pub whole : launch.items % launch.group_size ≡ 0
 
--- the run of one group on the launch's first memory: its events, the state in which it ends, and its report if it stopped (own)
+-- the run of one group on the launch's first memory: its events, the state in which it ends, and its report if it
+-- stopped (own)
 pub record Part : Type 0 where
   pub events : Events
   pub end : State
@@ -38,8 +39,8 @@ OnePart =
     (launch : Launch) (group : ℕ) (part other : Part) → IsPart launch group part → IsPart launch group other
     → (part.events ≡ other.events) × (part.end ≡ other.end) × (part.stopped ≡ other.stopped)
 
--- A group of a launch whose items are bounded has a run of its own, which ends: each group alone comes to its end or to a report, whatever
--- other groups do (own).
+-- A group of a launch whose items are bounded has a run of its own, which ends: each group alone comes to its end or to
+-- a report, whatever other groups do (own).
 abbrev pub PartExists : Type 0
 PartExists =
     (launch : Launch) (bound : ℕ) → IsGrouped launch → IsBounded launch bound → (group : ℕ) → group * launch.group_size < launch.items

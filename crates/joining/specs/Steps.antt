@@ -26,13 +26,15 @@ IsJoined launch (suc group) joined =
     (lower : Joined) × (part : Part) × IsJoined launch group lower × HasGroup launch group × IsPart launch group part
     × (joined ≡ join launch lower part) × (joined.report ≡ None)
 
--- where the join of one more group has a report, the canonical run of the launch makes its events and ends with that report (own)
+-- where the join of one more group has a report, the canonical run of the launch makes its events and ends with that
+-- report (own)
 abbrev pub JoinReports : Type 0
 JoinReports =
     (launch : Launch) (group : ℕ) (lower : Joined) (part : Part) (fault : Fault) → IsGrouped launch → IsJoined launch group lower → HasGroup launch group
     → IsPart launch group part → (join launch lower part).report ≡ Some fault → (end : State) × RunsIntoFault launch (join launch lower part).events end fault
 
--- where all groups are joined without a report, the canonical run of the launch makes their events and leaves their memory (own)
+-- where all groups are joined without a report, the canonical run of the launch makes their events and leaves their
+-- memory (own)
 abbrev pub JoinEnds : Type 0
 JoinEnds =
     (launch : Launch) (group : ℕ) (joined : Joined) → IsGrouped launch → IsJoined launch group joined → launch.items ≤ group * launch.group_size
@@ -44,7 +46,8 @@ AreOwn =
     (launch : Launch) (group : ℕ) (part : Part) → IsGrouped launch → HasGroup launch group → IsPart launch group part
     → (x : Access) → Logged part.end.log x → (group_of launch x.item ≡ group) × (object : Object) × (x.region ≡ region_of group object)
 
--- the accesses of the groups joined so far are of the items of lower groups, to buffers or to those groups' local objects (3.3)
+-- the accesses of the groups joined so far are of the items of lower groups, to buffers or to those groups' local
+-- objects (3.3)
 abbrev pub AreLower : Type 0
 AreLower =
     (launch : Launch) (group : ℕ) (lower : Joined) → IsGrouped launch → IsJoined launch group lower
@@ -73,9 +76,9 @@ IsUpdatedByte launch lower part x byte =
     × (number (lower.memory x.region) (byte / 4 * 4) 4 ≡ Some a) × (number (part.end.memory x.region) (byte / 4 * 4) 4 ≡ Some b)
     × (joined_memory (initial launch) lower.memory lower.log part.end.memory part.end.log x.region byte ≡ Some (byte_of (byte % 4) (joined_number class s a b)))
 
--- A byte that an access of a further group wrote, where nothing crosses: it is the further group's own where no lower group wrote it; else
--- the access is an update, and it is a byte of the joined number, or the launch is uniform and the access a store, and it is the further
--- group's own (6.12.11, own).
+-- A byte that an access of a further group wrote, where nothing crosses: it is the further group's own where no lower
+-- group wrote it; else the access is an update, and it is a byte of the joined number, or the launch is uniform and the
+-- access a store, and it is the further group's own (6.12.11, own).
 pub record IsJoinedByte (launch : Launch) (lower : Joined) (part : Part) (x : Access) (byte : ℕ) : Type 0 where
   pub alone : wrote lower.log x.region byte ≡ false → IsOwnByte launch lower part x byte
   pub both : wrote lower.log x.region byte ≡ true

@@ -10,8 +10,9 @@ ghost use Rattle.joining.specs.Join.{JoinIsCanonical};
 ghost use Rattle.joining.specs.Parts.{OnePart, PartExists};
 ghost use Rattle.joining.specs.Steps.{JoinReports, JoinEnds, AreOwn, AreLower, EventsAreOwn, EventsAreLower, BytesAreJoined, KeptConflicts, KeptBoth};
 
-/// The groups of a launch run apart and joined, up to the first report, are its canonical run: its events, what it leaves in memory, and its
-/// report. This holds for all classes of updates, for a group that stops, and for one whose access conflicts with a lower group's.
+/// The groups of a launch run apart and joined, up to the first report, are its canonical run: its events, what it
+/// leaves in memory, and its report. This holds for all classes of updates, for a group that stops, and for one whose
+/// access conflicts with a lower group's.
 pub fn join_is_canonical()
     ensures { JoinIsCanonical }
 {}
@@ -26,17 +27,20 @@ pub fn part_exists()
     ensures { PartExists }
 {}
 
-/// Of the conflicts of one access the report names the one on the lower byte, and on one byte that with the lower groups.
+/// Of the conflicts of one access the report names the one on the lower byte, and on one byte that with the lower
+/// groups.
 pub fn lower_byte_first()
     ensures { LowerFirst }
 {}
 
-/// Where the join of a further group has a report, the canonical run of the launch makes the events of the join and ends with that report.
+/// Where the join of a further group has a report, the canonical run of the launch makes the events of the join and
+/// ends with that report.
 pub fn join_reports()
     ensures { JoinReports }
 {}
 
-/// Where all groups are joined without a report, the canonical run of the launch makes their events and leaves their memory.
+/// Where all groups are joined without a report, the canonical run of the launch makes their events and leaves their
+/// memory.
 pub fn join_ends()
     ensures { JoinEnds }
 {}
@@ -46,7 +50,8 @@ pub fn accesses_are_own()
     ensures { AreOwn }
 {}
 
-/// The accesses of the groups joined so far are of the items of lower groups, to buffers or to those groups' local objects.
+/// The accesses of the groups joined so far are of the items of lower groups, to buffers or to those groups' local
+/// objects.
 pub fn accesses_are_lower()
     ensures { AreLower }
 {}
@@ -61,8 +66,8 @@ pub fn events_are_lower()
     ensures { EventsAreLower }
 {}
 
-/// A byte that a further group wrote, where nothing crosses, is the group's own where no lower group wrote it, and where both stored it in a
-/// uniform launch; else it is one of the joined number of its word.
+/// A byte that a further group wrote, where nothing crosses, is the group's own where no lower group wrote it, and
+/// where both stored it in a uniform launch; else it is one of the joined number of its word.
 pub fn bytes_are_joined()
     ensures { BytesAreJoined }
 {}

@@ -1,6 +1,6 @@
 //! Words and bytes of OpenCL C that the language lacks, each with what to write in its place. It knows bytes alone, and
-//! neither tokens nor faults. Its tables are the definition: a word is lacking where a row has it, and what is said of it
-//! is that row's text; what comes where no row fits, the contracts say exactly.
+//! neither tokens nor faults. Its tables are the definition: a word is lacking where a row has it, and what is said of
+//! it is that row's text; what comes where no row fits, the contracts say exactly.
 #![tactic(auto)]
 
 mod bytes;

@@ -53,7 +53,8 @@ fn is_list_below(limit: u128, text: &[u8]) -> bool
     )
 }
 
-/// A list of numbers below `limit` and below 2^64 in front, and the rest. None where the digits and commas in front are no such list.
+/// A list of numbers below `limit` and below 2^64 in front, and the rest. None where the digits and commas in front are
+/// no such list.
 #[tactic(auto, unfolding(crate::specs::Fronts::list_below))]
 pub fn list_below(limit: u128, bytes: &[u8]) -> Option<(&[u8], &[u8])>
     ensures { option_map (λ read. (read.0.now, read.1.now)) result ≡ list_below limit bytes.now }

@@ -52,7 +52,8 @@ fn name_length(bytes: &[u8]) -> usize
     name_end(bytes).unwrap_or(bytes.len())
 }
 
-/// A name of at most `most` bytes in front, and the rest. None where the letters, digits and `_` in front are no such name.
+/// A name of at most `most` bytes in front, and the rest. None where the letters, digits and `_` in front are no such
+/// name.
 #[tactic(auto, unfolding(crate::specs::Fronts::name_to))]
 pub fn name_to(most: usize, bytes: &[u8]) -> Option<(&[u8], &[u8])>
     ensures { option_map (λ read. (read.0.now, read.1.now)) result ≡ name_to most bytes.now }

@@ -1,4 +1,5 @@
--- The length of the code of an expression depends on the variables in scope alone: neither on the level of its value nor on that of the outermost variable.
+-- The length of the code of an expression depends on the variables in scope alone: neither on the level of its value
+-- nor on that of the outermost variable.
 use Rattle.std.proofs.Common.{◌≡◌, ℕ, suc, ◌+◌, ◌==◌, Bool, true, false, Option, None, Some, List, [], ◌∷◌, ◌++◌, length, if◌then◌else◌, refl, sym, ap, ap₂, ◌∙◌}
 use Rattle.std.proofs.lemmas.List.{length-append}
 use Rattle.clnum.specs.Integer.{Integer}

@@ -30,7 +30,8 @@ Hold registers [] (v ∷ values) = ⊥
 Hold registers (i ∷ numbers) [] = ⊥
 Hold registers (i ∷ numbers) (v ∷ values) = (reg registers i ≡ Some v) × Hold registers numbers values
 
--- A register holds what a destination goes by: the index of an element of a private array, or a pointer. A variable as a whole goes by its name.
+-- A register holds what a destination goes by: the index of an element of a private array, or a pointer. A variable as
+-- a whole goes by its name.
 abbrev pub HoldsIndex : Registers → ℕ → ℕ → Destination → Type 0
 HoldsIndex registers register name to = (i : Operand) × (to ≡ ElementOf name i) × (reg registers register ≡ Some i)
 
@@ -46,7 +47,8 @@ HoldsTarget scope registers register (TargetVariable at name) to = to ≡ Named 
 HoldsTarget scope registers register (TargetElement at name index) to = HoldsPart (is_private_array scope.variables name) registers register name to
 HoldsTarget scope registers register (TargetDereference at pointer) to = HoldsPointer registers register to
 
--- The code agrees with what follows a value, where the value is in a register at a place; with what follows values; and with what follows a destination.
+-- The code agrees with what follows a value, where the value is in a register at a place; with what follows values; and
+-- with what follows a destination.
 abbrev pub Follows : ItemContext → List Instruction → ℕ → ℕ → State → ℕ → ℕ → (Operand → Continuation) → Type 0
 Follows given code bound level s place to after =
     (v : Operand) (now : State) → Reached level s place now → reg now.registers to ≡ Some v → Agree given code bound now (after v)

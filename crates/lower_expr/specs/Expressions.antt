@@ -1,6 +1,6 @@
--- The register code of an expression, of arguments and of targets (own). The value of an expression at a level is left in that
--- level's register of its type, and the registers of lower levels stay as they are. A
--- constant expression is its value. An expression of a wrong type ends the item where its evaluation does.
+-- The register code of an expression, of arguments and of targets (own). The value of an expression at a level is left
+-- in that level's register of its type, and the registers of lower levels stay as they are. A constant expression is
+-- its value. An expression of a wrong type ends the item where its evaluation does.
 use Rattle.std.specs.Prelude.{ℕ, ◌+◌, true, false, if◌then◌else◌, Option, None, Some, List, [], ◌∷◌, ◌++◌, length}
 use Rattle.clnum.specs.Integer as integers
 use Rattle.clnum.specs.Operations.{truth}

@@ -16,8 +16,8 @@ kind_number (Pointer pointer) = 8 + type_number pointer.element
 abbrev pub register_at : ℕ → VariableType → ℕ
 register_at level kind = 16 * level + kind_number kind
 
--- The variables in scope, innermost first, and the level of the outermost: each further one is a level up. What they hold is of no account, but whether
--- they are private arrays: such a one has elements.
+-- The variables in scope, innermost first, and the level of the outermost: each further one is a level up. What they
+-- hold is of no account, but whether they are private arrays: such a one has elements.
 pub record Scope : Type 0 where
   pub base : ℕ
   pub variables : Variables
@@ -35,7 +35,8 @@ register_in base (variable ∷ variables) name =
 abbrev pub register_of : Scope → ℕ → Option ℕ
 register_of scope name = register_in scope.base scope.variables name
 
--- The level of the innermost variable of a name; the lowest where there is none. It is the number of its private array, if it is one.
+-- The level of the innermost variable of a name; the lowest where there is none. It is the number of its private array,
+-- if it is one.
 abbrev pub level_in : ℕ → Variables → ℕ → ℕ
 level_in base [] name = base
 level_in base (variable ∷ variables) name = elim (name == variable.name) [ true ↦ base + length variables | false ↦ level_in base variables name ]

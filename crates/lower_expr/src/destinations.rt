@@ -19,7 +19,8 @@ use folding::{base_type, infix_type};
 use regcode::Instruction;
 use std::alloc::AllocError;
 
-/// The target of an assignment: a variable of a name, an element of its array by an index of a type, or what a pointer of a type points to.
+/// The target of an assignment: a variable of a name, an element of its array by an index of a type, or what a pointer
+/// of a type points to.
 #[derive(Clone, Copy)]
 pub struct Destination {
     name: u32,

@@ -26,7 +26,8 @@ use regcode::Instruction;
 use smallvec::SmallVec;
 use std::alloc::AllocError;
 
-/// The levels that an expression needs have registers. This is the contract of a function that does nothing: what it asks is shown at its call.
+/// The levels that an expression needs have registers. This is the contract of a function that does nothing: what it
+/// asks is shown at its call.
 fn level_suffices(level: Level, expression: &Expression)
     requires { level.0 + (term_size [] (term expression.now)).nodes < 2 ^ 28 }
     ensures { level.0 + (term_size [] (term expression.now)).nodes < 2 ^ 28 }
@@ -38,8 +39,8 @@ fn levels_suffice(level: Level, arguments: &[Expression])
     ensures { level.0 + (terms_size [] (terms arguments.now)).nodes < 2 ^ 28 }
 {}
 
-/// Adds the code of an expression, which leaves its value in the register of its type at a level, and gives its type (OpenCL 1.2,
-/// section 6.3). The level is at least the first that is free. Err if out of memory.
+/// Adds the code of an expression, which leaves its value in the register of its type at a level, and gives its type
+/// (OpenCL 1.2, section 6.3). The level is at least the first that is free. Err if out of memory.
 pub fn emit_expression(
     scope: &Scope,
     level: Level,
@@ -57,8 +58,8 @@ pub fn emit_expression(
     Ok(found.kind)
 }
 
-/// The same, which gives what is known of the expression. Each node is worked out once, from its parts; where it is constant, its value takes
-/// the place of the code of its form.
+/// The same, which gives what is known of the expression. Each node is worked out once, from its parts; where it is
+/// constant, its value takes the place of the code of its form.
 #[cycle(emission)]
 fn emit(
     scope: &Scope,
@@ -156,7 +157,8 @@ fn emit_form(
     }
 }
 
-/// Adds the code of an element of the private array of a name, or of one that its pointer leads to, and gives what is known of it.
+/// Adds the code of an element of the private array of a name, or of one that its pointer leads to, and gives what is
+/// known of it.
 #[cycle(emission)]
 fn emit_element(
     scope: &Scope,
@@ -180,7 +182,8 @@ fn emit_element(
     load(level, pointer, code)
 }
 
-/// Adds the code of a pointer variable's value moved by an index, left at a level, and gives its type. Err if out of memory.
+/// Adds the code of a pointer variable's value moved by an index, left at a level, and gives its type. Err if out of
+/// memory.
 #[cycle(emission)]
 fn emit_address(
     scope: &Scope,
@@ -202,8 +205,9 @@ fn emit_address(
     Ok(pointer.kind)
 }
 
-/// Adds the code of arguments, from left to right, and gives the registers where their values are, the first at a level, and each
-/// further one a level above, with the integer type of the first, or of what it points to, and each constant value. Err if out of memory.
+/// Adds the code of arguments, from left to right, and gives the registers where their values are, the first at a
+/// level, and each further one a level above, with the integer type of the first, or of what it points to, and each
+/// constant value. Err if out of memory.
 #[cycle(emission)]
 pub fn emit_arguments(
     scope: &Scope,
@@ -252,8 +256,8 @@ pub enum TargetKind {
     Pointer(VariableType),
 }
 
-/// Adds the code of a target, which leaves its index or a pointer to it at a level, and gives which of them, and its type;
-/// nothing where it is a variable as a whole (C99 6.5.16). Err if out of memory.
+/// Adds the code of a target, which leaves its index or a pointer to it at a level, and gives which of them, and its
+/// type; nothing where it is a variable as a whole (C99 6.5.16). Err if out of memory.
 pub fn emit_target(
     scope: &Scope,
     level: Level,

@@ -13,8 +13,8 @@ ghost use Rattle.lower_expr.specs.Expressions.{expr_code, terms_code, target_cod
 ghost use Rattle.lower_expr.specs.Agreement.{HasAt, Follows, FollowsAll, FollowsTarget};
 
 /// Where the code of an expression, of arguments or of targets stands, code acts as the evaluation does with the values
-/// that the registers hold, whatever follows: if it does so from where the value is in its register and the registers below the
-/// level and the private arrays are as they were.
+/// that the registers hold, whatever follows: if it does so from where the value is in its register and the registers
+/// below the level and the private arrays are as they were.
 pub fn expressions_run()
     ensures expression { (given : ItemContext) (code : List Instruction) (bound : ℕ) (scope : Scope) (level : ℕ) (e : Term) (s : State) (variables : Variables) (after : Operand → Continuation)
         → free_level scope ≤ level → Sees scope s.registers variables → HasAt code s.place (expr_code scope level e)

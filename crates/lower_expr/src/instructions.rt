@@ -49,7 +49,8 @@ pub(crate) fn number(
     Ok(())
 }
 
-/// Puts a constant expression's value in place of the code from a place on, which is that of its form; the code of another one stays.
+/// Puts a constant expression's value in place of the code from a place on, which is that of its form; the code of
+/// another one stays.
 pub(crate) fn settle(
     level: Level,
     start: usize,
@@ -181,7 +182,8 @@ pub fn private_load(
     )
 }
 
-/// Adds the load of an element of the private array of a name at a level, by its index of this type there, and gives what is known of it.
+/// Adds the load of an element of the private array of a name at a level, by its index of this type there, and gives
+/// what is known of it.
 pub(crate) fn array_element(
     scope: &Scope,
     level: Level,
@@ -204,7 +206,8 @@ pub(crate) fn array_element(
     Ok(Known { kind, constant })
 }
 
-/// Adds the store of what a register holds in an element of the private array of a name, by the index that another holds.
+/// Adds the store of what a register holds in an element of the private array of a name, by the index that another
+/// holds.
 pub fn private_store(
     scope: &Scope,
     name: u32,
@@ -295,7 +298,8 @@ pub(crate) fn end_cast(
     Ok(Known { kind, constant })
 }
 
-/// The registers of arguments, what is known of each, and the integer type of the first, or of what it points to; int where there is none.
+/// The registers of arguments, what is known of each, and the integer type of the first, or of what it points to; int
+/// where there is none.
 #[derive(Drop)]
 pub struct Arguments {
     pub registers: SmallVec<Register, 2>,
@@ -303,8 +307,8 @@ pub struct Arguments {
     pub(crate) known: SmallVec<Known, 2>,
 }
 
-/// Adds the instruction of the call of a built-in function that gives a value, behind its arguments, and gives what is known of the whole. Where
-/// there is no such function with that many arguments, the item ends.
+/// Adds the instruction of the call of a built-in function that gives a value, behind its arguments, and gives what is
+/// known of the whole. Where there is no such function with that many arguments, the item ends.
 pub(crate) fn end_call(
     level: Level,
     function: Option<BuiltIn>,
@@ -326,8 +330,8 @@ pub(crate) fn end_call(
     Ok(Known { kind, constant })
 }
 
-/// Adds the call of a built-in function whose value, if it gives one, is left in a register that nothing reads. Where there is no such
-/// function with that many arguments, the item ends.
+/// Adds the call of a built-in function whose value, if it gives one, is left in a register that nothing reads. Where
+/// there is no such function with that many arguments, the item ends.
 pub fn call_only(
     function: BuiltIn,
     to: Register,

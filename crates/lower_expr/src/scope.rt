@@ -25,8 +25,8 @@ fn kind_number(kind: VariableType) -> u32
     }
 }
 
-/// The number of a level of registers. Each variable has a level of its own, and so has each value that waits for others. Levels below
-/// 2^28 have registers, one for each type.
+/// The number of a level of registers. Each variable has a level of its own, and so has each value that waits for
+/// others. Levels below 2^28 have registers, one for each type.
 #[derive(Clone, Copy, Default)]
 pub struct Level(pub u32);
 
@@ -50,7 +50,8 @@ pub fn level_at(base: Level, count: usize) -> Level
     Level(base.0 + count as u32)
 }
 
-/// A variable: its name, its declared type, and how many elements it has, if it is a private array; its type is that of the elements then.
+/// A variable: its name, its declared type, and how many elements it has, if it is a private array; its type is that of
+/// the elements then.
 #[derive(Clone, Copy)]
 pub struct Variable {
     name: u32,
@@ -146,7 +147,8 @@ impl Scope {
         })
     }
 
-    /// Declares a private array, which is the innermost variable from now on. Err if out of memory: nothing changes then.
+    /// Declares a private array, which is the innermost variable from now on. Err if out of memory: nothing changes
+    /// then.
     pub fn declare_array(&mut self, array: PrivateArray) -> Result<(), AllocError>
         ensures declared { OnOk result (self.new ≡ spec.declared_array self.old array.name array.element array.length) }
         ensures err { OnErr result (self.new ≡ self.old) }
@@ -224,7 +226,8 @@ impl Scope {
         }
     }
 
-    /// The level of the innermost variable of a name, which is the number of its private array; the lowest where there is none.
+    /// The level of the innermost variable of a name, which is the number of its private array; the lowest where there
+    /// is none.
     pub(crate) fn level(&self, name: u32) -> Level
         requires { spec.free_level self.now ≤ 2 ^ 28 }
         ensures { result.0 ≡ spec.level_of self.now name }

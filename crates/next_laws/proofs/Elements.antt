@@ -1,4 +1,5 @@
--- What is put into an element of a private array is what is read there, converted; the other elements and the other variables stay.
+-- What is put into an element of a private array is what is read there, converted; the other elements and the other
+-- variables stay.
 use Rattle.std.proofs.Common.{◌≡◌, ◌≢◌, ℕ, zero, suc, ◌^◌, ◌<◌, ◌≤◌, ◌==◌, ℤ, pos, negsuc, ◌≤ℤ◌, ◌<ℤ◌, ◌⊎◌, inl, inr, Bool, true, false, nat_lt, Option, None, Some, List, [], ◌∷◌, length, replicate, slice_get, slice_set, refl, sym, ap, ◌∙◌, arith, lit<, lt-ltb, eqb-true, ne_eqb}
 use mathlib.Core.Path.{fun_ext}
 use Rattle.std.proofs.Math.Nat.{mod-eq_of_lt}

@@ -1,4 +1,5 @@
--- Kernels on which the next action is computed. Names: 100 `f`, 101 `a`, 102 `g`, 103 `n`, 104 `s`, 105 `j`, 106 `p`, 107 `q`, 108 `r`.
+-- Kernels on which the next action is computed. Names: 100 `f`, 101 `a`, 102 `g`, 103 `n`, 104 `s`, 105 `j`, 106 `p`,
+-- 107 `q`, 108 `r`.
 use Rattle.std.specs.Prelude.{ℕ, pos, Bool, true, false, Option, None, Some, List, [], ◌∷◌}
 use Rattle.clnum.specs.Integer as clnum
 use Rattle.clnum.specs.declared.int_type.IntType.TheVariants.{Char, Uchar, Int}
@@ -138,7 +139,8 @@ nested =
     ∷ []
     )) ∷ [])
 
--- `__kernel void f(__global int *a, __local int *s) { s[0] = 1; barrier(..); a[0] = s[0]; }`, with 8 bytes of local memory
+-- `__kernel void f(__global int *a, __local int *s) { s[0] = 1; barrier(..); a[0] = s[0]; }`, with 8 bytes of local
+-- memory
 abbrev pub through_local : ℕ → Setup
 through_local =
     launched_with
@@ -180,7 +182,8 @@ narrowed =
 abbrev pub unset_element : ℕ → Setup
 unset_element = launched [] (private_ints 2 ∷ into_p (number 0) (number 1) ∷ store (of_p (number 1)) ∷ [])
 
--- `int p[2]; p[-1] = 1 / 0;` and `int p[2]; p[2] += 1 / 0;`  The range is tested where the element is stored to or loaded.
+-- `int p[2]; p[-1] = 1 / 0;` and `int p[2]; p[2] += 1 / 0;` The range is tested where the element is stored to or
+-- loaded.
 abbrev pub by_zero : Term
 by_zero = Binary 0 (Arithmetic operator.Divide) (number 1) (number 0)
 
@@ -346,8 +349,8 @@ continued_past =
     )) (less (variable 103) (number 3))
     ∷ [])
 
--- `__kernel void f(__local int *s, __global int *a) { int n = 3; int p[2]; __local uchar q[8]; { int j; } __local int r[2]; r[0] = n; q[4] = 9; }`, with
--- 4 bytes of local memory
+-- `__kernel void f(__local int *s, __global int *a) { int n = 3; int p[2]; __local uchar q[8]; { int j; } __local int
+-- r[2]; r[0] = n; q[4] = 9; }`, with 4 bytes of local memory
 abbrev pub numbered : ℕ → Setup
 numbered =
     launched_with

@@ -65,7 +65,8 @@ pub fn arrays()
 {}
 
 /// In which order the parts of an assignment to an element are evaluated and tested, and how an index is read (OpenCL
-/// 1.2, section 6.2.3; C99 6.5.2.1 and 6.5.16, which leaves the order open; the order, the range and 64 bits of an index are this project's own).
+/// 1.2, section 6.2.3; C99 6.5.2.1 and 6.5.16, which leaves the order open; the order, the range and 64 bits of an
+/// index are this project's own).
 pub fn elements_in_order()
     ensures stepped { next (stepped 9) 0 [] ≡ stores 4294967168 }
     ensures stepped_unset { next (stepped_unset 9) 0 [] ≡ action.Fault (cause.UnsetElement 106 (pos 1)) }
@@ -79,7 +80,8 @@ pub fn elements_in_order()
     ensures no_ticks_behind { next (without_ticks 1) 0 (Done ∷ []) ≡ action.Fault (cause.PrivateBounds 106 (pos 1)) }
 {}
 
-/// Arrays in blocks, in turns of a loop and in helpers (OpenCL 1.2, section 6.5; C99 6.2.1, paragraph 4, and 6.2.4, paragraph 5).
+/// Arrays in blocks, in turns of a loop and in helpers (OpenCL 1.2, section 6.5; C99 6.2.1, paragraph 4, and 6.2.4,
+/// paragraph 5).
 pub fn arrays_in_blocks()
     ensures called { next (called_again 9) 0 [] ≡ stores 1 }
     ensures called_again { next (called_again 9) 0 (Done ∷ []) ≡ action.Fault (cause.UnsetElement 106 (pos 0)) }
@@ -103,10 +105,10 @@ pub fn local_arrays()
     ensures passed_on { next (passed_on 9) 0 [] ≡ action.Access (object.Local 2) (pos 4) (operation.Store Four 1) }
 {}
 
-/// Elements of a private array of each type (OpenCL 1.2, sections 6.2.3 and 6.5.4; C99 6.5.2.1; range and unset are this project's own).
-/// What is put at an index in range is read there converted to the elements' type; the other elements stay, and so does the length.
-/// An index out of range is the bounds fault, for a number that is put as for one that is read; an element that isn't set is the unset fault,
-/// and no element is set where an array is declared.
+/// Elements of a private array of each type (OpenCL 1.2, sections 6.2.3 and 6.5.4; C99 6.5.2.1; range and unset are
+/// this project's own). What is put at an index in range is read there converted to the elements' type; the other
+/// elements stay, and so does the length. An index out of range is the bounds fault, for a number that is put as for
+/// one that is read; an element that isn't set is the unset fault, and no element is set where an array is declared.
 pub fn elements_keep()
     ensures put { (name : ℕ) (kind : IntType) (elements : List (Option ℕ)) (i v : Integer) (after : Operand → Continuation) → pos 0 ≤ℤ index_of i → index_of i <ℤ pos (length elements) → write_element name kind elements (Integral i) (Integral v) (λ new. read_element name kind new (Integral i) after) ≡ after (Integral (converted v kind)) }
     ensures kept { (name : ℕ) (kind : IntType) (elements : List (Option ℕ)) (i v j : Integer) (after : Operand → Continuation) → pos 0 ≤ℤ index_of i → index_of i <ℤ pos (length elements) → index_of i ≢ index_of j → write_element name kind elements (Integral i) (Integral v) (λ new. read_element name kind new (Integral j) after) ≡ read_element name kind elements (Integral j) after }
@@ -117,8 +119,8 @@ pub fn elements_keep()
     ensures declared { (name : ℕ) (kind : IntType) (count : ℕ) (i : Integer) (after : Operand → Continuation) → pos 0 ≤ℤ index_of i → index_of i <ℤ pos count → read_element name kind (private_array kind count name).elements (Integral i) after ≡ fail (cause.UnsetElement name (index_of i)) }
 {}
 
-/// Private arrays in scope, as assignment finds them (C99 6.5.16): what is put into an element in range is fetched there converted to the
-/// elements' type, and the other elements, the other arrays and what variables hold stay.
+/// Private arrays in scope, as assignment finds them (C99 6.5.16): what is put into an element in range is fetched
+/// there converted to the elements' type, and the other elements, the other arrays and what variables hold stay.
 pub fn arrays_keep()
     ensures put { (name : ℕ) (variables : Variables) (i v : Integer) → pos 0 ≤ℤ index_of i → index_of i <ℤ pos (length (elements_of variables name)) → (after : Operand → Continuation) → put (ElementOf name (Integral i)) (Integral v) variables (λ now. fetch (ElementOf name (Integral i)) now after) ≡ after (Integral (converted v (base_type (declared_type variables name)))) }
     ensures kept { (name : ℕ) (variables : Variables) (i v : Integer) → pos 0 ≤ℤ index_of i → index_of i <ℤ pos (length (elements_of variables name)) → (j : Integer) (after : Operand → Continuation) → index_of i ≢ index_of j → put (ElementOf name (Integral i)) (Integral v) variables (λ now. fetch (ElementOf name (Integral j)) now after) ≡ fetch (ElementOf name (Integral j)) variables after }

@@ -53,14 +53,16 @@ told events = flat_map told_in events
 abbrev pub hearing : List (List ℕ) → List Event
 hearing pieces = map Heard pieces
 
--- a peer: the bytes that are left to hear, where they are known, the count of failures to hear, what was told, and all events so far
+-- a peer: the bytes that are left to hear, where they are known, the count of failures to hear, what was told, and all
+-- events so far
 pub record Conversation : Type 0 where
   pub rest : Option (List ℕ)
   pub failures : ℕ
   pub sink : Sink
   pub talk : List Event
 
--- how hearing these bytes ended: well, at the first line feed that is left or at the end; or by a failure, which is counted, or out of memory
+-- how hearing these bytes ended: well, at the first line feed that is left or at the end; or by a failure, which is
+-- counted, or out of memory
 abbrev pub HearingEnds : Conversation → Conversation → List ℕ → Result ℕ ReadFault → Type 0
 HearingEnds old new bytes (Ok n) = (n ≡ length bytes) × (new.failures ≡ old.failures) × IfSome old.rest (λ xs. bytes ≡ take_through 10 xs)
 HearingEnds old new bytes (Err fault.Failed) = CountsUp old.failures new.failures
@@ -83,7 +85,8 @@ Tells old new text (Ok _) =
     × (new.rest ≡ old.rest) × (new.failures ≡ old.failures)
 Tells old new text (Err _) = (new.talk ≡ old.talk) × Stopped old.sink new.sink text × (new.rest ≡ old.rest) × (new.failures ≡ old.failures)
 
--- these events were all: what was heard was taken from the rest, what was told was written, and nothing is held back that wasn't before
+-- these events were all: what was heard was taken from the rest, what was told was written, and nothing is held back
+-- that wasn't before
 pub record Said (old new : Conversation) (events : List Event) : Type 0 where
   pub talk : new.talk ≡ old.talk ++ events
   pub heard : Consumes old.rest new.rest (heard events)

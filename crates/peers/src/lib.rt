@@ -2,9 +2,9 @@
 //!
 //! What a contract over a separate reader and writer can't say is the order in which the two were used. `Peer` has both
 //! ends in one, and its ghost value is the conversation: what is left to hear, what was told, and all events so far in
-//! their order. Whoever is generic in its peer can so promise that it tells an answer before it hears the next question.
-//! `StreamPeer` is the peer of a program: a buffered reader of the standard library, and a writer with counted failures,
-//! of which nothing is held back once a text was told.
+//! their order. Whoever is generic in its peer can so promise that it tells an answer before it hears the next
+//! question. `StreamPeer` is the peer of a program: a buffered reader of the standard library, and a writer with
+//! counted failures, of which nothing is held back once a text was told.
 //!
 //! It knows nothing of what the lines and the texts mean.
 #![tactic(auto)]

@@ -1,7 +1,7 @@
 //! A line of a buffered reader.
 //!
-//! `read_line` does what the standard library's `read_until` does at a line feed, and searches for it by `memchr`. That one
-//! looks at byte after byte, which in a line of two million digits takes longer than all else that is done with it.
+//! `read_line` does what the standard library's `read_until` does at a line feed, and searches for it by `memchr`. That
+//! one looks at byte after byte, which in a line of two million digits takes longer than all else that is done with it.
 #![tactic(auto)]
 
 ghost use Rattle.std.specs.Prelude.{◌≡◌, ◌≢◌, ◌-◌, ◌+◌, ◌<◌, ◌≤◌, ◌++◌, true, Ok, All, OnOk, OnErr, OnSome, IfSome, IfOk, take, length, vec_len};

@@ -10,7 +10,8 @@ use counted_io::{ReadFault, Write, WriteFailed};
 use std::io;
 use std::io::ErrorKind;
 
-/// A peer that is heard by a buffered reader of the standard library, and told by a writer whose failed calls are counted.
+/// A peer that is heard by a buffered reader of the standard library, and told by a writer whose failed calls are
+/// counted.
 #[derive(Drop)]
 pub struct StreamPeer<R: io::BufRead + Drop, W: Write + Drop> {
     reader: R,

@@ -44,7 +44,8 @@ fn wait<W: Wait, D: Machine<C, R>, C: Drop, R: Drop>(
 }
 
 impl<'a, D: Machine<C, R>, C: Drop, R: Drop> Desk<'a, D, C, R> {
-    /// Submits a request and waits for its reply: the ticket's number, and the reply. Nothing where all tickets are drawn.
+    /// Submits a request and waits for its reply: the ticket's number, and the reply. Nothing where all tickets are
+    /// drawn.
     pub fn ask<W: Wait>(
         &mut self,
         rt: &W,

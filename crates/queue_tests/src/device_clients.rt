@@ -1,4 +1,5 @@
-//! Sixteen clients of one device in threads of their own, and a driver in another: 4,096 commands, all that a queue takes.
+//! Sixteen clients of one device in threads of their own, and a driver in another: 4,096 commands, all that a queue
+//! takes.
 ghost use Rattle.std.specs.Prelude.{◌≡◌, IfOk};
 
 use crate::desk::{Desk, desks_of, drive};
@@ -26,7 +27,8 @@ fn buffer_of(alloc: Global, number: u8) -> Result<Name, AllocError> {
     Ok(Name::new(text))
 }
 
-/// A client's command: the first makes its buffer, the second writes its number to each byte there, and all others read these.
+/// A client's command: the first makes its buffer, the second writes its number to each byte there, and all others read
+/// these.
 fn command(alloc: Global, number: u8, place: u32) -> Result<Command, AllocError> {
     let buffer = buffer_of(alloc, number)?;
     Ok(match place {

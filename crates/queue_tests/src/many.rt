@@ -1,5 +1,5 @@
-//! Sixteen clients in threads of their own, and a driver in another: a machine that adds up what it is given shows that the replies are those of
-//! one history.
+//! Sixteen clients in threads of their own, and a driver in another: a machine that adds up what it is given shows that
+//! the replies are those of one history.
 ghost use Rattle.std.specs.Prelude.{◌≡◌, IfOk};
 
 use crate::desk::{Desk, desks_of, drive};
@@ -67,7 +67,8 @@ fn work<'a, W: Wait>(
     })
 }
 
-/// Lets all desks work, each in a thread of its own, while another drives until so many tickets are answered. One desk may leave.
+/// Lets all desks work, each in a thread of its own, while another drives until so many tickets are answered. One desk
+/// may leave.
 fn serve<'a, W: Threads + Wait + Sync>(
     rt: &W,
     alloc: Global,

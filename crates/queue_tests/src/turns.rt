@@ -45,7 +45,8 @@ fn in_turns(zero: Ticket, one: Ticket, two: Ticket, three: Ticket, four: Ticket)
     })
 }
 
-/// Submits five requests in turns: the first client's are the first, the third and the last. Nothing where their tickets aren't 0 to 4.
+/// Submits five requests in turns: the first client's are the first, the third and the last. Nothing where their
+/// tickets aren't 0 to 4.
 fn draw_five<D: Machine<C, R>, C: Drop, R: Drop>(
     queue: &Queue<D, C, R>,
     first: &mut Client<D, C, R>,

@@ -1,4 +1,5 @@
--- A refusal in JSON (RFC 8259; the members are this project's own, version 1). Members stand in the order of their names.
+-- A refusal in JSON (RFC 8259; the members are this project's own, version 1). Members stand in the order of their
+-- names.
 use Rattle.std.specs.Prelude.{◌≡◌, ℕ, Option, None, Some, List, [], ◌∷◌, ◌++◌, codes, string_bytes, option_copied}
 use Rattle.serde_json.specs.Data.{Data, number, unsigned, string, array, object, member, no_members, item, no_items}
 use Rattle.serde_json.specs.Read.{read}

@@ -1,5 +1,5 @@
-//! A source that doesn't build, as JSON, by the kit's `serde_json`: its fault, where it lies, and what to write. What it
-//! writes reads back as the value that was made of the refusal, whose member `version` is 1.
+//! A source that doesn't build, as JSON, by the kit's `serde_json`: its fault, where it lies, and what to write. What
+//! it writes reads back as the value that was made of the refusal, whose member `version` is 1.
 #![tactic(auto)]
 
 ghost use Rattle.std.specs.Prelude.{◌≡◌, ◌++◌, [], ◌∷◌, string_bytes, option_copied, IfOk, OnOk};

@@ -1,7 +1,7 @@
 //! Calls on a queue, with a line for what came of each. `tools/rows` runs it with each request for memory refused in
 //! turn. A call that is refused then answers so, and the same call is made again and does its work. The calls that take
-//! no memory are made between two lines on standard error, `refuse: all` and `refuse: none`, between which every request
-//! is refused.
+//! no memory are made between two lines on standard error, `refuse: all` and `refuse: none`, between which every
+//! request is refused.
 #![tactic(auto)]
 
 mod came;

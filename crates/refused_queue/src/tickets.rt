@@ -79,8 +79,8 @@ fn polled_twice<D: Machine<C, R>, C: Drop, R: Drop>(
     }
 }
 
-/// Submits a request, asks for its reply too early, drives, and asks again. None where no reply comes then, or where one
-/// came too early.
+/// Submits a request, asks for its reply too early, drives, and asks again. None where no reply comes then, or where
+/// one came too early.
 pub fn polled<D: Machine<C, R>, C: Drop, R: Drop>(
     queue: &Queue<D, C, R>,
     client: &mut Client<D, C, R>,

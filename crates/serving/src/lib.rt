@@ -5,8 +5,8 @@
 //! known to tell each reply before it hears the next command. There may be any number of commands. A line that begins
 //! no command's text ends it at once, with its number, and nothing behind that line is heard.
 //!
-//! It knows commands and replies by their texts alone (`simfile`), and its peer by the trait `Peer` of `peers`. It knows
-//! no device and no budget.
+//! It knows commands and replies by their texts alone (`simfile`), and its peer by the trait `Peer` of `peers`. It
+//! knows no device and no budget.
 #![tactic(auto)]
 
 mod answer;

@@ -19,7 +19,8 @@ run_count (run.Release group) = 1
 abbrev pub LeadsAsBefore : {S : Type 0} → (S → List Event → Type 0) → S → S → Type 0
 LeadsAsBefore leads old new = (events : List Event) → (leads old events → leads new events) × (leads new events → leads old events)
 
--- from one state of a judge and a search to a later one: the best schedule leads to the fault, and isn't longer; each judgement is counted (own)
+-- from one state of a judge and a search to a later one: the best schedule leads to the fault, and isn't longer; each
+-- judgement is counted (own)
 pub record Advances {S : Type 0} (leads : S → List Event → Type 0) (judged : S → ℕ) (old new : S) (was now : Search) : Type 0 where
   pub leads_there : leads new (events_of now.best)
   pub same : LeadsAsBefore leads old new

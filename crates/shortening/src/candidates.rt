@@ -71,8 +71,8 @@ impl<'a> Given<'a> {
         self.ends.get(&group).copied().unwrap_or(GroupEnd::new())
     }
 
-    /// Up to which event of the schedule the events of an item are kept, not with it, where its group is kept. `whole` is whether the item is
-    /// kept behind the last release of its group.
+    /// Up to which event of the schedule the events of an item are kept, not with it, where its group is kept. `whole`
+    /// is whether the item is kept behind the last release of its group.
     fn item_end(&self, item: u32, whole: bool) -> u64 {
         if let Some(named) = self.named(item) {
             return named.end();
@@ -103,8 +103,8 @@ impl<'a, 'b> Candidate for WithGroups<'a, 'b> {
     }
 }
 
-/// Schedules of the named items' groups and of some others, without what comes behind the last release that each of them needs, but for the
-/// named items' own events, up to their accesses, and those of some other items.
+/// Schedules of the named items' groups and of some others, without what comes behind the last release that each of
+/// them needs, but for the named items' own events, up to their accesses, and those of some other items.
 #[derive(Drop)]
 pub(crate) struct WithItems<'a, 'b> {
     pub(crate) given: &'b Given<'a>,

@@ -27,8 +27,8 @@ pub trait Judge {
 #[derive(Clone, Copy)]
 pub struct Named {
     pub item: u32,
-    /// Which event of the given schedule, counted from 0 on, is the item's access that the fault names. `None` where it names what the item
-    /// would do next: then all events of the item are kept.
+    /// Which event of the given schedule, counted from 0 on, is the item's access that the fault names. `None` where it
+    /// names what the item would do next: then all events of the item are kept.
     pub event: Option<u64>,
 }
 

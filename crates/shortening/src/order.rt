@@ -86,7 +86,8 @@ fn apart(runs: &[EventRun], named: &[Named]) -> Option<(Last, Last)> {
     Some((first, second))
 }
 
-/// Moves the two accesses of a conflict to the end of the best schedule, next to one another, where that leads to the fault too.
+/// Moves the two accesses of a conflict to the end of the best schedule, next to one another, where that leads to the
+/// fault too.
 pub(crate) fn join_accesses<J: Judge>(
     judge: &mut J,
     search: &mut Search,

@@ -25,7 +25,8 @@ fn without(
     Ok(rest)
 }
 
-/// Tries a schedule without `size` of the numbers from a place on. What is left of the numbers where that leads to the fault.
+/// Tries a schedule without `size` of the numbers from a place on. What is left of the numbers where that leads to the
+/// fault.
 fn try_without<J: Judge, C: Candidate>(
     alloc: Global,
     judge: &mut J,
@@ -54,8 +55,8 @@ struct Part {
 }
 
 impl Part {
-    /// The next part to leave out of a list of this length: of half the size, from the front, where the end was come to; none where parts of
-    /// one were tried.
+    /// The next part to leave out of a list of this length: of half the size, from the front, where the end was come
+    /// to; none where parts of one were tried.
     fn next(self, len: usize) -> Option<Part> {
         if self.from < len {
             return Some(self);
@@ -78,8 +79,8 @@ impl Part {
     }
 }
 
-/// Leaves out parts of a list of groups or items, of all of them first, then of half the size each time (after Zeller's delta debugging), as
-/// long as the schedule without them leads to the fault. What is left of the list.
+/// Leaves out parts of a list of groups or items, of all of them first, then of half the size each time (after Zeller's
+/// delta debugging), as long as the schedule without them leads to the fault. What is left of the list.
 #[tactic(auto, using(crate::proofs::Steps::stays, crate::proofs::Steps::then))]
 pub(crate) fn reduce<J: Judge, C: Candidate>(
     alloc: Global,

@@ -11,7 +11,8 @@ use crate::search::Search;
 use clmodel::schedule::EventRun;
 use std::alloc::AllocError;
 
-/// Runs without the releases of a group from a place on, and without the events that items of it make from there on, but for named ones.
+/// Runs without the releases of a group from a place on, and without the events that items of it make from there on,
+/// but for named ones.
 fn without_from(
     given: &Given<'_>,
     runs: &[EventRun],
@@ -31,8 +32,8 @@ fn without_from(
     Ok(kept)
 }
 
-/// Tries the best schedule without a release of a group, at a place of its runs, and without what depends on it. Whether that leads to the
-/// fault; `false` where no release of the group is there.
+/// Tries the best schedule without a release of a group, at a place of its runs, and without what depends on it.
+/// Whether that leads to the fault; `false` where no release of the group is there.
 fn try_release<J: Judge>(
     judge: &mut J,
     search: &mut Search,

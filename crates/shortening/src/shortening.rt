@@ -15,8 +15,8 @@ use crate::search::{MOST, Search};
 use clmodel::schedule::{EventRun, Schedule};
 use std::alloc::{AllocError, Global};
 
-/// The named items' groups alone, without what comes behind the last release that each of them needs, but for the named items' own events, up
-/// to their accesses. Whether that leads to the fault.
+/// The named items' groups alone, without what comes behind the last release that each of them needs, but for the named
+/// items' own events, up to their accesses. Whether that leads to the fault.
 fn cut<J: Judge>(judge: &mut J, search: &mut Search, given: &Given<'_>) -> Result<bool, AllocError>
     requires { J.leads judge.old (events_of search.old.best) }
     ensures { Advances J.leads J.judged judge.old judge.new search.old search.new }
@@ -68,11 +68,12 @@ fn copied(alloc: Global, runs: &[EventRun]) -> Result<Schedule, AllocError>
     Ok(Schedule::new(runs.to_vec(alloc)?))
 }
 
-/// A schedule that leads where the given one does, and isn't longer. `named` has the items that the fault names, of a conflict the item of the
-/// earlier access first, and `group_size` says how many items a work-group has: numbers that don't fit the schedule cost shortness, and never
-/// truth. First all other groups are left out, with what comes behind the last release that each named item's group needs; where that doesn't
-/// lead there, parts of the other groups and items are. Then releases are left out, and the two accesses of a conflict are put next to one
-/// another. Each candidate is made in time in proportion to the given runs, and judged once. An error is out of memory.
+/// A schedule that leads where the given one does, and isn't longer. `named` has the items that the fault names, of a
+/// conflict the item of the earlier access first, and `group_size` says how many items a work-group has: numbers that
+/// don't fit the schedule cost shortness, and never truth. First all other groups are left out, with what comes behind
+/// the last release that each named item's group needs; where that doesn't lead there, parts of the other groups and
+/// items are. Then releases are left out, and the two accesses of a conflict are put next to one another. Each
+/// candidate is made in time in proportion to the given runs, and judged once. An error is out of memory.
 pub fn shorten<J: Judge>(
     alloc: Global,
     judge: &mut J,

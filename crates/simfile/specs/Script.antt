@@ -1,4 +1,5 @@
--- The text of a script. A script is the texts of its commands, one after another, in version 2 behind a line that says so.
+-- The text of a script. A script is the texts of its commands, one after another, in version 2 behind a line that says
+-- so.
 use Rattle.std.specs.Prelude.{◌≡◌, ℕ, ◌+◌, ◌<◌, ◌≤◌, ◌^◌, ◌==◌, Bool, true, false, IsTrue, List, [], ◌∷◌, ◌++◌, length, replicate, codes, decimal, if◌then◌else◌, ◌⊎◌}
 use Rattle.std.specs.Fmt.{signed_decimal}
 use Rattle.clmodel.specs.declared.setup.Argument.{Argument}
@@ -92,7 +93,8 @@ head version.Two = codes "clsim 2\n"
 abbrev pub IsScript : List ℕ → List Command → Type 0
 IsScript bytes commands = (version : Version) × (lines : List ℕ) × (bytes ≡ head version ++ lines) × Begins version lines commands [] × (length commands ≤ 4096)
 
--- the line n is the lowest bad one: it follows the longest beginning of the bytes that is a script, and that isn't all of them
+-- the line n is the lowest bad one: it follows the longest beginning of the bytes that is a script, and that isn't all
+-- of them
 pub record IsBadLine (bytes : List ℕ) (n : ℕ) : Type 0 where
   pub commands : List Command
   pub front : List ℕ

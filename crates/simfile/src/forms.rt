@@ -242,7 +242,8 @@ fn launch_at(version: Version, bytes: &[u8]) -> Option<(Line<'_>, &[u8])>
     Some((Line::Launch(line), rest))
 }
 
-/// The version of a script, which its first line tells, and its lines behind that one. Without such a line it is of version 1.
+/// The version of a script, which its first line tells, and its lines behind that one. Without such a line it is of
+/// version 1.
 #[tactic(auto, unfolding(crate::specs::Reading::version_at))]
 pub fn version_at(bytes: &[u8]) -> (Version, &[u8])
     ensures { (result.0, result.1.now) ≡ version_at bytes.now }

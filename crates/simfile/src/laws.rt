@@ -3,8 +3,9 @@
 
 ghost use Rattle.simfile.specs.Laws.{Takes, Again, OneScript, Keeps, EitherOne, NotBoth, OneBadLine};
 
-/// The laws of scripts: what is read is a command's text, a command's text is read, a text has one list of commands at most, lines that tell
-/// commands in version 1 tell the same in version 2, a text is a script or has a lowest bad line, and not both, and it has one such line at most.
+/// The laws of scripts: what is read is a command's text, a command's text is read, a text has one list of commands at
+/// most, lines that tell commands in version 1 tell the same in version 2, a text is a script or has a lowest bad line,
+/// and not both, and it has one such line at most.
 pub fn script_laws()
     ensures takes { Takes }
     ensures again { Again }

@@ -94,9 +94,9 @@ fn add(alloc: Global, line: Line<'_>, commands: &mut Vec<Command>) -> Result<(),
     Ok(())
 }
 
-/// The commands of a script. One whose first line is `clsim 2` is of version 2, which has uniform launches, and this line is no command.
-/// A text that is no script has a bad line: one that is no command's of its version, is without its line feed, has too few source lines
-/// after it, or is that of the 4,097th command.
+/// The commands of a script. One whose first line is `clsim 2` is of version 2, which has uniform launches, and this
+/// line is no command. A text that is no script has a bad line: one that is no command's of its version, is without its
+/// line feed, has too few source lines after it, or is that of the 4,097th command.
 pub fn read_script(alloc: Global, bytes: &[u8]) -> Result<Vec<Command>, ScriptFault>
     ensures found { IfOk result (λ commands. IsScript bytes.now commands.items) }
     ensures only { (commands : List Command) → IsScript bytes.now commands →

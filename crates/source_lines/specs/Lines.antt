@@ -1,4 +1,5 @@
--- Lines of a text (own): a line ends with its line feed, which is byte 10. Lines and columns count from 1, columns in bytes.
+-- Lines of a text (own): a line ends with its line feed, which is byte 10. Lines and columns count from 1, columns in
+-- bytes.
 use Rattle.std.specs.Prelude.{◌≡◌, ◌≢◌, ℕ, ◌+◌, ◌-◌, ◌<◌, ◌≤◌, ◌==◌, List, take, length, count_by, slice_index}
 
 abbrev pub line_feeds : List ℕ → ℕ
@@ -8,7 +9,8 @@ line_feeds bytes = count_by (λ byte. byte == 10) bytes
 abbrev pub line_of : List ℕ → ℕ → ℕ
 line_of bytes at = line_feeds (take at bytes) + 1
 
--- the line of the byte `at` begins at `begin`: there is no line feed from there up to `at`, and one before it, if anything is
+-- the line of the byte `at` begins at `begin`: there is no line feed from there up to `at`, and one before it, if
+-- anything is
 pub record BeginsLine (bytes : List ℕ) (at begin : ℕ) : Type 0 where
   pub within : begin ≤ at
   pub after_feed : 0 < begin → slice_index bytes (begin - 1) ≡ 10

@@ -13,7 +13,8 @@ pub record PageCounts : Type 0 where
   pub first : ℕ
   pub row : List ℕ
 
--- the count of a page's copy, in a row that tells of the pages from `first` on. Copies are counted from 1, and 0 stands for none (own).
+-- the count of a page's copy, in a row that tells of the pages from `first` on. Copies are counted from 1, and 0 stands
+-- for none (own).
 unfoldable pub copy_at : ℕ → List ℕ → ℕ → ℕ
 copy_at first row page = if nat_lt page first then 0 else slice_index row (page - first)
 

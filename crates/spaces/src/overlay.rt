@@ -11,9 +11,10 @@ use spaces_base::{Space, SpaceFault};
 use std::alloc::{AllocError, Global};
 use std::marker::Model;
 
-/// A lent buffer, seen as its bytes with the changes that were made (OpenCL 1.2, section 5.2.1). Pages of 256 bytes are copied at their
-/// first change, and a table tells of the pages from the lowest that is copied to the highest. An access to bytes of one page costs a look
-/// into the table, and a load costs none while no page is copied; an access to bytes of two pages costs a look for each byte.
+/// A lent buffer, seen as its bytes with the changes that were made (OpenCL 1.2, section 5.2.1). Pages of 256 bytes are
+/// copied at their first change, and a table tells of the pages from the lowest that is copied to the highest. An
+/// access to bytes of one page costs a look into the table, and a load costs none while no page is copied; an access to
+/// bytes of two pages costs a look for each byte.
 #[derive(Drop)]
 pub struct Overlay<'a> {
     base: &'a [u8],
@@ -73,8 +74,8 @@ impl<'a> Overlay<'a> {
         self.pages.change(self.base, at, width, value)
     }
 
-    /// Puts what a function makes of the number of 4 bytes in its place, and gives the number that was there (OpenCL 1.2, section
-    /// 6.12.11: "old"). An error says why nothing is changed.
+    /// Puts what a function makes of the number of 4 bytes in its place, and gives the number that was there (OpenCL
+    /// 1.2, section 6.12.11: "old"). An error says why nothing is changed.
     fn change<F: FnOnce(u32) -> u32>(&mut self, at: u64, makes: F) -> Result<u32, SpaceFault>
         requires { F.IsAlwaysCallable makes }
         ensures changed { IsChanged true self.old.bytes at (F.post makes) self.new.bytes result }

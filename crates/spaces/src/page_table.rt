@@ -6,7 +6,8 @@ ghost use Rattle.spaces.specs.Overlay.{copies, copy_at};
 use std::alloc::{AllocError, Global};
 use std::marker::Model;
 
-/// For each page the count of its copy, or 0. It takes memory in proportion to the pages from the lowest that has a copy to the highest.
+/// For each page the count of its copy, or 0. It takes memory in proportion to the pages from the lowest that has a
+/// copy to the highest.
 #[derive(Drop)]
 pub(crate) struct PageTable {
     /// The first page that the row tells of.
@@ -63,7 +64,8 @@ impl PageTable {
     }
 }
 
-/// Makes a row that tells of the pages from the first on tell of one more, and answers the first page that it then tells of.
+/// Makes a row that tells of the pages from the first on tell of one more, and answers the first page that it then
+/// tells of.
 fn reach(row: &mut Vec<usize>, first: usize, page: usize) -> Result<usize, AllocError>
     requires low { page + 1 < 2 ^ 64 }
     requires inside { first + length row.old.items < 2 ^ 64 }
@@ -95,8 +97,9 @@ fn make_room(row: &mut Vec<usize>, place: usize) -> Result<(), AllocError>
     Ok(())
 }
 
-/// Makes a row begin with a lower page, and answers the page that it then begins with: that page, or a lower one where the row is not yet
-/// twice as long. So the entries are moved seldom where pages are copied one by one from the last to the first.
+/// Makes a row begin with a lower page, and answers the page that it then begins with: that page, or a lower one where
+/// the row is not yet twice as long. So the entries are moved seldom where pages are copied one by one from the last to
+/// the first.
 fn move_up(row: &mut Vec<usize>, first: usize, page: usize) -> Result<usize, AllocError>
     requires below { page < first }
     requires inside { first + length row.old.items < 2 ^ 64 }

@@ -97,7 +97,8 @@ impl Pages {
         low as u64 + 256 * high
     }
 
-    /// The number of an element's bytes. It looks once at the table where they are of one page, and not at all where no page has a copy.
+    /// The number of an element's bytes. It looks once at the table where they are of one page, and not at all where no
+    /// page has a copy.
     pub(crate) fn number(&self, base: &[u8], at: usize, width: Width) -> u64
         requires { at + byte_count width ≤ length base.now }
         ensures value { number (overlaid_cells base.now (copies self.now.table) self.now.cells.items) at (byte_count width) ≡ Some result }

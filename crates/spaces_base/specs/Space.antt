@@ -1,4 +1,5 @@
--- The laws of a memory space: a list of bytes, some of which may be unset (OpenCL 1.2, 3.3, 6.12.11; own in the faults).
+-- The laws of a memory space: a list of bytes, some of which may be unset (OpenCL 1.2, 3.3, 6.12.11; own in the
+-- faults).
 use Rattle.std.specs.Prelude.{◌≡◌, ℕ, ◌+◌, ◌<◌, ◌≤◌, ◌^◌, Bool, true, false, Option, Some, List, length, Result, Ok, Err}
 use Rattle.clmodel.specs.Cells.{Cells, cells_of, byte_count, number, lowest_unset, written, combined, fetched}
 use Rattle.clmodel.specs.declared.access.Width.{Width}
@@ -52,7 +53,8 @@ IsUpdated read_only may_want old at class operand new (Err fault.ReadOnly) = (re
 IsUpdated read_only may_want old at class operand new (Err fault.OutOfMemory) =
     (read_only ≡ false) × (may_want ≡ true) × InRange old at 4 × (new ≡ old)
 
--- what a fetch leaves and answers: the number that was there (6.12.11: "old"), in whose place is what the operation makes of it
+-- what a fetch leaves and answers: the number that was there (6.12.11: "old"), in whose place is what the operation
+-- makes of it
 abbrev pub IsFetched : Bool → Bool → List (Option ℕ) → ℕ → FetchOp → ℕ → List (Option ℕ) → Result ℕ SpaceFault → Type 0
 IsFetched read_only may_want old at op operand new (Ok found) =
     (read_only ≡ false) × InRange old at 4 × (number (cells_of old) at 4 ≡ Some found) × Becomes old new (written (cells_of old) at 4 (fetched op found operand))
@@ -63,7 +65,8 @@ IsFetched read_only may_want old at op operand new (Err fault.ReadOnly) = (read_
 IsFetched read_only may_want old at op operand new (Err fault.OutOfMemory) =
     (read_only ≡ false) × (may_want ≡ true) × InRange old at 4 × (new ≡ old)
 
--- what a change of 4 bytes leaves and answers: the number that was there (6.12.11: "old"), in whose place is one that `makes` allows for it
+-- what a change of 4 bytes leaves and answers: the number that was there (6.12.11: "old"), in whose place is one that
+-- `makes` allows for it
 abbrev pub IsChanged : Bool → List (Option ℕ) → ℕ → (ℕ → ℕ → Type 0) → List (Option ℕ) → Result ℕ SpaceFault → Type 0
 IsChanged may_want old at makes new (Ok found) =
     (value : ℕ) × makes found value × InRange old at 4 × (number (cells_of old) at 4 ≡ Some found) × Becomes old new (written (cells_of old) at 4 value)

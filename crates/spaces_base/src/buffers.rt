@@ -56,7 +56,8 @@ impl Table<Bytes> {
         }
     }
 
-    /// Writes bytes into the buffer of a name from an offset on, in place of those that were there (OpenCL 1.2, section 5.2.2).
+    /// Writes bytes into the buffer of a name from an offset on, in place of those that were there (OpenCL 1.2, section
+    /// 5.2.2).
     #[tactic(auto, using(crate::proofs::Tables::unreplaced))]
     pub fn write(&mut self, name: &Name, offset: usize, bytes: &[u8])
         requires { offset + length bytes.now ≤ length (bytes_in self.old name.now) }
@@ -67,8 +68,8 @@ impl Table<Bytes> {
         }
     }
 
-    /// Repeats a pattern, whose length divides 256, over n bytes of the buffer of a name from an offset on, in place of those
-    /// that were there (OpenCL 1.2, section 5.2.3). It takes no memory, and writes 256 bytes at a time.
+    /// Repeats a pattern, whose length divides 256, over n bytes of the buffer of a name from an offset on, in place of
+    /// those that were there (OpenCL 1.2, section 5.2.3). It takes no memory, and writes 256 bytes at a time.
     #[tactic(auto, using(crate::proofs::Tables::unreplaced))]
     pub fn fill(&mut self, name: &Name, offset: usize, count: usize, pattern: &[u8])
         requires range { offset + count ≤ length (bytes_in self.old name.now) }
@@ -81,9 +82,9 @@ impl Table<Bytes> {
         }
     }
 
-    /// Copies n bytes of a buffer from an offset on into a buffer, which may be the same, from an offset of its own on, in place
-    /// of those that were there (OpenCL 1.2, section 5.2.2). All are read before the first is written. An error is out of memory,
-    /// and nothing is copied.
+    /// Copies n bytes of a buffer from an offset on into a buffer, which may be the same, from an offset of its own on,
+    /// in place of those that were there (OpenCL 1.2, section 5.2.2). All are read before the first is written. An
+    /// error is out of memory, and nothing is copied.
     pub fn copy(
         &mut self,
         alloc: Global,

@@ -5,7 +5,8 @@ ghost use Rattle.std.specs.Prelude.{◌≡◌, true, false};
 use crate::space::{Space, SpaceFault};
 use clmodel::access::{Class, FetchOp, Width};
 
-/// A lent space, read as constant memory: it answers every store, update and fetch by `ReadOnly` (OpenCL 1.2, section 6.5.3).
+/// A lent space, read as constant memory: it answers every store, update and fetch by `ReadOnly` (OpenCL 1.2, section
+/// 6.5.3).
 #[derive(Drop)]
 pub struct ConstView<'a, S: Space> {
     inner: &'a S,

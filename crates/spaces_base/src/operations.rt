@@ -8,9 +8,9 @@ use crate::space::{Space, SpaceFault};
 use clmodel::access::Operation;
 use clmodel::action::Answer;
 
-/// Does an operation at the bytes of a space from `first` on, whole (OpenCL 1.2, section 6.12.11), and answers the item: a load and a
-/// fetch get the number that they read. An error says why nothing is done, and leaves the space: a byte of it is out of range, or a byte that it reads is
-/// unset, or no memory is left to keep what it stores.
+/// Does an operation at the bytes of a space from `first` on, whole (OpenCL 1.2, section 6.12.11), and answers the
+/// item: a load and a fetch get the number that they read. An error says why nothing is done, and leaves the space: a
+/// byte of it is out of range, or a byte that it reads is unset, or no memory is left to keep what it stores.
 pub fn perform<S: Space>(
     space: &mut S,
     first: u64,
@@ -35,8 +35,8 @@ pub fn perform<S: Space>(
     }
 }
 
-/// The first byte of an element of `count` bytes of an object of `bytes` bytes, or `None` where one of the element's bytes is out of range
-/// (C99 6.5.2.1, 6.5.6).
+/// The first byte of an element of `count` bytes of an object of `bytes` bytes, or `None` where one of the element's
+/// bytes is out of range (C99 6.5.2.1, 6.5.6).
 pub fn first_byte(bytes: u64, element: i64, count: u64) -> Option<u64>
     requires { 0 < count }
     ensures value { result ≡ first_byte bytes element count }

@@ -68,8 +68,8 @@ impl Row<Option<u8>> {
 }
 
 impl<C: Cell> Row<C> {
-    /// Puts what a function makes of the number of 4 bytes in its place, and gives the number that was there (OpenCL 1.2, section
-    /// 6.12.11: "old"). An error says why nothing is changed.
+    /// Puts what a function makes of the number of 4 bytes in its place, and gives the number that was there (OpenCL
+    /// 1.2, section 6.12.11: "old"). An error says why nothing is changed.
     fn change<F: FnOnce(u32) -> u32>(&mut self, at: u64, makes: F) -> Result<u32, SpaceFault>
         requires { F.IsAlwaysCallable makes }
         ensures { IsChanged false self.old at (F.post makes) self.new result }

@@ -47,7 +47,8 @@ impl From<AllocError> for SpaceFault {
     }
 }
 
-/// The bytes of an object, some of which may be unset, seen as their list. Bytes are numbered from 0 (OpenCL 1.2, section 3.3).
+/// The bytes of an object, some of which may be unset, seen as their list. Bytes are numbered from 0 (OpenCL 1.2,
+/// section 3.3).
 pub trait Space {
     ghost bytes: { Self → List (Option ℕ) };
 
@@ -71,8 +72,8 @@ pub trait Space {
     fn update(&mut self, at: u64, class: Class, operand: u32) -> Result<(), SpaceFault>
         ensures { IsUpdated read_only may_want (bytes self.old) at class operand (bytes self.new) result };
 
-    /// Gives the number of 4 bytes, and leaves in its place what an atomic operation makes of it and an operand (OpenCL 1.2, section
-    /// 6.12.11).
+    /// Gives the number of 4 bytes, and leaves in its place what an atomic operation makes of it and an operand (OpenCL
+    /// 1.2, section 6.12.11).
     fn fetch(&mut self, at: u64, op: FetchOp, operand: u32) -> Result<u32, SpaceFault>
         ensures { IsFetched read_only may_want (bytes self.old) at op operand (bytes self.new) result };
 }

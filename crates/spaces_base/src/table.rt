@@ -82,7 +82,8 @@ impl<T: Drop> Table<T> {
         }
     }
 
-    /// Removes what has the name, if something has it; the others keep their order. It takes time in proportion to their number.
+    /// Removes what has the name, if something has it; the others keep their order. It takes time in proportion to
+    /// their number.
     pub fn remove(&mut self, name: &Name)
         ensures { self.new ≡ remove_entry (is name.now) self.old }
     {

@@ -83,9 +83,10 @@ impl<W: io::Write + Drop> Write for Output<W> {
     }
 }
 
-/// The room that a text begins with. The C library hands memory back to the system as soon as 128 KiB lie free at the end of the heap, and takes it
-/// again page by page; once a block as large as this one has been given back, it keeps twice as much. So what one group of a launch frees serves the
-/// next. The room behind the text is never touched, and takes no memory; 32 MiB is the largest block that counts.
+/// The room that a text begins with. The C library hands memory back to the system as soon as 128 KiB lie free at the
+/// end of the heap, and takes it again page by page; once a block as large as this one has been given back, it keeps
+/// twice as much. So what one group of a launch frees serves the next. The room behind the text is never touched, and
+/// takes no memory; 32 MiB is the largest block that counts.
 const TEXT_ROOM: usize = 31 * 1_048_576;
 
 /// An empty text, with that room if it can be had.

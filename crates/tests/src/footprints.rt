@@ -95,7 +95,8 @@ fn store(item: u32, first: u8, width: Width, value: u64) -> Access
     }
 }
 
-/// The first byte, the width and the value of a store of another group's item, with the item that it meets and the byte where.
+/// The first byte, the width and the value of a store of another group's item, with the item that it meets and the byte
+/// where.
 const STORES: [(u8, Width, u64, Option<(u32, u64)>); 6] = [
     (0, Width::Four, 7, None),
     (0, Width::One, 7, None),

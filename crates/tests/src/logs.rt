@@ -7,8 +7,8 @@ use clmodel::access::{Access, AccessKind, Class, Operation, Region, Width};
 use shadow_list::{AccessLog, Accesses, Entry, Fenced, ListLog};
 use std::test::Fail;
 
-/// The item, the first of four bytes of buffer 0, and the kind of an access; the byte of its conflict; how many accesses are then
-/// kept.
+/// The item, the first of four bytes of buffer 0, and the kind of an access; the byte of its conflict; how many
+/// accesses are then kept.
 const ROWS: [(u32, u8, AccessKind, Option<u64>, usize); 8] = [
     (0, 6, AccessKind::Store, None, 2),
     (0, 6, AccessKind::Store, None, 2),
@@ -98,7 +98,8 @@ fn local_objects_are_told_apart(rt: HostRuntime) -> Result<(), Fail> {
     Ok(())
 }
 
-/// The item, the first byte of buffer 0, and the operation of an access; the byte of its conflict in a uniform launch, and in another.
+/// The item, the first byte of buffer 0, and the operation of an access; the byte of its conflict in a uniform launch,
+/// and in another.
 pub(crate) const STORES: [(u32, u8, Operation, Option<u64>, Option<u64>); 9] = [
     (0, 0, Operation::Store(Width::Four, 7), None, None),
     (1, 0, Operation::Store(Width::Four, 7), None, Some(0)),
@@ -111,7 +112,8 @@ pub(crate) const STORES: [(u32, u8, Operation, Option<u64>, Option<u64>); 9] = [
     (7, 16, Operation::Load(Width::One), Some(16), Some(16)),
 ];
 
-// In a uniform launch two stores conflict where they leave different bytes: not by their numbers, and whichever store of an item it is.
+// In a uniform launch two stores conflict where they leave different bytes: not by their numbers, and whichever store
+// of an item it is.
 #[test]
 fn stores_of_the_same_byte_pass_in_a_uniform_launch(rt: HostRuntime) -> Result<(), Fail> {
     for uniform in [true, false] {

@@ -45,7 +45,8 @@ const ROWS: [(&str, [u8; 4], Expected); 4] = [
         [250, 0, 0, 0],
         Expected::Clean([0, 1, 0, 0]),
     ),
-    // Alone group 1 loads 0 and divides by it. Group 0 has stored a byte that it loads: nothing behind that load counts.
+    // Alone group 1 loads 0 and divides by it. Group 0 has stored a byte that it loads: nothing behind that load
+    // counts.
     (
         "__kernel void k(__global uchar *a) { if (get_group_id(0) == 0) a[0] = 1; else a[1] = 6 / a[0]; }",
         [0, 0, 0, 0],
@@ -101,8 +102,8 @@ fn merged(
     merge(alloc, launch, buffers, results)
 }
 
-/// What the kernel `k` of a source, over this many groups of one item, comes to on a buffer of these bytes: run whole, and merged. None where
-/// it can't be launched.
+/// What the kernel `k` of a source, over this many groups of one item, comes to on a buffer of these bytes: run whole,
+/// and merged. None where it can't be launched.
 fn outcomes(
     alloc: Global,
     source: &str,

@@ -15,9 +15,9 @@ fn printed(alloc: Global, source: &str) -> Result<Vec<u8>, Fail> {
     Ok(writer.into_inner())
 }
 
-/// Sources and the texts as which their trees are printed: each form of a declaration, a statement and an expression; pointers into
-/// each memory; arrays with their lengths; brackets where an operator binds less tightly than is wanted, and numbers, which keep their
-/// types; control flow, where an `else` stays with its `if`.
+/// Sources and the texts as which their trees are printed: each form of a declaration, a statement and an expression;
+/// pointers into each memory; arrays with their lengths; brackets where an operator binds less tightly than is wanted,
+/// and numbers, which keep their types; control flow, where an `else` stays with its `if`.
 const TEXTS: [(&str, &str); 5] = [
     (
         "kernel void f(global const char *p, ulong n) { size_t i = n; global int *q; ; { n = 1; } ++n; q[2]--; *q <<= 3; q[0] = n ? -n : ~i; n = (char)n * 2 + !*q; g(&p[n], (5)); q[(q[0])] = f(1, 2) + 3 + 4; g(); }",

@@ -52,7 +52,8 @@ fn code(alloc: Global) -> Result<Option<Code>, AllocError> {
     Ok(verify(instructions, tables(alloc)?).ok())
 }
 
-/// The register that an instruction writes, and the one that it reads, if it is a constant or an operator on one number.
+/// The register that an instruction writes, and the one that it reads, if it is a constant or an operator on one
+/// number.
 fn registers_of(instruction: &Instruction) -> Option<(u32, Option<u32>)> {
     match instruction {
         Constant { to, .. } => Some((*to, None)),

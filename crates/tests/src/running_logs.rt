@@ -15,9 +15,10 @@ const LOCAL: Region = Region::Local {
     number: 0,
 };
 
-/// The item, the object, the first byte and the operation of an access; the byte of its conflict; whether a running log keeps it for other
-/// groups, as it does unless each byte had an access of its sort, or of two sorts. Behind a barrier, before which item 5 has stored 7 at byte 6
-/// of the buffer. From the first access that isn't aligned on, a running log keeps each one.
+/// The item, the object, the first byte and the operation of an access; the byte of its conflict; whether a running log
+/// keeps it for other groups, as it does unless each byte had an access of its sort, or of two sorts. Behind a barrier,
+/// before which item 5 has stored 7 at byte 6 of the buffer. From the first access that isn't aligned on, a running log
+/// keeps each one.
 const ROWS: [(u32, Region, u8, Operation, Option<u64>, bool); 13] = [
     (0, BUFFER, 0, Operation::Load(Width::Four), None, true),
     (0, BUFFER, 0, Operation::Load(Width::Four), None, false),
@@ -44,8 +45,8 @@ const ROWS: [(u32, Region, u8, Operation, Option<u64>, bool); 13] = [
 /// The numbers of the events that a running log keeps: 0 is the store before the barrier.
 const KEPT: [u32; 7] = [0, 1, 6, 9, 11, 12, 13];
 
-/// The numbers of those that tell other groups something new: the first access of a byte, and the first of another kind or by which a store
-/// leaves another byte.
+/// The numbers of those that tell other groups something new: the first access of a byte, and the first of another kind
+/// or by which a store leaves another byte.
 const LASTING: [u32; 5] = [0, 1, 6, 9, 11];
 
 /// The numbers of the events of a group's accesses, as other groups ask for them.

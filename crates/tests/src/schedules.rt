@@ -6,8 +6,8 @@ use std::io::BufWriter;
 use std::test::Fail;
 use streams::Output;
 
-/// The two lines of schedule files, and the ticket that the first line tells: each form of a fault; runs that are split and releases; the least element and the
-/// greatest count.
+/// The two lines of schedule files, and the ticket that the first line tells: each form of a fault; runs that are split
+/// and releases; the least element and the greatest count.
 const FILES: [(&str, u64, &str); 9] = [
     (
         "ticket 4\n",

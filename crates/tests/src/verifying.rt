@@ -26,8 +26,8 @@ fn register(kind: RegisterKind) -> Register {
     Register { kind, name: 5 }
 }
 
-/// Registers of int, uint, a pointer to int, ulong, and a pointer to long; a private array of four elements; three local objects;
-/// six names; an int and a pointer as parameters.
+/// Registers of int, uint, a pointer to int, ulong, and a pointer to long; a private array of four elements; three
+/// local objects; six names; an int and a pointer as parameters.
 fn tables(alloc: Global, loops: &[usize]) -> Result<Tables, AllocError> {
     Ok(Tables {
         registers: vec![in alloc;
@@ -64,8 +64,8 @@ const WAIT: Instruction = Barrier {
     },
 };
 
-// Codes and the loops that are entered at each place: the first instruction, the ways out of the code and into loops, the ways
-// back, and loops in one another.
+// Codes and the loops that are entered at each place: the first instruction, the ways out of the code and into loops,
+// the ways back, and loops in one another.
 const WAYS: &str = "\
 rejected |
 rejected end |
@@ -146,8 +146,8 @@ fn ways(rt: HostRuntime) -> Result<(), Fail> {
     Ok(())
 }
 
-/// Instructions each of which names a register or an entry of a table that isn't there, or one of a kind that it doesn't want.
-/// Changed in one number or one operator, each would fit.
+/// Instructions each of which names a register or an entry of a table that isn't there, or one of a kind that it
+/// doesn't want. Changed in one number or one operator, each would fit.
 const MISFITS: [Instruction; 27] = [
     Unset { to: 5 },
     Move {

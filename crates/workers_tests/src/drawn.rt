@@ -31,7 +31,8 @@ fn all_groups_in_their_order(rt: HostRuntime) -> Result<(), Fail> {
     Ok(())
 }
 
-/// As many workers as are asked for take part: each has to draw a group, since none goes on before all groups have entered.
+/// As many workers as are asked for take part: each has to draw a group, since none goes on before all groups have
+/// entered.
 #[test]
 fn all_workers_meet(rt: HostRuntime) -> Result<(), Fail> {
     for workers in [2, 3, 16] {
@@ -48,7 +49,8 @@ fn all_workers_meet(rt: HostRuntime) -> Result<(), Fail> {
     Ok(())
 }
 
-/// A call by the calling thread waits until the other worker has a group at the gate, which waits there until the call has begun.
+/// A call by the calling thread waits until the other worker has a group at the gate, which waits there until the call
+/// has begun.
 #[test]
 fn a_group_runs_beside_a_call(rt: HostRuntime) -> Result<(), Fail> {
     let groups = Numbers {
@@ -73,7 +75,8 @@ fn a_group_runs_beside_a_call(rt: HostRuntime) -> Result<(), Fail> {
     Ok(())
 }
 
-/// Group 1 stops before group 0 is run, and is known to stop when group 0 may go on: the answer is that of group 0 all the same.
+/// Group 1 stops before group 0 is run, and is known to stop when group 0 may go on: the answer is that of group 0 all
+/// the same.
 #[test]
 fn the_least_group_that_stops(rt: HostRuntime) -> Result<(), Fail> {
     let groups = Numbers {

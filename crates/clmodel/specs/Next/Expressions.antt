@@ -60,9 +60,10 @@ walk (ask wanted after) (suc ticks) (answer ∷ answers) = walk (after answer) t
 walk (tick after) zero answers = action.Fault cause.Budget
 walk (tick after) (suc ticks) answers = walk after ticks answers
 
--- A variable in scope: its name, its declared type, and what it holds, if it is set. A private array is of its elements' type and holds nothing itself:
--- of each element it has the low bits of its number, as memory would, if that element is set (6.5.4). Another variable has none, and so
--- a private array of no elements, which no typed program declares, is no array here: its name is that of a variable that isn't set (own).
+-- A variable in scope: its name, its declared type, and what it holds, if it is set. A private array is of its
+-- elements' type and holds nothing itself: of each element it has the low bits of its number, as memory would, if that
+-- element is set (6.5.4). Another variable has none, and so a private array of no elements, which no typed program
+-- declares, is no array here: its name is that of a variable that isn't set (own).
 pub record Binding : Type 0 where
   pub name : ℕ
   pub kind : VariableType
@@ -73,8 +74,8 @@ pub record Binding : Type 0 where
 abbrev pub variable : ℕ → VariableType → Option Operand → Binding
 variable name kind content = record { name = name; kind = kind; content = content; elements = [] }
 
--- The target, once its index or its pointer has been evaluated (C99 6.5.16): the variable of a name, an element of the private array of a name, by
--- the value of its index, or the element that a pointer points to.
+-- The target, once its index or its pointer has been evaluated (C99 6.5.16): the variable of a name, an element of the
+-- private array of a name, by the value of its index, or the element that a pointer points to.
 pub data Destination : Type 0 where
   Named : ℕ → Destination
   ElementOf : (name : ℕ) → (index : Operand) → Destination
@@ -116,7 +117,8 @@ abbrev pub has_elements : List (Option ℕ) → Bool
 has_elements [] = false
 has_elements (element ∷ elements) = true
 
--- whether the innermost variable of a name is a private array, and has elements; a local array is a pointer here (6.5.2), and so it isn't one
+-- whether the innermost variable of a name is a private array, and has elements; a local array is a pointer here
+-- (6.5.2), and so it isn't one
 abbrev pub is_private_array : Variables → ℕ → Bool
 is_private_array variables name = has_elements (elements_of variables name)
 
@@ -197,8 +199,9 @@ abbrev pub element_at : List (Option ℕ) → ℤ → Option (Option ℕ)
 element_at elements (pos i) = slice_get elements i
 element_at elements (negsuc i) = None
 
--- The value of what is at an index of the private array of a name (C99 6.5.2.1): its bits read as a number of the elements' type (6.2.3), as by a load.
--- An index out of range and an element that isn't set are faults, the range first (own).
+-- The value of what is at an index of the private array of a name (C99 6.5.2.1): its bits read as a number of the
+-- elements' type (6.2.3), as by a load. An index out of range and an element that isn't set are faults, the range first
+-- (own).
 abbrev pub element_value : (name : ℕ) → (index : ℤ) → IntType → Option (Option ℕ) → (Operand → Continuation) → Continuation
 element_value name i kind None after = fail (cause.PrivateBounds name i)
 element_value name i kind (Some None) after = fail (cause.UnsetElement name i)
@@ -208,8 +211,8 @@ element_value name i kind (Some (Some n)) after = after (Integral (wrapped kind 
 abbrev pub read_element : (name : ℕ) → IntType → List (Option ℕ) → (index : Operand) → (Operand → Continuation) → Continuation
 read_element name kind elements i after = number i (λ n. element_value name (index_of n) kind (element_at elements (index_of n)) after)
 
--- The elements of the private array of a name with the low bits of a number at an index (C99 6.5.2.1 and 6.5.16.1), as by a store. An index out of range
--- is a fault (own).
+-- The elements of the private array of a name with the low bits of a number at an index (C99 6.5.2.1 and 6.5.16.1), as
+-- by a store. An index out of range is a fault (own).
 abbrev pub element_set : (name : ℕ) → (index : ℤ) → IntType → List (Option ℕ) → Integer → (List (Option ℕ) → Continuation) → Continuation
 element_set name (pos i) kind elements v after =
     if nat_lt i (length elements) then after (slice_set elements i (Some (bits_of kind v.number))) else fail (cause.PrivateBounds name (pos i))
@@ -219,8 +222,8 @@ element_set name (negsuc i) kind elements v after = fail (cause.PrivateBounds na
 abbrev pub write_element : (name : ℕ) → IntType → List (Option ℕ) → (index value : Operand) → (List (Option ℕ) → Continuation) → Continuation
 write_element name kind elements i v after = number i (λ n. number v (λ m. element_set name (index_of n) kind elements m after))
 
--- The class of an atomic function at an element type: the least and the greatest go by its sign. (An exchange and a compare-exchange have
--- none: they are no updates.)
+-- The class of an atomic function at an element type: the least and the greatest go by its sign. (An exchange and a
+-- compare-exchange have none: they are no updates.)
 abbrev pub class_of : AtomicFunction → IntType → Class
 class_of atomic.Add kind = class.Add
 class_of atomic.Sub kind = class.Add
@@ -245,27 +248,30 @@ abbrev pub update : AtomicFunction → Pointer → Integer → Continuation → 
 update function p v after =
     ask (action.Access p.object p.offset (operation.Update (class_of function p.element) (bits_of Uint (amount function v).number))) (λ _. after)
 
--- A call of an atomic function that is an update. Its number is converted to the element's type; `inc` and `dec` are given none, and it is 1.
+-- A call of an atomic function that is an update. Its number is converted to the element's type; `inc` and `dec` are
+-- given none, and it is 1.
 abbrev pub atomic_call : AtomicFunction → List Operand → Continuation → Continuation
 atomic_call function (p ∷ []) after = pointing p (λ q. update function q (wrapped q.element (pos 1)) after)
 atomic_call function (p ∷ v ∷ []) after = pointing p (λ q. number v (λ n. update function q (converted n q.element) after))
 atomic_call function _ after = finish
 
--- what an atomic function whose old number is used leaves, where the number that it compares with has these bits (6.12.11)
+-- what an atomic function whose old number is used leaves, where the number that it compares with has these bits
+-- (6.12.11)
 abbrev pub fetch_op_of : AtomicFunction → IntType → (expected : ℕ) → FetchOp
 fetch_op_of atomic.Exchange kind expected = fetch_op.Exchange
 fetch_op_of atomic.CompareExchange kind expected = fetch_op.CompareExchange expected
 fetch_op_of function kind expected = fetch_op.Class (class_of function kind)
 
--- an atomic operation on 32 bits through a pointer, with numbers of the element's type; its value is the old number (6.12.11)
+-- an atomic operation on 32 bits through a pointer, with numbers of the element's type; its value is the old number
+-- (6.12.11)
 abbrev pub fetch_number : AtomicFunction → Pointer → (expected value : Integer) → (Operand → Continuation) → Continuation
 fetch_number function p expected v after =
     ask (action.Access p.object p.offset
     (operation.Fetch (fetch_op_of function p.element (bits_of Uint expected.number)) (bits_of Uint (amount function v).number)))
     (λ answer. after (Integral (wrapped p.element (pos (answered answer)))))
 
--- A call of an atomic function whose old number is used. Its numbers are converted to the element's type (6.12.11); one that isn't given
--- is 1, and the number to compare with, which only a compare-exchange has, 0.
+-- A call of an atomic function whose old number is used. Its numbers are converted to the element's type (6.12.11); one
+-- that isn't given is 1, and the number to compare with, which only a compare-exchange has, 0.
 abbrev pub fetch_call : AtomicFunction → List Operand → (Operand → Continuation) → Continuation
 fetch_call function (p ∷ []) after = pointing p (λ q. fetch_number function q (wrapped q.element (pos 0)) (wrapped q.element (pos 1)) after)
 fetch_call function (p ∷ v ∷ []) after =
@@ -377,8 +383,8 @@ abbrev mutual
   type_of variables (Choice at condition chosen otherwise) =
       variable_type.Integer (common (base_type (type_of variables chosen)) (base_type (type_of variables otherwise)))
 
-  -- That of the first argument: functions of two integers have both of one type, and an atomic function has that of what its pointer points to
-  -- (6.12.3 and 6.12.11).
+  -- That of the first argument: functions of two integers have both of one type, and an atomic function has that of
+  -- what its pointer points to (6.12.3 and 6.12.11).
   pub argument_type : Variables → Terms → IntType
   argument_type variables NoTerm = Int
   argument_type variables (ThenTerm NoTerm term) = base_type (type_of variables term)

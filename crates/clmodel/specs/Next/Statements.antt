@@ -1,4 +1,5 @@
--- Execution of statements and of helper functions, as a tree of actions (OpenCL 1.2, 6.9 and 6.12.8; C99 6.5.2.2, 6.5.16 and 6.8).
+-- Execution of statements and of helper functions, as a tree of actions (OpenCL 1.2, 6.9 and 6.12.8; C99 6.5.2.2,
+-- 6.5.16 and 6.8).
 use Rattle.std.specs.Prelude.{ℕ, zero, suc, ◌+◌, ◌==◌, pos, Bool, true, false, if◌then◌else◌, Option, None, Some, List, [], ◌∷◌, ◌++◌, length, replicate}
 use Rattle.clnum.specs.Integer.{Integer}
 use Rattle.clnum.specs.declared.int_type.IntType.{IntType}
@@ -17,14 +18,16 @@ use Rattle.clmodel.specs.declared.operand.Operand.{Operand}
 use Rattle.clmodel.specs.declared.operand.Operand.TheVariants.{Pointed}
 use Rattle.clmodel.specs.declared.tree.AddressSpace.TheVariants.{Local}
 
--- What follows a statement, by the way that it ends: it is done, or it breaks a loop, continues one, or returns, with a value if it has one.
+-- What follows a statement, by the way that it ends: it is done, or it breaks a loop, continues one, or returns, with a
+-- value if it has one.
 pub record Follows : Type 0 where
   pub next : Variables → Continuation
   pub broken : Variables → Continuation
   pub continued : Variables → Continuation
   pub returned : Option Operand → Continuation
 
--- What a call of a helper does: its name, its arguments, the number of its first barrier, the turns of the loops round it, and what follows.
+-- What a call of a helper does: its name, its arguments, the number of its first barrier, the turns of the loops round
+-- it, and what follows.
 abbrev pub Helpers : Type 0
 Helpers = ℕ → List Operand → ℕ → List ℕ → (Option Operand → Continuation) → Continuation
 
@@ -119,13 +122,15 @@ abbrev pub wait : Option Fences → ℕ → List ℕ → Continuation → Contin
 wait (Some named) site ts after = ask (action.Barrier (record { site = site; turns = ts }) named) (λ _. after)
 wait None site ts after = finish
 
--- A pointer to the first element of the local array that is declared behind n variables: its object has their number (6.5.2).
+-- A pointer to the first element of the local array that is declared behind n variables: its object has their number
+-- (6.5.2).
 abbrev pub local_array : IntType → (number : ℕ) → ℕ → Binding
 local_array element number name =
     variable name (variable_type.Pointer (record { space = Local; is_const = false; element = element }))
     (Some (Pointed (record { object = object.Local number; element = element; offset = pos 0 })))
 
--- A private array of n elements (6.5.4), none of which is set: it is indeterminate each time its declaration is reached (C99 6.2.4, paragraph 5).
+-- A private array of n elements (6.5.4), none of which is set: it is indeterminate each time its declaration is reached
+-- (C99 6.2.4, paragraph 5).
 abbrev pub private_array : IntType → ℕ → ℕ → Binding
 private_array element count name = record { name = name; kind = variable_type.Integer element; content = None; elements = replicate count None }
 
@@ -134,7 +139,8 @@ abbrev pub declared_array : (is_local : Bool) → IntType → ℕ → Integer �
 declared_array true element name count variables = local_array element (length variables) name
 declared_array false element name count variables = private_array element (array_length count) name
 
--- Execution with a bound on the turns of a loop, for an item, with the helpers that can be called and the barriers in each.
+-- Execution with a bound on the turns of a loop, for an item, with the helpers that can be called and the barriers in
+-- each.
 module _ (most : ℕ) (here : ItemPosition) (helpers : Helpers) (inside : ℕ → ℕ) where
   -- the right side of an assignment: the call of a helper, or another expression
   abbrev pub assigned : Option HelperCall → Term → ℕ → List ℕ → Variables → (Operand → Continuation) → Continuation
@@ -214,8 +220,9 @@ passed [] values variables = variables
 passed (p ∷ ps) [] variables = passed ps [] (variable p.name p.kind None ∷ variables)
 passed (p ∷ ps) (v ∷ values) variables = passed ps values (variable p.name p.kind (Some (held p.kind v)) ∷ variables)
 
--- What follows a call of a function of a type that returns a value or none. The value is converted to the type. A function of a type that returns none ends
--- the item (own; C99 6.9.1, paragraph 12): no function of a typed program does.
+-- What follows a call of a function of a type that returns a value or none. The value is converted to the type. A
+-- function of a type that returns none ends the item (own; C99 6.9.1, paragraph 12): no function of a typed program
+-- does.
 abbrev pub returned_by : Option IntType → (Option Operand → Continuation) → Option Operand → Continuation
 returned_by (Some kind) after (Some v) = after (Some (held (variable_type.Integer kind) v))
 returned_by (Some kind) after None = finish

@@ -16,8 +16,8 @@ use Rattle.clmodel.specs.declared.tree.VariableType.TheVariants.{Integer as Numb
 use Rattle.clmodel.specs.Tree as tree
 use Rattle.clmodel.specs.Tree.{Stmt, Stmts, NoStmt, ThenStmt, MaybeStmt, Without, With}
 
--- The type of the value of what is declared. That of a local array is a pointer to its first element (C99 6.3.2.1, paragraph 3); a private array
--- has none, since there are no pointers to private memory (own).
+-- The type of the value of what is declared. That of a local array is a pointer to its first element (C99 6.3.2.1,
+-- paragraph 3); a private array has none, since there are no pointers to private memory (own).
 abbrev pub value_type : Declaration → Option VariableType
 value_type (Single k) = Some k
 value_type (LocalArray t) = Some (Pointer (record { space = Local; is_const = false; element = t }))

@@ -1,4 +1,5 @@
--- The faults of a tree: for each place the list of its faults, in no order, and the places in the order of the text, children before parents.
+-- The faults of a tree: for each place the list of its faults, in no order, and the places in the order of the text,
+-- children before parents.
 use Rattle.std.specs.Prelude.{ℕ, Bool, true, false, not, ◌||◌, ◌&&◌, nat_eq, nat_le, List, [], ◌∷◌, ◌++◌, map, replicate, Option, None, Some, is_some, length}
 use Rattle.std.specs.List.{slice_get}
 use Rattle.clnum.specs.Integer.{Integer}
@@ -167,7 +168,8 @@ abbrev pub takes_helper : Spot → Bool
 takes_helper Inside = false
 takes_helper _ = true
 
--- a call of a function of the text with this signature: no kernel, at a spot that takes it, and with an argument for each parameter
+-- a call of a function of the text with this signature: no kernel, at a spot that takes it, and with an argument for
+-- each parameter
 abbrev pub helper_faults : Spot → Signature → (at arguments : ℕ) → List TypeFault
 helper_faults spot s a n =
     unless (takes_helper spot && not s.is_kernel) (fault.TypeMismatch a) ++ unless (nat_eq n (length s.parameters)) (fault.WrongArgumentCount a)
@@ -262,7 +264,8 @@ abbrev pub result_kind : Option IntType → VariableType
 result_kind (Some t) = Number t
 result_kind None = Number Int
 
--- a call, by the type of its first argument; that of an atomic function is the type of what its pointer points to (6.12.11)
+-- a call, by the type of its first argument; that of an atomic function is the type of what its pointer points to
+-- (6.12.11)
 abbrev pub call_kind : Meaning → VariableType → VariableType
 call_kind (BuiltInFunction built_in.WorkDim) k = Number Uint
 call_kind (BuiltInFunction (built_in.WorkItem f)) k = Number Ulong
@@ -381,7 +384,8 @@ void_faults c e = []
 abbrev pub declared_faults : Context → (at name : ℕ) → List TypeFault
 declared_faults c b x = unless (is_free c x) (fault.Redeclared b)
 
--- an array: its name, where it is local the block that it stands in (6.5.2), and how many elements it has (own); all at one place (own)
+-- an array: its name, where it is local the block that it stands in (6.5.2), and how many elements it has (own); all at
+-- one place (own)
 abbrev pub array_faults : Context → (is_local : Bool) → (at name length_at : ℕ) → Integer → List TypeFault
 array_faults c is_local b x d n =
     declared_faults c b x
@@ -411,8 +415,8 @@ condition_faults c (WithTerm e) = integer_faults (kind_of c e) (start e)
 abbrev pub return_faults : Context → ℕ → Term → List TypeFault
 return_faults c a e = unless (is_some c.signature.result) (fault.TypeMismatch a) ++ integer_faults (kind_of c e) (start e)
 
--- A statement's places. A declared name has its own place before those of its initialiser, and is in scope there. A condition is a
--- fault of its statement, and so comes after what is controlled.
+-- A statement's places. A declared name has its own place before those of its initialiser, and is in scope there. A
+-- condition is a fault of its statement, and so comes after what is controlled.
 abbrev mutual
   pub faults : Context → Stmt → Places
   faults c (tree.Empty a) = []

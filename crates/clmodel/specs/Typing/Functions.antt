@@ -66,8 +66,8 @@ params_faults c (p ∷ ps) = declared_faults c p.name_at p.name ∷ params_fault
 abbrev pub heading_faults : Funcs → Func → List TypeFault
 heading_faults fs f = unless (is_new fs f.name) (fault.Redeclared f.name_at)
 
--- Behind the body, at the function's name: a value that isn't always given, then for a kernel its loops, its private arrays, then its nodes, and then the
--- function's parameters.
+-- Behind the body, at the function's name: a value that isn't always given, then for a kernel its loops, its private
+-- arrays, then its nodes, and then the function's parameters.
 abbrev pub end_faults : Func → Size → Places
 end_faults f s =
     unless (not (is_some f.result) || row_returns f.body) (fault.MissingReturn f.name_at)

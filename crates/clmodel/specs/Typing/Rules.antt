@@ -62,7 +62,8 @@ operands Dec = 0
 operands CompareExchange = 2
 operands _ = 1
 
--- A value of the second type can be given to what has the first: as an initialiser, an assignment or an argument (C99 6.5.16.1).
+-- A value of the second type can be given to what has the first: as an initialiser, an assignment or an argument (C99
+-- 6.5.16.1).
 pub data Passes : VariableType → VariableType → Type 0 where
   integers : {t u : IntType} → Passes (Number t) (Number u)
   pointers : {p q : PointerType} → p.element ≡ q.element → (q.is_const ≡ true → p.is_const ≡ true) → p.space ≡ q.space → Passes (Pointer p) (Pointer q)
@@ -136,7 +137,8 @@ pub data AreGiven (c : Context) (ps : List VariableType) : Terms → Type 0 wher
   argument : {es : Terms} {e : Term} {p k : VariableType}
       → AreGiven c ps es → Types c e k → slice_get ps (count es) ≡ Some p → Passes p k → AreGiven c ps (ThenTerm es e)
 
--- A call of a function of the text that stands before and is no kernel, with one argument for each parameter (C99 6.5.2.2).
+-- A call of a function of the text that stands before and is no kernel, with one argument for each parameter (C99
+-- 6.5.2.2).
 pub record CallsHelper (c : Context) (x : ℕ) (es : Terms) (s : Signature) : Type 0 where
   pub meaning : meaning c x ≡ Callable s
   pub is_helper : s.is_kernel ≡ false

@@ -1,6 +1,6 @@
--- Statements in a kernel with barriers, with pointers to each address space and with arrays, each with its first fault; the offsets count from the
--- statement's start. Names: 8 `min`, 14 `barrier`, 22 `atomic_inc`, 24 and 25 the fences, 100 the kernel, 101 `a`, 102 `s`, 103 `t`, 104 `u`, 105 `n`, 106 `p`,
--- 107 `q`; 114 `y` and 115 `z` stand for nothing.
+-- Statements in a kernel with barriers, with pointers to each address space and with arrays, each with its first fault;
+-- the offsets count from the statement's start. Names: 8 `min`, 14 `barrier`, 22 `atomic_inc`, 24 and 25 the fences,
+-- 100 the kernel, 101 `a`, 102 `s`, 103 `t`, 104 `u`, 105 `n`, 106 `p`, 107 `q`; 114 `y` and 115 `z` stand for nothing.
 use Rattle.std.specs.Prelude.{◌≡◌, ℕ, pos, Bool, true, false, List, [], ◌∷◌, map, Option, None, Some}
 use Rattle.clnum.specs.declared.int_type.IntType.TheVariants.{Int}
 use Rattle.clnum.specs.declared.operators.BinaryOperator.{BinaryOperator}
@@ -21,7 +21,8 @@ use Rattle.clmodel.specs.Typing.Faults.{faults}
 abbrev pointer : AddressSpace → Bool → VariableType
 pointer space is_const = kind.Pointer (record { space = space; is_const = is_const; element = Int })
 
--- in `__kernel void f(__global int *a, __local int *s, __constant int *t, __constant const int *u, int n)`, behind `int p[4]; __local int q[4];`
+-- in `__kernel void f(__global int *a, __local int *s, __constant int *t, __constant const int *u, int n)`, behind `int
+-- p[4]; __local int q[4];`
 abbrev here : Context
 here = record {
   all = 100 ∷ [];

@@ -1,5 +1,6 @@
--- What a body holds, with the bodies of the functions that it calls in place of their calls (own): how deep its loops are nested, how many
--- bytes its private arrays have, and how many nodes it has: statements, declarations, targets, and expressions. A call that is a statement is one node.
+-- What a body holds, with the bodies of the functions that it calls in place of their calls (own): how deep its loops
+-- are nested, how many bytes its private arrays have, and how many nodes it has: statements, declarations, targets, and
+-- expressions. A call that is a statement is one node.
 use Rattle.std.specs.Prelude.{ℕ, suc, ◌+◌, max, Bool, true, false, ◌||◌, ◌&&◌, nat_eq, List, [], ◌∷◌, ◌++◌, Option, None, Some}
 use Rattle.std.specs.Map.{lookup}
 use Rattle.clmodel.specs.Tree as tree
@@ -29,7 +30,8 @@ one_loop s = record s { loops = suc s.loops; nodes = suc s.nodes }
 abbrev pub leaf : Size
 leaf = one_node nothing
 
--- an array: if it is private (6.5.4), with its bytes; those of local arrays count where a kernel is launched, not here (own)
+-- an array: if it is private (6.5.4), with its bytes; those of local arrays count where a kernel is launched, not here
+-- (own)
 abbrev pub array_size : (is_local : Bool) → ℕ → Size
 array_size true bytes = leaf
 array_size false bytes = record leaf { bytes = bytes }
@@ -121,12 +123,14 @@ byte_limit = 4096
 abbrev pub node_limit : ℕ
 node_limit = 20000
 
--- How many parameters a function may have: OpenCL 1.2 bounds their bytes (table 4.3, CL_DEVICE_MAX_PARAMETER_SIZE), the number is this project's own. No
--- source has so many: it has at most 65,536 bytes, and a parameter with its comma at least 6.
+-- How many parameters a function may have: OpenCL 1.2 bounds their bytes (table 4.3, CL_DEVICE_MAX_PARAMETER_SIZE), the
+-- number is this project's own. No source has so many: it has at most 65,536 bytes, and a parameter with its comma at
+-- least 6.
 abbrev pub parameter_limit : ℕ
 parameter_limit = 13000
 
--- Whether a statement always returns (own): `return`, a block with a statement that does, or an `if` with an `else` both of whose parts do.
+-- Whether a statement always returns (own): `return`, a block with a statement that does, or an `if` with an `else`
+-- both of whose parts do.
 abbrev mutual
   pub always_returns : Stmt → Bool
   always_returns (tree.Return a) = true

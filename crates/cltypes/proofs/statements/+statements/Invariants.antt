@@ -7,7 +7,8 @@ use Rattle.cltypes.specs.Limits.{statements}
 use Rattle.cltypes.proofs.Control.{held_depth}
 use Rattle.cltypes.proofs.statements.+statements.Given as goal
 
--- Five for each level of a statement: a function that checks a statement's parts is called by the one that checks the statement.
+-- Five for each level of a statement: a function that checks a statement's parts is called by the one that checks the
+-- statement.
 
 abbrev pub decreases-check_statement : goal.decreases-check_statement
 decreases-check_statement l = 5 * goal.size-check_statement l

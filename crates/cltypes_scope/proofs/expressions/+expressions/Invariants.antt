@@ -7,7 +7,8 @@ use Rattle.cltypes_scope.specs.Names.{meaning_of}
 use Rattle.cltypes_scope.specs.Fenced.{names_of}
 use Rattle.cltypes_scope.proofs.expressions.+expressions.Given as goal
 
--- Three for each level of an expression: a function that checks a node's parts is called by the one that checks the node.
+-- Three for each level of an expression: a function that checks a node's parts is called by the one that checks the
+-- node.
 
 abbrev pub decreases-check_in : goal.decreases-check_in
 decreases-check_in l = 3 * goal.size-check_in l
