@@ -51,35 +51,10 @@ same_option (Some r) = refl
 
 -- an instruction with each register by its own number
 same_instruction : (i : Instruction) → renamed (λ r. r) i ≡ i
-same_instruction (instruction.Constant to value) = refl
-same_instruction (instruction.Unset to) = refl
-same_instruction (instruction.Move to from variable) = refl
-same_instruction (instruction.AssignConversion to from kind) = refl
-same_instruction (instruction.Convert to from kind) = refl
-same_instruction (instruction.UsualConversion to from other) = refl
-same_instruction (instruction.Unary to operator operand) = refl
-same_instruction (instruction.Binary to operator left right) = refl
 same_instruction (instruction.Builtin to function first second) = ap (instruction.Builtin to function first) (same_option second)
-same_instruction (instruction.Dimensions to) = refl
-same_instruction (instruction.Query to function dimension) = refl
-same_instruction (instruction.Argument to index kind) = refl
-same_instruction (instruction.Local to number element) = refl
-same_instruction (instruction.UnsetArray array count) = refl
-same_instruction (instruction.PrivateLoad to array index element variable) = refl
-same_instruction (instruction.PrivateStore array index value element variable) = refl
-same_instruction (instruction.MovePointer to from) = refl
-same_instruction (instruction.Offset to pointer index) = refl
-same_instruction (instruction.Load to pointer) = refl
-same_instruction (instruction.Store pointer value) = refl
 same_instruction (instruction.Update function pointer value) = ap (instruction.Update function pointer) (same_option value)
 same_instruction (instruction.Fetch to function pointer given) = ap (instruction.Fetch to function pointer) (same_operands given)
-same_instruction (instruction.Barrier site depth fences) = refl
-same_instruction (instruction.Enter depth) = refl
-same_instruction (instruction.Turn depth) = refl
-same_instruction (instruction.Jump by) = refl
-same_instruction (instruction.JumpIfZero register by) = refl
-same_instruction (instruction.Back by) = refl
-same_instruction instruction.End = refl
+same_instruction _ = refl
 
 none_renamed : (instructions : List Instruction) → map (renamed (λ r. r)) instructions ≡ instructions
 none_renamed [] = refl

@@ -11,193 +11,99 @@ use regcode::{FetchOperands, Instruction};
 use std::alloc::{AllocError, Global};
 
 impl Numbering {
-    /// The new number of a register, if there is one.
-    fn optional(&self, register: Option<u32>) -> Option<u32>
-        ensures { result ≡ option_map (number_of self.now.numbers.items) register }
+    /// Puts the new numbers in the places of two registers.
+    fn rename_both(&self, first: &mut u32, second: &mut u32)
+        ensures first { first.new ≡ number_of self.now.numbers.items first.old }
+        ensures second { second.new ≡ number_of self.now.numbers.items second.old }
     {
-        match register {
-            None => None,
-            Some(register) => Some(self.number(register)),
+        *first = self.number(*first);
+        *second = self.number(*second);
+    }
+
+    /// Puts the new number in the place of a register, if there is one.
+    fn rename_optional(&self, register: &mut Option<u32>)
+        ensures { register.new ≡ option_map (number_of self.now.numbers.items) register.old }
+    {
+        if let Some(register) = register {
+            *register = self.number(*register);
         }
     }
 
-    /// The operands of an atomic operation by their new numbers.
-    fn operands(&self, operands: FetchOperands) -> FetchOperands
-        ensures { result ≡ spec.renamed_operands (number_of self.now.numbers.items) operands }
+    /// Puts the new numbers in the places of the operands of an atomic operation.
+    fn rename_operands(&self, operands: &mut FetchOperands)
+        ensures { operands.new ≡ spec.renamed_operands (number_of self.now.numbers.items) operands.old }
     {
         match operands {
-            FetchOperands::Alone => FetchOperands::Alone,
-            FetchOperands::Number(value) => FetchOperands::Number(self.number(value)),
-            FetchOperands::Pair { expected, value } => FetchOperands::Pair {
-                expected: self.number(expected),
-                value: self.number(value),
-            },
+            FetchOperands::Alone => {}
+            FetchOperands::Number(value) => *value = self.number(*value),
+            FetchOperands::Pair { expected, value } => self.rename_both(expected, value),
         }
     }
 
-    /// An instruction with the new numbers of the registers that it names.
-    pub(crate) fn renamed(&self, instruction: &Instruction) -> Instruction
-        ensures { result ≡ spec.renamed (number_of self.now.numbers.items) instruction.now }
+    /// Puts the new numbers in the places of the registers that an instruction names.
+    fn rename_registers(&self, instruction: &mut Instruction)
+        ensures { instruction.new ≡ spec.renamed (number_of self.now.numbers.items) instruction.old }
     {
-        match *instruction {
-            Instruction::Constant { to, value } => Instruction::Constant {
-                to: self.number(to),
-                value,
-            },
-            Instruction::Unset { to } => Instruction::Unset {
-                to: self.number(to),
-            },
-            Instruction::Move { to, from, name } => Instruction::Move {
-                to: self.number(to),
-                from: self.number(from),
-                name,
-            },
-            Instruction::AssignConversion { to, from, kind } => Instruction::AssignConversion {
-                to: self.number(to),
-                from: self.number(from),
-                kind,
-            },
-            Instruction::Convert { to, from, kind } => Instruction::Convert {
-                to: self.number(to),
-                from: self.number(from),
-                kind,
-            },
-            Instruction::UsualConversion { to, from, other } => Instruction::UsualConversion {
-                to: self.number(to),
-                from: self.number(from),
-                other,
-            },
-            Instruction::Unary {
-                to,
-                operator,
-                operand,
-            } => Instruction::Unary {
-                to: self.number(to),
-                operator,
-                operand: self.number(operand),
-            },
+        match instruction {
+            Instruction::Constant { to, .. } => *to = self.number(*to),
+            Instruction::Unset { to } => *to = self.number(*to),
+            Instruction::Dimensions { to } => *to = self.number(*to),
+            Instruction::Argument { to, .. } => *to = self.number(*to),
+            Instruction::Local { to, .. } => *to = self.number(*to),
+            Instruction::Move { to, from, .. } => self.rename_both(to, from),
+            Instruction::AssignConversion { to, from, .. } => self.rename_both(to, from),
+            Instruction::Convert { to, from, .. } => self.rename_both(to, from),
+            Instruction::UsualConversion { to, from, .. } => self.rename_both(to, from),
+            Instruction::Unary { to, operand, .. } => self.rename_both(to, operand),
             Instruction::Binary {
                 to,
-                operator,
                 left,
                 right,
-            } => Instruction::Binary {
-                to: self.number(to),
-                operator,
-                left: self.number(left),
-                right: self.number(right),
-            },
+                ..
+            } => {
+                *to = self.number(*to);
+                self.rename_both(left, right);
+            }
             Instruction::Builtin {
                 to,
-                function,
                 first,
                 second,
-            } => Instruction::Builtin {
-                to: self.number(to),
-                function,
-                first: self.number(first),
-                second: self.optional(second),
-            },
-            Instruction::Dimensions { to } => Instruction::Dimensions {
-                to: self.number(to),
-            },
-            Instruction::Query {
-                to,
-                function,
-                dimension,
-            } => Instruction::Query {
-                to: self.number(to),
-                function,
-                dimension: self.number(dimension),
-            },
-            Instruction::Argument { to, number, kind } => Instruction::Argument {
-                to: self.number(to),
-                number,
-                kind,
-            },
-            Instruction::Local {
-                to,
-                number,
-                element,
-            } => Instruction::Local {
-                to: self.number(to),
-                number,
-                element,
-            },
-            Instruction::PrivateLoad {
-                to,
-                array,
-                index,
-                element,
-                name,
-            } => Instruction::PrivateLoad {
-                to: self.number(to),
-                array,
-                index: self.number(index),
-                element,
-                name,
-            },
-            Instruction::PrivateStore {
-                array,
-                index,
-                value,
-                element,
-                name,
-            } => Instruction::PrivateStore {
-                array,
-                index: self.number(index),
-                value: self.number(value),
-                element,
-                name,
-            },
-            Instruction::MovePointer { to, from } => Instruction::MovePointer {
-                to: self.number(to),
-                from: self.number(from),
-            },
-            Instruction::Offset { to, pointer, index } => Instruction::Offset {
-                to: self.number(to),
-                pointer: self.number(pointer),
-                index: self.number(index),
-            },
-            Instruction::Load { to, pointer } => Instruction::Load {
-                to: self.number(to),
-                pointer: self.number(pointer),
-            },
-            Instruction::Store { pointer, value } => Instruction::Store {
-                pointer: self.number(pointer),
-                value: self.number(value),
-            },
-            Instruction::Update {
-                function,
-                pointer,
-                value,
-            } => Instruction::Update {
-                function,
-                pointer: self.number(pointer),
-                value: self.optional(value),
-            },
+                ..
+            } => {
+                self.rename_both(to, first);
+                self.rename_optional(second);
+            }
+            Instruction::Query { to, dimension, .. } => self.rename_both(to, dimension),
+            Instruction::PrivateLoad { to, index, .. } => self.rename_both(to, index),
+            Instruction::PrivateStore { index, value, .. } => self.rename_both(index, value),
+            Instruction::MovePointer { to, from } => self.rename_both(to, from),
+            Instruction::Offset { to, pointer, index } => {
+                *to = self.number(*to);
+                self.rename_both(pointer, index);
+            }
+            Instruction::Load { to, pointer } => self.rename_both(to, pointer),
+            Instruction::Store { pointer, value } => self.rename_both(pointer, value),
+            Instruction::Update { pointer, value, .. } => {
+                *pointer = self.number(*pointer);
+                self.rename_optional(value);
+            }
             Instruction::Fetch {
                 to,
-                function,
                 pointer,
                 operands,
-            } => Instruction::Fetch {
-                to: self.number(to),
-                function,
-                pointer: self.number(pointer),
-                operands: self.operands(operands),
-            },
-            Instruction::JumpIfZero { test, by } => Instruction::JumpIfZero {
-                test: self.number(test),
-                by,
-            },
+                ..
+            } => {
+                self.rename_both(to, pointer);
+                self.rename_operands(operands);
+            }
+            Instruction::JumpIfZero { test, .. } => *test = self.number(*test),
             Instruction::UnsetArray { .. }
             | Instruction::Barrier { .. }
             | Instruction::Enter { .. }
             | Instruction::Turn { .. }
             | Instruction::Jump { .. }
             | Instruction::Back { .. }
-            | Instruction::End => *instruction,
+            | Instruction::End => {}
         }
     }
 }
@@ -212,6 +118,10 @@ pub(crate) fn renamed_all(
 {
     instructions
         .iter()
-        .map(|instruction| numbering.renamed(instruction))
+        .map(|instruction| {
+            let mut renamed = *instruction;
+            numbering.rename_registers(&mut renamed);
+            renamed
+        })
         .collect(alloc)
 }
