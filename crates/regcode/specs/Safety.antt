@@ -22,8 +22,9 @@ abbrev pub operand_kind : Operand → RegisterKind
 operand_kind (Integral v) = Integer v.kind
 operand_kind (Pointed p) = Pointer p.element
 
--- A state that suits code: it stands at an instruction; it has as many registers and private arrays as the tables list, each register's value is of its
--- kind, and no array has more elements than there is room for; and the loops that are entered there are counted.
+-- A state that suits code: it stands at an instruction; it has as many registers and private arrays as the tables list,
+-- each register's value is of its kind, and no array has more elements than there is room for; and the loops that are
+-- entered there are counted.
 pub record Suits (code : Listing) (s : State) : Type 0 where
   pub inside : s.place < length code.instructions
   pub registers : length s.registers.values ≡ length code.registers
@@ -126,7 +127,8 @@ pub record InTables (code : Listing) (i : Instruction) : Type 0 where
   pub names : Below code.names (names_named i)
   pub parameters : Declared code.parameters (parameters_named i)
 
--- What an instruction does, where `on` and `after` are what follows: it fails, or asks or takes a tick and goes on, always in a state of which `Next` holds. It ends only where `Ends` holds.
+-- What an instruction does, where `on` and `after` are what follows: it fails, or asks or takes a tick and goes on,
+-- always in a state of which `Next` holds. It ends only where `Ends` holds.
 pub data GoesOn (Ends : Type 0) (Next : State → Type 0) (on after : State → Continuation) : Continuation → Type 0 where
   ended : Ends → GoesOn Ends Next on after finish
   failed : (cause : Cause) → GoesOn Ends Next on after (fail cause)
@@ -140,8 +142,9 @@ pub record IsNext (code : Listing) (s : State) (next : State) : Type 0 where
   pub suits : Suits code next
   pub forward : (s.place < next.place) ⊎ IsTrue (is_turn (slice_get code.instructions next.place))
 
--- Verified code suits its start, and the name of each register of it is in the table of names. In a state that suits it an instruction is there, which names
--- nothing but entries of the tables. Whatever follows, it goes on in states that suit the code; it ends only at its end.
+-- Verified code suits its start, and the name of each register of it is in the table of names. In a state that suits it
+-- an instruction is there, which names nothing but entries of the tables. Whatever follows, it goes on in states that
+-- suit the code; it ends only at its end.
 pub record NeverSticks (code : Listing) : Type 0 where
   pub start : Suits code (at_start (length code.registers) (length code.arrays))
   pub named : (r : ℕ) → r < length code.registers → name_of (slice_get code.registers r) < code.names

@@ -340,10 +340,10 @@ fn write_lines<W: Write>(instructions: &[Instruction], writer: &mut W) -> Result
     Ok(())
 }
 
-/// Writes code as text, a line for each instruction: its place, its name, and what it names, as `12 load r37, [r44]`. Registers
-/// stand behind an `r`, in square brackets where what they point to is meant. The element of a private array is its number behind an
-/// `a` with the register of its index, as `a0[r5]`. A jump names the place that it leads to; a variable is named by its name's place
-/// in the tree's table of names. Takes no memory.
+/// Writes code as text, a line for each instruction: its place, its name, and what it names, as `12 load r37, [r44]`.
+/// Registers stand behind an `r`, in square brackets where what they point to is meant. The element of a private array
+/// is its number behind an `a` with the register of its index, as `a0[r5]`. A jump names the place that it leads to; a
+/// variable is named by its name's place in the tree's table of names. Takes no memory.
 ///
 /// `Write` comes only where the writer fails; then a beginning of the text was written.
 pub fn dump<W: Write>(code: &Code, writer: &mut W) -> Result<(), DumpFault>

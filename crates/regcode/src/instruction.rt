@@ -17,8 +17,8 @@ pub enum FetchOperands {
     Pair { expected: u32, value: u32 },
 }
 
-/// An instruction. Registers and private arrays are named by their numbers, variables by their names' places in the tree's table of names, loops by
-/// their depth: 0 is the outermost. `to` is the register that is written.
+/// An instruction. Registers and private arrays are named by their numbers, variables by their names' places in the
+/// tree's table of names, loops by their depth: 0 is the outermost. `to` is the register that is written.
 #[derive(Clone, Copy)]
 pub enum Instruction {
     /// A number

@@ -16,7 +16,8 @@ pub fn registers_keep()
     ensures kept { (registers : Registers) (i : ℕ) (v : Option Operand) (j : ℕ) → i ≢ j → reg (put registers i v) j ≡ reg registers j }
 {}
 
-/// A private array has the elements that were put there last, and the others keep theirs, as registers keep their values.
+/// A private array has the elements that were put there last, and the others keep theirs, as registers keep their
+/// values.
 pub fn arrays_keep()
     ensures put { (registers : Registers) (a : ℕ) (elements : List (Option ℕ)) → array_of (put_array registers a elements) a ≡ elements }
     ensures kept { (registers : Registers) (a : ℕ) (elements : List (Option ℕ)) (b : ℕ) → a ≢ b → array_of (put_array registers a elements) b ≡ array_of registers b }

@@ -11,8 +11,8 @@ pub enum RegisterKind {
     Pointer(IntType),
 }
 
-/// A register: what it may hold, and its name, which is a place in the tree's table of names. To read it unset is the fault with that
-/// name.
+/// A register: what it may hold, and its name, which is a place in the tree's table of names. To read it unset is the
+/// fault with that name.
 #[derive(Clone, Copy, PartialEq, Eq)]
 pub struct Register {
     pub kind: RegisterKind,

@@ -21,7 +21,8 @@ use Rattle.regcode.proofs.SafetyLaws.{never_sticks}
 use Rattle.renumbering.specs.Renamed.{renamed}
 use Rattle.renumbering.specs.Same.{ActsAlike}
 
--- New code has the old instructions with their registers renamed. The registers that get a place in the new table get places of their own, with their own entries.
+-- New code has the old instructions with their registers renamed. The registers that get a place in the new table get
+-- places of their own, with their own entries.
 pub record IsRenamed (rename : ℕ → ℕ) (old new : Listing) : Type 0 where
   pub instructions : new.instructions ≡ map (renamed rename) old.instructions
   pub entries : (r : ℕ) → rename r < length new.registers → slice_get new.registers (rename r) ≡ slice_get old.registers r

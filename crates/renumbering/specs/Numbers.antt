@@ -22,7 +22,8 @@ how_many [] = 0
 how_many (None ∷ numbers) = how_many numbers
 how_many (Some number ∷ numbers) = suc (how_many numbers)
 
--- Numbers of the registers of an old table are places in a new one: there are as many as it has entries, no two registers have one number, and the entry there is the register's (own).
+-- Numbers of the registers of an old table are places in a new one: there are as many as it has entries, no two
+-- registers have one number, and the entry there is the register's (own).
 pub record IsNumbering (old new : List Register) (numbers : List (Option ℕ)) : Type 0 where
   pub whole : length numbers ≡ length old
   pub count : length new ≡ how_many numbers
@@ -47,7 +48,8 @@ Among register (other ∷ others) = (register ≡ other) ⊎ Among register othe
 abbrev pub Numbered : List (Option ℕ) → ℕ → Type 0
 Numbered numbers register = IsTrue (is_some (entry_at None numbers register))
 
--- Registers that had a number keep having one, and these get one, unless the old table has more of them than there are numbers of 32 bits. No others do (own).
+-- Registers that had a number keep having one, and these get one, unless the old table has more of them than there are
+-- numbers of 32 bits. No others do (own).
 pub record Gives (old : List Register) (wanted : List ℕ) (before after : List (Option ℕ)) : Type 0 where
   pub kept : (register : ℕ) → Numbered before register → Numbered after register
   pub given : length old < 2 ^ 32 → (register : ℕ) → Among register wanted → register < length old → Numbered after register

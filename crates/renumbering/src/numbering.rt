@@ -19,7 +19,8 @@ pub(crate) struct Numbering {
 }
 
 impl Numbering {
-    /// The new number of a register. One without a number gets the greatest of 32 bits, which is no place in the new table.
+    /// The new number of a register. One without a number gets the greatest of 32 bits, which is no place in the new
+    /// table.
     pub(crate) fn number(&self, register: u32) -> u32
         ensures { result ≡ number_of self.now.numbers.items register }
     {
@@ -31,7 +32,8 @@ impl Numbering {
         }
     }
 
-    /// Gives a register of the old table the next number and the next entry, unless it has a number, or there are no more of them.
+    /// Gives a register of the old table the next number and the next entry, unless it has a number, or there are no
+    /// more of them.
     fn give(&mut self, old: &[Register], register: u32) -> Result<(), AllocError>
         requires { IsNumbering old.now self.old.registers.items self.old.numbers.items }
         ensures numbering { IsNumbering old.now self.new.registers.items self.new.numbers.items }
@@ -137,7 +139,8 @@ fn no_numbers(alloc: Global, old: &[Register]) -> Result<Vec<Option<u32>>, Alloc
     old.iter().map(|_| None).collect(alloc)
 }
 
-/// The numbers of the registers that instructions name, in the order in which they are named first. They have an entry each in the new table.
+/// The numbers of the registers that instructions name, in the order in which they are named first. They have an entry
+/// each in the new table.
 pub(crate) fn numbered(
     alloc: Global,
     instructions: &[Instruction],

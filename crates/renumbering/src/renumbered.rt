@@ -33,8 +33,9 @@ fn tables_with(
     })
 }
 
-/// Code that acts as this, whose registers are those that its instructions name, numbered without gaps in the order in which instructions name them first.
-/// Code with more registers than there are numbers of 32 bits stays as it is where these don't suffice. An error is out of memory.
+/// Code that acts as this, whose registers are those that its instructions name, numbered without gaps in the order in
+/// which instructions name them first. Code with more registers than there are numbers of 32 bits stays as it is where
+/// these don't suffice. An error is out of memory.
 pub fn renumber(alloc: Global, code: Code) -> Result<Code, AllocError>
     ensures { IfOk result (IsRenumbered code) }
 {
