@@ -1,12 +1,11 @@
 -- How the bytes of each cell were accessed last: what is kept of each byte, in cells of two words of four bytes (own,
 -- on OpenCL 1.2, 3.3.1).
-use Rattle.std.specs.Prelude.{◌≡◌, ℕ, ◌+◌, ◌*◌, ◌/◌, ◌%◌, ◌^◌, ◌<◌, Bool, true, Option, None, Some, List, length}
+use Rattle.std.specs.Prelude.{◌≡◌, ℕ, ◌+◌, ◌/◌, ◌%◌, ◌<◌, Bool, true, Option, None, Some, List, length}
 use Rattle.std.specs.HashMap.{get}
 use Rattle.clmodel.specs.Cells.{byte_count, covers}
 use Rattle.clmodel.specs.Launch.{within_group, conflict_between}
 use Rattle.clmodel.specs.declared.access.Access.{Access}
 use Rattle.clmodel.specs.declared.access.Region.{Region}
-use Rattle.clmodel.specs.declared.access.Region.TheVariants as region
 use Rattle.shadow_list.specs.Keys.{cell_key, same_cell}
 use Rattle.shadow_list.specs.Recent.{Describes, nothing, at_place}
 use Rattle.shadow_list.specs.declared.cells.Cells.{Cells}

@@ -1,9 +1,7 @@
 -- Where the accesses of a log are (own).
-use Rattle.std.specs.Prelude.{◌≡◌, ℕ, ◌+◌, ◌*◌, ◌%◌, ◌^◌, ◌<◌, ◌==◌, ◌&&◌, Bool, Some, List, All, slice_get}
+use Rattle.std.specs.Prelude.{◌≡◌, ℕ, ◌<◌, Some, List, All, slice_get}
 use Rattle.std.specs.Option.{unwrap_or}
 use Rattle.std.specs.HashMap.{HashMap, get}
-use Rattle.clmodel.specs.Cells.{byte_count}
-use Rattle.clmodel.specs.declared.access.Access.{Access}
 use Rattle.shadow_list.specs.Cells.{IsMarked}
 use Rattle.shadow_list.specs.Keys.{access_key, same_key}
 use Rattle.shadow_list.specs.declared.keys.AccessKey.{AccessKey}
