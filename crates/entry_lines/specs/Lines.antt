@@ -65,7 +65,8 @@ abbrev pub AreNext : ℕ → List Line → ℕ → Type 0
 AreNext at [] end = at ≡ end
 AreNext at (l ∷ lines) end = (l.start ≡ at) × AreNext (at + l.count) lines end
 
--- lines that are closed, and one that is last: what they tell stands where they say, and they begin where those before end (own)
+-- lines that are closed, and one that is last: what they tell stands where they say, and they begin where those before
+-- end (own)
 pub record IsLined (heads : List Entry) (steps : List Step) (closed : List Line) (last : Line) : Type 0 where
   pub closed_in : All (IsIn last.head (length steps)) closed
   pub last_in : IsIn (length heads) (length steps) last

@@ -6,7 +6,8 @@ ghost use Rattle.entry_lines.specs.Lines.{entry_at};
 use crate::step::Step;
 use shadow_list::Entry;
 
-/// Entries that stand one after another in a log, in rounds of so many: those of the first round, and for all others what each round adds.
+/// Entries that stand one after another in a log, in rounds of so many: those of the first round, and for all others
+/// what each round adds.
 #[derive(Clone, Copy)]
 pub(crate) struct Line {
     /// How many entries stand before it

@@ -61,6 +61,20 @@ fn with_head(heads: &mut Vec<Entry>, line: Line, entry: Entry) -> Line
     }
 }
 
+/// Adds an entry to the first round of a line, and to those that stand there.
+#[inline(always)]
+fn put_head(heads: &mut Vec<Entry>, line: &mut Line, entry: Entry)
+    requires room { vec_len heads.old < vec_capacity heads.old }
+    requires short { line.old.count + 1 < 2 ^ 64 }
+    requires plain { line.old.period ≡ line.old.count }
+    ensures heads { heads.new.items ≡ heads.old.items ++ entry ∷ [] }
+    ensures line { line.new ≡ record line.old { period = line.old.period + 1; count = line.old.count + 1 } }
+{
+    heads.push_reserved(entry);
+    line.period += 1;
+    line.count += 1;
+}
+
 /// The line that goes on, once its newest entries are told by a line of their own, where they are three rounds of one.
 fn folded(heads: &mut Vec<Entry>, steps: &mut Vec<Step>, closed: &mut Vec<Line>, last: Line) -> Line
     requires lined { IsLined heads.old.items steps.old.items closed.old.items last }
@@ -84,7 +98,8 @@ fn folded(heads: &mut Vec<Entry>, steps: &mut Vec<Step>, closed: &mut Vec<Line>,
     line
 }
 
-/// The line that goes on, once an entry is added to a list that isn't short, or whose last line has more than one round.
+/// The line that goes on, once an entry is added to a list that isn't short, or whose last line has more than one
+/// round.
 #[inline(never)]
 fn added_far(
     heads: &mut Vec<Entry>,
@@ -119,24 +134,26 @@ fn added_far(
     )
 }
 
-/// The line that goes on, once an entry is added. The first ones of a list are put down as they are, without a call.
+/// Adds an entry to the line that goes on, or begins another. The first ones of a list are put down as they are, without
+/// a call.
 #[inline(always)]
-fn added(
+fn add(
     heads: &mut Vec<Entry>,
     steps: &mut Vec<Step>,
     closed: &mut Vec<Line>,
-    last: Line,
+    last: &mut Line,
     entry: Entry,
-) -> Line
-    requires lined { IsLined heads.old.items steps.old.items closed.old.items last }
-    requires room { has_room heads.old closed.old last ≡ true }
-    ensures lined { IsLined heads.new.items steps.new.items closed.new.items result }
-    ensures more { entries_all heads.new.items steps.new.items (closed.new.items ++ result ∷ []) ≡ entries_all heads.old.items steps.old.items (closed.old.items ++ last ∷ []) ++ entry ∷ [] }
+)
+    requires lined { IsLined heads.old.items steps.old.items closed.old.items last.old }
+    requires room { has_room heads.old closed.old last.old ≡ true }
+    ensures lined { IsLined heads.new.items steps.new.items closed.new.items last.new }
+    ensures more { entries_all heads.new.items steps.new.items (closed.new.items ++ last.new ∷ []) ≡ entries_all heads.old.items steps.old.items (closed.old.items ++ last.old ∷ []) ++ entry ∷ [] }
 {
     if last.count <= last.period && heads.len() < SHORT {
-        return with_head(heads, last, entry);
+        put_head(heads, last, entry);
+        return;
     }
-    added_far(heads, steps, closed, last, entry)
+    *last = added_far(heads, steps, closed, *last, entry);
 }
 
 /// Which of the lines has the entry at a place.
@@ -215,11 +232,11 @@ impl EntryLines {
         requires { self.old.has_room ≡ true }
         ensures { self.new.items ≡ self.old.items ++ entry ∷ [] }
     {
-        self.last = added(
+        add(
             &mut self.heads,
             &mut self.steps,
             &mut self.closed,
-            self.last,
+            &mut self.last,
             entry,
         );
     }
@@ -262,7 +279,8 @@ impl EntryLines {
         None
     }
 
-    /// The conflict of an access with the entries by their rule: on its lowest byte that has one, there with the earliest.
+    /// The conflict of an access with the entries by their rule: on its lowest byte that has one, there with the
+    /// earliest.
     pub fn hit(&self, rule: Rule, x: &Entry) -> Option<Hit>
         requires { IsPlaced x.now }
         ensures { result ≡ hit rule x.now self.now.items }

@@ -53,7 +53,8 @@ fn round_of(heads: &[Entry], count: usize) -> Option<usize>
     None
 }
 
-/// Adds what the entries of a round gain to the next, by the first two rounds. Where memory is refused some may be added.
+/// Adds what the entries of a round gain to the next, by the first two rounds. Where memory is refused some may be
+/// added.
 fn add_steps(
     heads: &[Entry],
     steps: &mut Vec<Step>,

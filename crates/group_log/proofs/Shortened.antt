@@ -16,7 +16,7 @@ use Rattle.shadow.specs.Seen.{seen, seen_with, mark_of}
 use Rattle.shadow_list.specs.Log.{in_buffer, Log, logged}
 use Rattle.shadow.proofs.Absorbing.{onto}
 use Rattle.shadow.proofs.Listing.{onto_is}
-use Rattle.shadow.specs.declared.group_accesses.LastingList.{LastingList}
+use Rattle.shadow.specs.declared.group_accesses.AccessSummary.{AccessSummary}
 use Rattle.shadow_list.specs.declared.log.Entry.{Entry}
 use Rattle.group_log.specs.Lasting.{all_of, short_of, last_of, made, Stays, LeavesOut}
 use Rattle.group_log.specs.declared.group.GroupLog.{GroupLog}
@@ -143,7 +143,7 @@ log_stands l =
     (subst (λ s. StandsWith (last_of false l.whole.items) s (all_of l.whole.items)) (sym l.entries) (short_stands l.whole.items l.left_out))
 
 pub list_stands :
-    (l : GroupLog) (r : Result LastingList AllocError) → IfOk r (λ list. list.entries.items ≡ l.lasting.entries.items) → IfOk r (λ list. list.has_last ≡ l.lasting.has_last)
+    (l : GroupLog) (r : Result AccessSummary AllocError) → IfOk r (λ list. list.entries.items ≡ l.lasting.entries.items) → IfOk r (λ list. list.has_last ≡ l.lasting.has_last)
     → IfOk r (λ list. StandsWith list.has_last list.entries.items (all_of l.whole.items))
 list_stands l (Ok list) entries last =
     subst (λ b. StandsWith b list.entries.items (all_of l.whole.items)) (sym last) (subst (λ s. StandsWith l.lasting.has_last s (all_of l.whole.items)) (sym entries) (log_stands l))

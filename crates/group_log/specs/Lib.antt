@@ -1,5 +1,6 @@
 pub mod Covers
 pub mod Lasting
+pub mod Logged
 pub mod Side
 pub mod Stands
 pub mod Tells

@@ -7,7 +7,8 @@ use Rattle.group_log.specs.Stands.{region_at, number_of, AllTake}
 use Rattle.group_log.specs.declared.side.Glance.{Glance}
 use Rattle.group_log.specs.declared.side.Side.{Side}
 
--- what is kept of the bytes of buffers, where it tells of all accesses, tells which tell other groups nothing new (6.5.2, own)
+-- what is kept of the bytes of buffers, where it tells of all accesses, tells which tell other groups nothing new
+-- (6.5.2, own)
 abbrev pub TakesOf : Side → List Access → Type 0
 TakesOf side log = side.whole ≡ true → AllTake side.traces log
 

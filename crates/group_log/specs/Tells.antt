@@ -5,8 +5,8 @@ use Rattle.shadow_list.specs.Log.{Log, hit_on, in_buffer}
 use Rattle.shadow_list.specs.declared.log.Entry.{Entry}
 use Rattle.group_log.specs.Covers.{Covers}
 
--- whatever access of a running interval to buffers, or to local objects, conflicts with one of the whole list conflicts at that byte with
--- the same kept one first, and one of a later interval with none (3.3.1, 6.12.8)
+-- whatever access of a running interval to buffers, or to local objects, conflicts with one of the whole list conflicts
+-- at that byte with the same kept one first, and one of a later interval with none (3.3.1, 6.12.8)
 pub record Tells (uniform : Bool) (buffers : Bool) (interval : ℕ) (kept whole : List Entry) : Type 0 where
   pub now : (z : Entry) (byte : ℕ) → in_buffer z.access.region ≡ buffers → z.access.interval ≡ interval
       → hit_on (within_group uniform) z byte whole ≡ hit_on (within_group uniform) z byte kept

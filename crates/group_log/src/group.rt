@@ -3,7 +3,7 @@
 ghost use Rattle.std.specs.Prelude.{◌≡◌, ◌<◌, ◌-◌, ◌^◌, [], List, IfOk, OnOk, OnErr, false, true};
 ghost use Rattle.clmodel.specs.declared.access.Access.{Access as TheAccess};
 ghost use Rattle.shadow.specs.Lasting.{StandsWith, Absorbed};
-ghost use Rattle.shadow_list.specs.Log.{IsPlaced, IsNoted, logged, fresh_log, in_buffer};
+ghost use Rattle.shadow_list.specs.Log.{IsPlaced, IsNoted, fresh_log, in_buffer};
 ghost use Rattle.group_log.specs.Lasting.{all_of, short_of, last_of, made, LeavesOut};
 ghost use Rattle.group_log.specs.Covers.{Covers};
 ghost use Rattle.group_log.specs.Side.{TakesOf, IsKnown};
@@ -13,7 +13,7 @@ use crate::lasting::Lasting;
 use crate::side::{Glance, Side};
 use crate::whole::Whole;
 use clmodel::access::{Access, Region};
-use shadow::{GroupAccesses, LastingList};
+use shadow::{AccessSummary, GroupAccesses};
 use shadow_list::{AccessLog, Entry, Fenced, Hit, Logged};
 use std::alloc::{AllocError, Global};
 
@@ -58,10 +58,12 @@ fn stamped(entry: Entry, interval: u32) -> Entry
 }
 
 impl GroupLog {
+    ghost use Rattle.group_log.specs.Logged.{log_of};
+
     /// A log without accesses, in the first interval of both address spaces, of a launch that is uniform or not. It
     /// takes no memory.
     pub fn new(alloc: Global, uniform: bool) -> Self
-        ensures { logged (all_of result.whole.items) result.local.interval result.global.interval result.global.uniform ≡ fresh_log uniform }
+        ensures { log_of result ≡ fresh_log uniform }
     {
         GroupLog {
             local: Side::new(alloc, uniform),
@@ -74,7 +76,7 @@ impl GroupLog {
     /// Forgets all accesses, in the first interval of both address spaces. The memory that told accesses of the group
     /// is used again where much of it was in use: to clear it takes time in proportion to all of it.
     pub fn clear(&mut self, alloc: Global)
-        ensures { logged (all_of self.new.whole.items) self.new.local.interval self.new.global.interval self.new.global.uniform ≡ fresh_log self.old.global.uniform }
+        ensures { log_of self.new ≡ fresh_log self.old.global.uniform }
     {
         self.local.clear(alloc);
         self.global.clear(alloc);
@@ -84,7 +86,7 @@ impl GroupLog {
 
     /// A log without accesses, in the first interval of both address spaces, of the same launch: this one, cleared.
     pub fn cleared(self, alloc: Global) -> Self
-        ensures { logged (all_of result.whole.items) result.local.interval result.global.interval result.global.uniform ≡ fresh_log self.global.uniform }
+        ensures { log_of result ≡ fresh_log self.global.uniform }
     {
         let mut log = self;
         log.clear(alloc);
@@ -104,22 +106,22 @@ impl GroupLog {
     {}
 
     /// The accesses that tell other groups something new, in a block of their own size. An error is out of memory.
-    pub fn list(&self, alloc: Global) -> Result<LastingList, AllocError>
+    pub fn list(&self, alloc: Global) -> Result<AccessSummary, AllocError>
         ensures { IfOk result (λ list. StandsWith list.has_last list.entries.items (all_of self.now.whole.items)) }
     {
         self.lasting.list(alloc)
     }
 
-    /// Takes an access of local memory for one of the log's, by what is known of it, without judging it. Where memory is
-    /// refused the log stays.
+    /// Takes an access of local memory for one of the log's, by what is known of it, without judging it. Where memory
+    /// is refused the log stays.
     #[inline(always)]
     fn take_local(&mut self, glance: Glance, entry: Entry) -> Result<(), AllocError>
         requires space { in_buffer entry.access.region ≡ false }
         requires interval { entry.access.interval ≡ self.old.local.interval }
         requires told { glance.look.sight.told ≡ true → Covers self.old.local.uniform self.old.local.kept.items entry.access }
         requires known { IsKnown self.old.local entry.access glance }
-        ensures taken { OnOk result (logged (all_of self.new.whole.items) self.new.local.interval self.new.global.interval self.new.global.uniform ≡ with_last (logged (all_of self.old.whole.items) self.old.local.interval self.old.global.interval self.old.global.uniform) entry) }
-        ensures stays { OnErr result (logged (all_of self.new.whole.items) self.new.local.interval self.new.global.interval self.new.global.uniform ≡ logged (all_of self.old.whole.items) self.old.local.interval self.old.global.interval self.old.global.uniform) }
+        ensures taken { OnOk result (log_of self.new ≡ with_last (log_of self.old) entry) }
+        ensures stays { OnErr result (log_of self.new ≡ log_of self.old) }
     {
         self.local.take(glance, entry)?;
         self.lasting.pass();
@@ -136,8 +138,8 @@ impl GroupLog {
         requires told { glance.look.sight.told ≡ true → Covers self.old.global.uniform self.old.global.kept.items entry.access }
         requires taken { glance.look.sight.taken ≡ true → (log : List TheAccess) → TakesOf self.old.global log → Absorbed log entry.access }
         requires known { IsKnown self.old.global entry.access glance }
-        ensures taken { OnOk result (logged (all_of self.new.whole.items) self.new.local.interval self.new.global.interval self.new.global.uniform ≡ with_last (logged (all_of self.old.whole.items) self.old.local.interval self.old.global.interval self.old.global.uniform) entry) }
-        ensures stays { OnErr result (logged (all_of self.new.whole.items) self.new.local.interval self.new.global.interval self.new.global.uniform ≡ logged (all_of self.old.whole.items) self.old.local.interval self.old.global.interval self.old.global.uniform) }
+        ensures taken { OnOk result (log_of self.new ≡ with_last (log_of self.old) entry) }
+        ensures stays { OnErr result (log_of self.new ≡ log_of self.old) }
     {
         let news = !glance.look.sight.taken;
         self.lasting.make_room(news)?;
@@ -156,7 +158,7 @@ impl GroupLog {
         requires interval { entry.access.interval ≡ self.old.local.interval }
         requires told { glance.look.sight.told ≡ true → Covers self.old.local.uniform self.old.local.kept.items entry.access }
         requires known { IsKnown self.old.local entry.access glance }
-        ensures { IsNoted (logged (all_of self.old.whole.items) self.old.local.interval self.old.global.interval self.old.global.uniform) entry (logged (all_of self.new.whole.items) self.new.local.interval self.new.global.interval self.new.global.uniform) result }
+        ensures { IsNoted (log_of self.old) entry (log_of self.new) result }
     {
         let found = self.local.conflict(&entry);
         self.take_local(glance, entry)?;
@@ -173,7 +175,7 @@ impl GroupLog {
         requires told { glance.look.sight.told ≡ true → Covers self.old.global.uniform self.old.global.kept.items entry.access }
         requires taken { glance.look.sight.taken ≡ true → (log : List TheAccess) → TakesOf self.old.global log → Absorbed log entry.access }
         requires known { IsKnown self.old.global entry.access glance }
-        ensures { IsNoted (logged (all_of self.old.whole.items) self.old.local.interval self.old.global.interval self.old.global.uniform) entry (logged (all_of self.new.whole.items) self.new.local.interval self.new.global.interval self.new.global.uniform) result }
+        ensures { IsNoted (log_of self.old) entry (log_of self.new) result }
     {
         let found = self.global.conflict(&entry);
         self.take_global(glance, entry)?;
@@ -185,7 +187,7 @@ impl GroupLog {
     fn note_local(&mut self, entry: Entry) -> Result<Option<Hit>, AllocError>
         requires placed { IsPlaced entry }
         requires space { in_buffer entry.access.region ≡ false }
-        ensures { IsNoted (logged (all_of self.old.whole.items) self.old.local.interval self.old.global.interval self.old.global.uniform) entry (logged (all_of self.new.whole.items) self.new.local.interval self.new.global.interval self.new.global.uniform) result }
+        ensures { IsNoted (log_of self.old) entry (log_of self.new) result }
     {
         let entry = stamped(entry, self.local.interval);
         let glance = self.local.look(&entry.access);
@@ -202,7 +204,7 @@ impl GroupLog {
     fn note_global(&mut self, entry: Entry) -> Result<Option<Hit>, AllocError>
         requires placed { IsPlaced entry }
         requires space { in_buffer entry.access.region ≡ true }
-        ensures { IsNoted (logged (all_of self.old.whole.items) self.old.local.interval self.old.global.interval self.old.global.uniform) entry (logged (all_of self.new.whole.items) self.new.local.interval self.new.global.interval self.new.global.uniform) result }
+        ensures { IsNoted (log_of self.old) entry (log_of self.new) result }
     {
         let entry = stamped(entry, self.global.interval);
         let glance = self.global.look(&entry.access);
@@ -216,7 +218,9 @@ impl GroupLog {
 }
 
 impl Logged for GroupLog {
-    ghost log = { λ l. logged (all_of l.whole.items) l.local.interval l.global.interval l.global.uniform };
+    ghost use Rattle.group_log.specs.Logged.{log_of};
+
+    ghost log = { λ l. log_of l };
 }
 
 impl GroupAccesses for GroupLog {

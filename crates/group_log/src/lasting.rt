@@ -4,7 +4,7 @@ ghost use Rattle.std.specs.Prelude.{◌≡◌, ◌++◌, ◌∷◌, [], All, IfO
 ghost use Rattle.shadow_list.specs.Log.{IsPlaced};
 
 use entry_lines::EntryLines;
-use shadow::LastingList;
+use shadow::AccessSummary;
 use shadow_list::Entry;
 use std::alloc::{AllocError, Global};
 
@@ -84,11 +84,11 @@ impl Lasting {
     }
 
     /// The accesses as other groups ask for them, copied. An error is out of memory.
-    pub(crate) fn list(&self, alloc: Global) -> Result<LastingList, AllocError>
+    pub(crate) fn list(&self, alloc: Global) -> Result<AccessSummary, AllocError>
         ensures entries { IfOk result (λ list. list.entries.items ≡ self.now.entries.items) }
         ensures has_last { IfOk result (λ list. list.has_last ≡ self.now.has_last) }
     {
         let entries = self.entries.to_vec(alloc)?;
-        Ok(LastingList::from_entries(entries, self.has_last))
+        Ok(AccessSummary::from_entries(entries, self.has_last))
     }
 }

@@ -16,7 +16,8 @@ use Rattle.group_traces.specs.declared.traces.Traces.{Traces}
 abbrev pub apart_at : List Apart → ℕ → Apart
 apart_at apart at = slice_index_or apart at (record { key = 0; word = 0; traces = [] })
 
--- what is kept of byte k of word n of a cell of this key, of bytes that are kept apart: nothing where they are of another word (own)
+-- what is kept of byte k of word n of a cell of this key, of bytes that are kept apart: nothing where they are of
+-- another word (own)
 abbrev pub own_trace : ℕ → ℕ → Apart → ℕ → Trace
 own_trace key n a k = if (a.key == key) && (a.word == n) then slice_index_or a.traces k untouched else untouched
 

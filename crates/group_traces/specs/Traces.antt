@@ -32,13 +32,13 @@ trace_with t interval m =
 abbrev pub is_now : Trace → ℕ → Bool
 is_now t interval = t.touched && (t.interval == interval)
 
--- whether an access of an interval is seen to conflict with none, in a launch that is uniform or not: there were none in it, all are of its
--- item, or all are of a sort that doesn't conflict with its own (3.3.1, 6.12.8)
+-- whether an access of an interval is seen to conflict with none, in a launch that is uniform or not: there were none
+-- in it, all are of its item, or all are of a sort that doesn't conflict with its own (3.3.1, 6.12.8)
 abbrev pub passes : Bool → Trace → ℕ → Mark → Bool
 passes uniform t interval m = not (is_now t interval) || (not t.many && (t.mark.item == m.item)) || (not t.mixed && not (is_some (mark_clash uniform t.mark m)))
 
--- whether whatever conflicts with an access of an interval is seen to conflict with an earlier one: two items made accesses of its sort
--- alone, or its item alone made one of its sort, or two of different sorts (3.3.1, own)
+-- whether whatever conflicts with an access of an interval is seen to conflict with an earlier one: two items made
+-- accesses of its sort alone, or its item alone made one of its sort, or two of different sorts (3.3.1, own)
 abbrev pub tells : Trace → ℕ → Mark → Bool
 tells t interval m = is_now t interval && ((t.many && not t.mixed && one_sort t.mark m) || (not t.many && (t.mark.item == m.item) && (t.mixed || one_sort t.mark m)))
 

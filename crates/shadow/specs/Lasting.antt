@@ -1,4 +1,5 @@
--- Which accesses of a group's log tell other groups nothing new, and lists that leave such out (own, on OpenCL 1.2, 3.3.1 and 6.5.2).
+-- Which accesses of a group's log tell other groups nothing new, and lists that leave such out (own, on OpenCL 1.2,
+-- 3.3.1 and 6.5.2).
 use Rattle.std.specs.Prelude.{◌≡◌, ◌⊎◌, ℕ, Bool, true, false, List, [], ◌∷◌, ◌++◌, map, reverse}
 use Rattle.clmodel.specs.declared.access.Access.{Access}
 use Rattle.clmodel.specs.declared.access.Region.{Region}
@@ -7,8 +8,8 @@ use Rattle.joining.specs.Memory.{at_byte}
 use Rattle.shadow.specs.Seen.{seen, seen_with, mark_of}
 use Rattle.shadow_list.specs.declared.log.Entry.{Entry}
 
--- what is kept of each byte stays with one access more, whose region this is: it is of a local object, which no other group shares, or at
--- each of its bytes the earlier accesses were of its sort, or of two sorts
+-- what is kept of each byte stays with one access more, whose region this is: it is of a local object, which no other
+-- group shares, or at each of its bytes the earlier accesses were of its sort, or of two sorts
 abbrev pub AbsorbedAt : Region → List Access → Access → Type 0
 AbsorbedAt (region.Local group number) earlier x = Unit {0}
 AbsorbedAt (region.Buffer number) earlier x =
@@ -19,7 +20,8 @@ AbsorbedAt (region.Buffer number) earlier x =
 abbrev pub Absorbed : List Access → Access → Type 0
 Absorbed earlier x = AbsorbedAt x.region earlier x
 
--- a short list of entries stands for the whole one behind these earlier accesses: both have the oldest first, and what is left out is absorbed
+-- a short list of entries stands for the whole one behind these earlier accesses: both have the oldest first, and what
+-- is left out is absorbed
 abbrev pub StandsFor : List Access → List Entry → List Entry → Type 0
 StandsFor earlier short [] = short ≡ []
 StandsFor earlier short (x ∷ whole) =
@@ -35,8 +37,8 @@ EndsWith false short front x = StandsFor [] short front × Absorbed (map (λ e. 
 abbrev pub StandsWith : Bool → List Entry → List Entry → Type 0
 StandsWith last short whole = ((short ≡ []) × (whole ≡ [])) ⊎ ((front : List Entry) × (x : Entry) × (whole ≡ front ++ x ∷ []) × EndsWith last short front x)
 
--- a short list has, of a whole one behind these earlier accesses, those that tell other groups something new, and no other: both have the
--- oldest first
+-- a short list has, of a whole one behind these earlier accesses, those that tell other groups something new, and no
+-- other: both have the oldest first
 abbrev pub TellsNews : List Access → List Entry → List Entry → Type 0
 TellsNews earlier short [] = short ≡ []
 TellsNews earlier short (x ∷ whole) =

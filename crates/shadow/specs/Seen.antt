@@ -1,4 +1,5 @@
--- What is kept of the accesses to the bytes of a launch's buffers, and the conflicts that it tells (OpenCL 1.2, 3.3.1, 6.12.8; own in what is kept).
+-- What is kept of the accesses to the bytes of a launch's buffers, and the conflicts that it tells (OpenCL 1.2, 3.3.1,
+-- 6.12.8; own in what is kept).
 use Rattle.std.specs.Prelude.{◌≡◌, ℕ, zero, suc, ◌/◌, ◌%◌, ◌<◌, ◌≤◌, ◌==◌, Bool, true, false, not, ◌&&◌, ◌||◌, Option, None, List, [], ◌∷◌, if◌then◌else◌, slice_index_or, length, map, Vec}
 use Rattle.std.specs.declared.alloc.Global.{Global}
 use Rattle.std.specs.Option.{option_map}
@@ -164,8 +165,8 @@ Remembers buffers log = (number byte : ℕ) → cell buffers number byte ≡ see
 abbrev pub OfOthers : ℕ → List Access → Type 0
 OfOthers item log = (y : Access) → Logged log y → y.item ≡ item → ⊥
 
--- the conflict of an access of another group's item with these, on its lowest byte that has one, with the earliest access there, by whether
--- the launch is uniform (3.3.1, own)
+-- the conflict of an access of another group's item with these, on its lowest byte that has one, with the earliest
+-- access there, by whether the launch is uniform (3.3.1, own)
 abbrev pub meeting : Bool → Access → List Access → Option Meeting
 meeting uniform x log = option_map meeting_of (conflict_from (conflict_between (across_groups uniform)) x log x.first (byte_count x.width))
 
@@ -174,7 +175,8 @@ abbrev pub met_at : Bool → Region → Access → List Access → Option Meetin
 met_at uniform (region.Buffer number) x log = meeting uniform x log
 met_at uniform (region.Local group number) x log = None
 
--- a meeting of an access as a conflict with it: of the earlier access item and kind are kept, and it is told at the bytes of the later (own)
+-- a meeting of an access as a conflict with it: of the earlier access item and kind are kept, and it is told at the
+-- bytes of the later (own)
 abbrev pub conflict_with : Meeting → Access → conflict_type.Conflict
 conflict_with m x =
     record { earlier = record x { item = m.mark.item; kind = m.mark.kind }; later = x; byte = m.byte; clash = m.clash }

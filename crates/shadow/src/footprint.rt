@@ -13,10 +13,11 @@ use crate::seen::{Meeting, is_written};
 use clmodel::access::{Access, Region};
 use std::alloc::{AllocError, Global};
 
-/// What is kept of the accesses of work-groups so far to each byte of the launch's buffers: the first access, and the first of another kind,
-/// or of a store that left another byte. It is kept of whole words of four bytes, 32 bytes a word, and of each byte of a word, some 100 more,
-/// where an access to a part of the word or a third store told something new. An access to whole words that are kept so costs some steps for
-/// each word, and any other some for each byte; memory grows by pages of 64 words that were touched.
+/// What is kept of the accesses of work-groups so far to each byte of the launch's buffers: the first access, and the
+/// first of another kind, or of a store that left another byte. It is kept of whole words of four bytes, 32 bytes a
+/// word, and of each byte of a word, some 100 more, where an access to a part of the word or a third store told
+/// something new. An access to whole words that are kept so costs some steps for each word, and any other some for each
+/// byte; memory grows by pages of 64 words that were touched.
 #[derive(Drop)]
 pub struct Footprint {
     buffers: Vec<Pages>,
@@ -47,9 +48,10 @@ impl Footprint {
         }
     }
 
-    /// The conflict of an access of another group's item with these, on its lowest byte that has one, with the earliest access there
-    /// (OpenCL 1.2, section 3.3.1). `None` where it has none, and for each access of a local object, which no other group shares
-    /// (section 6.5.2). `uniform` is the launch's: there stores that leave the same byte don't conflict. What is kept doesn't depend on it.
+    /// The conflict of an access of another group's item with these, on its lowest byte that has one, with the earliest
+    /// access there (OpenCL 1.2, section 3.3.1). `None` where it has none, and for each access of a local object, which
+    /// no other group shares (section 6.5.2). `uniform` is the launch's: there stores that leave the same byte don't
+    /// conflict. What is kept doesn't depend on it.
     pub fn meeting(&self, uniform: bool, x: &Access) -> Option<Meeting>
         requires { x.now.first + byte_count x.now.width < 2 ^ 64 }
         ensures { (log : List TheAccess) → IsFootprint self.now log → OfOthers x.now.item log → result ≡ met_at uniform x.now.region x.now log }
@@ -73,8 +75,8 @@ impl Footprint {
         }
     }
 
-    /// Adds an access. The answer is `false` where it tells nothing new: it is of a local object, or what is kept of each of its bytes stays.
-    /// Where memory is refused nothing is added.
+    /// Adds an access. The answer is `false` where it tells nothing new: it is of a local object, or what is kept of
+    /// each of its bytes stays. Where memory is refused nothing is added.
     pub fn add(&mut self, alloc: Global, x: &Access) -> Result<bool, AllocError>
         requires { x.now.first + byte_count x.now.width < 2 ^ 64 }
         ensures added { OnOk result ((log : List TheAccess) → IsFootprint self.old log → IsFootprint self.new (x.now ∷ log)) }

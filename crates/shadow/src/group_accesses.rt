@@ -9,8 +9,8 @@ use crate::footprint::Footprint;
 use shadow_list::{Accesses, Entry};
 use std::alloc::{AllocError, Global};
 
-/// Accesses of a work-group as its join to other groups asks for them: in their order, the oldest first. Accesses that tell other groups
-/// nothing new may be left out.
+/// Accesses of a work-group as its join to other groups asks for them: in their order, the oldest first. Accesses that
+/// tell other groups nothing new may be left out.
 pub trait GroupAccesses {
     // the accesses that are there
     ghost listed: { Self → List TheEntry };
@@ -52,10 +52,10 @@ impl<L: Accesses> GroupAccesses for L {
     }
 }
 
-/// The accesses of a log that tell other groups something new: at most two for each byte of a buffer that was accessed, of some 56 bytes. A
-/// result that waits to be joined needs no more.
+/// The accesses of a log that tell other groups something new: at most two for each byte of a buffer that was accessed,
+/// of some 56 bytes. A result that waits to be joined needs no more.
 #[derive(Drop)]
-pub struct LastingList {
+pub struct AccessSummary {
     pub(crate) entries: Vec<Entry>,
     /// Whether the last of the group's accesses is among them
     pub(crate) has_last: bool,
@@ -75,8 +75,9 @@ fn keep(entries: &mut Vec<Entry>, entry: Entry, is_new: bool) -> Result<(), Allo
     Ok(())
 }
 
-impl LastingList {
-    /// These accesses, of a group whose last access is one of them or not. Memory to spare is given back, where the smaller block isn't refused.
+impl AccessSummary {
+    /// These accesses, of a group whose last access is one of them or not. Memory to spare is given back, where the
+    /// smaller block isn't refused.
     pub fn from_entries(entries: Vec<Entry>, has_last: bool) -> Self
         requires { All IsPlaced entries.items }
         ensures entries { result.entries.items ≡ entries.items }
@@ -84,7 +85,7 @@ impl LastingList {
     {
         let mut entries = entries;
         entries.shrink_to_fit();
-        LastingList { entries, has_last }
+        AccessSummary { entries, has_last }
     }
 
     /// The accesses of a log that tell other groups something new. An error is out of memory.
@@ -101,11 +102,11 @@ impl LastingList {
             keep(&mut entries, entry, has_last)?;
         }
         entries.shrink_to_fit();
-        Ok(LastingList { entries, has_last })
+        Ok(AccessSummary { entries, has_last })
     }
 }
 
-impl GroupAccesses for LastingList {
+impl GroupAccesses for AccessSummary {
     ghost listed = { λ l. l.entries.items };
 
     ghost has_last = { λ l. l.has_last };

@@ -5,7 +5,7 @@
 //! `Footprint::meeting` answers exactly the defined conflict of one more access, by another group, with all accesses so
 //! far (the lowest byte, there the earliest access), and none for a local object. `is_written` says whether a byte was
 //! written. `add` keeps an access, and answers false only where it changes no mark. An error leaves the footprint.
-//! `LastingList::of` stands for its log: it leaves out accesses of local objects, and those that change no mark of
+//! `AccessSummary::of` stands for its log: it leaves out accesses of local objects, and those that change no mark of
 //! their group's own. The crate knows no memory and no schedule.
 #![tactic(auto)]
 
@@ -16,6 +16,6 @@ mod seen;
 mod words;
 
 pub use footprint::Footprint;
-pub use group_accesses::{GroupAccesses, LastingList};
+pub use group_accesses::{AccessSummary, GroupAccesses};
 pub use seen::{Mark, Meeting, mark_clash, mark_of, one_sort};
 pub use words::{WordMark, agrees, byte_mark, is_one_sort, word_mark};

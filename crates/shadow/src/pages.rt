@@ -102,7 +102,8 @@ fn mark_byte(pages: &[Vec<Word>], apart: &mut Vec<Bytes>, byte: usize, mark: Mar
     }
 }
 
-/// Marks `count` bytes from the first on, which an access is at, of words that are kept apart. Whether what is kept of one of them changes.
+/// Marks `count` bytes from the first on, which an access is at, of words that are kept apart. Whether what is kept of
+/// one of them changes.
 fn mark_bytes(
     pages: &[Vec<Word>],
     apart: &mut Vec<Bytes>,

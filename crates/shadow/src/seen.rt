@@ -16,9 +16,9 @@ pub struct Mark {
     pub left: u8,
 }
 
-/// What is kept of the accesses to a byte: the first, and the first of another sort than it, of another kind or a store that left another
-/// byte. In a uniform launch or not, each access conflicts with those of one sort alike, and one that passes the first sort conflicts with
-/// all others.
+/// What is kept of the accesses to a byte: the first, and the first of another sort than it, of another kind or a store
+/// that left another byte. In a uniform launch or not, each access conflicts with those of one sort alike, and one that
+/// passes the first sort conflicts with all others.
 #[derive(Clone, Copy)]
 pub enum Seen {
     Untouched,
@@ -35,8 +35,8 @@ pub struct Meeting {
 }
 
 impl Meeting {
-    /// The conflict with the later access that met it. Of the earlier access item and kind are kept; what else a conflict says of one is
-    /// that of the later.
+    /// The conflict with the later access that met it. Of the earlier access item and kind are kept; what else a
+    /// conflict says of one is that of the later.
     pub fn conflict(self, later: Access) -> Conflict
         ensures { result ≡ conflict_with self later }
     {

@@ -11,6 +11,15 @@ use crate::seen::{Mark, Seen, is_new, seen_with};
 use clmodel::access::{Access, AccessKind};
 use shadow_list::{both_store, clash, kind_number};
 
+/// How many bits a byte has.
+const BYTE_BITS: usize = 8;
+
+/// How many values a byte has.
+const BYTE_VALUES: u32 = 256;
+
+/// How many values a word has.
+const WORD_VALUES: u64 = 1 << 32;
+
 /// Who accessed all four bytes of a word, and how.
 #[derive(Clone, Copy)]
 pub struct WordMark {
@@ -34,7 +43,8 @@ pub(crate) enum Word {
     Untouched,
     /// What is kept of each byte is that of one access to all four
     Touched(WordMark),
-    /// What is kept of each byte is that of two accesses to all four: of the first alone where they are of one sort at the byte
+    /// What is kept of each byte is that of two accesses to all four: of the first alone where they are of one sort at
+    /// the byte
     Mixed(WordMark, WordMark),
     /// What is kept of each byte stands at this place in the buffer's list
     Apart(usize),
@@ -45,9 +55,9 @@ fn half(value: u64, high: bool) -> u32
     ensures { (k : ℕ) → k < 4 → byte_of k result ≡ byte_of (half_start high + k) value }
 {
     if high {
-        (value / 0x1_0000_0000) as u32
+        (value / WORD_VALUES) as u32
     } else {
-        (value % 0x1_0000_0000) as u32
+        (value % WORD_VALUES) as u32
     }
 }
 
@@ -80,11 +90,12 @@ pub fn byte_mark(mark: WordMark, k: usize) -> Mark
     Mark {
         item: mark.item,
         kind: mark.kind,
-        left: ((mark.left >> (8 * k)) % 256) as u8,
+        left: ((mark.left >> (BYTE_BITS * k)) % BYTE_VALUES) as u8,
     }
 }
 
-/// What is kept of byte k of a word, by the bytes at a place in the list: nothing where they are of another word, which never happens.
+/// What is kept of byte k of a word, by the bytes at a place in the list: nothing where they are of another word, which
+/// never happens.
 fn own_seen(apart: &[Bytes], number: usize, at: usize, k: usize) -> Seen
     requires { k < 4 }
     ensures { result ≡ own_seen number (bytes_at apart.now at) k }

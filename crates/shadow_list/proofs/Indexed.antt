@@ -1,6 +1,7 @@
 -- What is kept of accesses at each byte tells whether one conflicts, and the places of their keys whether it is there.
-use Rattle.std.proofs.Common.{◌≡◌, ℕ, zero, suc, ◌+◌, ◌*◌, ◌/◌, ◌%◌, ◌<◌, ◌≤◌, ◌⊎◌, Bool, true, false, nat_eq, not, ◌&&◌, ◌||◌, ◌==◌, ◌^◌, Option, None, Some, List, [], ◌∷◌, ◌++◌, length, drop, refl, sym, ap, ap₂, ◌∙◌, subst, inl, inr, arith, eqb-true, eq-eqb}
+use Rattle.std.proofs.Common.{◌≡◌, ℕ, zero, suc, ◌+◌, ◌/◌, ◌%◌, ◌<◌, ◌≤◌, ◌⊎◌, Bool, true, false, nat_eq, not, ◌&&◌, ◌||◌, ◌==◌, Option, None, Some, List, [], ◌∷◌, ◌++◌, length, drop, refl, sym, ap, ap₂, ◌∙◌, subst, inl, inr, arith, eqb-true, eq-eqb}
 use Rattle.std.specs.Prelude.{All, slice_get}
+use Rattle.std.specs.Bool.{beq}
 use Rattle.std.specs.Option.{unwrap_or}
 use Rattle.std.specs.HashMap.{HashMap, get}
 use Rattle.std.proofs.lemmas.Bool.{false≢true, and_parts, and_from, cases_eq, and_left}
@@ -13,13 +14,15 @@ use Rattle.clmodel.specs.declared.access.AccessKind.{AccessKind}
 use Rattle.clmodel.specs.declared.access.Region.{Region}
 use Rattle.clmodel.specs.declared.access.Region.TheVariants as region
 use Rattle.clmodel.proofs.Steps.{decided}
-use Rattle.shadow_list.specs.Cells.{object, cell_key, in_cell, Passes, KeepsAll, KeepsWords}
-use Rattle.shadow_list.specs.Index.{access_key, same_key, newest_of}
+use Rattle.shadow_list.specs.Cells.{in_cell, Passes, KeepsAll, KeepsWords}
+use Rattle.shadow_list.specs.Index.{newest_of}
+use Rattle.shadow_list.specs.Keys.{object_number, cell_key, access_key, same_cell, same_key}
 use Rattle.shadow_list.specs.Kinds.{kind_number}
-use Rattle.shadow_list.specs.Log.{hit_on, hit, IsThere}
+use Rattle.shadow_list.specs.Log.{hit_on, hit, in_buffer, IsThere}
 use Rattle.shadow_list.specs.Recent.{is_item, is_how, nothing, Describes, at_place}
 use Rattle.shadow_list.specs.declared.cells.Cells.{Cells}
-use Rattle.shadow_list.specs.declared.index.AccessKey.{AccessKey}
+use Rattle.shadow_list.specs.declared.keys.AccessKey.{AccessKey}
+use Rattle.shadow_list.specs.declared.keys.CellKey.{CellKey}
 use Rattle.shadow_list.specs.declared.log.Entry.{Entry}
 use Rattle.shadow_list.specs.declared.recent.How.TheVariants as how
 use Rattle.shadow_list.specs.declared.recent.Recent.{Recent}
@@ -77,16 +80,16 @@ agreed_stores u kind left x y byte is_uniform stores same d =
 
 -- ---- accesses that are kept at their bytes
 
-one_object : (a b : Region) → same_region a b ≡ true → object a ≡ object b
-one_object (region.Buffer a) (region.Buffer b) e = ap (λ n. object (region.Buffer n)) (eqb-true a b e)
-one_object (region.Buffer a) (region.Local h b) e = absurd (false≢true e)
-one_object (region.Local g a) (region.Buffer b) e = absurd (false≢true e)
-one_object (region.Local g a) (region.Local h b) e =
-    let r : (nat_eq g h ≡ true) × (nat_eq a b ≡ true) = and_parts (nat_eq g h) (nat_eq a b) e in ap (λ n. object (region.Local g n)) (eqb-true a b r.1)
+one_cell_key : (a b : Region) (byte : ℕ) → same_region a b ≡ true → cell_key a byte ≡ cell_key b byte
+one_cell_key (region.Buffer a) (region.Buffer b) byte e = ap (λ n. cell_key (region.Buffer n) byte) (eqb-true a b e)
+one_cell_key (region.Buffer a) (region.Local h b) byte e = absurd (false≢true e)
+one_cell_key (region.Local g a) (region.Buffer b) byte e = absurd (false≢true e)
+one_cell_key (region.Local g a) (region.Local h b) byte e =
+    let r : (nat_eq g h ≡ true) × (nat_eq a b ≡ true) = and_parts (nat_eq g h) (nat_eq a b) e in ap (λ n. cell_key (region.Local g n) byte) (eqb-true a b r.1)
 
 -- an access that passes at each of its bytes conflicts with none that is kept
 pub marked_clear :
-    (u : Bool) (x y : Access) (f : ℕ → ℕ → Recent) → ((byte : ℕ) → covers x.first (byte_count x.width) byte ≡ true → Passes u (f (cell_key x.region byte) byte) x byte)
+    (u : Bool) (x y : Access) (f : CellKey → ℕ → Recent) → ((byte : ℕ) → covers x.first (byte_count x.width) byte ≡ true → Passes u (f (cell_key x.region byte) byte) x byte)
     → ((byte : ℕ) → covers y.first (byte_count y.width) byte ≡ true → Describes (f (cell_key y.region byte) byte) y byte)
     → (byte : ℕ) → conflict_between (within_group u) y x byte ≡ None
 marked_clear u x y f passes kept byte = decided (share y x byte) shared (not_shared (within_group u) y x byte)
@@ -96,7 +99,7 @@ marked_clear u x y f passes kept byte = decided (share y x byte) shared (not_sha
         let r : ((same_region y.region x.region && covers y.first (byte_count y.width) byte) ≡ true) × (covers x.first (byte_count x.width) byte ≡ true) = and_parts _ _ p in
         let s : (same_region y.region x.region ≡ true) × (covers y.first (byte_count y.width) byte ≡ true) = and_parts _ _ r.0 in
         passes byte r.1 y
-        (subst (λ o. Describes (f (byte / 8 % 2 ^ 48 * 2 ^ 16 + o) byte) y byte) (one_object y.region x.region s.0) (kept byte s.1))
+        (subst (λ q. Describes (f q byte) y byte) (one_cell_key y.region x.region byte s.0) (kept byte s.1))
 
 -- an entry that doesn't conflict with one on a byte
 abbrev pub Misses : Bool → Entry → ℕ → Entry → Type 0
@@ -123,12 +126,12 @@ pub nothing_described : (y : Access) (byte : ℕ) → Describes nothing y byte �
 nothing_described y byte d = false≢true (d.1 (omega (arith, d.0))).0
 
 -- what is kept at each key stays, where each byte of each word keeps what it had, and each cell is where it was
-pub cells_kept : {S : Type 0} (m n : HashMap ℕ ℕ S) (old new : List Word) (apart parts : List Recent) → ((q start : ℕ) → get nat_eq m q ≡ Some start → get nat_eq n q ≡ Some start)
+pub cells_kept : {S : Type 0} (m n : HashMap CellKey ℕ S) (old new : List Word) (apart parts : List Recent) → ((q : CellKey) (start : ℕ) → get same_cell m q ≡ Some start → get same_cell n q ≡ Some start)
     → ((p k : ℕ) (y : Access) (byte : ℕ) → k < 4 → Describes (at_place old apart p k) y byte → Describes (at_place new parts p k) y byte)
-    → (key k : ℕ) (y : Access) (byte : ℕ) → k < 8 → Describes (in_cell old apart k (get nat_eq m key)) y byte → Describes (in_cell new parts k (get nat_eq n key)) y byte
-cells_kept m n old new apart parts there same key k y byte b d = go (get nat_eq m key) refl
+    → (key : CellKey) (k : ℕ) (y : Access) (byte : ℕ) → k < 8 → Describes (in_cell old apart k (get same_cell m key)) y byte → Describes (in_cell new parts k (get same_cell n key)) y byte
+cells_kept m n old new apart parts there same key k y byte b d = go (get same_cell m key) refl
   where
-    go : (o : Option ℕ) → get nat_eq m key ≡ o → Describes (in_cell new parts k (get nat_eq n key)) y byte
+    go : (o : Option ℕ) → get same_cell m key ≡ o → Describes (in_cell new parts k (get same_cell n key)) y byte
     go None e = absurd (nothing_described y byte (subst (λ o. Describes (in_cell old apart k o) y byte) e d))
     go (Some start) e =
         subst (λ o. Describes (in_cell new parts k o) y byte) (sym (there key start e))
@@ -138,7 +141,7 @@ cells_kept m n old new apart parts there same key k y byte b d = go (get nat_eq 
 pub words_kept : {old new : Cells} → KeepsWords old new → KeepsAll old new
 words_kept {old = old} {new = new} w =
     cells_kept old.starts new.starts old.words.items new.words.items old.apart.items new.apart.items
-    (λ q start e. ap (λ m. get nat_eq m q) w.starts ∙ e) w.kept
+    (λ q start e. ap (λ m. get same_cell m q) w.starts ∙ e) w.kept
 
 -- ---- whether an access is there
 
@@ -161,10 +164,10 @@ cell_once first count byte a b d = omega (arith, a, b, d)
 
 -- where a byte is kept, in the cell of the first of some
 pub at_start :
-    {S : Type 0} (m : HashMap ℕ ℕ S) (words : List Word) (apart : List Recent) (r : Region) (first count byte start : ℕ) → first % 8 + count ≤ 8 → first ≤ byte → byte < first + count
-    → get nat_eq m (cell_key r first) ≡ Some start → in_cell words apart (byte % 8) (get nat_eq m (cell_key r byte)) ≡ at_place words apart (start + byte % 8 / 4) (byte % 4)
+    {S : Type 0} (m : HashMap CellKey ℕ S) (words : List Word) (apart : List Recent) (r : Region) (first count byte start : ℕ) → first % 8 + count ≤ 8 → first ≤ byte → byte < first + count
+    → get same_cell m (cell_key r first) ≡ Some start → in_cell words apart (byte % 8) (get same_cell m (cell_key r byte)) ≡ at_place words apart (start + byte % 8 / 4) (byte % 4)
 at_start m words apart r first count byte start a b d e =
-    ap (λ q. in_cell words apart (byte % 8) (get nat_eq m (q % 2 ^ 48 * 2 ^ 16 + object r))) (cell_once first count byte a b d) ∙ ap (in_cell words apart (byte % 8)) e
+    ap (λ q. in_cell words apart (byte % 8) (get same_cell m (record { is_buffer = in_buffer r; number = object_number r; cell = q }))) (cell_once first count byte a b d) ∙ ap (in_cell words apart (byte % 8)) e
     ∙ ap (at_place words apart (start + byte % 8 / 4)) {x = byte % 8 % 4} {y = byte % 4} (omega arith)
 
 -- ---- a log with one more
@@ -180,10 +183,52 @@ grown_get (y ∷ xs) x z (suc j) e = shifted (grown_get xs x z j e)
     shifted (inl h) = inl h
     shifted (inr h) = inr (ap suc h.0, h.1)
 
+same_flag : (a b : Bool) → beq a b ≡ true → a ≡ b
+same_flag true true h = refl
+same_flag true false h = absurd (false≢true h)
+same_flag false true h = absurd (false≢true h)
+same_flag false false h = refl
+
 one_key : (a b : AccessKey) → same_key a b ≡ true → a ≡ b
 one_key a b h =
-    let r : ((a.place == b.place) ≡ true) × ((a.value == b.value) ≡ true) = and_parts (a.place == b.place) (a.value == b.value) h in
-    ap₂ (λ (p v : ℕ). record { place = p; value = v }) (eqb-true a.place b.place r.0) (eqb-true a.value b.value r.1)
+    let r1 = and_parts (beq a.is_buffer b.is_buffer) ((a.number == b.number) && ((a.first == b.first) && ((a.width == b.width) && ((a.item == b.item) && ((a.kind == b.kind) && (a.value == b.value)))))) h in
+    let r2 = and_parts (a.number == b.number) ((a.first == b.first) && ((a.width == b.width) && ((a.item == b.item) && ((a.kind == b.kind) && (a.value == b.value))))) r1.1 in
+    let r3 = and_parts (a.first == b.first) ((a.width == b.width) && ((a.item == b.item) && ((a.kind == b.kind) && (a.value == b.value)))) r2.1 in
+    let r4 = and_parts (a.width == b.width) ((a.item == b.item) && ((a.kind == b.kind) && (a.value == b.value))) r3.1 in
+    let r5 = and_parts (a.item == b.item) ((a.kind == b.kind) && (a.value == b.value)) r4.1 in
+    let r6 = and_parts (a.kind == b.kind) (a.value == b.value) r5.1 in
+    ap₂ (λ (t : Bool) (n : ℕ). record { is_buffer = t; number = n; first = a.first; width = a.width; item = a.item; kind = a.kind; value = a.value })
+    (same_flag a.is_buffer b.is_buffer r1.0) (eqb-true a.number b.number r2.0)
+    ∙ ap₂ (λ (f w : ℕ). record { is_buffer = b.is_buffer; number = b.number; first = f; width = w; item = a.item; kind = a.kind; value = a.value })
+    (eqb-true a.first b.first r3.0) (eqb-true a.width b.width r4.0)
+    ∙ ap₂ (λ (i k : ℕ). record { is_buffer = b.is_buffer; number = b.number; first = b.first; width = b.width; item = i; kind = k; value = a.value })
+    (eqb-true a.item b.item r5.0) (eqb-true a.kind b.kind r6.0)
+    ∙ ap (λ (v : ℕ). record { is_buffer = b.is_buffer; number = b.number; first = b.first; width = b.width; item = b.item; kind = b.kind; value = v })
+    (eqb-true a.value b.value r6.1)
+
+one_cell : (a b : CellKey) → same_cell a b ≡ true → a ≡ b
+one_cell a b h =
+    let r = and_parts (beq a.is_buffer b.is_buffer) ((a.number == b.number) && (a.cell == b.cell)) h in
+    let s = and_parts (a.number == b.number) (a.cell == b.cell) r.1 in
+    ap₂ (λ (t : Bool) (n : ℕ). record { is_buffer = t; number = n; cell = a.cell }) (same_flag a.is_buffer b.is_buffer r.0) (eqb-true a.number b.number s.0)
+    ∙ ap (λ (c : ℕ). record { is_buffer = b.is_buffer; number = b.number; cell = c }) (eqb-true a.cell b.cell s.1)
+
+-- where cells start, once one more is added
+pub start_kept :
+    {S : Type 0} (m n : HashMap CellKey ℕ S) (key : CellKey) → get same_cell m key ≡ None → ((q : CellKey) → same_cell key q ≡ false → get same_cell n q ≡ get same_cell m q)
+    → (q : CellKey) (s : ℕ) → get same_cell m q ≡ Some s → get same_cell n q ≡ Some s
+start_kept m n key none others q s e =
+    decided (same_cell key q)
+    (λ t. absurd (none-some s (sym none ∙ ap (get same_cell m) (one_cell key q t) ∙ e)))
+    (λ t. others q t ∙ e)
+
+pub start_inside :
+    {S : Type 0} (m n : HashMap CellKey ℕ S) (key : CellKey) (start : ℕ) → get same_cell n key ≡ Some start → ((q : CellKey) → same_cell key q ≡ false → get same_cell n q ≡ get same_cell m q)
+    → (long : ℕ) → start + 2 ≤ long → ((q : CellKey) (s : ℕ) → get same_cell m q ≡ Some s → s + 2 ≤ long) → (q : CellKey) (s : ℕ) → get same_cell n q ≡ Some s → s + 2 ≤ long
+start_inside m n key start own others long end inside q s e =
+    decided (same_cell key q)
+    (λ t. subst (λ j. j + 2 ≤ long) (same_Some start s (sym own ∙ ap (get same_cell n) (one_cell key q t) ∙ e)) end)
+    (λ t. inside q s (sym (others q t) ∙ e))
 
 -- the places of keys, once that of an access is added, and once the access is
 pub below_kept :

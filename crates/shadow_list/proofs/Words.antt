@@ -1,5 +1,5 @@
 -- What is kept of the bytes of words.
-use Rattle.std.proofs.Common.{◌≡◌, ℕ, zero, suc, ◌+◌, ◌-◌, ◌*◌, ◌/◌, ◌%◌, ◌^◌, ◌<◌, ◌≤◌, ◌⊎◌, nat_eq, Some, List, [], ◌∷◌, ◌++◌, length, set, refl, sym, ap, ◌∙◌, subst, inl, inr, arith}
+use Rattle.std.proofs.Common.{◌≡◌, ℕ, zero, suc, ◌+◌, ◌-◌, ◌*◌, ◌/◌, ◌%◌, ◌^◌, ◌<◌, ◌≤◌, ◌⊎◌, Some, List, [], ◌∷◌, ◌++◌, length, set, refl, sym, ap, ◌∙◌, subst, inl, inr, arith}
 use Rattle.std.specs.Prelude.{slice_index_or}
 use Rattle.std.specs.HashMap.{HashMap, get}
 use Rattle.std.proofs.lemmas.Bool.{cases_eq, cases_lt}
@@ -9,8 +9,10 @@ use Rattle.clmodel.specs.Cells.{byte_of}
 use Rattle.clmodel.specs.Launch.{left_at}
 use Rattle.clmodel.specs.declared.access.Access.{Access}
 use Rattle.clmodel.specs.declared.access.Region.{Region}
-use Rattle.shadow_list.specs.Cells.{cell_key, in_cell}
+use Rattle.shadow_list.specs.Cells.{in_cell}
+use Rattle.shadow_list.specs.Keys.{cell_key, same_cell}
 use Rattle.shadow_list.specs.Recent.{nothing, Describes, how_part, part_of, word_left, in_word, no_word, at_place, IsInside}
+use Rattle.shadow_list.specs.declared.keys.CellKey.{CellKey}
 use Rattle.shadow_list.specs.declared.recent.How.{How}
 use Rattle.shadow_list.specs.declared.recent.How.TheVariants as how
 use Rattle.shadow_list.specs.declared.recent.Recent.{Recent}
@@ -108,6 +110,13 @@ word_kept words old new place w l same f p k y byte b d = go (cases_eq p place)
     go (inr ne) =
         subst (λ v. Describes (in_word new v k) y byte) (sym (get_or-set_other words place p w no_word ne)) (parts_kept old new same (slice_index_or words p no_word) k y byte d)
 
+-- what is kept at each place stays where a word is added to which no access was made
+pub pushed_word : (words : List Word) (place : ℕ) → slice_index_or (words ++ no_word ∷ []) place no_word ≡ slice_index_or words place no_word
+pushed_word [] zero = refl
+pushed_word [] (suc place) = refl
+pushed_word (w ∷ words) zero = refl
+pushed_word (w ∷ words) (suc place) = pushed_word words place
+
 -- ---- a word that is read
 
 pub read_inside :
@@ -156,8 +165,8 @@ next_word first here count byte a b lo hi =
 
 -- what is kept of a byte of a cell is what is kept of it in its word
 pub at_byte :
-    {S : Type 0} (P : Recent → Type 0) (m : HashMap ℕ ℕ S) (words : List Word) (apart : List Recent) (r : Region) (first count byte start place : ℕ)
-    → first % 8 + count ≤ 8 → first ≤ byte → byte < first + count → get nat_eq m (cell_key r first) ≡ Some start → start + byte % 8 / 4 ≡ place
-    → P (at_place words apart place (byte % 4)) → P (in_cell words apart (byte % 8) (get nat_eq m (cell_key r byte)))
+    {S : Type 0} (P : Recent → Type 0) (m : HashMap CellKey ℕ S) (words : List Word) (apart : List Recent) (r : Region) (first count byte start place : ℕ)
+    → first % 8 + count ≤ 8 → first ≤ byte → byte < first + count → get same_cell m (cell_key r first) ≡ Some start → start + byte % 8 / 4 ≡ place
+    → P (at_place words apart place (byte % 4)) → P (in_cell words apart (byte % 8) (get same_cell m (cell_key r byte)))
 at_byte P m words apart r first count byte start place one lo hi there e p =
     subst P (ap (λ q. at_place words apart q (byte % 4)) (sym e) ∙ sym (at_start m words apart r first count byte start one lo hi there)) p

@@ -1,5 +1,6 @@
 pub mod Cells
 pub mod Index
+pub mod Keys
 pub mod Kinds
 pub mod Log
 pub mod Past

@@ -1,4 +1,5 @@
--- Access logs: what is kept of the accesses of a group's work-items, and which of them conflict (OpenCL 1.2, 3.3.1, 6.12.8; own in the log).
+-- Access logs: what is kept of the accesses of a group's work-items, and which of them conflict (OpenCL 1.2, 3.3.1,
+-- 6.12.8; own in the log).
 use Rattle.std.specs.Prelude.{◌≡◌, ℕ, zero, suc, ◌+◌, ◌<◌, ◌^◌, ◌⊎◌, Bool, true, false, Option, None, List, [], ◌∷◌, ◌++◌, Result, Ok, Err, if◌then◌else◌}
 use Rattle.std.specs.Option.{option_map}
 use Rattle.std.specs.declared.alloc.AllocError.{AllocError}
@@ -23,7 +24,8 @@ pub record Log : Type 0 where
   pub global_interval : ℕ
   pub uniform : Bool
 
--- what a log is given of an item's operation at the bytes from `first` on: it gives the access its interval itself (own)
+-- what a log is given of an item's operation at the bytes from `first` on: it gives the access its interval itself
+-- (own)
 abbrev pub entry_of : ℕ → Region → ℕ → Operation → ℕ → Entry
 entry_of item region first operation event = record { access = access_in item region first operation 0; event = event }
 
@@ -46,7 +48,8 @@ abbrev pub hit_from : Rule → Entry → List Entry → ℕ → ℕ → Option H
 hit_from rule x log byte zero = None
 hit_from rule x log byte (suc count) = or_else (hit_on rule x byte log) (hit_from rule x log (suc byte) count)
 
--- the conflict of an access with a log: on its lowest byte that has one, there with the earliest access (3.3.1, own in which)
+-- the conflict of an access with a log: on its lowest byte that has one, there with the earliest access (3.3.1, own in
+-- which)
 unfoldable pub hit : Rule → Entry → List Entry → Option Hit
 hit rule x log = hit_from rule x log x.access.first (byte_count x.access.width)
 
@@ -63,7 +66,8 @@ IsKept log x new = (IsThere log x.access × (new ≡ log)) ⊎ (new ≡ log ++ x
 abbrev pub IsKeptOnce : List Entry → Entry → List Entry → Type 0
 IsKeptOnce log x new = (IsThere log x.access × (new ≡ log)) ⊎ ((IsThere log x.access → ⊥) × (new ≡ log ++ x ∷ []))
 
--- what a new access leaves of the log of its group, and the conflict that it answers (3.3.1, 6.12.8, own in what is kept)
+-- what a new access leaves of the log of its group, and the conflict that it answers (3.3.1, 6.12.8, own in what is
+-- kept)
 abbrev pub IsNoted : Log → Entry → Log → Result (Option Hit) AllocError → Type 0
 IsNoted old x new (Ok found) =
     (found ≡ hit (within_group old.uniform) (stamped old x) old.accesses) × IsKept old.accesses (stamped old x) new.accesses
@@ -85,7 +89,8 @@ abbrev pub in_buffer : Region → Bool
 in_buffer (region.Buffer number) = true
 in_buffer (region.Local group number) = false
 
--- the conflict of the first access of another group's log that has one with a log: only buffers are shared between groups (6.5.2)
+-- the conflict of the first access of another group's log that has one with a log: only buffers are shared between
+-- groups (6.5.2)
 abbrev pub across : Bool → List Entry → List Entry → Option Hit
 across uniform log [] = None
 across uniform log (x ∷ later) = or_else (if in_buffer x.access.region then hit (across_groups uniform) x log else None) (across uniform log later)

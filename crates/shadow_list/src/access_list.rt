@@ -5,9 +5,9 @@ ghost use Rattle.shadow_list.specs.Log.{IsPlaced, logged};
 
 use crate::log::{Accesses, Entry, Logged};
 
-/// The accesses of a log in their order, with the numbers of its running intervals and whether the launch is uniform. It takes some 56 bytes
-/// for each access, and is asked by place alone. A result that waits to be joined has the accesses alone that tell other groups something
-/// new; this list has all of them.
+/// The accesses of a log in their order, with the numbers of its running intervals and whether the launch is uniform.
+/// It takes some 56 bytes for each access, and is asked by place alone. A result that waits to be joined has the
+/// accesses alone that tell other groups something new; this list has all of them.
 #[derive(Drop)]
 pub struct AccessList {
     pub(crate) entries: Vec<Entry>,

@@ -7,6 +7,7 @@ ghost use Rattle.shadow_list.specs.Log.{IsPlaced, hit_between};
 
 use crate::kinds::{both_store, clash};
 use crate::log::{Entry, Hit};
+use crate::sizes::{BYTE_BITS, BYTE_VALUES, VALUE_BYTES};
 use clmodel::access::{Access, Clash, Region, Rule};
 
 /// Whether two regions are one.
@@ -55,8 +56,8 @@ fn share(x: &Access, y: &Access, byte: u64) -> bool
 pub(crate) fn byte_of(k: u64, value: u64) -> u8
     ensures { result ≡ byte_of k value }
 {
-    if k < 8 {
-        ((value >> (8 * k)) % 256) as u8
+    if k < VALUE_BYTES {
+        ((value >> (BYTE_BITS * k)) % BYTE_VALUES) as u8
     } else {
         0
     }

@@ -1,49 +1,27 @@
 //! Where the accesses of a log are, and what of them is kept at each byte.
 
-ghost use Rattle.std.specs.Prelude.{◌≡◌, ◌+◌, ◌*◌, ◌<◌, ◌≤◌, ◌^◌, ℕ, length, [], ◌∷◌, ◌++◌, if◌then◌else◌, All, IsTrue, is_ok, false, true, drop, nat_eq};
+ghost use Rattle.std.specs.Prelude.{◌≡◌, ◌+◌, ◌*◌, ◌<◌, ◌≤◌, ◌^◌, ℕ, length, [], ◌∷◌, ◌++◌, if◌then◌else◌, All, IsTrue, is_ok, false, true, drop};
 ghost use Rattle.std.specs.HashMap.{get, IsEmpty};
 ghost use Rattle.clmodel.specs.Cells.{byte_count};
 ghost use Rattle.clmodel.specs.Launch.{within_group};
-ghost use Rattle.shadow_list.specs.Cells.{cell_key};
-ghost use Rattle.shadow_list.specs.Index.{access_key, newest_of, IsIndexed};
+ghost use Rattle.shadow_list.specs.Index.{newest_of, IsIndexed};
+ghost use Rattle.shadow_list.specs.Keys.{cell_key, same_cell};
 ghost use Rattle.shadow_list.specs.Log.{IsPlaced, IsThere, hit};
 
 use crate::cells::Cells;
-use crate::kinds::kind_number;
+use crate::keys::{AccessKey, access_key};
 use crate::log::{Entry, Hit};
-use crate::marks::object;
 use crate::search::{hit, is_among, is_same};
 use clmodel::access::{Access, Rule};
 use std::alloc::{AllocError, Global};
 use std::collections::HashMap;
 
-/// The key of an access, which no other has of its group and its interval: as long as buffers and local objects have at most 2^24 bytes,
-/// groups at most 2^16 items, and a launch at most 2^15 buffers and 2^15 local objects.
-#[derive(Clone, Copy, PartialEq, Eq, Hash)]
-pub(crate) struct AccessKey {
-    /// Of the item, the region, the first byte, the width and the kind.
-    pub(crate) place: u64,
-    pub(crate) value: u64,
-}
-
-/// The place of the newest access of each key in a log, and what is kept of the accesses at each byte. A place counts the accesses up
-/// to one and with it, and 0 stands for none.
+/// The place of the newest access of each key in a log, and what is kept of the accesses at each byte. A place counts
+/// the accesses up to one and with it, and 0 stands for none.
 #[derive(Drop)]
 pub(crate) struct Index {
     pub(crate) newest: HashMap<AccessKey, usize>,
     pub(crate) cells: Cells,
-}
-
-/// The key of an access.
-fn access_key(x: &Access) -> AccessKey
-    ensures { result ≡ access_key x.now }
-{
-    let start = x.first % 16777216 * 65536 + (x.item % 65536) as u64;
-    let kind = kind_number(x.kind) as u64 * 16 + x.width.bytes();
-    AccessKey {
-        place: start * 16777216 + object(x.region) * 256 + kind,
-        value: x.value,
-    }
 }
 
 impl Index {
@@ -81,8 +59,8 @@ impl Index {
     }
 }
 
-/// The conflict of an access with those of a log from a place on, by where the cell of its first byte starts, in a launch that is uniform
-/// or not. Only where there may be one are all of them walked.
+/// The conflict of an access with those of a log from a place on, by where the cell of its first byte starts, in a
+/// launch that is uniform or not. Only where there may be one are all of them walked.
 pub(crate) fn hit_from(
     uniform: bool,
     x: &Entry,
@@ -95,7 +73,7 @@ pub(crate) fn hit_from(
     requires all_placed { All IsPlaced log.now }
     requires indexed { IsIndexed log.now index.now }
     requires within { from ≤ length log.now }
-    requires found { cell ≡ get nat_eq index.now.cells.starts (cell_key x.now.access.region x.now.access.first) }
+    requires found { cell ≡ get same_cell index.now.cells.starts (cell_key x.now.access.region x.now.access.first) }
     ensures { result ≡ hit (within_group uniform) x.now (drop from log.now) }
 {
     if index.cells.is_clear(cell, uniform, &x.access) {
@@ -105,7 +83,8 @@ pub(crate) fn hit_from(
     }
 }
 
-/// Whether an access is in a log, among those from a place on. Only where another access has its key are all of them walked.
+/// Whether an access is in a log, among those from a place on. Only where another access has its key are all of them
+/// walked.
 pub(crate) fn is_there(x: &Entry, log: &[Entry], index: &Index, from: usize) -> bool
     requires indexed { IsIndexed log.now index.now }
     requires within { from ≤ length log.now }
@@ -124,7 +103,8 @@ pub(crate) fn is_there(x: &Entry, log: &[Entry], index: &Index, from: usize) -> 
     is_among(&x.access, &log[from..])
 }
 
-/// Adds an access to a log and to its index, by where the cell of its first byte starts. Where memory is refused the log stays.
+/// Adds an access to a log and to its index, by where the cell of its first byte starts. Where memory is refused the
+/// log stays.
 pub(crate) fn keep(
     log: &mut Vec<Entry>,
     index: &mut Index,
@@ -132,7 +112,7 @@ pub(crate) fn keep(
     cell: Option<usize>,
 ) -> Result<(), AllocError>
     requires placed { IsPlaced entry }
-    requires found { cell ≡ get nat_eq index.old.cells.starts (cell_key entry.access.region entry.access.first) }
+    requires found { cell ≡ get same_cell index.old.cells.starts (cell_key entry.access.region entry.access.first) }
     requires indexed { IsIndexed log.old.items index.old }
     ensures items { log.new.items ≡ (if is_ok result then log.old.items ++ entry ∷ [] else log.old.items) }
     ensures indexed { IsIndexed log.new.items index.new }

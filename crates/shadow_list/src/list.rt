@@ -13,18 +13,20 @@ use crate::search::hit;
 use clmodel::access::{Access, Region, Rule};
 use std::alloc::{AllocError, Global};
 
-/// A log with an index: for each word of four bytes, or for each byte of a word that was accessed in part, whose its accesses were in its
-/// newest interval and of which kind, and for each access where the newest equal one stands. So a new access costs three look-ups in hash
-/// tables, or two where an equal one is there, up to four more where it lies in two cells of eight bytes or is the first of one, and a step
-/// or two for each of its words, or of its bytes in a word that was accessed in part, however many items access the same bytes: where nothing
-/// has conflicted yet, all accesses of a byte in an interval are of one item or of one kind. Nothing is written where an equal access is
-/// there, nor at a word that was accessed by several items in the same way. The index takes some 80 bytes for each cell that was accessed,
-/// some 80 more for each word that was accessed in part, and some 30 for each entry.
+/// A log with an index: for each word of four bytes, or for each byte of a word that was accessed in part, whose its
+/// accesses were in its newest interval and of which kind, and for each access where the newest equal one stands. So a
+/// new access costs three look-ups in hash tables, or two where an equal one is there, up to four more where it lies in
+/// two cells of eight bytes or is the first of one, and a step or two for each of its words, or of its bytes in a word
+/// that was accessed in part, however many items access the same bytes: where nothing has conflicted yet, all accesses
+/// of a byte in an interval are of one item or of one kind. Nothing is written where an equal access is there, nor at a
+/// word that was accessed by several items in the same way. The index takes some 80 bytes for each cell that was
+/// accessed, some 80 more for each word that was accessed in part, and some 30 for each entry.
 ///
-/// A launch that runs keeps its groups' accesses in logs without a list of them, and joins the groups by those accesses alone that tell other
-/// groups something new. This list, of all of them, is for results that are merged whole: `get`, `len` and `conflicts_with` ask it. `note`
-/// reads one entry of it at most, that of the same key: but where an access may conflict, all entries since the barrier are walked for the
-/// exact answer, which ends a launch where there is a conflict. `fence` and `cleared` read none.
+/// A launch that runs keeps its groups' accesses in logs without a list of them, and joins the groups by those accesses
+/// alone that tell other groups something new. This list, of all of them, is for results that are merged whole: `get`,
+/// `len` and `conflicts_with` ask it. `note` reads one entry of it at most, that of the same key: but where an access
+/// may conflict, all entries since the barrier are walked for the exact answer, which ends a launch where there is a
+/// conflict. `fence` and `cleared` read none.
 #[derive(Drop)]
 pub struct ListLog {
     entries: Vec<Entry>,
@@ -48,7 +50,8 @@ pub struct ListLog {
 }
 
 impl ListLog {
-    /// A log without accesses, in the first interval of both address spaces, of a launch that is uniform or not. It takes no memory.
+    /// A log without accesses, in the first interval of both address spaces, of a launch that is uniform or not. It
+    /// takes no memory.
     pub fn new(alloc: Global, uniform: bool) -> Self
         ensures { logged result.entries.items result.local_interval result.global_interval result.uniform ≡ fresh_log uniform }
     {
@@ -75,8 +78,9 @@ impl ListLog {
         self.index.clear();
     }
 
-    /// A log without accesses, in the first interval of both address spaces, of the same launch and in the memory of this one. The memory
-    /// is given back where less than an eighth of it was in use: to clear it takes time in proportion to all of it.
+    /// A log without accesses, in the first interval of both address spaces, of the same launch and in the memory of
+    /// this one. The memory is given back where less than an eighth of it was in use: to clear it takes time in
+    /// proportion to all of it.
     pub fn cleared(self, alloc: Global) -> Self
         ensures { logged result.entries.items result.local_interval result.global_interval result.uniform ≡ fresh_log self.uniform }
     {
@@ -88,8 +92,9 @@ impl ListLog {
         log
     }
 
-    /// The accesses of the log alone, for a result that is kept and asked for all of them: the join of running groups asks for fewer. The index
-    /// is given back, and memory to spare too, where the smaller block isn't refused: nothing is lost where it is.
+    /// The accesses of the log alone, for a result that is kept and asked for all of them: the join of running groups
+    /// asks for fewer. The index is given back, and memory to spare too, where the smaller block isn't refused: nothing
+    /// is lost where it is.
     pub fn into_list(self) -> AccessList
         ensures { logged result.entries.items result.local_interval result.global_interval result.uniform ≡ logged self.entries.items self.local_interval self.global_interval self.uniform }
     {
@@ -121,8 +126,8 @@ impl ListLog {
         }
     }
 
-    /// From where on the entries are that an access of a region can conflict with or be equal to: none before is of its address
-    /// space and of the running interval there.
+    /// From where on the entries are that an access of a region can conflict with or be equal to: none before is of its
+    /// address space and of the running interval there.
     fn first(&self, region: Region) -> usize
         ensures within { result ≤ length self.now.entries.items }
         ensures past { All (IsBefore (in_buffer region) (by_region region self.now.global_interval self.now.local_interval)) (take result self.now.entries.items) }
@@ -133,7 +138,8 @@ impl ListLog {
         }
     }
 
-    /// The conflict with the log of a later group of the launch, of its first access that has one: a walk over all pairs.
+    /// The conflict with the log of a later group of the launch, of its first access that has one: a walk over all
+    /// pairs.
     pub fn conflicts_with<M: Accesses>(&self, later: &M) -> Option<Hit>
         requires { (M.Logged.log later.now).uniform ≡ self.now.uniform }
         ensures { result ≡ across self.now.uniform self.now.entries.items (M.Logged.log later.now).accesses }

@@ -14,8 +14,8 @@ pub struct Entry {
 }
 
 impl Entry {
-    /// What a log is given of an item's operation at the bytes of a region from `first` on. Its interval is 0, in place of which the
-    /// log puts the running one.
+    /// What a log is given of an item's operation at the bytes of a region from `first` on. Its interval is 0, in place
+    /// of which the log puts the running one.
     pub fn of(item: u32, region: Region, first: u64, operation: Operation, event: u32) -> Self
         ensures { result ≡ entry_of item region first operation event }
     {
@@ -48,8 +48,8 @@ pub enum Fenced {
     Global,
 }
 
-/// What is seen as the accesses of a group in their order, the oldest first, with the numbers of the running intervals and whether the launch
-/// is uniform. It need not keep all of them.
+/// What is seen as the accesses of a group in their order, the oldest first, with the numbers of the running intervals
+/// and whether the launch is uniform. It need not keep all of them.
 pub trait Logged {
     ghost log: { Self → Log };
 }
@@ -69,9 +69,9 @@ pub trait Accesses: Logged {
 
 /// A log of the accesses of a group, which finds the conflicts of a new one (OpenCL 1.2, sections 3.3.1 and 6.12.8).
 pub trait AccessLog: Logged {
-    /// Judges a new access, which is one of the log's accesses then: at the end, or left out where an equal one is there. The access gets the
-    /// running interval of its address space. The conflict answered is that on the lowest byte, there with the earliest access. An error is out
-    /// of memory, and changes nothing.
+    /// Judges a new access, which is one of the log's accesses then: at the end, or left out where an equal one is
+    /// there. The access gets the running interval of its address space. The conflict answered is that on the lowest
+    /// byte, there with the earliest access. An error is out of memory, and changes nothing.
     fn note(&mut self, entry: Entry) -> Result<Option<Hit>, AllocError>
         requires { IsPlaced entry }
         ensures { IsNoted (Self.log self.old) entry (Self.log self.new) result };

@@ -1,48 +1,65 @@
 //! How the bytes of each cell were accessed last: what is kept, and what it tells of a new access.
 
-ghost use Rattle.std.specs.Prelude.{◌≡◌, ◌+◌, ◌*◌, ◌/◌, ◌%◌, ◌<◌, ◌≤◌, ◌^◌, ℕ, true, length, Some, nat_eq, slice_index_or, IsTrue, OnOk, IfOk, IfSome};
+ghost use Rattle.std.specs.Prelude.{◌≡◌, ◌+◌, ◌*◌, ◌/◌, ◌%◌, ◌<◌, ◌≤◌, ◌^◌, ℕ, true, length, None, Some, slice_index_or, IsTrue, OnOk, IfOk, IfSome};
 ghost use Rattle.std.specs.HashMap.{get};
 ghost use Rattle.clmodel.specs.Cells.{byte_count};
 ghost use Rattle.clmodel.specs.Launch.{within_group, conflict_between};
 ghost use Rattle.clmodel.specs.declared.access.Access.{Access as TheAccess};
 ghost use Rattle.shadow_list.specs.Recent.{Describes, at_place, no_word};
-ghost use Rattle.shadow_list.specs.Cells.{object, cell_key, cell_of, IsMarked, Passes, KeepsAll, KeepsWords};
+ghost use Rattle.shadow_list.specs.Cells.{cell_of, IsMarked, Passes, KeepsAll, KeepsWords};
+ghost use Rattle.shadow_list.specs.Keys.{cell_key, same_cell};
+ghost use Rattle.shadow_list.specs.declared.keys.CellKey.{CellKey as TheCellKey};
 
 use crate::cells::Cells;
+use crate::keys::{CellKey, cell_key};
 use crate::recent::Recent;
+use crate::sizes::{CELL_BYTES, WORD_BYTES};
 use crate::word::{Word, add, word_left};
 use clmodel::access::{Access, Region};
 use std::alloc::AllocError;
+use std::collections::HashMap;
 
-/// The number of a memory object among buffers and local objects, up to multiples of 2^15 of each.
-pub fn object(region: Region) -> u64
-    ensures value { result ≡ object region }
-    ensures short { result < 2 ^ 16 }
+/// Adds the words of a cell, to which no access was made. Where memory is refused one may be added.
+#[tactic(auto, using(crate::proofs::Words::pushed_word))]
+fn add_words(words: &mut Vec<Word>) -> Result<(), AllocError>
+    ensures long { OnOk result (length words.new.items ≡ length words.old.items + 2) }
+    ensures longer { length words.old.items ≤ length words.new.items }
+    ensures same { (place : ℕ) → slice_index_or words.new.items place no_word ≡ slice_index_or words.old.items place no_word }
 {
-    match region {
-        Region::Buffer(number) => (number % 32768) as u64 * 2,
-        Region::Local { group: _, number } => (number % 32768) as u64 * 2 + 1,
-    }
+    words.push(Word::Whole(Recent::nothing()))?;
+    words.push(Word::Whole(Recent::nothing()))?;
+    Ok(())
 }
 
-/// The key of the cell of a byte.
-fn cell_key(region: Region, byte: u64) -> u64
-    ensures { result ≡ cell_key region byte }
+/// Adds where the words of a cell start that isn't there. Where memory is refused nothing is added.
+fn add_start(
+    starts: &mut HashMap<CellKey, usize>,
+    key: CellKey,
+    start: usize,
+) -> Result<(), AllocError>
+    requires { get same_cell starts.old key ≡ None }
+    ensures there { OnOk result (get same_cell starts.new key ≡ Some start) }
+    ensures kept { (q : TheCellKey) (s : ℕ) → get same_cell starts.old q ≡ Some s → get same_cell starts.new q ≡ Some s }
+    ensures inside { (long : ℕ) → start + 2 ≤ long → ((q : TheCellKey) (s : ℕ) → get same_cell starts.old q ≡ Some s → s + 2 ≤ long) → (q : TheCellKey) (s : ℕ) → get same_cell starts.new q ≡ Some s → s + 2 ≤ long }
 {
-    byte / 8 % 281474976710656 * 65536 + object(region)
+    match starts.insert(key, start) {
+        Ok(_) => Ok(()),
+        Err(_) => Err(AllocError),
+    }
 }
 
 impl Cells {
     /// Where the words of the cell of a byte start, if it is there.
     pub fn found(&self, region: Region, byte: u64) -> Option<usize>
-        ensures { result ≡ get nat_eq self.now.starts (cell_key region byte) }
+        ensures { result ≡ get same_cell self.now.starts (cell_key region byte) }
     {
         self.starts.get(&cell_key(region, byte)).copied()
     }
 
-    /// Whether an access passes the accesses to some bytes of one cell, by where that starts, in a launch that is uniform or not.
+    /// Whether an access passes the accesses to some bytes of one cell, by where that starts, in a launch that is
+    /// uniform or not.
     fn passes(&self, cell: Option<usize>, uniform: bool, x: &Access, first: u64, count: u64) -> bool
-        requires found { cell ≡ get nat_eq self.now.starts (cell_key x.now.region first) }
+        requires found { cell ≡ get same_cell self.now.starts (cell_key x.now.region first) }
         requires one_cell { first % 8 + count ≤ 8 }
         requires short { first + count < 2 ^ 64 }
         requires after { x.now.first ≤ first }
@@ -51,8 +68,8 @@ impl Cells {
         match cell {
             None => true,
             Some(start) => {
-                let here = count.min(4 - first % 4);
-                let word = &self.words[start + (first % 8 / 4) as usize];
+                let here = count.min(WORD_BYTES - first % WORD_BYTES);
+                let word = &self.words[start + (first % CELL_BYTES / WORD_BYTES) as usize];
                 let next = &self.words[start + 1];
                 word.passes(&self.apart, uniform, x, first, here)
                     && (here == count
@@ -71,37 +88,36 @@ impl Cells {
         self.passes(self.found(x.region, first), uniform, x, first, count)
     }
 
-    /// Whether an access conflicts with none of those that are kept, by where the cell of its first byte starts, in a launch that is
-    /// uniform or not.
+    /// Whether an access conflicts with none of those that are kept, by where the cell of its first byte starts, in a
+    /// launch that is uniform or not.
     pub fn is_clear(&self, cell: Option<usize>, uniform: bool, x: &Access) -> bool
         requires short { x.now.first + byte_count x.now.width < 2 ^ 64 }
-        requires found { cell ≡ get nat_eq self.now.starts (cell_key x.now.region x.now.first) }
+        requires found { cell ≡ get same_cell self.now.starts (cell_key x.now.region x.now.first) }
         ensures { IsTrue result → (y : TheAccess) (byte : ℕ) → IsMarked self.now y → conflict_between (within_group uniform) y x.now byte ≡ None }
     {
         let count = x.width.bytes();
-        let here = count.min(8 - x.first % 8);
+        let here = count.min(CELL_BYTES - x.first % CELL_BYTES);
         self.passes(cell, uniform, x, x.first, here)
             && (here == count || self.next_passes(uniform, x, here, count - here))
     }
 
     /// Where the words of the cell of a byte start, which is made if it isn't there.
     fn start(&mut self, cell: Option<usize>, region: Region, byte: u64) -> Result<usize, AllocError>
-        requires { cell ≡ get nat_eq self.old.starts (cell_key region byte) }
+        requires { cell ≡ get same_cell self.old.starts (cell_key region byte) }
         ensures same { KeepsAll self.old self.new }
-        ensures there { IfOk result (λ start. get nat_eq self.new.starts (cell_key region byte) ≡ Some start) }
+        ensures there { IfOk result (λ start. get same_cell self.new.starts (cell_key region byte) ≡ Some start) }
     {
         if let Some(start) = cell {
             return Ok(start);
         }
         let start = self.words.len();
-        self.words
-            .resize(start + 2, Word::Whole(Recent::nothing()))?;
-        self.starts.insert(cell_key(region, byte), start)?;
+        add_words(&mut self.words)?;
+        add_start(&mut self.starts, cell_key(region, byte), start)?;
         Ok(start)
     }
 
-    /// Where what is kept of the bytes of the word at a place stands apart. Until it does, it is what is kept of all of them. Where memory is
-    /// refused all stays.
+    /// Where what is kept of the bytes of the word at a place stands apart. Until it does, it is what is kept of all of
+    /// them. Where memory is refused all stays.
     fn split(&mut self, place: usize) -> Result<usize, AllocError>
         requires { place < length self.old.words.items }
         ensures kept { KeepsWords self.old self.new }
@@ -136,7 +152,8 @@ impl Cells {
         self.words[place] = Word::Whole(all.with(x, left));
     }
 
-    /// Adds an access to those of so many bytes of the word at a place, from the first on, each of which stands apart from then on.
+    /// Adds an access to those of so many bytes of the word at a place, from the first on, each of which stands apart
+    /// from then on.
     #[inline(never)]
     fn mark_bytes(
         &mut self,
@@ -173,7 +190,7 @@ impl Cells {
     {
         let word = self.words[place];
         match word {
-            Word::Whole(all) if count == 4 => {
+            Word::Whole(all) if count == WORD_BYTES => {
                 self.mark_whole(place, all, x, first);
                 Ok(())
             }
@@ -189,7 +206,7 @@ impl Cells {
         first: u64,
         count: u64,
     ) -> Result<(), AllocError>
-        requires found { cell ≡ get nat_eq self.old.starts (cell_key x.now.region first) }
+        requires found { cell ≡ get same_cell self.old.starts (cell_key x.now.region first) }
         requires one_cell { first % 8 + count ≤ 8 }
         requires short { first + count < 2 ^ 64 }
         requires after { x.now.first ≤ first }
@@ -197,8 +214,13 @@ impl Cells {
         ensures added { OnOk result ((byte : ℕ) → first ≤ byte → byte < first + count → Describes (cell_of self.new x.now.region byte) x.now byte) }
     {
         let start = self.start(cell, x.region, first)?;
-        let here = count.min(4 - first % 4);
-        self.mark_word(start + (first % 8 / 4) as usize, x, first, here)?;
+        let here = count.min(WORD_BYTES - first % WORD_BYTES);
+        self.mark_word(
+            start + (first % CELL_BYTES / WORD_BYTES) as usize,
+            x,
+            first,
+            here,
+        )?;
         if here == count {
             return Ok(());
         }
@@ -208,12 +230,12 @@ impl Cells {
     /// Keeps an access, by where the cell of its first byte starts. Where memory is refused a part of it may be kept.
     pub fn mark(&mut self, cell: Option<usize>, x: &Access) -> Result<(), AllocError>
         requires short { x.now.first + byte_count x.now.width < 2 ^ 64 }
-        requires found { cell ≡ get nat_eq self.old.starts (cell_key x.now.region x.now.first) }
+        requires found { cell ≡ get same_cell self.old.starts (cell_key x.now.region x.now.first) }
         ensures kept { (y : TheAccess) → IsMarked self.old y → IsMarked self.new y }
         ensures added { OnOk result (IsMarked self.new x.now) }
     {
         let count = x.width.bytes();
-        let here = count.min(8 - x.first % 8);
+        let here = count.min(CELL_BYTES - x.first % CELL_BYTES);
         self.mark_part(cell, x, x.first, here)?;
         if here < count {
             let next = self.found(x.region, x.first + here);

@@ -138,8 +138,9 @@ impl Recent {
         }
     }
 
-    /// Whether an access that leaves a number conflicts with none of them, in a launch that is uniform or not: it is of a later interval, all
-    /// are of its own item, all are of one kind that agrees with its own, or all are stores that leave what it leaves.
+    /// Whether an access that leaves a number conflicts with none of them, in a launch that is uniform or not: it is of
+    /// a later interval, all are of its own item, all are of one kind that agrees with its own, or all are stores that
+    /// leave what it leaves.
     pub(crate) fn passes(self, uniform: bool, x: &Access, left: u32) -> bool
         ensures { IsTrue result → (part : ℕ → ℕ) (byte : ℕ) → left_at x.now byte ≡ part left → Passes uniform (part_of part self) x.now byte }
     {

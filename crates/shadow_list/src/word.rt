@@ -7,6 +7,7 @@ ghost use Rattle.shadow_list.specs.Recent.{word_left, in_word, nothing, Describe
 
 use crate::compare::left_at;
 use crate::recent::Recent;
+use crate::sizes::{BYTE_BITS, VALUE_BYTES, WORD_BYTES, WORD_VALUES};
 use clmodel::access::Access;
 
 /// What is kept of the accesses to the four bytes of a word.
@@ -22,8 +23,8 @@ pub(crate) enum Word {
 fn four_from(k: u64, value: u64) -> u32
     ensures { result ≡ value / 256 ^ k % 2 ^ 32 }
 {
-    if k < 8 {
-        ((value >> (8 * k)) % 4294967296) as u32
+    if k < VALUE_BYTES {
+        ((value >> (BYTE_BITS * k)) % WORD_VALUES) as u32
     } else {
         0
     }
@@ -66,7 +67,7 @@ impl Word {
     {
         for byte in first..first + count {
             let left = left_at(x, byte) as u32;
-            if !self.byte(apart, byte % 4).passes(uniform, x, left) {
+            if !self.byte(apart, byte % WORD_BYTES).passes(uniform, x, left) {
                 return false;
             }
         }
@@ -89,13 +90,14 @@ impl Word {
         ensures { IsTrue result → (byte : ℕ) → first ≤ byte → byte < first + count → Passes uniform (in_word apart.now self.now (byte % 4)) x.now byte }
     {
         match *self {
-            Word::Whole(all) if count == 4 => all.passes(uniform, x, word_left(x, first)),
+            Word::Whole(all) if count == WORD_BYTES => all.passes(uniform, x, word_left(x, first)),
             _ => self.bytes_pass(apart, uniform, x, first, count),
         }
     }
 }
 
-/// Adds an access to those of so many bytes of a word, from the first on, of whose bytes is kept what stands from a place on.
+/// Adds an access to those of so many bytes of a word, from the first on, of whose bytes is kept what stands from a
+/// place on.
 pub(crate) fn add(apart: &mut Vec<Recent>, at: usize, x: &Access, first: u64, count: u64)
     requires there { at + 4 ≤ length apart.old.items }
     requires one_word { first % 4 + count ≤ 4 }
@@ -105,7 +107,7 @@ pub(crate) fn add(apart: &mut Vec<Recent>, at: usize, x: &Access, first: u64, co
     ensures added { (byte : ℕ) → first ≤ byte → byte < first + count → Describes (slice_index_or apart.new.items (at + byte % 4) nothing) x.now byte }
 {
     for byte in first..first + count {
-        let place = at + (byte % 4) as usize;
+        let place = at + (byte % WORD_BYTES) as usize;
         let kept = apart[place];
         let left = left_at(x, byte) as u32;
         if !kept.has(x, left) {

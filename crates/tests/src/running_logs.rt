@@ -3,7 +3,7 @@
 use crate::logs::STORES;
 use clmodel::access::{Operation, Region, Width};
 use group_log::GroupLog;
-use shadow::{GroupAccesses, LastingList};
+use shadow::{AccessSummary, GroupAccesses};
 use shadow_list::{AccessLog, Entry, Fenced, ListLog};
 use std::alloc::{AllocError, Global};
 use std::test::Fail;
@@ -97,7 +97,7 @@ fn what_lasts_of_a_list(rt: HostRuntime) -> Result<(), Fail> {
         };
         assert_eq!(rt; found, byte, "{event}");
     }
-    let list = LastingList::of(rt.alloc(), &log)?;
+    let list = AccessSummary::of(rt.alloc(), &log)?;
     assert_eq!(rt;
         events_of(rt.alloc(), &list)?.as_slice(),
         LASTING.as_slice()

@@ -16,7 +16,7 @@ use crate::shares::rounds_are_shared;
 use crate::spare::SpareLogs;
 use group_run::GroupResult;
 use item_step::Launch;
-use shadow::LastingList;
+use shadow::AccessSummary;
 use snapshot_merge::{JoinedGroups, RoundEnd, join_round};
 use spaces::Overlay;
 use spaces_base::Buffers;
@@ -27,7 +27,7 @@ use workers_draw::gate::Gate;
 use workers_draw::run::{run_groups, run_groups_after};
 
 /// The results of the groups of a round, in their order.
-pub(crate) type Results<'a> = Vec<GroupResult<Overlay<'a>, LastingList>>;
+pub(crate) type Results<'a> = Vec<GroupResult<Overlay<'a>, AccessSummary>>;
 
 /// Runs the groups from one on up to another, which isn't among them: the results of all of them, or up to and with one that stopped.
 pub(crate) fn run_round<'a, G: Gate, R: Threads + Wait + Sync>(

@@ -17,7 +17,7 @@ use group_log::GroupLog;
 use group_run::GroupResult;
 use item_step::Launch;
 use joining::one_part;
-use shadow::LastingList;
+use shadow::AccessSummary;
 use snapshot_merge::{has_stopped, one_group};
 use spaces::Overlay;
 use spaces_base::Buffers;
@@ -68,7 +68,7 @@ impl<'a, 's> Round<'a, 's> {
 }
 
 /// The accesses of a log that tell other groups something new. The log serves a further group. An error is out of memory.
-fn listed(alloc: Global, spares: &SpareLogs, log: GroupLog) -> Result<LastingList, AllocError>
+fn listed(alloc: Global, spares: &SpareLogs, log: GroupLog) -> Result<AccessSummary, AllocError>
     ensures { IfOk result (λ list. StandsWith list.has_last list.entries.items (group_log log).accesses) }
 {
     let list = log.list(alloc)?;
@@ -82,7 +82,7 @@ fn shortened<'a>(
     alloc: Global,
     spares: &SpareLogs,
     came: GroupResult<Overlay<'a>, GroupLog>,
-) -> Result<GroupResult<Overlay<'a>, LastingList>, AllocError>
+) -> Result<GroupResult<Overlay<'a>, AccessSummary>, AllocError>
     ensures { (launch : TheLaunch) (group : ℕ) → IsResult (λ overlay. overlay.bytes) group_log launch group came.entry → IfOk result (IsListed launch group) }
 {
     let GroupResult {
@@ -101,7 +101,7 @@ fn shortened<'a>(
 }
 
 impl<'a> Work for Round<'a, '_> {
-    type Output = GroupResult<Overlay<'a>, LastingList>;
+    type Output = GroupResult<Overlay<'a>, AccessSummary>;
 
     ghost count = { λ w. w.count };
 
@@ -121,21 +121,21 @@ impl<'a> Work for Round<'a, '_> {
         &self,
         alloc: Global,
         group: u32,
-    ) -> Result<GroupResult<Overlay<'a>, LastingList>, AllocError> {
+    ) -> Result<GroupResult<Overlay<'a>, AccessSummary>, AllocError> {
         let number = self.first + group;
         let log = self.spares.take(alloc, self.launch.range().uniform);
         let came = one_group(alloc, self.launch, self.buffers, number, log)?;
         shortened(alloc, self.spares, came)
     }
 
-    fn number(&self, came: &GroupResult<Overlay<'a>, LastingList>) -> u32 {
+    fn number(&self, came: &GroupResult<Overlay<'a>, AccessSummary>) -> u32 {
         if came.group < self.first {
             return self.count;
         }
         came.group - self.first
     }
 
-    fn stopped(came: &GroupResult<Overlay<'a>, LastingList>) -> bool
+    fn stopped(came: &GroupResult<Overlay<'a>, AccessSummary>) -> bool
         ensures { result ≡ is_stopped came.now }
     {
         has_stopped(came)

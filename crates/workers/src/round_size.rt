@@ -6,7 +6,7 @@ ghost use Rattle.std.specs.Prelude.{◌≤◌};
 use crate::overlap::Results;
 use clmodel::schedule::{EventRun, Schedule};
 use group_run::{GroupEnd, GroupResult};
-use shadow::{GroupAccesses, LastingList};
+use shadow::{AccessSummary, GroupAccesses};
 use spaces::Overlay;
 
 /// How many bytes the results of a round are to take, about; those of two rounds wait at a time.
@@ -59,7 +59,7 @@ fn changed_bytes_of(buffers: &Vec<Overlay<'_>>) -> usize {
 }
 
 /// How many bytes a result takes, about.
-fn bytes_of(came: &GroupResult<Overlay<'_>, LastingList>) -> usize {
+fn bytes_of(came: &GroupResult<Overlay<'_>, AccessSummary>) -> usize {
     let changes = match &came.end {
         GroupEnd::Done(spaces) => changed_bytes_of(spaces),
         GroupEnd::Stopped(_) => 0,
@@ -92,7 +92,7 @@ fn event_count(runs: &Schedule) -> u64 {
 }
 
 /// Whether the join of such a group takes long beside its run: it keeps more accesses than half of its events.
-fn joins_slowly(came: &GroupResult<Overlay<'_>, LastingList>) -> bool {
+fn joins_slowly(came: &GroupResult<Overlay<'_>, AccessSummary>) -> bool {
     came.log.len() as u64 > event_count(&came.runs) / 2
 }
 

@@ -1,6 +1,7 @@
 use Rattle.std.proofs.Common.{◌≡◌, ◌-◌, drop, length, sym, ap, ◌∙◌, subst, arith}
 use Rattle.std.proofs.lemmas.List.{take_all, length-drop}
-use Rattle.shadow_list.specs.Index.{access_key, newest_of}
+use Rattle.shadow_list.specs.Index.{newest_of}
+use Rattle.shadow_list.specs.Keys.{access_key}
 use Rattle.shadow_list.specs.Log.{IsThere}
 use Rattle.shadow_list.proofs.Hits.{there_at}
 use Rattle.shadow_list.proofs.Indexed.{rest_new, rest_there}

@@ -2,7 +2,8 @@ use Rattle.std.proofs.Common.{◌≡◌, ◌+◌, Some, length, sym, ap, ◌∙�
 use Rattle.std.specs.HashMap.{get}
 use Rattle.std.proofs.lemmas.List.Elements.{All-push}
 use Rattle.shadow_list.specs.Cells.{IsMarked}
-use Rattle.shadow_list.specs.Index.{same_key, IsIndexed}
+use Rattle.shadow_list.specs.Index.{IsIndexed}
+use Rattle.shadow_list.specs.Keys.{same_key}
 use Rattle.shadow_list.specs.declared.log.Entry.{Entry}
 use Rattle.shadow_list.proofs.Indexed.{all_as, below_kept, below_more}
 use Rattle.shadow_list.proofs.index.keep.Goals as goal

@@ -4,7 +4,7 @@ use denote.Param.Send.{sendable}
 use Rattle.clmodel.specs.Next.{launch_of}
 use Rattle.group_run.specs.declared.result.GroupResult.{GroupResult}
 use Rattle.item_step.specs.Launches.{setup_of}
-use Rattle.shadow.specs.declared.group_accesses.LastingList.{LastingList}
+use Rattle.shadow.specs.declared.group_accesses.AccessSummary.{AccessSummary}
 use Rattle.spaces.specs.Overlay.{Overlaid}
 use Rattle.spaces_base.specs.Buffers.{bytes_in}
 use Rattle.workers.proofs.Runs.{are_of_round}
@@ -18,5 +18,5 @@ returns-clause-next g c =
     let round = c.new-round.result in let new = c.new-round.ensures in
     let same = ap₂ (λ x y. launch_of (setup_of x) (bytes_in y)) new.launch new.buffers in
     IfOk-weaker _ _ _
-    (λ (v : Vec (GroupResult Overlaid LastingList) Global) each. are_of_round (launch_of (setup_of round.launch.now) (bytes_in round.buffers.now)) (launch_of (setup_of c.args.launch.now) (bytes_in c.args.buffers.now)) round.first round.count c.args.last c.args.end same new.first new.count v.items each)
+    (λ (v : Vec (GroupResult Overlaid AccessSummary) Global) each. are_of_round (launch_of (setup_of round.launch.now) (bytes_in round.buffers.now)) (launch_of (setup_of c.args.launch.now) (bytes_in c.args.buffers.now)) round.first round.count c.args.last c.args.end same new.first new.count v.items each)
     c.run_groups_after.ensures.results

@@ -2,7 +2,7 @@ use Rattle.std.proofs.Common.{◌+◌, ◌%◌, nat_lt, ltb-true, ltb-false, ari
 use Rattle.clmodel.specs.Cells.{byte_count}
 use Rattle.clmodel.proofs.CellLaws.{covers_parts}
 use Rattle.clmodel.proofs.Steps.{decided}
-use Rattle.shadow_list.specs.Cells.{cell_key}
+use Rattle.shadow_list.specs.Keys.{cell_key}
 use Rattle.shadow_list.proofs.cells.Cells.mark.Goals as goal
 
 pub returns-in_err-mark_part-2-clause-kept : goal.returns-in_err-mark_part-2-clause-kept

@@ -1,8 +1,8 @@
-use Rattle.std.proofs.Common.{◌≡◌, ◌+◌, ◌/◌, ◌%◌, ◌<◌, ◌≤◌, nat_eq, nat_lt, Some, ap, ◌∙◌, arith, ltb-true, ltb-false}
+use Rattle.std.proofs.Common.{◌≡◌, ◌+◌, ◌/◌, ◌%◌, ◌<◌, ◌≤◌, nat_lt, Some, ap, ◌∙◌, arith, ltb-true, ltb-false}
 use Rattle.std.specs.HashMap.{get}
 use Rattle.std.proofs.lemmas.Result.{on_ok_weaker}
 use Rattle.clmodel.proofs.Steps.{decided}
-use Rattle.shadow_list.specs.Cells.{cell_key}
+use Rattle.shadow_list.specs.Keys.{cell_key, same_cell}
 use Rattle.shadow_list.specs.Recent.{Describes}
 use Rattle.shadow_list.specs.declared.recent.Recent.{Recent}
 use Rattle.shadow_list.proofs.Indexed.{words_kept}
@@ -16,7 +16,7 @@ returns-then-here-count-clause-added c byte lo hi =
     let first = c.args.first in
     let start = c.in_ok-start.start in
     let one : first % 4 + c.args.count ≤ 4 = omega (arith, c.if-here-count.true, c.min-here.ensures) in
-    let there : get nat_eq cells.starts (cell_key x.region first) ≡ Some start = ap (λ m. get nat_eq m (cell_key x.region first)) c.mark_word.ensures.kept.starts ∙ c.in_ok-start.ensures.there in
+    let there : get same_cell cells.starts (cell_key x.region first) ≡ Some start = ap (λ m. get same_cell m (cell_key x.region first)) c.mark_word.ensures.kept.starts ∙ c.in_ok-start.ensures.there in
     at_byte (λ (r : Recent). Describes r x byte) cells.starts cells.words.items cells.apart.items x.region first c.args.count byte start (start + first % 8 / 4) c.requires.one_cell lo hi there
     (ap (λ n. start + n) (same_word first c.args.count byte one lo hi))
     (c.in_ok-mark_word.ensures.added byte lo (omega (arith, c.if-here-count.true, hi)))
@@ -38,8 +38,8 @@ returns-clause-added c =
     let one : first % 4 + here ≤ 4 = omega (arith, c.min-here.ensures) in
     let rest : 4 ≤ first % 4 + here = omega (arith, c.min-here.ensures, c.if-here-count.false) in
     let end : here ≤ c.args.count = omega (arith, c.min-here.ensures) in
-    let there : get nat_eq cells.starts (cell_key x.region first) ≡ Some start =
-    ap (λ m. get nat_eq m (cell_key x.region first)) (last.ensures.kept.starts ∙ c.mark_word.ensures.kept.starts) ∙ c.in_ok-start.ensures.there in
+    let there : get same_cell cells.starts (cell_key x.region first) ≡ Some start =
+    ap (λ m. get same_cell m (cell_key x.region first)) (last.ensures.kept.starts ∙ c.mark_word.ensures.kept.starts) ∙ c.in_ok-start.ensures.there in
     decided (nat_lt byte (first + here))
     (λ t.
     let below : byte < first + here = ltb-true byte (first + here) t in

@@ -1,7 +1,8 @@
-use Rattle.std.proofs.Common.{◌≡◌, ◌+◌, ◌/◌, ◌%◌, ◌<◌, ◌≤◌, nat_eq, nat_lt, Some, List, length, sym, ap, ◌∙◌, subst, arith, eqb-true, ltb-true, ltb-false}
+use Rattle.std.proofs.Common.{◌≡◌, ◌+◌, ◌/◌, ◌%◌, ◌<◌, ◌≤◌, nat_lt, Some, List, length, sym, ap, ◌∙◌, subst, arith, eqb-true, ltb-true, ltb-false}
 use Rattle.std.specs.HashMap.{get}
 use Rattle.clmodel.proofs.Steps.{decided}
-use Rattle.shadow_list.specs.Cells.{cell_key, Passes}
+use Rattle.shadow_list.specs.Cells.{Passes}
+use Rattle.shadow_list.specs.Keys.{cell_key, same_cell}
 use Rattle.shadow_list.specs.Recent.{IsInside, in_word}
 use Rattle.shadow_list.specs.declared.recent.Recent.{Recent}
 use Rattle.shadow_list.proofs.Words.{read_inside, read_place, same_word, next_word, at_byte}
@@ -10,7 +11,7 @@ use Rattle.shadow_list.proofs.cells.Cells.passes.Goals as goal
 pub passes-requires-clause-inside : goal.passes-requires-clause-inside
 passes-requires-clause-inside c =
     let cells = c.args.self.now in
-    let there : get nat_eq cells.starts (cell_key c.args.x.now.region c.args.first) ≡ Some c.in-Some.start = sym c.requires.found ∙ c.in-Some.is in
+    let there : get same_cell cells.starts (cell_key c.args.x.now.region c.args.first) ≡ Some c.in-Some.start = sym c.requires.found ∙ c.in-Some.is in
     subst (λ l. IsInside l c.index-word.result.now) (sym c.deref.ensures.value)
     (read_inside cells.words.items cells.apart.items (c.in-Some.start + c.args.first % 8 / 4) c.index-word.result.now
     (omega (arith, cells.inside (cell_key c.args.x.now.region c.args.first) c.in-Some.start there)) c.index-word.ensures cells.bytes_inside)
@@ -18,7 +19,7 @@ passes-requires-clause-inside c =
 pub passes-requires-else-here-count-clause-inside : goal.passes-requires-else-here-count-clause-inside
 passes-requires-else-here-count-clause-inside c =
     let cells = c.args.self.now in
-    let there : get nat_eq cells.starts (cell_key c.args.x.now.region c.args.first) ≡ Some c.in-Some.start = sym c.requires.found ∙ c.in-Some.is in
+    let there : get same_cell cells.starts (cell_key c.args.x.now.region c.args.first) ≡ Some c.in-Some.start = sym c.requires.found ∙ c.in-Some.is in
     subst (λ l. IsInside l c.index-next.result.now) (sym c.deref-else-here-count.ensures.value)
     (read_inside cells.words.items cells.apart.items (c.in-Some.start + 1) c.index-next.result.now
     (omega (arith, cells.inside (cell_key c.args.x.now.region c.args.first) c.in-Some.start there)) c.index-next.ensures cells.bytes_inside)
@@ -32,7 +33,7 @@ returns-then-here-count c h byte lo hi =
     let place = start + first % 8 / 4 in
     let w = c.index-word.result.now in
     let here : c.min-here.result ≡ c.args.count = eqb-true c.min-here.result c.args.count h in
-    let there : get nat_eq cells.starts (cell_key x.region first) ≡ Some start = sym c.requires.found ∙ c.in-Some.is in
+    let there : get same_cell cells.starts (cell_key x.region first) ≡ Some start = sym c.requires.found ∙ c.in-Some.is in
     let one : first % 4 + c.args.count ≤ 4 = omega (arith, here, c.min-here.ensures) in
     at_byte (λ (r : Recent). Passes c.args.uniform r x byte) cells.starts cells.words.items cells.apart.items x.region first c.args.count byte start place c.requires.one_cell lo hi there
     (ap (λ n. start + n) (same_word first c.args.count byte one lo hi))
@@ -48,7 +49,7 @@ returns-else-here-count c h byte lo hi =
     let first = c.args.first in
     let start = c.in-Some.start in
     let here = c.min-here.result in
-    let there : get nat_eq cells.starts (cell_key x.region first) ≡ Some start = sym c.requires.found ∙ c.in-Some.is in
+    let there : get same_cell cells.starts (cell_key x.region first) ≡ Some start = sym c.requires.found ∙ c.in-Some.is in
     let one : first % 4 + here ≤ 4 = omega (arith, c.min-here.ensures) in
     let rest : 4 ≤ first % 4 + here = omega (arith, c.min-here.ensures, c.if-here-count.false) in
     let end : here ≤ c.args.count = omega (arith, c.min-here.ensures) in

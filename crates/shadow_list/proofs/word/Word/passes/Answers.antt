@@ -12,5 +12,5 @@ returns-in-Whole c h byte lo hi =
     let first = c.args.first in
     subst (λ (w : Word). Passes c.args.uniform (in_word c.args.apart.now w (byte % 4)) x byte) (sym c.in-Whole.is)
     (c.passes.ensures h (byte_of (byte % 4)) byte
-    (left_in_word x first byte (omega (arith, c.requires.one_word, c.if-count-eq4.true)) c.requires.after lo (omega (arith, hi, c.if-count-eq4.true))
+    (left_in_word x first byte (omega (arith, c.requires.one_word, c.if-count-eq-WORD_BYTES.true)) c.requires.after lo (omega (arith, hi, c.if-count-eq-WORD_BYTES.true))
     ∙ ap (byte_of (byte % 4)) (sym c.word_left.ensures)))

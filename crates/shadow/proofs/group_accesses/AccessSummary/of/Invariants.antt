@@ -4,7 +4,7 @@ use Rattle.shadow.specs.Lasting.{StandsWith, TellsNews}
 use Rattle.shadow.specs.Seen.{IsFootprint}
 use Rattle.shadow_list.specs.Log.{IsPlaced}
 use Rattle.shadow_list.specs.declared.log.Entry.{Entry}
-use Rattle.shadow.proofs.group_accesses.LastingList.of.Given as goal
+use Rattle.shadow.proofs.group_accesses.AccessSummary.of.Given as goal
 
 abbrev pub invariant-loop-i : goal.invariant-loop-i
 invariant-loop-i g l =

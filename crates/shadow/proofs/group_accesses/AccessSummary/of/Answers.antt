@@ -5,7 +5,7 @@ use Rattle.shadow.specs.Lasting.{StandsWith, TellsNews}
 use Rattle.shadow.specs.Seen.{IsFootprint}
 use Rattle.shadow_list.specs.declared.log.Entry.{Entry}
 use Rattle.shadow.proofs.Listing.{take_one, accesses_one, stands_more, news_more}
-use Rattle.shadow.proofs.group_accesses.LastingList.of.Goals as goal
+use Rattle.shadow.proofs.group_accesses.AccessSummary.of.Goals as goal
 
 pub loop-i-init : goal.loop-i-init
 loop-i-init g c = record { footprint = c.new-footprint.ensures; placed = search rules; stands = inl (c.new-entries.ensures.items, refl); news = c.new-entries.ensures.items }
