@@ -134,8 +134,8 @@ fn added_far(
     )
 }
 
-/// Adds an entry to the line that goes on, or begins another. The first ones of a list are put down as they are, without
-/// a call.
+/// Adds an entry to the line that goes on, or begins another. The first ones of a list are put down as they are,
+/// without a call.
 #[inline(always)]
 fn add(
     heads: &mut Vec<Entry>,

@@ -24,7 +24,8 @@ use regcode::Code;
 use std::alloc::{AllocError, Global};
 use steps::{PreparedCode, Step, prepare};
 
-/// A kernel that is ready to run: its setup with lent code that acts as its text. The items may be started in any order.
+/// A kernel that is ready to run: its setup with lent code that acts as its text. The items may be started in any
+/// order.
 #[derive(Drop)]
 pub struct Launch<'a> {
     setup: Setup<'a>,
@@ -71,8 +72,9 @@ impl<'a> Launch<'a> {
     ghost use Rattle.clmodel.specs.Tree.{program};
     ghost use Rattle.item_step.specs.Launches.{setup_of};
 
-    /// A launch of code that acts as the setup's program. The group's size is that of the range, and no local size is 0. The buffers
-    /// have numbers of 32 bits, and the local objects are no more than a group may have. Err if out of memory.
+    /// A launch of code that acts as the setup's program. The group's size is that of the range, and no local size is
+    /// 0. The buffers have numbers of 32 bits, and the local objects are no more than a group may have. Err if out of
+    /// memory.
     pub fn new(
         alloc: Global,
         setup: Setup<'a>,

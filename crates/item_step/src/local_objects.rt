@@ -53,7 +53,8 @@ fn array_bytes(element: IntType, length: Value) -> u64
     u64::from(element.bits() / 8).saturating_mul(length.natural())
 }
 
-/// The local object of a declaration: the number of its name, and its bytes, or the greatest number where they are more.
+/// The local object of a declaration: the number of its name, and its bytes, or the greatest number where they are
+/// more.
 fn declared_object(statement: &Statement) -> Option<(u32, u64)>
     ensures { listed result ≡ map capped (model.declared_object (stmt statement.now)) }
 {
@@ -138,7 +139,8 @@ fn parameter_bytes(parameters: &[Parameter], arguments: &[Option<Argument>]) -> 
     bytes
 }
 
-/// The bytes of the local objects that the outermost block of a kernel declares, or the greatest number where they are more.
+/// The bytes of the local objects that the outermost block of a kernel declares, or the greatest number where they are
+/// more.
 #[tactic(auto, using(crate::proofs::Declarations::bytes_more))]
 fn declared_bytes(body: &[Statement]) -> u64
     ensures { result ≡ min (all_sizes (model.body_objects (then_stmts NoStmt (map stmt body.now)))) (2 ^ 64 - 1) }

@@ -11,7 +11,7 @@ pub mod accesses;
 pub mod elements;
 pub mod giving;
 pub mod item_context;
-mod parameters;
+pub mod parameters;
 pub mod position;
 pub mod private_array;
 mod queries;

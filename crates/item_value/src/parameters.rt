@@ -61,7 +61,7 @@ fn content(
 }
 
 /// What a parameter of a type holds, given the kernel's arguments; nothing where its argument isn't set.
-pub(crate) fn parameter(
+pub fn parameter(
     buffers: &[Name],
     arguments: &[Option<Argument>],
     number: u32,

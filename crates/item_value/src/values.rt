@@ -211,7 +211,7 @@ pub(crate) fn call_builtin_of_two(
 }
 
 /// What a work-item function gives in a dimension.
-pub(crate) fn query_work_item(
+pub fn query_work_item(
     registers: RegisterFile<'_>,
     position: &ItemPosition<'_>,
     function: WorkItemFunction,

@@ -64,8 +64,9 @@ turns_demand s test third body =
     let round = round_demand s third body in
     record { barriers = round.barriers; nodes = (condition_size (sizes_in s.helpers.functions.now) test).nodes + round.nodes + 1; elements = round.elements }
 
--- There is room for what a part of a tree takes that ends there, before this code: its barriers have numbers, its nodes and the loops round it are within the
--- limit, its levels have registers, its jumps reach all with 32 bits, and its arrays are no longer than one may be.
+-- There is room for what a part of a tree takes that ends there, before this code: its barriers have numbers, its nodes
+-- and the loops round it are within the limit, its levels have registers, its jumps reach all with 32 bits, and its
+-- arrays are no longer than one may be.
 pub record HasRoom (d : Demand) (scope : Scope) (e : Ending) (code : List Instruction) : Type 0 where
   pub few : d.barriers ≤ e.behind
   pub small : e.depth + d.nodes ≤ node_limit
@@ -86,7 +87,8 @@ abbrev pub once_code : StatementContext → Scope → Stmt → Position → ℕ 
 once_code s scope body p n =
     stmt_code (call_code (functions_of s.helpers.functions.now)) (result_in (functions_of s.helpers.functions.now)) (inside s.helpers.functions.now) s.result scope body (p.depth + 1) p.site (body_exits (n + 1) (exits_of p.exits))
 
--- the body and the third part of a `for`, behind which n instructions of its turn stand; the position is that behind the first part
+-- the body and the third part of a `for`, behind which n instructions of its turn stand; the position is that behind
+-- the first part
 abbrev pub round_code : StatementContext → Scope → MaybeStmt → Stmt → Position → ℕ → List Instruction
 round_code s scope third body p n =
     let calls = call_code (functions_of s.helpers.functions.now) in

@@ -1,10 +1,11 @@
 //! The code of statements and of the helper functions that they call (OpenCL 1.2, section 6.9; C99 6.5.2.2 and 6.8).
 //!
-//! Code is written from its end, so that the length of what a jump passes is known when the jump is written, and barriers are numbered
-//! from the last one. The body of a helper that is called is left out, and only its length and its barriers are counted, so nothing
-//! here goes into another function: the time is that of the function's own statements. But the body of a `for` with a third part is
-//! counted before it is written, since its barriers have the higher numbers and its code stands first, and the turns of a loop are
-//! put together before the loop is; a statement inside n such loops is so gone through n times more (8 at most in a checked kernel).
+//! Code is written from its end, so that the length of what a jump passes is known when the jump is written, and
+//! barriers are numbered from the last one. The body of a helper that is called is left out, and only its length and
+//! its barriers are counted, so nothing here goes into another function: the time is that of the function's own
+//! statements. But the body of a `for` with a third part is counted before it is written, since its barriers have the
+//! higher numbers and its code stands first, and the turns of a loop are put together before the loop is; a statement
+//! inside n such loops is so gone through n times more (8 at most in a checked kernel).
 #![tactic(auto, using(lower_code::proofs::Growth::unchanged, lower_code::proofs::Growth::before, lower_code::proofs::Growth::one_before, lower_code::proofs::Growth::same_scope, lower_code::proofs::Growth::inner_scope))]
 
 ghost use Rattle.std.specs.Prelude.{◌≡◌, ◌+◌, ◌<◌, ◌≤◌, ◌^◌, ◌++◌, max, true, length, IfOk, OnOk, OnErr};
@@ -120,7 +121,8 @@ fn put_single<'a>(
     }
 }
 
-/// Puts a statement before the code, and gives the number of its first barrier, or of the first behind it if it has none.
+/// Puts a statement before the code, and gives the number of its first barrier, or of the first behind it if it has
+/// none.
 #[cycle(emission)]
 fn emit_statement<'a>(
     context: &StatementContext<'a>,
@@ -394,7 +396,8 @@ fn emit_once<'a>(
     Ok(site)
 }
 
-/// Puts the third part of a `for` before the rest of its turn, and its body before that. The ending is that of the loop.
+/// Puts the third part of a `for` before the rest of its turn, and its body before that. The ending is that of the
+/// loop.
 #[cycle(emission)]
 fn emit_stepped<'a>(
     context: &StatementContext<'a>,
@@ -422,7 +425,8 @@ fn emit_stepped<'a>(
     Ok(site)
 }
 
-/// Puts the body and the third part of a `for`, if it has one, before the rest of its turn. The ending is that of the loop.
+/// Puts the body and the third part of a `for`, if it has one, before the rest of its turn. The ending is that of the
+/// loop.
 #[cycle(emission)]
 fn emit_round<'a>(
     context: &StatementContext<'a>,

@@ -1,6 +1,7 @@
 //! Statements with no other statement in them: declarations, assignments, calls and jumps (C99 6.5.16, 6.7 and 6.8.6).
 //!
-//! One `match` on all statements would be one proof of all of them, so each function takes some kinds, and its `requires` leaves out the others.
+//! One `match` on all statements would be one proof of all of them, so each function takes some kinds, and its
+//! `requires` leaves out the others.
 #![tactic(auto, using(crate::proofs::Growth::unchanged, crate::proofs::Growth::before, crate::proofs::Growth::one_before))]
 
 ghost use Rattle.std.specs.Prelude.{◌≡◌, ◌+◌, ◌<◌, ◌≤◌, ◌^◌, ◌++◌, true, OnOk, OnErr};

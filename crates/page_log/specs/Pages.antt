@@ -47,8 +47,8 @@ same_page a b = beq a.is_local b.is_local && ((a.group == b.group) && ((a.number
 abbrev pub newest_of : {S : Type 0} → HashMap Page ℕ S → Page → ℕ
 newest_of m page = unwrap_or (get same_page m page) 0
 
--- the place of the newest of the first n accesses of a list that are such; a place counts the accesses up to one and with it, and 0 stands
--- for none (own)
+-- the place of the newest of the first n accesses of a list that are such; a place counts the accesses up to one and
+-- with it, and 0 stands for none (own)
 pub record IsNewest (is_such : Access → Bool) (log : List Entry) (n place : ℕ) : Type 0 where
   pub within : place ≤ n
   pub such : (i : ℕ) (y : Entry) → place ≡ i + 1 → slice_get log i ≡ Some y → is_such y.access ≡ true

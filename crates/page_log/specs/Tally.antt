@@ -17,7 +17,8 @@ lower_hit (Some a) (Some b) = if nat_lt b.byte a.byte then Some b else Some a
 abbrev pub hit_with : Rule → Entry → Entry → Option Hit
 hit_with rule x earlier = hit rule x (earlier ∷ [])
 
--- what comparing an access with those of a list on its page finds: their conflict, whether it is there, and how many they are (3.3.1, own)
+-- what comparing an access with those of a list on its page finds: their conflict, whether it is there, and how many
+-- they are (3.3.1, own)
 pub record IsTally (rule : Rule) (x : Entry) (log : List Entry) (t : Tally) : Type 0 where
   pub found : t.found ≡ hit rule x log
   pub there : IsTrue t.is_there → IsThere log x.access

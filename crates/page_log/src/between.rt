@@ -19,10 +19,12 @@ fn hit_in<L: Accesses>(rule: Rule, x: &Entry, log: &L) -> Option<Hit>
     found
 }
 
-/// The conflict of the logs of two groups of a launch, which is uniform or not: that of the first access of the later group that has one, on
-/// its lowest byte, there with the earliest access of the other (OpenCL 1.2, sections 3.3.1 and 6.5.2). It takes a comparison for each pair.
+/// The conflict of the logs of two groups of a launch, which is uniform or not: that of the first access of the later
+/// group that has one, on its lowest byte, there with the earliest access of the other (OpenCL 1.2, sections 3.3.1 and
+/// 6.5.2). It takes a comparison for each pair.
 ///
-/// It is a function beside the trait of logs, since a method of a trait can't be generic in another type of the same trait.
+/// It is a function beside the trait of logs, since a method of a trait can't be generic in another type of the same
+/// trait.
 pub fn conflicts_between<L: Accesses, M: Accesses>(
     uniform: bool,
     earlier: &L,

@@ -14,8 +14,8 @@ use shadow_list::Entry;
 use std::alloc::{AllocError, Global};
 use std::collections::HashMap;
 
-/// Accesses, the oldest first, linked by the pages that they begin in. A place counts the accesses up to one and with it, and 0 stands for
-/// none.
+/// Accesses, the oldest first, linked by the pages that they begin in. A place counts the accesses up to one and with
+/// it, and 0 stands for none.
 #[derive(Drop)]
 pub struct PagedList {
     pub(crate) entries: Vec<Entry>,
@@ -23,8 +23,8 @@ pub struct PagedList {
     newest: HashMap<Page, usize>,
     /// Of each access, the place of the next older one that begins in its page.
     older: Vec<usize>,
-    /// Whether each access touches one page. It does where it begins at a multiple of its width, as all accesses of a kernel do: then the
-    /// links find those that share a page with a new one. A list with another is walked whole.
+    /// Whether each access touches one page. It does where it begins at a multiple of its width, as all accesses of a
+    /// kernel do: then the links find those that share a page with a new one. A list with another is walked whole.
     on_one_page: bool,
     ghost placed: { All IsPlaced entries.items },
     ghost indexed: { IsIndexed entries.items newest older.items },

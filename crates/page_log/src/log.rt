@@ -11,9 +11,9 @@ use clmodel::access::{Access, Region, Rule};
 use shadow_list::{AccessLog, Accesses, Entry, Fenced, Hit, Logged};
 use std::alloc::{AllocError, Global};
 
-/// A log with an index by object and page of 64 bytes. A new access costs two look-ups in a hash table, and one comparison with each access of
-/// the list that is of the same object and touches the same page, whatever its interval. It takes some 64 bytes for each access, and some 40
-/// more for each page.
+/// A log with an index by object and page of 64 bytes. A new access costs two look-ups in a hash table, and one
+/// comparison with each access of the list that is of the same object and touches the same page, whatever its interval.
+/// It takes some 64 bytes for each access, and some 40 more for each page.
 #[derive(Drop)]
 pub struct PageLog {
     list: PagedList,
@@ -24,7 +24,8 @@ pub struct PageLog {
 }
 
 impl PageLog {
-    /// A log without accesses, in the first interval of both address spaces, of a launch that is uniform or not. It takes no memory.
+    /// A log without accesses, in the first interval of both address spaces, of a launch that is uniform or not. It
+    /// takes no memory.
     pub fn new(alloc: Global, uniform: bool) -> Self
         ensures { logged result.list.entries.items result.local_interval result.global_interval result.uniform ≡ fresh_log uniform }
     {
@@ -53,8 +54,8 @@ impl PageLog {
         }
     }
 
-    /// Judges a new access as `note` does, and says with how many accesses it was compared: with all that are of the same object and touch the
-    /// same page. An error is out of memory, and changes nothing.
+    /// Judges a new access as `note` does, and says with how many accesses it was compared: with all that are of the
+    /// same object and touch the same page. An error is out of memory, and changes nothing.
     pub fn note_counted(&mut self, entry: Entry) -> Result<(Option<Hit>, u64), AllocError>
         requires { IsPlaced entry }
         ensures noted { IsNoted (logged self.old.list.entries.items self.old.local_interval self.old.global_interval self.old.uniform) entry (logged self.new.list.entries.items self.new.local_interval self.new.global_interval self.new.uniform) (found_of result) }
@@ -69,7 +70,8 @@ impl PageLog {
         Ok((tally.found, tally.compared))
     }
 
-    /// The conflict with the log of a later group of the launch, of its first access that has one: a walk over all pairs.
+    /// The conflict with the log of a later group of the launch, of its first access that has one: a walk over all
+    /// pairs.
     pub fn conflicts_with<M: Accesses>(&self, later: &M) -> Option<Hit>
         requires { (M.Logged.log later.now).uniform ≡ self.now.uniform }
         ensures { result ≡ across self.now.uniform self.now.list.entries.items (M.Logged.log later.now).accesses }
