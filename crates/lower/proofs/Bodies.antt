@@ -39,8 +39,8 @@ left_taken bodies front back body rest p t =
 left_length : (bodies : List (Vec Part Global)) (body : Vec Part Global) → length (left (reverse (bodies ++ body ∷ []))) ≡ length (whole (reverse body.items)) + length (left (reverse bodies))
 left_length bodies body = ap length (left_more bodies body) ∙ length-append (whole (reverse body.items)) (left (reverse bodies))
 
--- The steps that are left before the next instruction is written, where n bodies are on the list and these parts are left of the innermost: those of
--- which nothing is left go from the list, and no more are begun than memory holds.
+-- The steps that are left before the next instruction is written, where n bodies are on the list and these parts are
+-- left of the innermost: those of which nothing is left go from the list, and no more are begun than memory holds.
 abbrev steps : ℕ → List Part → ℕ
 steps n [] = 2 ^ 63 + n
 steps n (p ∷ ps) = 2 ^ 63 - n

@@ -1,4 +1,5 @@
--- What is known of helpers where they are called, and that something holds of the code of each call where it holds of each function's code.
+-- What is known of helpers where they are called, and that something holds of the code of each call where it holds of
+-- each function's code.
 use Rattle.std.proofs.Common.{◌≡◌, ℕ, ◌++◌, Bool, true, false, not, nat_eq, Option, None, Some, is_some, List, [], ◌∷◌, cond, length, refl, ap, ap₂, sym, subst, ◌∙◌, eqb-true}
 use Rattle.std.specs.Map.{lookup}
 use Rattle.std.proofs.lemmas.Bool.{and_parts, not-true, ltb-false}
@@ -22,8 +23,8 @@ use Rattle.lower.specs.Accepted.{Distinct}
 use Rattle.lower_code.proofs.Looking.{look_left, look_last}
 use Rattle.lower.proofs.Scoped.{callable_is, with_params_before}
 
--- What is known of a helper: its name is that of no other function, it gives what it says, and Q holds of the code of its calls, by the types of its
--- parameters, the registers of the arguments, and the level.
+-- What is known of a helper: its name is that of no other function, it gives what it says, and Q holds of the code of
+-- its calls, by the types of its parameters, the registers of the arguments, and the level.
 pub record Called (Q : List VariableType → List ℕ → ℕ → List Instruction → Type 0) (calls : Calls) (results : ℕ → Option IntType) (x : ℕ) (s : Signature) : Type 0 where
   pub result : results x ≡ s.result
   pub is_helper : built_in x ≡ None
@@ -92,7 +93,8 @@ pub distinct : (all : List ℕ) (fs : Funcs) → AreTypedFunctions all fs → Di
 distinct all NoFunc typed = tt
 distinct all (ThenFunc fs f) typed = (distinct all fs typed.0, sizes_none fs (nat_eq f.name) (fresh fs f.name typed.1.name).2)
 
--- what holds by the size of the latest function where a name is its own, and by the size that the name had before it where not, holds by the name's size
+-- what holds by the size of the latest function where a name is its own, and by the size that the name had before it
+-- where not, holds by the name's size
 pub by_name : (P : Size → Bool → Type 0) (earlier : Funcs) (f : Func) → lookup (nat_eq f.name) (sizes_of earlier) ≡ None → (x : ℕ)
     → (nat_eq x f.name ≡ true → P (size_of earlier f) true) → (nat_eq x f.name ≡ false → P (size_in (sizes_of earlier) x) false) → P (size_in (sizes_of (ThenFunc earlier f)) x) (nat_eq x f.name)
 by_name P earlier f new x last other = by_case (nat_eq x f.name) refl
@@ -103,7 +105,8 @@ by_name P earlier f new x last other = by_case (nat_eq x f.name) refl
         subst (λ s. P s true) (sym (ap or_nothing (look_last (nat_eq x) (sizes_of earlier) f.name (size_of earlier f) e none))) (last e)
     by_case false e = subst (λ s. P s false) (sym (ap or_nothing (look_left (nat_eq x) (sizes_of earlier) f.name (size_of earlier f) e))) (other e)
 
--- Q holds of the code of all calls, by the size of the function that is called, where it holds of each function's code behind its parameters
+-- Q holds of the code of all calls, by the size of the function that is called, where it holds of each function's code
+-- behind its parameters
 module _ (Q : Size → List VariableType → List ℕ → ℕ → List Instruction → Type 0) (all : List ℕ) where
   abbrev pub KnownIn : Funcs → Context → Type 0
   KnownIn fs c = AreKnown (λ x. Q (size_in (sizes_of fs) x)) (call_code fs) (result_in fs) c

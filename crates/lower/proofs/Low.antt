@@ -1,4 +1,5 @@
--- The registers that the code of expressions and of targets names: those of levels below one that is as far above its own as it has nodes.
+-- The registers that the code of expressions and of targets names: those of levels below one that is as far above its
+-- own as it has nodes.
 use Rattle.std.proofs.Common.{ℕ, ◌+◌, ◌*◌, ◌<◌, ◌≤◌, ◌==◌, Bool, true, false, Option, None, Some, List, [], ◌∷◌, ◌++◌, length, if◌then◌else◌, arith}
 use Rattle.std.proofs.Math.Nat.{max-le}
 use Rattle.clnum.specs.Integer as integers

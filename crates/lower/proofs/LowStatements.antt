@@ -1,5 +1,5 @@
--- The registers that the code of typed statements names: those of levels below one that is as far above the first free one as they have nodes, with the
--- nodes of the helpers that are called.
+-- The registers that the code of typed statements names: those of levels below one that is as far above the first free
+-- one as they have nodes, with the nodes of the helpers that are called.
 use Rattle.std.proofs.Common.{ℕ, ◌+◌, ◌*◌, ◌<◌, ◌≤◌, ◌++◌, Bool, true, false, Option, None, Some, List, length, sym, subst, arith}
 use Rattle.clnum.specs.declared.int_type.IntType.{IntType}
 use Rattle.clnum.specs.declared.int_type.IntType.TheVariants.{Int}

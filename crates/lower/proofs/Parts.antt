@@ -71,7 +71,8 @@ call_length (Some (built_in_function.Integer function)) to (i ∷ []) = refl
 call_length (Some (built_in_function.Integer function)) to (i ∷ j ∷ []) = refl
 call_length (Some (built_in_function.Integer function)) to (i ∷ j ∷ k ∷ numbers) = refl
 
--- what is done behind a store in a private array that has elements may be replaced by what acts alike where there are elements
+-- what is done behind a store in a private array that has elements may be replaced by what acts alike where there are
+-- elements
 set_some : (elements : List (Option ℕ)) (i : ℕ) (n : Option ℕ) → has_elements (slice_set elements i n) ≡ has_elements elements
 set_some [] i n = refl
 set_some (element ∷ elements) zero n = refl

@@ -1,4 +1,5 @@
--- The scope of code has the variables of the context behind each declaration, and a context's names of helpers are those of the functions before.
+-- The scope of code has the variables of the context behind each declaration, and a context's names of helpers are
+-- those of the functions before.
 use Rattle.std.proofs.Common.{◌≡◌, ℕ, zero, suc, ◌≤◌, replicate, Bool, true, false, not, ◌&&◌, nat_eq, if◌then◌else◌, Option, None, Some, is_some, List, [], ◌∷◌, refl, ap, sym, subst, ◌∙◌, eqb-true, arith}
 use Rattle.std.specs.Map.{lookup}
 use Rattle.std.specs.Option.{option_or}

@@ -1,4 +1,5 @@
--- How many instructions the code of typed statements has: seven a node at most, with the nodes of the helpers that are called.
+-- How many instructions the code of typed statements has: seven a node at most, with the nodes of the helpers that are
+-- called.
 use Rattle.std.proofs.Common.{ℕ, ◌+◌, ◌*◌, ◌≤◌, Bool, true, false, Option, Some, List, length, sym, subst, arith}
 use Rattle.clnum.specs.declared.int_type.IntType.{IntType}
 use Rattle.clmodel.specs.Barrier.{is_barrier, fences}

@@ -14,7 +14,8 @@ use Rattle.lower_expr.proofs.Places.{sees_kept}
 use Rattle.lower_code.specs.Code.{Exits}
 use Rattle.lower.proofs.Scopes.{Same, same_self, same_then, reached_same, put_same, array_same, Within, outer_left}
 
--- a state at a place, with the registers and the private arrays below a level of another state, inside loops that have made these turns
+-- a state at a place, with the registers and the private arrays below a level of another state, inside loops that have
+-- made these turns
 pub record Stands (level : ℕ) (s : State) (ts : List ℕ) (place : ℕ) (now : State) : Type 0 where
   pub at : now.place ≡ place
   pub kept : Same level s.registers now.registers

@@ -1,4 +1,5 @@
--- The code of what typed statements assign, and of the calls in them, names registers of the kinds that its instructions want.
+-- The code of what typed statements assign, and of the calls in them, names registers of the kinds that its
+-- instructions want.
 use Rattle.std.proofs.Common.{◌≡◌, ℕ, ◌+◌, if◌then◌else◌, Bool, true, false, IsTrue, Option, None, Some, List, [], ◌∷◌, ◌++◌, length, slice_get, refl, ap, ap₂, sym, subst, ◌∙◌, arith}
 use Rattle.std.proofs.lemmas.List.{length-append}
 use Rattle.std.proofs.lemmas.Option.{same_Some}

@@ -132,7 +132,8 @@ pub record Opens (L : Listing) (depth end : ℕ) (exits : Exits) : Type 0 where
   pub continued : Leads L (end + exits.continued) depth
   pub returned : Leads L (end + exits.returned) depth
 
--- Code with loops of this depth in it: it leaves the loops round it as they are, and goes where it may wherever it stands.
+-- Code with loops of this depth in it: it leaves the loops round it as they are, and goes where it may wherever it
+-- stands.
 pub record Sound (loops depth : ℕ) (exits : Exits) (code : List Instruction) : Type 0 where
   pub balanced : ends depth code ≡ depth
   pub goes : (L : Listing) (at end : ℕ) → Standing L at depth code → at + length code ≡ end → Opens L depth end exits → depth + loops ≤ most_loops → Going L at code
@@ -160,13 +161,15 @@ KernelsGo =
     (place : ℕ) (i : Instruction) → slice_get (kernel_code earlier f) place ≡ Some i →
     Goes (tabled (kernel_code earlier f) parameters) place i × (loops_at (tabled (kernel_code earlier f) parameters) place ≤ most_loops)
 
--- A kernel's code is verified with the tables that are made from it, if its instructions suit the types of the parameters.
+-- A kernel's code is verified with the tables that are made from it, if its instructions suit the types of the
+-- parameters.
 abbrev pub KernelsVerified : Type 0
 KernelsVerified =
     (parameters : List VariableType) (earlier : Funcs) (f : Func) → Distinct earlier → (row_size (sizes_of earlier) f.body).loops ≤ most_loops →
     Suit parameters (kernel_code earlier f) → IsVerified (tabled (kernel_code earlier f) parameters)
 
--- For each typed program, the code of each kernel of it is verified with the tables that are made from it and the kernel's parameters.
+-- For each typed program, the code of each kernel of it is verified with the tables that are made from it and the
+-- kernel's parameters.
 unfoldable pub TypedKernelsVerified : Type 0
 TypedKernelsVerified =
     (program : Program) (name : ℕ) (f : Func) → IsTypedProgram program → kernel_in program.functions name ≡ Some f →

@@ -8,7 +8,8 @@ use Rattle.regcode.specs.Listing.{Listing}
 use Rattle.regcode.specs.Machine.{acts}
 use Rattle.lower_code.specs.Code.{kernel_code}
 
--- A kernel's code makes, for each launch of it, each item and each list of answers, the action that the tree makes, whatever its tables are.
+-- A kernel's code makes, for each launch of it, each item and each list of answers, the action that the tree makes,
+-- whatever its tables are.
 unfoldable pub ActsAsTheTree : Type 0
 ActsAsTheTree =
     (setup : Setup) (f : Func) (code : Listing) → kernel_in setup.program.functions setup.kernel ≡ Some f

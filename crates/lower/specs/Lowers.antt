@@ -7,7 +7,8 @@ use Rattle.clmodel.specs.declared.action.Answer.{Answer}
 use Rattle.regcode.specs.Listing.{Listing}
 use Rattle.regcode.specs.Machine.{acts}
 
--- code of the kernel of a name: for each launch of it, each item and each list of answers, it makes the action that the tree makes
+-- code of the kernel of a name: for each launch of it, each item and each list of answers, it makes the action that the
+-- tree makes
 pub record IsLowered (program : Program) (number : ℕ) (code : Listing) : Type 0 where
   pub there : (f : Func) × (kernel_in program.functions number ≡ Some f)
   pub acts_as : (setup : Setup) → setup.program ≡ program → setup.kernel ≡ number

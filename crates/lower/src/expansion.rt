@@ -1,7 +1,8 @@
 //! The bodies of helpers that were left out, written in their places.
 //!
-//! No call of a helper is a call of this code: the bodies that are being written stand on a list, each behind the one that calls it. One is
-//! taken off only when it is the last and nothing is left of it, so memory bounds how many are begun before the next instruction is written.
+//! No call of a helper is a call of this code: the bodies that are being written stand on a list, each behind the one
+//! that calls it. One is taken off only when it is the last and nothing is left of it, so memory bounds how many are
+//! begun before the next instruction is written.
 #![tactic(auto, using(lower_code::proofs::Drafts::part_whole, crate::proofs::Bodies::left_more))]
 
 ghost use Rattle.std.specs.Prelude.{◌≡◌, ◌++◌, reverse, IfOk, OnOk, OnErr};
@@ -30,7 +31,7 @@ fn open<'a>(alloc: Global, hole: &Hole<'a>) -> Result<Vec<Part<'a>>, AllocError>
     Ok(body.into_parts())
 }
 
-/// Writes a part: an instruction is added to the code, and the body of a hole is put behind the bodies. Err if out of memory: nothing changes then.
+/// Adds an instruction to the code, or puts the body of a hole behind the bodies. Out of memory, nothing changes.
 fn write<'a>(
     alloc: Global,
     part: &Part<'a>,

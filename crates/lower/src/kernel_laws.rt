@@ -1,12 +1,13 @@
-//! Laws of the code of kernels and of its tables: it is verified, and within bounds. Each is the contract of a function that does nothing.
+//! Laws of kernels' code and tables: verified, and within bounds. Each is the contract of a function that does nothing.
 #![tactic(auto)]
 
 ghost use Rattle.lower.specs.Accepted.{ExpressionsSuit, TargetsSuit, ExpressionsFlat, ExpressionsSound, StatementsSound, KernelsGo, KernelsVerified, SuitFits, TypedKernelsVerified};
 ghost use Rattle.lower.specs.Bounds.{TypedKernelsShort, TypedKernelsFewBarriers, TypedKernelsFewRegisters, TypedKernelsFit};
 
-/// A kernel's code is verified with the tables that are made from it, if its loops are nested no deeper than the limit, no two
-/// functions before it have one name, and its instructions suit the types of its parameters. Those of typed expressions, and of
-/// targets, do. The jumps and loops of expressions, statements and kernels are sound whether they are typed or not.
+/// A kernel's code is verified with the tables that are made from it, if its loops are nested no deeper than the limit,
+/// no two functions before it have one name, and its instructions suit the types of its parameters. Those of typed
+/// expressions, and of targets, do. The jumps and loops of expressions, statements and kernels are sound whether they
+/// are typed or not.
 pub fn code_is_verified()
     ensures expressions { ExpressionsSuit }
     ensures places { TargetsSuit }
@@ -38,8 +39,8 @@ pub fn typed_kernels_have_few_registers()
     ensures { TypedKernelsFewRegisters }
 {}
 
-/// With the limit of parameters these are at most 153,002 instructions and 528,016 registers: each jump and each register has a number
-/// of 32 bits.
+/// With the limit of parameters these are at most 153,002 instructions and 528,016 registers: each jump and each
+/// register has a number of 32 bits.
 pub fn typed_kernels_fit()
     ensures { TypedKernelsFit }
 {}

@@ -1,7 +1,7 @@
 //! What is known of each function, found in the order of the text, so that code that calls one needn't look into it.
 //!
-//! Code of a function that calls others grows with each call, and where no kernel calls it, no limit holds. So nodes are counted first, and
-//! only functions of no more nodes than a kernel may have are measured.
+//! Code of a function that calls others grows with each call, and where no kernel calls it, no limit holds. So nodes
+//! are counted first, and only functions of no more nodes than a kernel may have are measured.
 #![tactic(auto)]
 
 ghost use Rattle.std.specs.Prelude.{◌≡◌, ℕ, suc, ◌<◌, ◌≤◌, ◌^◌, min, None, Some, length, IfOk};
@@ -34,8 +34,8 @@ fn length_of(alloc: Global, helpers: Helpers<'_>, function: &Function) -> Result
     Ok(code.len())
 }
 
-/// The length of a function with so many nodes, counted up to one more than a kernel may have; None where it isn't measured, since it has
-/// too many. Err if out of memory.
+/// The length of a function with so many nodes, counted up to one more than a kernel may have; None where it isn't
+/// measured, since it has too many. Err if out of memory.
 fn measured(
     alloc: Global,
     helpers: Helpers<'_>,
@@ -56,7 +56,8 @@ fn measured(
     Ok(Some(length))
 }
 
-/// What is known of a function behind these, which has so many nodes, counted up to one more than a kernel may have. Err if out of memory.
+/// What is known of a function behind these, which has so many nodes, counted up to one more than a kernel may have.
+/// Err if out of memory.
 fn known_of(
     alloc: Global,
     helpers: Helpers<'_>,

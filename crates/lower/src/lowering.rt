@@ -82,9 +82,10 @@ fn list_kernel(alloc: Global, tree: &Tree, kernel: PlacedFunction<'_>) -> Result
     })
 }
 
-/// The code of a kernel that was found in a tree, as by `Checked::kernel`. An error is out of memory. No count is tested: by the limits of
-/// nodes, of parameters and of the length of an array, the length of each jump and of each private array, the number of each barrier and
-/// register and the depth of each loop have 32 bits, and the length of each helper that is called is known.
+/// The code of a kernel that was found in a tree, as by `Checked::kernel`. An error is out of memory. No count is
+/// tested: by the limits of nodes, of parameters and of the length of an array, the length of each jump and of each
+/// private array, the number of each barrier and register and the depth of each loop have 32 bits, and the length of
+/// each helper that is called is known.
 pub fn lower_kernel(
     alloc: Global,
     checked: &Checked,

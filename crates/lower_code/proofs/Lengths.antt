@@ -1,4 +1,5 @@
--- The length of the code of statements and functions depends on no level, no depth of loops, no number of a barrier and no exit.
+-- The length of the code of statements and functions depends on no level, no depth of loops, no number of a barrier and
+-- no exit.
 use Rattle.std.proofs.Common.{◌≡◌, ℕ, suc, ◌+◌, ◌==◌, Bool, true, false, Option, None, Some, List, [], ◌∷◌, ◌++◌, take, get_or, length, ◌<◌, refl, sym, ap, ◌∙◌, arith}
 use Rattle.std.proofs.lemmas.List.{length-append}
 use Rattle.clnum.specs.declared.int_type.IntType.{IntType}
@@ -21,7 +22,8 @@ use Rattle.lower_code.proofs.Helpers.{code_hit}
 use Rattle.lower_code.specs.Code.{Calls, Exits, hold_code, fetch_code, put_code, combine_code, array_code, pass_code, arguments_code, variables_after_part, variables_after_all, parameter_variables, needed_code, no_value_code, value_code, wait_code, condition_code, if_code, if_else_code, turn_code, while_code, do_code, right_code, call_only_statement, stmt_code, part_code, stmts_code, body_code, call_code, result_in, variable}
 use Rattle.lower_expr.proofs.Lengths.{SameLength, single, longer, joined, chosen, registered, variable_same, call_only_same, from_level, expr_same, terms_same, target_same}
 
--- Two ways to emit calls, which give each helper code of one length, wherever it is called. How many arguments there are doesn't matter.
+-- Two ways to emit calls, which give each helper code of one length, wherever it is called. How many arguments there
+-- are doesn't matter.
 abbrev pub AlikeCalls : Calls → Calls → Type 0
 AlikeCalls calls other =
     (name : ℕ) (arguments arguments2 : List ℕ) (level level2 depth depth2 site site2 : ℕ) → length (calls name arguments level depth site) ≡ length (other name arguments2 level2 depth2 site2)
@@ -176,7 +178,8 @@ body_alike calls calls2 alike results inside inside2 f level depth site level2 d
     joined (stmts_same level level2 calls calls2 alike results inside inside2 f.result (parameter_variables f.parameters []) f.body depth depth2 site site2 _ _) (no_value_same f.result level level2) in
     body.same
 
--- the body of a function has one length, at any level and any depth of loops, and whatever its first barrier's number is
+-- the body of a function has one length, at any level and any depth of loops, and whatever its first barrier's number
+-- is
 pub body_length : (calls : Calls) → Steady calls → (results : ℕ → Option IntType) (inside : ℕ → ℕ) (f : Func) (level depth site level2 depth2 site2 : ℕ)
     → length (body_code calls results inside f level depth site) ≡ length (body_code calls results inside f level2 depth2 site2)
 body_length calls steady results inside f = body_alike calls calls steady results inside inside f

@@ -1,4 +1,5 @@
--- How many instructions the code of statements has, typed or not: at most 13,007 a node, with the nodes of the helpers that are called.
+-- How many instructions the code of statements has, typed or not: at most 13,007 a node, with the nodes of the helpers
+-- that are called.
 use Rattle.std.proofs.Common.{◌≡◌, ℕ, zero, suc, ◌+◌, ◌*◌, ◌<◌, ◌≤◌, ◌++◌, Bool, true, false, nat_eq, Option, None, Some, List, [], length, take, refl, ap, sym, subst, ◌∙◌, arith, eqb-true}
 use Rattle.std.proofs.Math.Seq.{take-length}
 use Rattle.clnum.specs.declared.int_type.IntType.{IntType}

@@ -18,8 +18,8 @@ use Rattle.lower_expr.specs.Expressions.{kind_of, register_for, registers_for, e
 pub use Rattle.lower_expr.specs.Targets.{hold_code, type_of_target, fetch_code, put_code, combine_code}
 pub use Rattle.lower_code.specs.Variables.{variable, local_pointer, array_variable, with_variable, variables_after, variables_after_part, variables_after_all, scope_after, scope_after_part, scope_after_all, array_code, parameter_variables, pass_code, arguments_code}
 
--- How far behind the end of a statement's code its other ends are: what follows a loop that is broken, the condition or the third part of one that is
--- continued, and the end of the function.
+-- How far behind the end of a statement's code its other ends are: what follows a loop that is broken, the condition or
+-- the third part of one that is continued, and the end of the function.
 pub record Exits : Type 0 where
   pub broken : ℕ
   pub continued : ℕ
@@ -29,12 +29,13 @@ pub record Exits : Type 0 where
 abbrev pub past : ℕ → Exits → Exits
 past count exits = record { broken = count + exits.broken; continued = count + exits.continued; returned = count + exits.returned }
 
--- those of a part of a loop, behind which stand n instructions of it: continued, the loop goes on with the first of them
+-- those of a part of a loop, behind which stand n instructions of it: continued, the loop goes on with the first of
+-- them
 abbrev pub body_exits : ℕ → Exits → Exits
 body_exits rest exits = record { broken = rest; continued = 0; returned = rest + exits.returned }
 
--- The code of a call: the helper's name, the registers of the arguments, the level of the first, the number of loops round the call, and the number of
--- its first barrier. Its value is left at that level.
+-- The code of a call: the helper's name, the registers of the arguments, the level of the first, the number of loops
+-- round the call, and the number of its first barrier. Its value is left at that level.
 abbrev pub Calls : Type 0
 Calls = ℕ → List ℕ → ℕ → ℕ → ℕ → List Instruction
 
@@ -90,8 +91,8 @@ while_code depth body condition = instruction.Enter depth ∷ instruction.Jump (
 abbrev pub do_code : ℕ → List Instruction → List Instruction → List Instruction
 do_code depth body condition = instruction.Enter depth ∷ turn_code depth body condition
 
--- In a function that returns a value of a type, with the helpers that it can call: the code of their calls, the types of their values, and the
--- barriers in each.
+-- In a function that returns a value of a type, with the helpers that it can call: the code of their calls, the types
+-- of their values, and the barriers in each.
 module _ (calls : Calls) (results : ℕ → Option IntType) (inside : ℕ → ℕ) (result : Option IntType) where
   -- the right side of an assignment: the call of a helper, or another expression
   abbrev pub right_code : Scope → ℕ → Option HelperCall → Term → ℕ → ℕ → List Instruction

@@ -24,7 +24,8 @@ sizes_in functions = sizes_of (functions_of functions)
 abbrev pub nodes_in : List Function → ℕ → ℕ
 nodes_in functions name = (size_in (sizes_in functions) name).nodes
 
--- each function has no more nodes than are counted for its name, among the first functions too: as where no two have one name
+-- each function has no more nodes than are counted for its name, among the first functions too: as where no two have
+-- one name
 abbrev pub NodesCounted : List Function → Type 0
 NodesCounted functions =
     (count i : ℕ) (f : Function) → i < count → count ≤ length functions → f ≡ get_or functions i f
@@ -57,7 +58,8 @@ LengthsKnown functions known =
     (i : ℕ) (f : Function) (k : Known) (n level depth site : ℕ) → i < length functions → i < length known → f ≡ get_or functions i f → k ≡ get_or known i k
     → k.length ≡ Some n → n ≡ length (body_of (take i functions) f level depth site)
 
--- and where the barriers are known and the length isn't, the function has more nodes than a kernel may have, those of the functions that it calls among them
+-- and where the barriers are known and the length isn't, the function has more nodes than a kernel may have, those of
+-- the functions that it calls among them
 abbrev pub LengthsCounted : List Function → List Known → Type 0
 LengthsCounted functions known =
     (i : ℕ) (f : Function) (k : Known) (n : ℕ) → i < length functions → i < length known → f ≡ get_or functions i f → k ≡ get_or known i k

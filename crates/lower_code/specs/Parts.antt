@@ -25,8 +25,9 @@ abbrev pub whole : List Part → List Instruction
 whole [] = []
 whole (p ∷ ps) = part_code p ++ whole ps
 
--- What is known of the functions before a helper is true of them, each of them is known, the barriers of its body have numbers of 32 bits, it has no
--- more nodes, with the loops round it, than a kernel may have, the levels that its code may need have registers, and its arrays no more elements than one may have.
+-- What is known of the functions before a helper is true of them, each of them is known, the barriers of its body have
+-- numbers of 32 bits, it has no more nodes, with the loops round it, than a kernel may have, the levels that its code
+-- may need have registers, and its arrays no more elements than one may have.
 pub record HoleKnown (h : Hole) : Type 0 where
   pub barriers : BarriersKnown h.functions.now h.known.now
   pub complete : length h.functions.now ≤ length h.known.now

@@ -9,7 +9,8 @@ use Rattle.lower_code.specs.Variables.{row_elements}
 use Rattle.lower_code.specs.declared.assignments.Call.{Call}
 use Rattle.lower_code.specs.declared.positions.Exits.{Exits}
 
--- How many levels above the first that is free code of so many nodes needs at most: a node is a call at the most, which needs one for each parameter.
+-- How many levels above the first that is free code of so many nodes needs at most: a node is a call at the most, which
+-- needs one for each parameter.
 abbrev pub levels : ℕ → ℕ
 levels nodes = 13001 * nodes
 
@@ -26,12 +27,13 @@ abbrev pub called_level : Option Call → ℕ
 called_level None = 0
 called_level (Some c) = c.level.0
 
--- How many instructions code of so many nodes has at most: a node is a call at the most, which has one for each parameter besides seven.
+-- How many instructions code of so many nodes has at most: a node is a call at the most, which has one for each
+-- parameter besides seven.
 abbrev pub instructions : ℕ → ℕ
 instructions nodes = 13007 * nodes
 
--- The exits of code that is put before other code, with the length of that and what code of so many nodes adds at most: it grows by its length, and so does
--- each of the three exits that what stands before it has.
+-- The exits of code that is put before other code, with the length of that and what code of so many nodes adds at most:
+-- it grows by its length, and so does each of the three exits that what stands before it has.
 abbrev pub reach : Exits → List Instruction → ℕ → ℕ
 reach exits code nodes = exits.broken + exits.continued + exits.returned + length code + 4 * instructions nodes
 

@@ -1,4 +1,5 @@
--- The variables that declarations and parameters add to a scope, and the register code that gives them what they begin with (own).
+-- The variables that declarations and parameters add to a scope, and the register code that gives them what they begin
+-- with (own).
 use Rattle.std.specs.Prelude.{ℕ, ◌+◌, max, Bool, true, false, None, List, [], ◌∷◌}
 use Rattle.clnum.specs.declared.int_type.IntType.{IntType}
 use Rattle.clmodel.specs.Next as next
@@ -72,8 +73,8 @@ abbrev mutual
   row_elements NoStmt = 0
   row_elements (ThenStmt statements statement) = max (row_elements statements) (elements statement)
 
--- The declaration of an array at a level, behind n variables: a pointer to its object in local memory, which has their number, or the elements,
--- none of which is set, of the private array of the level.
+-- The declaration of an array at a level, behind n variables: a pointer to its object in local memory, which has their
+-- number, or the elements, none of which is set, of the private array of the level.
 abbrev pub array_code : (is_local : Bool) → IntType → (count number level : ℕ) → List Instruction
 array_code true element count number level = instruction.Local (register_at level (local_pointer element)) number element ∷ []
 array_code false element count number level = instruction.Unset (register_at level (Integer element)) ∷ instruction.UnsetArray level count ∷ []

@@ -49,7 +49,8 @@ pub fn emit_split<'a>(
     code.put_all(front)
 }
 
-/// Puts a call with these arguments, of which the first is at a level, before the code, with the helper's body left out.
+/// Puts a call with these arguments, of which the first is at a level, before the code, with the helper's body left
+/// out.
 fn emit_call<'a>(
     helpers: Helpers<'a>,
     name: u32,
@@ -71,7 +72,8 @@ fn emit_call<'a>(
     put_passed(found.function.parameters.as_slice(), arguments, level, code)
 }
 
-/// How long the code of a helper's body is, wherever it is called. It has no more nodes than a kernel may have, so the length is known.
+/// How long the code of a helper's body is, wherever it is called. It has no more nodes than a kernel may have, so the
+/// length is known.
 fn length_of(helpers: Helpers<'_>, found: Found<'_>) -> usize
     requires within { found.place < length helpers.functions.now }
     requires there { found.function.now ≡ get_or helpers.functions.now found.place found.function.now }

@@ -1,4 +1,5 @@
-//! Code that is written from its end, with the bodies of helpers left out: so a jump is written when the length of what it passes is known.
+//! Code that is written from its end, with the bodies of helpers left out: so a jump is written when the length of what
+//! it passes is known.
 #![tactic(auto, using(crate::proofs::Drafts::draft_whole, crate::proofs::Drafts::part_whole, crate::proofs::Drafts::part_length, crate::proofs::Drafts::draft_length, crate::proofs::Growth::unchanged, crate::proofs::Growth::before, crate::proofs::Growth::one_before))]
 
 ghost use Rattle.std.specs.Prelude.{◌≡◌, ◌-◌, ◌+◌, ◌<◌, ◌^◌, [], ◌∷◌, ◌++◌, length, min, reverse, OnOk, OnErr};
@@ -10,8 +11,8 @@ use regcode::Instruction;
 use std::alloc::{AllocError, Global};
 use std::marker::Model;
 
-/// Code, kept with its last part first: what is put goes before what is there. A body that is left out counts as if it were there. Its length
-/// is counted up to 2^64 - 1.
+/// Code, kept with its last part first: what is put goes before what is there. A body that is left out counts as if it
+/// were there. Its length is counted up to 2^64 - 1.
 #[derive(Drop)]
 pub struct Draft<'a> {
     alloc: Global,
@@ -92,7 +93,8 @@ impl<'a> Draft<'a> {
         self.put_parts(&[Part::Own(instruction)], 1)
     }
 
-    /// Puts the body of a helper before the code, and leaves it out. It has `count` instructions: where these are none, nothing is put.
+    /// Puts the body of a helper before the code, and leaves it out. It has `count` instructions: where these are none,
+    /// nothing is put.
     pub fn leave(&mut self, hole: Hole<'a>, count: usize) -> Result<(), AllocError>
         requires count { count ≡ length (hole_code hole) }
         requires known { HoleKnown hole }

@@ -30,8 +30,8 @@ fn end_of(helpers: Helpers<'_>, name: u32) -> usize
     helpers.ends[place].min(helpers.functions.len())
 }
 
-/// The helper function of a name: the last of the functions that has it. The table of ends says where it stands, so that no other
-/// is looked at, unless functions share a name.
+/// The helper function of a name: the last of the functions that has it. The table of ends says where it stands, so
+/// that no other is looked at, unless functions share a name.
 pub fn find<'a>(helpers: Helpers<'a>, name: u32) -> Option<Found<'a>>
     ensures code { (arguments : List ℕ) (level depth site : ℕ) → call_code (functions_of helpers.entry.functions.now) name arguments level depth site ≡ found_code helpers.entry.functions.now result arguments level depth site }
     ensures value { result_in (functions_of helpers.entry.functions.now) name ≡ found_result result }
@@ -63,8 +63,8 @@ fn name_end(functions: &[Function]) -> usize
     end
 }
 
-/// The end of each name among functions: how many of them there are up to the last that has it, and 0 where none has it. Err if out
-/// of memory.
+/// The end of each name among functions: how many of them there are up to the last that has it, and 0 where none has
+/// it. Err if out of memory.
 pub fn ends_of(alloc: Global, functions: &[Function]) -> Result<Vec<usize>, AllocError>
     ensures { IfOk result (λ ends. EndsKnown functions.now ends.items) }
 {

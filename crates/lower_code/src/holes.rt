@@ -50,8 +50,8 @@ pub struct StatementContext<'a> {
     pub result: Option<IntType>,
 }
 
-/// The body of a helper that is left out of code: the functions before the helper, what is known of them and the ends of names, the
-/// helper, and where its body stands.
+/// The body of a helper that is left out of code: the functions before the helper, what is known of them and the ends
+/// of names, the helper, and where its body stands.
 #[derive(Clone, Copy)]
 pub struct Hole<'a> {
     pub functions: &'a [Function],

@@ -51,8 +51,8 @@ pub struct Position {
     pub exits: Exits,
 }
 
-/// Where the body of a function stands: the level of its first parameter, how many loops are round it, and the number of its first
-/// barrier. The default is where the body of a kernel stands: each is 0.
+/// Where the body of a function stands: the level of its first parameter, how many loops are round it, and the number
+/// of its first barrier. The default is where the body of a kernel stands: each is 0.
 #[derive(Clone, Copy, Default)]
 pub struct BodyPosition {
     pub level: Level,
