@@ -1,11 +1,9 @@
 -- Statements that are emitted from their end (own).
-use Rattle.std.specs.Prelude.{ℕ, ◌+◌, ◌<◌, ◌≤◌, ◌^◌, ◌++◌, max, Bool, true, false, List, length}
+use Rattle.std.specs.Prelude.{ℕ, ◌+◌, ◌<◌, ◌≤◌, ◌^◌, ◌++◌, max, List, length}
 use Rattle.clmodel.specs.Next.{sites, part_sites, all_sites}
 use Rattle.clmodel.specs.Tree.{Stmt, Stmts, MaybeStmt, MaybeTerm}
 use Rattle.clmodel.specs.Typing.Rules.{length_limit}
 use Rattle.clmodel.specs.Typing.Sizes.{size, condition_size, part_size, row_size, node_limit}
-use Rattle.clmodel.specs.declared.tree.Statement as statement
-use Rattle.clmodel.specs.declared.tree.Statement.{Statement}
 use Rattle.regcode.specs.declared.instruction.Instruction.{Instruction}
 use Rattle.lower_expr.specs.Scope.{Scope, free_level}
 use Rattle.lower_code.specs.Code.{stmt_code, part_code, call_code, result_in, body_exits}
@@ -15,19 +13,6 @@ use Rattle.lower_code.specs.Variables.{elements, part_elements, row_elements}
 use Rattle.lower_code.specs.declared.holes.StatementContext.{StatementContext}
 use Rattle.lower_code.specs.declared.positions.Position.{Position}
 use Rattle.lower.specs.declared.statements.Ending.{Ending}
-
--- statements in which no other stands
-abbrev pub is_single : Statement → Bool
-is_single (statement.Empty at) = true
-is_single (statement.Declare at kind name_at name value) = true
-is_single (statement.DeclareArray at is_local element name_at name length_at count) = true
-is_single (statement.Assign at to operator value) = true
-is_single (statement.Step at to is_increment) = true
-is_single (statement.Call at name arguments) = true
-is_single (statement.Break at) = true
-is_single (statement.Continue at) = true
-is_single (statement.Return at value) = true
-is_single _ = false
 
 -- the position of a statement that ends there, by the number of its first barrier
 abbrev pub begun_at : Ending → ℕ → Position

@@ -31,8 +31,7 @@ fn open<'a>(alloc: Global, hole: &Hole<'a>) -> Result<Vec<Part<'a>>, AllocError>
     Ok(body.into_parts())
 }
 
-/// Writes a part: an instruction is added to the code, and the body of a hole is put behind the bodies. Err if out of
-/// memory: nothing changes then.
+/// Adds an instruction to the code, or puts the body of a hole behind the bodies. Out of memory, nothing changes.
 fn write<'a>(
     alloc: Global,
     part: &Part<'a>,

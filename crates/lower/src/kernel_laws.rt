@@ -1,5 +1,4 @@
-//! Laws of the code of kernels and of its tables: it is verified, and within bounds. Each is the contract of a function
-//! that does nothing.
+//! Laws of kernels' code and tables: verified, and within bounds. Each is the contract of a function that does nothing.
 #![tactic(auto)]
 
 ghost use Rattle.lower.specs.Accepted.{ExpressionsSuit, TargetsSuit, ExpressionsFlat, ExpressionsSound, StatementsSound, KernelsGo, KernelsVerified, SuitFits, TypedKernelsVerified};

@@ -16,6 +16,7 @@ pub mod kernel_laws;
 mod kernels;
 mod known_functions;
 mod lowering;
+mod simple;
 mod sites;
 mod statements;
 

@@ -116,3 +116,14 @@ pub fn site_before(helpers: Helpers<'_>, behind: u32, statement: &Statement) -> 
         None => unreachable!(),
     }
 }
+
+/// The number of the first barrier in what is called, by that of the first one behind it.
+pub fn site_before_call(helpers: Helpers<'_>, behind: u32, callee: Callee) -> u32
+    requires { callee_sites (inside helpers.functions.now) callee ≤ behind }
+    ensures { result + callee_sites (inside helpers.entry.functions.now) callee ≡ behind }
+{
+    match sites_in_call(helpers, callee) {
+        Some(count) => behind - count,
+        None => unreachable!(),
+    }
+}

@@ -22,16 +22,21 @@ ghost use Rattle.lower_code.specs.Emission.{inside, sizes_in, body_of, statement
 ghost use Rattle.lower_code.specs.Growth.{GrowsBefore, KeepsOuter};
 ghost use Rattle.lower_code.specs.Room.{levels, reach, turn_reach};
 ghost use Rattle.lower_code.specs.Variables.{elements, part_elements, row_elements};
-ghost use Rattle.lower.specs.Statements.{is_single, begun_at, demand_of, row_demand, part_demand, round_demand, turns_demand, HasRoom, HasRoomInLoop, once_code, round_code};
+ghost use Rattle.lower.specs.Statements.{begun_at, demand_of, row_demand, part_demand, round_demand, turns_demand, HasRoom, HasRoomInLoop, once_code, round_code};
 
+use crate::simple::{emit_assignment, emit_call, emit_declaration};
 use crate::sites::{site_before, site_behind_all};
 use clmodel::tree::{Expression, Function, Statement};
+use lower_code::assignments::put_step;
 use lower_code::draft::Draft;
 use lower_code::holes::{Helpers, StatementContext};
-use lower_code::loops::{end_do, end_while, put_condition, put_no_value, put_test};
-use lower_code::positions::{BodyPosition, Exits, Position};
-use lower_code::simple::{emit_assignment, emit_declaration, put_jump};
-use lower_code::variables::{declare_all, declare_parameters, declare_part, leave, leave_part};
+use lower_code::loops::{
+    end_do, end_while, put_condition, put_no_value, put_return, put_return_value, put_test,
+};
+use lower_code::positions::{BodyPosition, Exits};
+use lower_code::variables::{
+    declare_all, declare_parameters, declare_part, leave, leave_part, put_array, put_unset,
+};
 use lower_expr::scope::Scope;
 use regcode::Instruction;
 use std::alloc::AllocError;
@@ -64,65 +69,7 @@ fn statement_of(part: &Option<Box<Statement>>) -> Option<&Statement>
     }
 }
 
-/// Puts a statement in which no other stands before the code, and gives the number of its first barrier.
-fn emit_single<'a>(
-    context: &StatementContext<'a>,
-    scope: &mut Scope,
-    statement: &Statement,
-    ending: Ending,
-    code: &mut Draft<'a>,
-) -> Result<u32, AllocError>
-    requires kind { is_single statement.now ≡ true }
-    requires room { HasRoom (demand_of context.now (stmt statement.now)) scope.old ending code.old }
-    ensures code { IfOk result (λ site. code.new ≡ statement_code context.now scope.old (stmt statement.now) (begun_at ending site) ++ code.old) }
-    ensures site { IfOk result (λ site. site + sites (inside context.now.helpers.functions.now) (stmt statement.now) ≡ ending.behind) }
-    ensures scope { scope.new ≡ scope.old }
-    ensures longer { OnErr result (GrowsBefore code.old code.new) }
-{
-    let site = site_before(context.helpers, ending.behind, statement);
-    let position = Position {
-        depth: ending.depth,
-        site,
-        exits: ending.exits,
-    };
-    put_single(context, scope, statement, position, code)?;
-    Ok(site)
-}
-
-/// Puts such a statement before the code at a position.
-fn put_single<'a>(
-    context: &StatementContext<'a>,
-    scope: &mut Scope,
-    statement: &Statement,
-    position: Position,
-    code: &mut Draft<'a>,
-) -> Result<(), AllocError>
-    requires kind { is_single statement.now ≡ true }
-    requires few { position.site + sites (inside context.now.helpers.functions.now) (stmt statement.now) < 2 ^ 32 }
-    requires small { position.depth + (size (sizes_in context.now.helpers.functions.now) (stmt statement.now)).nodes ≤ node_limit }
-    requires low { free_level scope.old + levels (size (sizes_in context.now.helpers.functions.now) (stmt statement.now)).nodes < 2 ^ 28 }
-    requires arrays { elements (stmt statement.now) ≤ length_limit }
-    ensures code { OnOk result (code.new ≡ statement_code context.now scope.old (stmt statement.now) position ++ code.old) }
-    ensures scope { scope.new ≡ scope.old }
-    ensures longer { OnErr result (GrowsBefore code.old code.new) }
-{
-    match statement {
-        Statement::Empty { .. } => Ok(()),
-        Statement::Declare { .. } | Statement::DeclareArray { .. } => {
-            emit_declaration(context, scope, statement, position, code)
-        }
-        Statement::Assign { .. } | Statement::Step { .. } | Statement::Call { .. } => {
-            emit_assignment(context, scope, statement, position, code)
-        }
-        Statement::Break { .. } | Statement::Continue { .. } | Statement::Return { .. } => {
-            put_jump(context, scope, statement, position, code)
-        }
-        _ => unreachable!(),
-    }
-}
-
-/// Puts a statement before the code, and gives the number of its first barrier, or of the first behind it if it has
-/// none.
+/// Puts a statement before the code, and gives the number of the first barrier in it, or behind it if it has none.
 #[cycle(emission)]
 fn emit_statement<'a>(
     context: &StatementContext<'a>,
@@ -139,6 +86,47 @@ fn emit_statement<'a>(
     ensures kept { OnErr result (KeepsOuter scope.old scope.new) }
 {
     match statement {
+        Statement::Empty { .. } => Ok(ending.behind),
+        Statement::Declare {
+            kind,
+            name,
+            value,
+            ..
+        } => match value {
+            None => {
+                put_unset(scope, *kind, code)?;
+                Ok(ending.behind)
+            }
+            Some(value) => emit_declaration(context, scope, *kind, *name, value, ending, code),
+        },
+        Statement::DeclareArray {
+            is_local,
+            element,
+            length,
+            ..
+        } => {
+            put_array(scope, *is_local, *element, *length, code)?;
+            Ok(ending.behind)
+        }
+        Statement::Assign {
+            target,
+            operator,
+            value,
+            ..
+        } => emit_assignment(context, scope, target, *operator, value, ending, code),
+        Statement::Step {
+            target,
+            is_increment,
+            ..
+        } => {
+            put_step(scope, target, *is_increment, code)?;
+            Ok(ending.behind)
+        }
+        Statement::Call {
+            name,
+            arguments,
+            ..
+        } => emit_call(context, scope, *name, arguments.as_slice(), ending, code),
         Statement::Block { body, .. } => { emit_all(context, scope, body.as_slice(), ending, code) }
         Statement::If {
             condition,
@@ -186,15 +174,26 @@ fn emit_statement<'a>(
             ending,
             code,
         ),
-        Statement::Empty { .. }
-        | Statement::Declare { .. }
-        | Statement::DeclareArray { .. }
-        | Statement::Assign { .. }
-        | Statement::Step { .. }
-        | Statement::Call { .. }
-        | Statement::Break { .. }
-        | Statement::Continue { .. }
-        | Statement::Return { .. } => emit_single(context, scope, statement, ending, code),
+        Statement::Break { .. } => {
+            let by = ending.exits.broken;
+            code.put(Instruction::Jump { by })?;
+            Ok(ending.behind)
+        }
+        Statement::Continue { .. } => {
+            let by = ending.exits.continued;
+            code.put(Instruction::Jump { by })?;
+            Ok(ending.behind)
+        }
+        Statement::Return { value, .. } => match value {
+            None => {
+                put_return(context.result, scope, ending.exits.returned, code)?;
+                Ok(ending.behind)
+            }
+            Some(value) => {
+                put_return_value(context.result, scope, value, ending.exits.returned, code)?;
+                Ok(ending.behind)
+            }
+        },
     }
 }
 
@@ -396,8 +395,7 @@ fn emit_once<'a>(
     Ok(site)
 }
 
-/// Puts the third part of a `for` before the rest of its turn, and its body before that. The ending is that of the
-/// loop.
+/// Puts the third part of a `for` before the rest of its turn, and its body before that. The ending is the loop's.
 #[cycle(emission)]
 fn emit_stepped<'a>(
     context: &StatementContext<'a>,
@@ -425,8 +423,7 @@ fn emit_stepped<'a>(
     Ok(site)
 }
 
-/// Puts the body and the third part of a `for`, if it has one, before the rest of its turn. The ending is that of the
-/// loop.
+/// Puts the body of a `for` and its third part, if it has one, before the rest of its turn. The ending is the loop's.
 #[cycle(emission)]
 fn emit_round<'a>(
     context: &StatementContext<'a>,

@@ -1,31 +1,15 @@
 -- What the statements that call stand for.
-use Rattle.std.proofs.Common.{◌≡◌, ℕ, Bool, List, Option, Some, sym, ap, ap₂, ◌∙◌, Vec, Box}
+use Rattle.std.proofs.Common.{◌≡◌, ℕ, Bool, List, Option, Some, sym, ap, ◌∙◌, Vec, Box}
 use Rattle.std.specs.declared.alloc.Global.{Global}
-use Rattle.clnum.specs.declared.operators.BinaryOperator.{BinaryOperator}
 use Rattle.clmodel.specs.declared.tree.Expression.{Expression}
 use Rattle.clmodel.specs.declared.tree.Statement as rust_statement
 use Rattle.clmodel.specs.declared.tree.Target.{Target}
-use Rattle.clmodel.specs.declared.tree.VariableType.{VariableType}
-use Rattle.clmodel.specs.Tree.{Assign, Step, DeclareAs, CallOnly, ReturnValue, tree_target, term, terms, stmt}
+use Rattle.clmodel.specs.Tree.{Step, CallOnly, ReturnValue, tree_target, term, terms, stmt}
 use Rattle.clmodel.specs.declared.tree.Statement.{Statement}
-
-pub assign_is : (s : rust_statement.Statement) (at : ℕ) (to : Box Target Global) (operator : Option BinaryOperator) (value : Box Expression Global) (o : Option BinaryOperator) (t : Target) (v : Expression)
-    → s ≡ rust_statement.Assign at to operator value → operator ≡ o → t ≡ to.value → v ≡ value.value → Assign at (tree_target t) o (term v) ≡ stmt s
-assign_is s at to operator value o t v s_is o_is t_is v_is =
-    ap₂ (λ (x : Target) (e : Expression). Assign at (tree_target x) o (term e)) t_is v_is
-    ∙ ap (λ (p : Option BinaryOperator). Assign at (tree_target to.value) p (term value.value)) (sym o_is)
-    ∙ ap stmt (sym s_is)
 
 pub step_is : (s : rust_statement.Statement) (at : ℕ) (to : Box Target Global) (is_increment : Bool) (t : Target)
     → s ≡ rust_statement.Step at to is_increment → t ≡ to.value → Step at (tree_target t) is_increment ≡ stmt s
 step_is s at to is_increment t s_is t_is = ap (λ (x : Target). Step at (tree_target x) is_increment) t_is ∙ ap stmt (sym s_is)
-
-pub declare_is : (s : rust_statement.Statement) (at : ℕ) (kind : VariableType) (name_at name : ℕ) (o : Option (Box Expression Global)) (value : Box Expression Global) (v : Expression)
-    → s ≡ rust_statement.Declare at kind name_at name o → o ≡ Some value → v ≡ value.value → DeclareAs at kind name_at name (term v) ≡ stmt s
-declare_is s at kind name_at name o value v s_is o_is v_is =
-    ap (λ (e : Expression). DeclareAs at kind name_at name (term e)) v_is
-    ∙ ap (λ (p : Option (Box Expression Global)). stmt (rust_statement.Declare at kind name_at name p)) (sym o_is)
-    ∙ ap stmt (sym s_is)
 
 pub return_is : (s : rust_statement.Statement) (at : ℕ) (o : Option (Box Expression Global)) (value : Box Expression Global) (v : Expression)
     → s ≡ rust_statement.Return at o → o ≡ Some value → v ≡ value.value → ReturnValue at (term v) ≡ stmt s

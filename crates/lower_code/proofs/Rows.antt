@@ -2,9 +2,6 @@
 use Rattle.std.proofs.Common.{◌≡◌, ℕ, ◌+◌, ◌-◌, List, [], ◌∷◌, ◌++◌, length, Option, ap, ap₂, sym, ◌∙◌, arith}
 use Rattle.std.proofs.lemmas.List.{append_assoc, append-nil, length-append}
 use Rattle.clnum.specs.declared.int_type.IntType.{IntType}
-use Rattle.std.proofs.Common.{Result, OnOk}
-use Rattle.std.proofs.lemmas.Result.{on_ok_weaker}
-use Rattle.std.specs.declared.alloc.AllocError.{AllocError}
 use Rattle.clmodel.specs.Next.{sites, all_sites}
 use Rattle.clmodel.specs.Tree.{Term, Stmt, IfElse, Stmts, ThenStmt}
 use Rattle.regcode.specs.declared.instruction.Instruction.{Instruction}
@@ -58,10 +55,6 @@ choice_laid test first second old one two three four register by over one_is by_
     ∙ ap₂ (λ n xs. test ++ (instruction.JumpIfZero register n ∷ xs)) jumped
     (three_is ∙ ap (λ xs. first ++ xs) (two_is ∙ ap₂ (λ n xs. instruction.Jump n ∷ xs) jump one_is) ∙ sym (append_assoc first rest old))
     ∙ sym (append_assoc test (instruction.JumpIfZero register (length first + 1) ∷ (first ++ rest)) old)
-
--- code that is put, by another name
-pub placed : (r : Result (Unit {0}) AllocError) (new old one two : List Instruction) → one ≡ two → OnOk r (new ≡ one ++ old) → OnOk r (new ≡ two ++ old)
-placed r new old one two e h = on_ok_weaker {P = new ≡ one ++ old} {Q = new ≡ two ++ old} r (λ k. k ∙ ap (λ xs. xs ++ old) e) h
 
 pub choice_placed : (s : StatementContext) (scope middle later : Scope) (p : Position) (test : Term) (chosen otherwise : Stmt) (site : ℕ) (exits : declared.Exits) (old one two three four : List Instruction) (by added over : ℕ)
     → site ≡ p.site + sites (inside s.helpers.functions.now) chosen

@@ -1,13 +1,11 @@
 -- How the code of statements is emitted (own).
-use Rattle.std.specs.Prelude.{ℕ, ◌++◌, Bool, true, false, Option, None, Some, List, [], ◌∷◌, take}
+use Rattle.std.specs.Prelude.{ℕ, ◌++◌, Option, None, Some, List, [], ◌∷◌, take}
 use Rattle.std.specs.Borrow.{Bor}
 use Rattle.clnum.specs.declared.int_type.IntType.{IntType}
 use Rattle.clmodel.specs.Next.{all_sites}
 use Rattle.clmodel.specs.Tree.{Stmt, Stmts, MaybeStmt, MaybeTerm, WithoutTerm, WithTerm, term}
 use Rattle.clmodel.specs.declared.tree.Expression.{Expression}
 use Rattle.clmodel.specs.declared.tree.Function.{Function}
-use Rattle.clmodel.specs.declared.tree.Statement as statement
-use Rattle.clmodel.specs.declared.tree.Statement.{Statement}
 use Rattle.regcode.specs.declared.instruction.Instruction.{Instruction}
 use Rattle.regcode.specs.declared.instruction.Instruction.TheVariants as instruction
 use Rattle.lower_expr.specs.Registers.{numbers}
@@ -24,24 +22,6 @@ use Rattle.lower_code.specs.declared.functions.Found.{Found}
 use Rattle.lower_code.specs.declared.positions.Exits.{Exits}
 use Rattle.lower_code.specs.declared.positions.Position.{Position}
 use Rattle.lower_code.specs.declared.holes.StatementContext.{StatementContext}
-
--- the statements by what emits them: declarations, assignments and calls, and jumps
-abbrev pub is_declaration : Statement → Bool
-is_declaration (statement.Declare at kind name_at name value) = true
-is_declaration (statement.DeclareArray at is_local element name_at name length_at count) = true
-is_declaration _ = false
-
-abbrev pub is_assignment : Statement → Bool
-is_assignment (statement.Assign at to operator value) = true
-is_assignment (statement.Step at to is_increment) = true
-is_assignment (statement.Call at name arguments) = true
-is_assignment _ = false
-
-abbrev pub is_jump : Statement → Bool
-is_jump (statement.Break at) = true
-is_jump (statement.Continue at) = true
-is_jump (statement.Return at value) = true
-is_jump _ = false
 
 abbrev pub test_of : Option (Bor Expression) → MaybeTerm
 test_of None = WithoutTerm

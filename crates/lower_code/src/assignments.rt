@@ -168,7 +168,7 @@ fn right_side(
 }
 
 /// An assignment by `=`.
-pub fn assign(
+fn assign(
     helpers: Helpers<'_>,
     scope: &Scope,
     target: &Target,
@@ -192,7 +192,7 @@ pub fn assign(
 }
 
 /// An assignment by another operator: the old value is fetched before the right side.
-pub fn compound(
+fn compound(
     helpers: Helpers<'_>,
     scope: &Scope,
     target: &Target,
@@ -227,6 +227,27 @@ pub fn compound(
         &mut right.split.back,
     )?;
     Ok(right.split)
+}
+
+/// An assignment, by `=` or by another operator.
+pub fn assignment(
+    helpers: Helpers<'_>,
+    scope: &Scope,
+    target: &Target,
+    operator: Option<BinaryOperator>,
+    value: &Expression,
+) -> Result<Split, AllocError>
+    requires { free_level scope.now + (target_size [] (tree_target target.now)).nodes + (term_size [] (term value.now)).nodes + 2 < 2 ^ 28 }
+    ensures code { IfOk result (λ split. (calls : Calls) (inside : ℕ → ℕ) (kind : Option IntType) (depth site : ℕ) (exits : spec.Exits)
+        → split_code calls split depth site
+        ≡ spec.stmt_code calls (result_in (functions_of helpers.entry.functions.now)) inside kind scope.now (tree.Assign 0 (tree_target target.now) operator (term value.now)) depth site exits) }
+    ensures sites { IfOk result (λ split. (inside : ℕ → ℕ) → called_sites inside split.call ≡ next.call_sites inside (next.helper_call (term value.now))) }
+    ensures level { IfOk result (λ split. called_level split.call ≤ free_level scope.now + 2) }
+{
+    match operator {
+        None => assign(helpers, scope, target, value),
+        Some(operator) => compound(helpers, scope, target, operator, value),
+    }
 }
 
 /// The operator of `++` or `--`.

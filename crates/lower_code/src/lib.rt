@@ -1,5 +1,5 @@
-//! The register code of statements that hold no other statement, and of what encloses those that do, with the bodies of
-//! helper functions left out of their calls.
+//! The register code of what statements are made of: assignments, declarations, calls, tests, returns and the turns of
+//! loops, with the bodies of helper functions left out of their calls. `lower` puts statements together of it.
 //!
 //! Each function writes exactly the defined code where it succeeds, and the scope after a statement is the defined one.
 //! The code is written from its end: what a jump passes is there before the jump is put in front of it.
@@ -17,5 +17,4 @@ pub mod holes;
 pub mod known;
 pub mod loops;
 pub mod positions;
-pub mod simple;
 pub mod variables;

@@ -4,12 +4,13 @@ use Rattle.lower.proofs.Fronts.{block_room, nodes_there}
 use Rattle.lower.proofs.Reach.{put_length, past_exits, loop_exits, once_short, round_short, turns_short}
 use Rattle.lower_code.proofs.Short.{statement_short, condition_short}
 use Rattle.lower.proofs.LowStatements.{after_part as part_levels, after_row}
-use Rattle.lower_code.proofs.Room.{fewer, fewer_asked}
+use Rattle.lower_code.proofs.Room.{fewer, fewer_there, fewer_asked}
+use Rattle.lower_code.proofs.Calling.{step_is, return_is}
 use denote.Param.Weighed.{most, at_most}
 use Rattle.std.specs.Option.{option_map}
 use Rattle.clmodel.specs.Next.{sites, part_sites, all_sites}
 use Rattle.clmodel.specs.Typing.Sizes.{size, row_size}
-use Rattle.clmodel.specs.Tree.{Stmt, For, ThenStmt, Without, WithTerm, stmt, term}
+use Rattle.clmodel.specs.Tree.{Stmt, For, ThenStmt, Without, WithTerm, stmt, term, tree_target}
 use Rattle.clmodel.specs.declared.tree.Statement.{Statement, size-Statement, the_lemmas}
 use Rattle.regcode.specs.declared.instruction.Instruction.{Instruction}
 use Rattle.lower_expr.specs.Scope.{Scope, free_level}
@@ -30,13 +31,13 @@ use Rattle.lower.proofs.statements.+emission.Goals as goal
 pub emit_statement-returns-in-Block-clause-code : goal.emit_statement-returns-in-Block-clause-code
 emit_statement-returns-in-Block-clause-code t c =
     subst (λ (s : Stmt). IfOk c.emit_all.result (λ site. c.emit_all.new.code ≡ statement_code c.args.context.now c.args.scope.now s (begun_at c.args.ending site) ++ c.args.code.now))
-    (block_is c.args.statement.now c.in-Block.at c.in-Block.body c.as_slice.result.now c.in-Block.is c.as_slice.ensures.value)
+    (block_is c.args.statement.now c.in-Block.at c.in-Block.body c.as_slice-in-Block.result.now c.in-Block.is c.as_slice-in-Block.ensures.value)
     c.emit_all.ensures.code
 
 pub emit_statement-returns-in-Block-clause-site : goal.emit_statement-returns-in-Block-clause-site
 emit_statement-returns-in-Block-clause-site t c =
     subst (λ (s : Stmt). IfOk c.emit_all.result (λ site. site + sites (inside c.args.context.now.helpers.functions.now) s ≡ c.args.ending.behind))
-    (block_is c.args.statement.now c.in-Block.at c.in-Block.body c.as_slice.result.now c.in-Block.is c.as_slice.ensures.value)
+    (block_is c.args.statement.now c.in-Block.at c.in-Block.body c.as_slice-in-Block.result.now c.in-Block.is c.as_slice-in-Block.ensures.value)
     c.emit_all.ensures.site
 
 pub emit_choice-returns-clause-code : goal.emit_choice-returns-clause-code
@@ -344,7 +345,7 @@ emit_for-emit_part-requires t c =
 pub emit_statement-emit_all-requires : goal.emit_statement-emit_all-requires
 emit_statement-emit_all-requires t c = (
   search (rules, the_lemmas),
-  block_room c.args.context.now c.args.statement.now c.in-Block.at c.in-Block.body c.as_slice.result.now c.args.scope.now c.args.ending c.args.code.now c.in-Block.is c.as_slice.ensures.value c.requires,
+  block_room c.args.context.now c.args.statement.now c.in-Block.at c.in-Block.body c.as_slice-in-Block.result.now c.args.scope.now c.args.ending c.args.code.now c.in-Block.is c.as_slice-in-Block.ensures.value c.requires,
 )
 
 -- lengths of 32 bits
@@ -600,3 +601,37 @@ emit_statement-returns-in-IfElse-clause-site t c =
     let whole = ap (λ x. sites f x) (if_else_is c.args.statement.now c.in-IfElse.at c.in-IfElse.condition c.in-IfElse.chosen c.in-IfElse.otherwise one two c.in-IfElse.is c.deref-in-IfElse-2.ensures c.deref-in-IfElse-3.ensures) in
     IfOk-weaker c.emit_choice.result (λ site. site + (sites f (stmt one) + sites f (stmt two)) ≡ c.args.ending.behind) (λ site. site + sites f (stmt c.args.statement.now) ≡ c.args.ending.behind)
     (λ site h. omega (arith, h, whole)) c.emit_choice.ensures.site
+
+pub emit_statement-returns-in-If-clause-site : goal.emit_statement-returns-in-If-clause-site
+emit_statement-returns-in-If-clause-site t c =
+    let f = inside c.args.context.now.helpers.functions.now in
+    let chosen = c.deref-in-If-2.result.now in
+    let whole : sites f (stmt chosen) ≡ sites f (stmt c.args.statement.now) = ap (λ (s : Statement). sites f (stmt s)) c.deref-in-If-2.ensures ∙ ap (λ (s : Statement). sites f (stmt s)) (sym c.in-If.is) in
+    IfOk-weaker c.emit_if.result (λ site. site + sites f (stmt chosen) ≡ c.args.ending.behind) (λ site. site + sites f (stmt c.args.statement.now) ≡ c.args.ending.behind)
+    (λ site h. omega (arith, h, whole)) c.emit_if.ensures.site
+
+pub emit_statement-returns-in_ok-put_step-in-Step-clause-code : goal.emit_statement-returns-in_ok-put_step-in-Step-clause-code
+emit_statement-returns-in_ok-put_step-in-Step-clause-code t c =
+    let s = c.args.context.now in
+    let fs = functions_of s.helpers.functions.now in
+    let e = c.args.ending in
+    c.in_ok-put_step-in-Step.ensures.code (call_code fs) (result_in fs) (inside s.helpers.functions.now) s.result
+    ∙ ap (λ (x : Stmt). statement_code s c.args.scope.now x (begun_at e e.behind) ++ c.args.code.now)
+    (step_is c.args.statement.now c.in-Step.at c.in-Step.target c.in-Step.is_increment c.deref-in-Step.result.now c.in-Step.is c.deref-in-Step.ensures)
+
+pub emit_statement-put_step-requires : goal.emit_statement-put_step-requires
+emit_statement-put_step-requires t c =
+    let sizes = sizes_in c.args.context.now.helpers.functions.now in
+    let whole = ap (λ (s : Stmt). (size sizes s).nodes) (step_is c.args.statement.now c.in-Step.at c.in-Step.target c.in-Step.is_increment c.deref-in-Step.result.now c.in-Step.is c.deref-in-Step.ensures) in
+    let to = fewer_there sizes (tree_target c.deref-in-Step.result.now) in
+    let low = c.requires.low in
+    omega (arith, whole, to, low)
+
+pub emit_statement-put_return_value-requires : goal.emit_statement-put_return_value-requires
+emit_statement-put_return_value-requires t c =
+    let sizes = sizes_in c.args.context.now.helpers.functions.now in
+    let value = c.deref-in-Some-value.result.now in
+    let whole = ap (λ (s : Stmt). (size sizes s).nodes) (return_is c.args.statement.now c.in-Return.at c.in-Return.value c.in-Some-value.value value c.in-Return.is c.in-Some-value.is c.deref-in-Some-value.ensures) in
+    let less = fewer sizes (term value) in
+    let low = c.requires.low in
+    omega (arith, whole, less, low)
