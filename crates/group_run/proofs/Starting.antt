@@ -16,8 +16,13 @@ use Rattle.clmodel.proofs.Steps.{none_some, some_inj}
 use Rattle.clmodel.proofs.CellLaws.{cells_some, cells_none}
 use Rattle.shadow_list.specs.Log.{Log, fresh_log}
 use Rattle.launches.specs.Objects.{SpacesHold}
+use Rattle.launches.proofs.Items.{waiting_at}
 use Rattle.launches.proofs.Memory.{local_at, local_past}
-use Rattle.group_run.specs.Fits.{Fits, AreStarted}
+use Rattle.launches.specs.Items.{acts_of}
+use Rattle.launches.specs.declared.slot.Slot.{Slot}
+use Rattle.launches.specs.declared.slot.Slot.TheVariants as slot
+use Rattle.group_run.specs.Fits.{Fits}
+use Rattle.group_run.specs.Items.{acts_at}
 use Rattle.joining.specs.Parts.{IsGrouped}
 use Rattle.joining.specs.Group.{Plan, IsGroup, Reached, Reported, IsRun, plan_of}
 use Rattle.group_run.specs.Logs.{IsLogged}
@@ -109,11 +114,23 @@ brief_is l group ready =
 
 -- ---- the start
 
+-- items before their first actions, `count` from the first on
+pub record AreStarted {I : Type 0} (acts : ℕ → I → List Answer → Action) (launch : Launch) (first count : ℕ) (items : List I) : Type 0 where
+  pub many : length items ≡ count
+  pub each : (k : ℕ) (i : I) → slice_get items k ≡ Some i → (answers : List Answer) → acts k i answers ≡ launch.next (first + k) answers
+
+pub waiting_start : (l : Launch) (first count : ℕ) (items : List Slot) → items ≡ replicate count slot.Waiting → AreStarted (acts_at l first) l first count items
+waiting_start l first count items is =
+    record {
+      many = ap length is ∙ length-replicate count slot.Waiting;
+      each = λ k i e answers. ap (λ z. acts_of l (first + k) z answers) (waiting_at count k i (subst (λ z. slice_get z k ≡ Some i) is e));
+    }
+
 from_none : (a b : ℕ) → a ≤ b → 0 + a ≤ b
 from_none a b h = omega (arith, h)
 
 pub start_fits :
-    {I G : Type 0} (acts : I → List Answer → Action) (bytes : G → List (Option ℕ)) (ro : Bool) (l : Launch) (group : ℕ) (items : List I) (globals : List G) (locals : List (List (Option ℕ))) (log : Log)
+    {I G : Type 0} (acts : ℕ → I → List Answer → Action) (bytes : G → List (Option ℕ)) (ro : Bool) (l : Launch) (group : ℕ) (items : List I) (globals : List G) (locals : List (List (Option ℕ))) (log : Log)
     → IsRunnable l → group * l.group_size < l.items → ro ≡ false → map bytes globals ≡ filled l → locals ≡ map (λ size. replicate size None) l.local_sizes
     → log ≡ fresh_log l.uniform → AreStarted acts l (group * l.group_size) l.group_size items
     → Fits acts bytes ro (plan_of l group) items 0 globals locals log [] (start l)
@@ -156,7 +173,7 @@ pub record Begins (p : Plan) (fits : Events → State → Type 0) (origin : Stat
   pub reached : Reached p fits origin []
 
 pub begins :
-    {I G : Type 0} (acts : I → List Answer → Action) (bytes : G → List (Option ℕ)) (ro : Bool) (l : Launch) (group first count : ℕ) (items : List I) (globals : List G) (locals : List (List (Option ℕ))) (log : Log)
+    {I G : Type 0} (acts : ℕ → I → List Answer → Action) (bytes : G → List (Option ℕ)) (ro : Bool) (l : Launch) (group first count : ℕ) (items : List I) (globals : List G) (locals : List (List (Option ℕ))) (log : Log)
     → IsRunnable l → group * l.group_size < l.items → ro ≡ false → map bytes globals ≡ filled l → locals ≡ map (λ size. replicate size None) l.local_sizes
     → log ≡ fresh_log l.uniform → first ≡ group * l.group_size → count ≡ l.group_size → AreStarted acts l first count items
     → Begins (record { launch = l; group = group; first = first; count = length items })
@@ -207,7 +224,7 @@ none_more : (n : ℕ) → n ≡ 0 + n
 none_more n = omega arith
 
 pub leaves_fit :
-    {I G : Type 0} (acts : I → List Answer → Action) (bytes : G → List (Option ℕ)) (ro : Bool) (p : Plan) (items : List I) (number : ℕ) (globals : List G)
+    {I G : Type 0} (acts : ℕ → I → List Answer → Action) (bytes : G → List (Option ℕ)) (ro : Bool) (p : Plan) (items : List I) (number : ℕ) (globals : List G)
     (locals : List (List (Option ℕ))) (log : Log) (events : Events) (s : State) → Fits acts bytes ro p items number globals locals log events s → Leaves bytes p globals log events s
 leaves_fit acts bytes ro p items number globals locals log events s f =
     record {
@@ -215,9 +232,10 @@ leaves_fit acts bytes ro p items number globals locals log events s f =
       logged = f.logged;
     }
 
--- What is left where the run ends clean, and what is known where it ends with a report, by the group's plan. The code has it as `q`.
+-- What is left where the run ends clean, and what is known where it ends with a report, by the group's plan. The code
+-- has it as `q`.
 module _
-    {I G : Type 0} (acts : I → List Answer → Action) (bytes : G → List (Option ℕ)) (ro : Bool) (l : Launch) (group size : ℕ) (items : List I) (number : ℕ) (globals : List G)
+    {I G : Type 0} (acts : ℕ → I → List Answer → Action) (bytes : G → List (Option ℕ)) (ro : Bool) (l : Launch) (group size : ℕ) (items : List I) (number : ℕ) (globals : List G)
     (locals : List (List (Option ℕ))) (log : Log) {events other : Events} (report : Option Fault) (sized : size ≡ l.group_size) (started : List I) (many : length started ≡ size) {q : Plan}
     (same : q ≡ record { launch = l; group = group; first = group * size; count = length started }) (told : other ≡ events)
     (ran : IsRun (record { launch = l; group = group; first = group * size; count = length started }) (Fits acts bytes ro q items number globals locals log) (start l) events report) where

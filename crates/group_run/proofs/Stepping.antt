@@ -168,7 +168,7 @@ pub record Moves {G : Type 0} (bytes : G → List (Option ℕ)) (p : Plan) (glob
 
 -- after an access that is done
 pub record Accessed
-    {I G : Type 0} (acts : I → List Answer → Action) (bytes : G → List (Option ℕ)) (ro : Bool) (p : Plan) (items : List I) (number : ℕ) (globals : List G)
+    {I G : Type 0} (acts : ℕ → I → List Answer → Action) (bytes : G → List (Option ℕ)) (ro : Bool) (p : Plan) (items : List I) (number : ℕ) (globals : List G)
     (locals : List (List (Option ℕ))) (log : Log) (events : Events) (s : State) (item : ℕ) (hit : Option Hit) : Type 0 where
   pub next : State
   pub steps : Steps p s next item
@@ -176,13 +176,13 @@ pub record Accessed
   pub conflict : newest_conflict p.launch next.log ≡ option_map conflict_of hit
 
 acting_more :
-    {I : Type 0} (acts : I → List Answer → Action) (l : Launch) (s : State) (base k : ℕ) (items : List I) (i j : I) (at : Region) (op : Operation) (first x : ℕ) (answer : Answer)
-    → slice_get items k ≡ Some i → ((q : ℕ) (z : I) → slice_get items q ≡ Some z → (answers : List Answer) → acts z answers ≡ l.next (base + q) (s.answers (base + q) ++ answers))
-    → ((answers : List Answer) → acts j answers ≡ acts i (answer ∷ answers)) → answer ≡ answer_to op x → (q : ℕ) (z : I)
+    {I : Type 0} (acts : ℕ → I → List Answer → Action) (l : Launch) (s : State) (base k : ℕ) (items : List I) (i j : I) (at : Region) (op : Operation) (first x : ℕ) (answer : Answer)
+    → slice_get items k ≡ Some i → ((q : ℕ) (z : I) → slice_get items q ≡ Some z → (answers : List Answer) → acts q z answers ≡ l.next (base + q) (s.answers (base + q) ++ answers))
+    → ((answers : List Answer) → acts k j answers ≡ acts k i (answer ∷ answers)) → answer ≡ answer_to op x → (q : ℕ) (z : I)
     → ((q ≡ k) × (j ≡ z)) ⊎ ((q ≡ k → ⊥) × (slice_get items q ≡ Some z)) → (answers : List Answer)
-    → acts z answers ≡ l.next (base + q) ((made l s (base + k) at first op x).answers (base + q) ++ answers)
+    → acts q z answers ≡ l.next (base + q) ((made l s (base + k) at first op x).answers (base + q) ++ answers)
 acting_more acts l s base k items i j at op first x answer e held answered is q z (inl c) answers =
-    ap (λ y. acts y answers) (sym c.1)
+    ap₂ (λ n y. acts n y answers) c.0 (sym c.1)
     ∙ answered answers
     ∙ held k i e (answer ∷ answers)
     ∙ ap (λ a. l.next (base + k) (s.answers (base + k) ++ a ∷ answers)) is
@@ -204,11 +204,11 @@ no_less l s item at op first x other (inr ne) =
     let h : length ((made l s item at first op x).answers other) ≡ length (s.answers other) = ap length (answered_there s l item at op first x other ne) in omega (arith, h)
 
 pub accessed_fits :
-    {I G : Type 0} (acts : I → List Answer → Action) (bytes : G → List (Option ℕ)) (ro : Bool) (p : Plan) (items : List I) (number : ℕ) (globals globals2 : List G)
+    {I G : Type 0} (acts : ℕ → I → List Answer → Action) (bytes : G → List (Option ℕ)) (ro : Bool) (p : Plan) (items : List I) (number : ℕ) (globals globals2 : List G)
     (locals locals2 : List (List (Option ℕ))) (log log2 : Log) (events : Events) (s : State) (k : ℕ) (i j : I) (o : Object) (element : ℤ) (op : Operation) (first : ℕ)
     (answer : Answer) (seen : Option Hit) → Fits acts bytes ro p items number globals locals log events s → k < p.count → slice_get items k ≡ Some i
     → next_action p.launch s (p.first + k) ≡ action.Access o element op → byte_at p.launch (p.first + k) o element op ≡ Some first
-    → Moves bytes p globals2 locals2 s op first answer (region_of p.group o) → ((answers : List Answer) → acts j answers ≡ acts i (answer ∷ answers))
+    → Moves bytes p globals2 locals2 s op first answer (region_of p.group o) → ((answers : List Answer) → acts k j answers ≡ acts k i (answer ∷ answers))
     → IsNoted log (entry_of (p.first + k) (region_of p.group o) first op number) log2 (Ok seen)
     → Accessed acts bytes ro p (set items k j) (number + 1) globals2 locals2 log2 events s (p.first + k) seen
 accessed_fits acts bytes ro p items number globals globals2 locals locals2 log log2 events s k i j o element op first answer seen f b e acting placed w answered noted =
@@ -252,7 +252,7 @@ accessed_fits acts bytes ro p items number globals globals2 locals locals2 log l
 
 -- after a release
 pub record Passed
-    {I G : Type 0} (acts : I → List Answer → Action) (bytes : G → List (Option ℕ)) (ro : Bool) (p : Plan) (items : List I) (number : ℕ) (globals : List G)
+    {I G : Type 0} (acts : ℕ → I → List Answer → Action) (bytes : G → List (Option ℕ)) (ro : Bool) (p : Plan) (items : List I) (number : ℕ) (globals : List G)
     (locals : List (List (Option ℕ))) (log : Log) (events : Events) (s : State) : Type 0 where
   pub next : State
   pub steps : step p.launch s (Release p.group) ≡ Some next
@@ -269,7 +269,7 @@ few_more true n m h = omega (arith, h)
 few_more false n m h = omega (arith, h)
 
 pub released_fits :
-    {I G : Type 0} (acts : I → List Answer → Action) (bytes : G → List (Option ℕ)) (ro : Bool) (p : Plan) (items items2 : List I) (number : ℕ) (globals : List G)
+    {I G : Type 0} (acts : ℕ → I → List Answer → Action) (bytes : G → List (Option ℕ)) (ro : Bool) (p : Plan) (items items2 : List I) (number : ℕ) (globals : List G)
     (locals : List (List (Option ℕ))) (log log2 : Log) (events : Events) (s : State) (instance : Instance) (fences : Fences)
     → Fits acts bytes ro p items number globals locals log events s → p.count ≡ length items → straggler p.launch s p.group p.first ≡ None
     → next_action p.launch s p.first ≡ action.Barrier instance fences → AreAnswered acts Done items items2 → log2 ≡ after_fences log fences
@@ -331,7 +331,7 @@ place_read bytes {globals} {xs} {locals} {ys} o {element} {told} op is same here
     ∙ ap₂ (λ a b. first_byte (length (space_of bytes a b o)) element (size_of op)) here there
 
 module _
-    {I G : Type 0} (acts : I → List Answer → Action) (bytes : G → List (Option ℕ)) (ro : Bool) (p : Plan) (items : List I) (number : ℕ) (globals : List G)
+    {I G : Type 0} (acts : ℕ → I → List Answer → Action) (bytes : G → List (Option ℕ)) (ro : Bool) (p : Plan) (items : List I) (number : ℕ) (globals : List G)
     (locals : List (List (Option ℕ))) (log : Log) (k : ℕ) (o : Object) (element : ℤ) (op : Operation) (inside : k < p.count) where
   abbrev before : Events → State → Type 0
   before = Fits acts bytes ro p items number globals locals log
@@ -392,7 +392,7 @@ module _
       (there : slice_get items k ≡ Some i) (place : Some first ≡ first_byte (length (space_of bytes globals locals o)) element (size_of op))
       {outcome : Result Answer SpaceFault} (done : outcome ≡ Ok answer)
       (moved : IsMoved (ObjectsHold bytes p.launch p.group globals locals) (ObjectsHold bytes p.launch p.group globals2 locals2) (region_of p.group o) first op outcome)
-      (answered : (answers : List Answer) → acts j answers ≡ acts i (answer ∷ answers))
+      (answered : (answers : List Answer) → acts k j answers ≡ acts k i (answer ∷ answers))
       (judged : IsJudged p.launch log (entry_of (p.first + k) (region_of p.group o) first op number) log2 (option_map box_value told)) where
     after :
         (events : Events) (s : State) → before events s → next_action p.launch s (p.first + k) ≡ action.Access o element op
@@ -440,7 +440,7 @@ pub record Room (number : ℕ) (log : Log) : Type 0 where
   pub global : log.global_interval < 2 ^ 32 - 1
 
 pub release_room :
-    {I G : Type 0} (acts : I → List Answer → Action) (bytes : G → List (Option ℕ)) (ro : Bool) (q : Plan) (items : List I) (number : ℕ) (globals : List G)
+    {I G : Type 0} (acts : ℕ → I → List Answer → Action) (bytes : G → List (Option ℕ)) (ro : Bool) (q : Plan) (items : List I) (number : ℕ) (globals : List G)
     (locals : List (List (Option ℕ))) (log : Log) (fences : Fences) → IsWaiting q (Fits acts bytes ro q items number globals locals log) fences → Room number log
 release_room acts bytes ro q items number globals locals log fences (events, s, instance, f, gathered, waiting) =
     let first_is : q.first ≡ q.first + 0 = omega arith in
@@ -452,7 +452,7 @@ release_room acts bytes ro q items number globals locals log fences (events, s, 
     }
 
 pub release_made :
-    {I G : Type 0} (acts : I → List Answer → Action) (bytes : G → List (Option ℕ)) (ro : Bool) (p r : Plan) (items items2 : List I) (number : ℕ) (globals : List G)
+    {I G : Type 0} (acts : ℕ → I → List Answer → Action) (bytes : G → List (Option ℕ)) (ro : Bool) (p r : Plan) (items items2 : List I) (number : ℕ) (globals : List G)
     (locals : List (List (Option ℕ))) (log log2 : Log) (events : Events) (s : State) (instance : Instance) (fences : Fences) → r ≡ p
     → Fits acts bytes ro p items number globals locals log events s → p.count ≡ length items → straggler p.launch s p.group p.first ≡ None
     → next_action p.launch s p.first ≡ action.Barrier instance fences → AreAnswered acts Done items items2 → log2 ≡ after_fences log fences
@@ -465,16 +465,43 @@ release_made acts bytes ro p r items items2 number globals locals log log2 event
 -- ---- an item's next action
 
 pub action_is :
-    {I G : Type 0} (acts : I → List Answer → Action) (bytes : G → List (Option ℕ)) (ro : Bool) (p : Plan) (items : List I) (number : ℕ) (globals : List G)
-    (locals : List (List (Option ℕ))) (log : Log) (events : Events) (s : State) (k : ℕ) (i : I) (a : Action) → slice_get items k ≡ Some i → a ≡ acts i []
+    {I G : Type 0} (acts : ℕ → I → List Answer → Action) (bytes : G → List (Option ℕ)) (ro : Bool) (p : Plan) (items : List I) (number : ℕ) (globals : List G)
+    (locals : List (List (Option ℕ))) (log : Log) (events : Events) (s : State) (k : ℕ) (i : I) (a : Action) → slice_get items k ≡ Some i → a ≡ acts k i []
     → Fits acts bytes ro p items number globals locals log events s → next_action p.launch s (p.first + k) ≡ a
 action_is acts bytes ro p items number globals locals log events s k i a e h f =
     ap (p.launch.next (p.first + k)) (sym (append-nil (s.answers (p.first + k)))) ∙ sym (f.acting k i e []) ∙ sym h
 
+-- an item that was asked acts as before; `r` is the plan as the code has it once the item was asked
+pub next_fits :
+    {I G : Type 0} (acts : ℕ → I → List Answer → Action) (bytes : G → List (Option ℕ)) (ro : Bool) (p r : Plan) (items : List I) (number : ℕ) (globals : List G)
+    (locals : List (List (Option ℕ))) (log : Log) (k : ℕ) (i j : I) → r ≡ p → slice_get items k ≡ Some i → ((answers : List Answer) → acts k j answers ≡ acts k i answers)
+    → (events : Events) (s : State) → Fits acts bytes ro p items number globals locals log events s → Fits acts bytes ro r (set items k j) number globals locals log events s
+next_fits {I} acts bytes ro p r items number globals locals log k i j last there same events s f =
+    subst (λ z. Fits acts bytes ro z (set items k j) number globals locals log events s) (sym last)
+    (record {
+      whole = f.whole;
+      writable = f.writable;
+      acting = λ q z h. go q z (get_set items k j q z h);
+      holds = f.holds;
+      logged = f.logged;
+      counts = f.counts;
+      few = f.few;
+    })
+  where
+    go :
+        (q : ℕ) (z : I) → ((q ≡ k) × (j ≡ z)) ⊎ ((q ≡ k → ⊥) × (slice_get items q ≡ Some z)) → (answers : List Answer)
+        → acts q z answers ≡ p.launch.next (p.first + q) (s.answers (p.first + q) ++ answers)
+    go q z (inl c) answers =
+        ap₂ (λ n y. acts n y answers) c.0 (sym c.1)
+        ∙ same answers
+        ∙ f.acting k i there answers
+        ∙ ap (λ n. p.launch.next (p.first + n) (s.answers (p.first + n) ++ answers)) (sym c.0)
+    go q z (inr c) answers = f.acting q z c.1 answers
+
 -- an item's next action where memory doesn't want
 pub actions_are :
-    {I G E : Type 0} (acts : I → List Answer → Action) (bytes : G → List (Option ℕ)) (ro : Bool) (p : Plan) (items : List I) (number : ℕ) (globals : List G)
-    (locals : List (List (Option ℕ))) (log : Log) (k : ℕ) (i : I) → slice_get items k ≡ Some i → (answer : Result Action E) → IfOk answer (λ a. a ≡ acts i [])
+    {I G E : Type 0} (acts : ℕ → I → List Answer → Action) (bytes : G → List (Option ℕ)) (ro : Bool) (p : Plan) (items : List I) (number : ℕ) (globals : List G)
+    (locals : List (List (Option ℕ))) (log : Log) (k : ℕ) (i : I) → slice_get items k ≡ Some i → (answer : Result Action E) → IfOk answer (λ a. a ≡ acts k i [])
     → IfOk answer (λ a. (events : Events) (s : State) → Fits acts bytes ro p items number globals locals log events s → next_action p.launch s (p.first + k) ≡ a)
 actions_are acts bytes ro p items number globals locals log k i e (Ok a) h = λ events s f. action_is acts bytes ro p items number globals locals log events s k i a e h f
 actions_are acts bytes ro p items number globals locals log k i e (Err error) h = tt

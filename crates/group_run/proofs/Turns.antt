@@ -423,7 +423,8 @@ pub record AtEnd (p q : Plan) (fits : Events → State → Type 0) (origin : Sta
   pub acts : next_action p.launch gathers.0.state p.first ≡ act
   pub same : q ≡ p
 
--- so it is where the code has asked the first item after an interval: it had the plan as `q1` before and as `q2` after the interval
+-- so it is where the code has asked the first item after an interval: it had the plan as `q1` before and as `q2` after
+-- the interval
 pub interval_ended :
     {p q1 q2 q : Plan} {old fits : Events → State → Type 0} {origin : State} {events : Events} {report : Option (Box Fault Global)} {act : Action} → q1 ≡ p → q2 ≡ q1 → q ≡ q2 → report ≡ None
     → IsGathered q1 old origin events report → ((es : Events) (s : State) → old es s → fits es s)

@@ -10,16 +10,11 @@ use Rattle.launches.specs.Objects.{ObjectsHold}
 use Rattle.joining.specs.Group.{Plan, IsGroup}
 use Rattle.group_run.specs.Logs.{IsLogged}
 
--- items that were each answered alike
-pub record AreAnswered {I : Type 0} (acts : I → List Answer → Action) (answer : Answer) (old new : List I) : Type 0 where
+-- items that were each answered alike; `acts` says how the item at a place acts
+pub record AreAnswered {I : Type 0} (acts : ℕ → I → List Answer → Action) (answer : Answer) (old new : List I) : Type 0 where
   pub many : length new ≡ length old
   pub each : (k : ℕ) (y : I) → slice_get new k ≡ Some y
-      → (x : I) × (slice_get old k ≡ Some x) × ((answers : List Answer) → acts y answers ≡ acts x (answer ∷ answers))
-
--- items of a launch before their first actions, `count` from the first on
-pub record AreStarted {I : Type 0} (acts : I → List Answer → Action) (launch : Launch) (first count : ℕ) (items : List I) : Type 0 where
-  pub many : length items ≡ count
-  pub each : (k : ℕ) (i : I) → slice_get items k ≡ Some i → (answers : List Answer) → acts i answers ≡ launch.next (first + k) answers
+      → (x : I) × (slice_get old k ≡ Some x) × ((answers : List Answer) → acts k y answers ≡ acts k x (answer ∷ answers))
 
 -- how many answers the group's items can still be given, where none is given more than `bound`
 abbrev pub group_left : Plan → ℕ → State → ℕ
@@ -33,15 +28,16 @@ pub record Counts (plan : Plan) (made : ℕ) (events : Events) (state : State) :
   pub bounded : IsBounded plan.launch bound
   pub left : length events + group_left plan bound state ≤ plan.count * bound
 
--- The program's items, number of events made, spaces and log fit a state after these events: each item acts as the launch says after
--- the answers of the state, the spaces, which can be written, hold its memory, and the log keeps its log.
+-- The program's items, number of events made, spaces and log fit a state after these events: each item acts as the
+-- launch says after the answers of the state, the spaces, which can be written, hold its memory, and the log keeps its
+-- log.
 pub record Fits
-    {I G : Type 0} (acts : I → List Answer → Action) (bytes : G → List (Option ℕ)) (read_only : Bool) (plan : Plan) (items : List I) (made : ℕ) (globals : List G)
+    {I G : Type 0} (acts : ℕ → I → List Answer → Action) (bytes : G → List (Option ℕ)) (read_only : Bool) (plan : Plan) (items : List I) (made : ℕ) (globals : List G)
     (locals : List (List (Option ℕ))) (log : Log) (events : Events) (state : State) : Type 0 where
   pub whole : IsGroup plan
   pub writable : read_only ≡ false
   pub acting : (k : ℕ) (i : I) → slice_get items k ≡ Some i
-      → (answers : List Answer) → acts i answers ≡ plan.launch.next (plan.first + k) (state.answers (plan.first + k) ++ answers)
+      → (answers : List Answer) → acts k i answers ≡ plan.launch.next (plan.first + k) (state.answers (plan.first + k) ++ answers)
   pub holds : ObjectsHold bytes plan.launch plan.group globals locals state.memory
   pub logged : IsLogged plan log events state
   pub counts : Counts plan made events state

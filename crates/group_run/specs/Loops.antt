@@ -29,7 +29,8 @@ abbrev pub judged_as : Option (Box Fault Global) → Made
 judged_as None = made.Done
 judged_as (Some fault) = made.Conflicts fault
 
--- what became of an action that an item does next, in each state that fitted: it is done, with a conflict or without, or it can't be done
+-- what became of an action that an item does next, in each state that fitted: it is done, with a conflict or without,
+-- or it can't be done
 abbrev pub IsMade : Plan → (Events → State → Type 0) → (Events → State → Type 0) → ℕ → Action → Made → Type 0
 IsMade plan old new item act made.Done =
     (events : Events) (state : State) → old events state → next_action plan.launch state item ≡ act
@@ -42,7 +43,8 @@ IsMade plan old new item act (made.Refused fault) =
     (events : Events) (state : State) → old events state → next_action plan.launch state item ≡ act
     → (item_turn plan.launch state plan.first item (next_action plan.launch state item) ≡ Reports fault.value) × new events state
 
--- the first k items of the group are at the first one's stop: the same barrier in the same turns, or the end (OpenCL 1.2, 6.12.8)
+-- the first k items of the group are at the first one's stop: the same barrier in the same turns, or the end (OpenCL
+-- 1.2, 6.12.8)
 abbrev pub AtOneStop : Plan → State → ℕ → Type 0
 AtOneStop plan state count =
     (k : ℕ) → k < count → both_stop (stop_of (next_action plan.launch state plan.first)) (stop_of (next_action plan.launch state (plan.first + k))) ≡ true
@@ -51,7 +53,8 @@ AtOneStop plan state count =
 abbrev pub Gathers : Plan → (Events → State → Type 0) → State → Events → ℕ → Type 0
 Gathers plan fits origin events count = (reached : Reached plan fits origin events) × AtOneStop plan reached.state count
 
--- the stop that is kept of the group's first item, where it is among the `count` items that have run: none before (OpenCL 1.2, 6.12.8)
+-- the stop that is kept of the group's first item, where it is among the `count` items that have run: none before
+-- (OpenCL 1.2, 6.12.8)
 abbrev pub IsLeading : Plan → State → ℕ → Option Stop → Type 0
 IsLeading plan state count None = count ≡ 0
 IsLeading plan state count (Some stop) = (0 < count) × (stop_of (next_action plan.launch state plan.first) ≡ Some stop)

@@ -15,7 +15,8 @@ pub record Leaves {G : Type 0} (bytes : G → List (Option ℕ)) (plan : Plan) (
   pub contents : left plan.launch state ≡ map bytes spaces
   pub logged : IsLogged plan log events state
 
--- how the canonical run of a group ends, which makes these events and leaves this log: clean, with this in the buffers, or with this report
+-- how the canonical run of a group ends, which makes these events and leaves this log: clean, with this in the buffers,
+-- or with this report
 abbrev pub IsGroupEnd : {G : Type 0} → (G → List (Option ℕ)) → Launch → ℕ → Log → Events → GroupEnd G → Type 0
 IsGroupEnd bytes launch group log events (Done spaces) = IsRun (plan_of launch group) (Leaves bytes (plan_of launch group) spaces.items log) (start launch) events None
 IsGroupEnd bytes launch group log events (Stopped fault) = IsRun (plan_of launch group) (IsLogged (plan_of launch group) log) (start launch) events (Some fault)

@@ -1,38 +1,39 @@
 //! The items of a group with their memory and their log.
 
-ghost use Rattle.std.specs.Prelude.{◌≡◌, ◌+◌, ◌-◌, ◌<◌, ◌≤◌, ◌^◌, ℕ, List, Option, None, Some, length, IfOk, IfSome, OnOk, option_map};
+ghost use Rattle.std.specs.Prelude.{◌≡◌, ◌+◌, ◌-◌, ◌<◌, ◌≤◌, ◌^◌, ℕ, ◌∷◌, List, Option, None, Some, length, IfOk, IfSome, OnOk, option_map};
 ghost use Rattle.std.specs.Box.{box_value};
 ghost use Rattle.clmodel.specs.Cells.{size_of};
 ghost use Rattle.clmodel.specs.Launch.{first_byte};
 ghost use Rattle.clmodel.specs.Law as law;
+ghost use Rattle.clmodel.specs.declared.action.Answer.{Answer};
 ghost use Rattle.clmodel.specs.declared.action.Answer.TheVariants.{Done};
 ghost use Rattle.launches.specs.Objects.{space_of};
 ghost use Rattle.shadow_list.specs.Log.{Log, IsPlaced};
 ghost use Rattle.group_run.specs.Fits.{Fits, AreAnswered};
-ghost use Rattle.group_run.specs.Items.{acts_of};
+ghost use Rattle.group_run.specs.Items.{acts_at};
+ghost use Rattle.launches.specs.Items.{acts_of};
 ghost use Rattle.group_run.specs.Logs.{IsJudged, after_fences, conflict_of};
 
 use crate::faults::{self, bounds_fault, unset_fault};
-use crate::item::Slot;
 use crate::machine::{Machine, Made, Report};
 use clmodel::access::{Conflict, Object, Operation};
 use clmodel::action::{Action, Answer, Cause, Fences};
 use clmodel::fault::Fault;
 use launches::objects::{perform_on, size_of};
-use launches::{Described, Runnable};
+use launches::{Described, Runnable, Slot};
 use shadow_list::{AccessLog, Entry, Fenced, Hit};
 use spaces_base::{LocalMem, Space, SpaceFault, first_byte};
 use std::alloc::{AllocError, Global};
 
-/// A work-group that runs: its items, how many events they have made, the launch's buffers and the group's local objects in their
-/// order, and the log of the accesses.
+/// A work-group that runs: its items, how many events they have made, the launch's buffers and the group's local
+/// objects in their order, and the log of the accesses.
 #[derive(Drop)]
 pub struct Group<'a, D, G, L> {
     pub(crate) alloc: Global,
     pub(crate) launch: &'a D,
     pub(crate) number: u32,
     pub(crate) first: u32,
-    pub(crate) items: Vec<Slot<'a, D>>,
+    pub(crate) items: Vec<Slot<'a>>,
     pub(crate) made: u32,
     pub(crate) buffers: Vec<G>,
     pub(crate) locals: Vec<LocalMem>,
@@ -88,7 +89,8 @@ fn judge<D: Described, L: AccessLog>(
     requires { IsPlaced entry }
     ensures { IfOk result (λ report. IsJudged (D.launch launch.now) (L.Logged.log log.old) entry (L.Logged.log log.new) (option_map box_value report)) }
 {
-    // Looked at where it lies, and no `?`: room for a hit would be cleared for each access, though hardly any makes one.
+    // Looked at where it lies, and no `?`: room for a hit would be cleared for each access, though hardly any makes
+    // one.
     let noted = log.note(entry);
     match &noted {
         Ok(None) => Ok(None),
@@ -111,13 +113,37 @@ fn pass<L: AccessLog>(log: &mut L, fences: Fences)
     }
 }
 
-/// Answers all items that their barrier is passed. An error is out of memory.
-fn answer_all<D: Runnable>(items: &mut Vec<Slot<'_, D>>) -> Result<(), AllocError>
+/// The next action of an item is answered, which is started where it wasn't asked yet. An error is out of memory.
+#[inline(always)]
+fn answer_item<'a, D: Runnable>(
+    slot: &mut Slot<'a>,
+    alloc: Global,
+    launch: &'a D,
+    item: u32,
+    answer: Answer,
+) -> Result<(), AllocError>
+    ensures { OnOk result ((answers : List Answer) → acts_of (D.Described.launch launch.now) item slot.new answers ≡ acts_of (D.Described.launch launch.now) item slot.old (answer ∷ answers)) }
+{
+    slot.start(alloc, launch, item)?;
+    slot.answer(answer);
+    Ok(())
+}
+
+/// Answers all items of a group, from the number of its first one on, that their barrier is passed. An error is out of
+/// memory.
+fn answer_all<'a, D: Runnable>(
+    items: &mut Vec<Slot<'a>>,
+    alloc: Global,
+    launch: &'a D,
+    first: u32,
+) -> Result<(), AllocError>
+    requires { first + length items.old.items < 2 ^ 32 }
     ensures many { length items.new.items ≡ length items.old.items }
-    ensures answered { OnOk result (AreAnswered (acts_of D.Described.launch) Done items.old.items items.new.items) }
+    ensures answered { OnOk result (AreAnswered (acts_at (D.Described.launch launch.now) first) Done items.old.items items.new.items) }
 {
     for k in 0..items.len() {
-        items[k].answer(Answer::Done)?;
+        let item = first + k as u32;
+        answer_item(&mut items[k], alloc, launch, item, Answer::Done)?;
     }
     Ok(())
 }
@@ -125,11 +151,11 @@ fn answer_all<D: Runnable>(items: &mut Vec<Slot<'_, D>>) -> Result<(), AllocErro
 impl<'a, D: Runnable, G: Space, L: AccessLog> Machine for Group<'a, D, G, L> {
     ghost use Rattle.std.specs.Prelude.{◌-◌, ◌^◌, length};
     ghost use Rattle.group_run.specs.Fits.{Fits};
-    ghost use Rattle.group_run.specs.Items.{acts_of};
+    ghost use Rattle.group_run.specs.Items.{acts_at};
 
     ghost plan = { λ m. record { launch = D.Described.launch m.launch.now; group = m.number; first = m.first; count = length m.items.items } };
 
-    ghost fits = { λ m. Fits (acts_of D.Described.launch) G.bytes G.read_only (record { launch = D.Described.launch m.launch.now; group = m.number; first = m.first; count = length m.items.items }) m.items.items m.made m.buffers.items m.locals.items (L.Logged.log m.log) };
+    ghost fits = { λ m. Fits (acts_at (D.Described.launch m.launch.now) m.first) G.bytes G.read_only (record { launch = D.Described.launch m.launch.now; group = m.number; first = m.first; count = length m.items.items }) m.items.items m.made m.buffers.items m.locals.items (L.Logged.log m.log) };
 
     ghost ticks = { λ m k. 2 ^ 32 - m.made };
 
@@ -147,7 +173,7 @@ impl<'a, D: Runnable, G: Space, L: AccessLog> Machine for Group<'a, D, G, L> {
 
     #[inline(always)]
     fn next(&mut self, k: u32) -> Result<Action, AllocError> {
-        self.items[k as usize].next()
+        self.items[k as usize].next(self.alloc, self.launch, self.first + k)
     }
 
     fn access(
@@ -205,14 +231,20 @@ impl<'a, D: Runnable, G: Space, L: AccessLog> Machine for Group<'a, D, G, L> {
         let region = object.region(self.number);
         let entry = Entry::of(item, region, first, operation, self.made);
         let report = judge(self.alloc, self.launch, &mut self.log, entry)?;
-        self.items[k as usize].answer(answer)?;
+        answer_item(
+            &mut self.items[k as usize],
+            self.alloc,
+            self.launch,
+            item,
+            answer,
+        )?;
         self.made += 1;
         Ok(Made::judged(report))
     }
 
     fn release(&mut self, fences: Fences) -> Result<(), AllocError> {
         pass(&mut self.log, fences);
-        answer_all(&mut self.items)?;
+        answer_all(&mut self.items, self.alloc, self.launch, self.first)?;
         self.made += 1;
         Ok(())
     }

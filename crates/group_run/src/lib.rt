@@ -8,7 +8,6 @@
 
 mod faults;
 mod group;
-mod item;
 mod loops;
 mod machine;
 mod result;

@@ -17,8 +17,8 @@ use divergence::same_stop;
 use std::alloc::AllocError;
 use std::mem::replace;
 
-/// Judges an item's stop: the first item's is kept, and that of another is compared with it. It reports a stop that is another one. An
-/// error is out of memory.
+/// Judges an item's stop: the first item's is kept, and that of another is compared with it. It reports a stop that is
+/// another one. An error is out of memory.
 // It is no part of `run_item`, where each access would have to make room for a stop.
 #[inline(never)]
 fn stop_at<M: Machine>(

@@ -14,7 +14,8 @@ use clmodel::action::{Action, Cause, Fences};
 use clmodel::fault::Fault;
 use std::alloc::AllocError;
 
-/// The fault that ends the run of a group, if there is one. It lies on the heap: an answer of each access would else be as large as a fault.
+/// The fault that ends the run of a group, if there is one. It lies on the heap: an answer of each access would else be
+/// as large as a fault.
 pub(crate) type Report = Option<Box<Fault>>;
 
 /// What became of an access.
@@ -42,8 +43,8 @@ impl Made {
 
 /// The items of a group with their memory and the log of their accesses. Items are named by their place in the group.
 ///
-/// It is a trait, though `Group` alone is one: so the loops are proved from what a machine promises, and their proofs see no items, no
-/// spaces and no logs.
+/// It is a trait, though `Group` alone is one: so the loops are proved from what a machine promises, and their proofs
+/// see no items, no spaces and no logs.
 pub trait Machine {
     ghost plan: { Self → Plan };
 

@@ -1,49 +1,24 @@
 //! The run of one group.
 
-ghost use Rattle.std.specs.Prelude.{◌≡◌, ◌+◌, ◌*◌, ◌<◌, ◌^◌, false, map, IfOk};
+ghost use Rattle.std.specs.Prelude.{◌≡◌, ◌*◌, ◌<◌, false, map, IfOk};
 ghost use Rattle.launches.specs.Groups.{IsRunnable, filled};
 ghost use Rattle.shadow_list.specs.Log.{fresh_log};
-ghost use Rattle.group_run.specs.Fits.{AreStarted};
-ghost use Rattle.group_run.specs.Items.{acts_of};
 ghost use Rattle.group_run.specs.Results.{IsResult};
 
 use crate::group::Group;
-use crate::item::Slot;
 use crate::loops::run_items;
 use crate::result::{GroupEnd, GroupResult};
 use crate::runs::Runs;
 use clmodel::fault::Fault;
 use clmodel::schedule::Schedule;
-use launches::Runnable;
 use launches::objects::local_objects;
+use launches::{Runnable, waiting_items};
 use shadow_list::AccessLog;
 use spaces_base::Space;
 use std::alloc::{AllocError, Global};
 
-/// `count` items from the first on, which weren't asked yet.
-#[tactic(auto, using(crate::proofs::Items::started_more, crate::proofs::Items::started_none))]
-fn waiting_items<'a, D: Runnable>(
-    alloc: Global,
-    launch: &'a D,
-    first: u32,
-    count: u32,
-) -> Result<Vec<Slot<'a, D>>, AllocError>
-    requires { first + count < 2 ^ 32 }
-    ensures { IfOk result (λ items. AreStarted (acts_of D.Described.launch) (D.Described.launch launch.now) first count items.items) }
-{
-    let mut items = Vec::with_capacity(alloc, count as usize)?;
-    for k in 0..count {
-        // There is room: `push` would move each item once more, in case that it can't be kept.
-        items.push_reserved(Slot::Waiting {
-            launch,
-            alloc,
-            item: first + k,
-        });
-    }
-    Ok(items)
-}
-
-/// The canonical run of one group of a launch, on spaces for its buffers that hold their first bytes. An error is out of memory.
+/// The canonical run of one group of a launch, on spaces for its buffers that hold their first bytes. An error is out
+/// of memory.
 pub fn run_group<D: Runnable, G: Space + Drop, L: AccessLog + Drop>(
     alloc: Global,
     launch: &D,
@@ -61,7 +36,7 @@ pub fn run_group<D: Runnable, G: Space + Drop, L: AccessLog + Drop>(
     let count = launch.group_size();
     let first = group * count;
     let locals = local_objects(alloc, launch.local_sizes())?;
-    let items = waiting_items(alloc, launch, first, count)?;
+    let items = waiting_items(alloc, count)?;
     let mut machine = Group {
         alloc,
         launch,

@@ -1,3 +1,4 @@
+pub mod Items
 pub mod Names
 pub mod Lists
 pub mod Memory

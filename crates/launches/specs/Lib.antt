@@ -1,4 +1,5 @@
 pub mod Groups
+pub mod Items
 pub mod Objects
 pub use Rattle.clmodel.specs.Launch
 pub use Rattle.clmodel.specs.Next

@@ -1,4 +1,5 @@
--- The spaces that hold the buffers and a group's local objects, and what an operation does to them (OpenCL 1.2, 3.3, 6.5.1, 6.5.2; own in the faults).
+-- The spaces that hold the buffers and a group's local objects, and what an operation does to them (OpenCL 1.2, 3.3,
+-- 6.5.1, 6.5.2; own in the faults).
 use Rattle.std.specs.Prelude.{◌≡◌, ℕ, true, Option, None, Some, List, [], length, slice_get, Result, Ok, Err}
 use Rattle.clmodel.specs.Cells.{cells_of, size_of, reads, found, answer_to, effect, lowest_unset}
 use Rattle.clmodel.specs.Launch.{Launch, bytes_of}
@@ -35,7 +36,8 @@ abbrev pub space_of : {G : Type 0} → (G → List (Option ℕ)) → List G → 
 space_of bytes buffers locals (object.Buffer number) = bytes_or bytes (slice_get buffers number)
 space_of bytes buffers locals (object.Local number) = bytes_or (λ cells. cells) (slice_get locals number)
 
--- what an operation in a region answers and leaves of each memory that is held (OpenCL 1.2, 3.3, 6.12.11; own in the faults)
+-- what an operation in a region answers and leaves of each memory that is held (OpenCL 1.2, 3.3, 6.12.11; own in the
+-- faults)
 abbrev pub IsMoved : (Memory → Type 0) → (Memory → Type 0) → Region → ℕ → Operation → Result Answer SpaceFault → Type 0
 IsMoved old new at first operation (Ok answer) =
     (memory : Memory) → old memory

@@ -3,8 +3,9 @@
 //!
 //! `Described` is what a launch says of itself in reports, `Runnable` adds its items. `location_of` names a place as
 //! defined: a buffer by its own name, a local object by its group and its name. A `LoadedLaunch` is the launch of its
-//! setup on the bytes of its buffers. `group_count` counts the work-groups. The runner of groups and the replayer stand
-//! on this crate side by side; it knows no group that runs.
+//! setup on the bytes of its buffers. A `Slot` is a work-item that is started when it is first asked. `group_count`
+//! counts the work-groups. The runner of groups and the replayer stand on this crate side by side; it knows no group
+//! that runs.
 #![tactic(auto)]
 
 mod described;
@@ -13,8 +14,10 @@ pub mod laws;
 mod loaded;
 pub mod objects;
 mod runnable;
+mod slot;
 
 pub use described::{Described, location_of};
 pub use groups::group_count;
 pub use loaded::LoadedLaunch;
 pub use runnable::Runnable;
+pub use slot::{Slot, waiting_items};

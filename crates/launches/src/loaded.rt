@@ -12,8 +12,8 @@ use item_step::{Item, Launch};
 use spaces_base::Buffers;
 use std::alloc::{AllocError, Global};
 
-/// A kernel that is ready to run, on the buffers that its arguments name (OpenCL 1.2, sections 3.2 and 5.8). A name that isn't among
-/// the buffers has no bytes.
+/// A kernel that is ready to run, on the buffers that its arguments name (OpenCL 1.2, sections 3.2 and 5.8). A name
+/// that isn't among the buffers has no bytes.
 #[derive(Clone, Copy)]
 pub struct LoadedLaunch<'a> {
     alloc: Global,

@@ -43,8 +43,8 @@ pub fn size_of<G: Space>(buffers: &[G], locals: &[LocalMem], object: Object) -> 
     }
 }
 
-/// Does an operation on an object at the bytes from `first` on. An error leaves the objects: a byte that is read is unset, or no memory is left
-/// to keep what is stored.
+/// Does an operation on an object at the bytes from `first` on. An error leaves the objects: a byte that is read is
+/// unset, or no memory is left to keep what is stored.
 // A call would cost each access more than the look at the object that it comes to.
 #[inline(always)]
 pub fn perform_on<G: Space>(

@@ -13,11 +13,12 @@ use Rattle.clmodel.specs.declared.schedule.Event.{Event}
 use Rattle.clmodel.specs.declared.schedule.EventRun.{EventRun}
 use Rattle.item_step.specs.Running.{Makes}
 use Rattle.replay.proofs.Played.{after_then, replicate_more, events_more, events_split}
-use Rattle.replay.specs.Items.{IsAsked, IsAskedAt, Stands, StandsAt, acts_of, stand_of, stand_in}
+use Rattle.launches.specs.Items.{IsAsked, Stands, acts_of}
+use Rattle.replay.specs.Items.{IsAskedAt, StandsAt, stand_of, stand_in}
 use Rattle.replay.specs.States.{ActsNext, IsAt, IsPlayed}
 use Rattle.replay.specs.declared.player.Player.{Player}
-use Rattle.replay.specs.declared.slot.Slot.{Slot}
-use Rattle.replay.specs.declared.slot.Slot.TheVariants as slot
+use Rattle.launches.specs.declared.slot.Slot.{Slot}
+use Rattle.launches.specs.declared.slot.Slot.TheVariants as slot
 use Rattle.replay.specs.declared.slot.Stand.{Stand}
 use Rattle.marked_play.specs.Marks.{ActsFrom, AreMarked, IsCounted, Lead, events_in, item_of}
 use Rattle.marked_play.specs.declared.marks.Mark.{Mark}

@@ -25,11 +25,11 @@ use Rattle.spaces_base.specs.declared.space.SpaceFault.TheVariants as space_faul
 use Rattle.launches.specs.Objects.{SpacesHold, ObjectsHold, IsMoved, space_of}
 use Rattle.launches.proofs.Lists.{get_set}
 use Rattle.launches.proofs.Memory.{space_sized, local_at, local_past}
-use Rattle.replay.specs.Items.{acts_of}
+use Rattle.launches.specs.Items.{acts_of}
 use Rattle.replay.specs.States.{LocalsHold, attempt, IsPerformed, IsGroupIn, Tells, IsPlayed}
 use Rattle.replay.specs.declared.group.Group.{Group}
 use Rattle.replay.specs.declared.group.Performed.{Performed}
-use Rattle.replay.specs.declared.slot.Slot.{Slot}
+use Rattle.launches.specs.declared.slot.Slot.{Slot}
 
 -- ---- local objects
 

@@ -19,11 +19,12 @@ use Rattle.clmodel.specs.declared.action.Stop.{Stop}
 use Rattle.clmodel.specs.declared.schedule.Event.TheVariants.{Release}
 use Rattle.clmodel.proofs.Steps.{if_true, if_false, lowest_finds, lowest_is_none, found_first}
 use Rattle.launches.proofs.Lists.{get_set}
-use Rattle.replay.specs.Items.{acts_of, AreAlike, AreAt, AreAnswered}
+use Rattle.launches.specs.Items.{acts_of}
+use Rattle.replay.specs.Items.{AreAlike, AreAt, AreAnswered}
 use Rattle.launches.specs.Groups.{IsRunnable}
 use Rattle.replay.specs.States.{ActsNext, IsGroupIn, IsPaced, Tells, Gathers, passed}
 use Rattle.replay.specs.declared.group.Group.{Group}
-use Rattle.replay.specs.declared.slot.Slot.{Slot}
+use Rattle.launches.specs.declared.slot.Slot.{Slot}
 use Rattle.replay.proofs.Playing.{group_there, action_as}
 
 -- ---- the items of a group

@@ -23,7 +23,8 @@ pub same_spot-from : (a b : Spot) → a ≡ b → same_spot a b ≡ true
 same_spot-from a b e =
     and_from (a.number == b.number) (a.interval == b.interval) (eq-eqb a.number b.number (ap (λ (s : Spot). s.number) e)) (eq-eqb a.interval b.interval (ap (λ (s : Spot). s.interval) e))
 
--- a part of a log one access longer: what its spots tell is what those of the part tell, and what that of the access tells, if it has one
+-- a part of a log one access longer: what its spots tell is what those of the part tell, and what that of the access
+-- tells, if it has one
 pub other_more :
     (item : ℕ) (kind : AccessKind) (place : Location) (byte : ℕ) (rule : Rule) (log : List Access) (n : ℕ) (x : Access) (q : Spot) (w : ℕ) → slice_get log n ≡ Some x
     → HasOther item kind place byte rule log (n + 1) q w

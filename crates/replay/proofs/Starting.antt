@@ -11,12 +11,13 @@ use Rattle.clmodel.specs.declared.access.Region.TheVariants as region
 use Rattle.clmodel.proofs.Steps.{none_some, some_inj}
 use Rattle.clmodel.proofs.CellLaws.{cells_some}
 use Rattle.launches.specs.Objects.{SpacesHold}
-use Rattle.replay.specs.Items.{acts_of}
+use Rattle.launches.proofs.Items.{waiting_at}
+use Rattle.launches.specs.Items.{acts_of}
 use Rattle.launches.specs.Groups.{filled}
 use Rattle.replay.specs.States.{IsGroupIn, IsNew, Tells}
 use Rattle.replay.specs.declared.group.Group.{Group}
-use Rattle.replay.specs.declared.slot.Slot.{Slot}
-use Rattle.replay.specs.declared.slot.Slot.TheVariants as slot
+use Rattle.launches.specs.declared.slot.Slot.{Slot}
+use Rattle.launches.specs.declared.slot.Slot.TheVariants as slot
 
 -- ---- the buffers
 
@@ -40,11 +41,6 @@ buffers_hold l =
     }
 
 -- ---- the items and the groups
-
-waiting_at : (n k : ℕ) (i : Slot) → slice_get (replicate n slot.Waiting) k ≡ Some i → i ≡ slot.Waiting
-waiting_at zero k i e = absurd (none_some i e)
-waiting_at (suc n) zero i e = sym (some_inj slot.Waiting i e)
-waiting_at (suc n) (suc k) i e = waiting_at n k i e
 
 new_at : (groups : List Group) (g : ℕ) (x : Group) → All IsNew groups → slice_get groups g ≡ Some x → IsNew x
 new_at groups g x fresh e = subst IsNew (get_or_from_slice_get groups g x x e) (fresh g x (slice_get_within groups g x e))

@@ -9,8 +9,9 @@ use Rattle.clmodel.specs.declared.action.Answer.{Answer}
 use Rattle.clmodel.specs.declared.action.Stop.{Stop}
 use Rattle.clmodel.proofs.Steps.{some_inj}
 use Rattle.launches.proofs.Lists.{get_set}
-use Rattle.replay.specs.Items.{acts_of, is_at, AreAlike, AreAsked, AreAt, AreAnswered, IsAsked, IsAskedAt}
-use Rattle.replay.specs.declared.slot.Slot.{Slot}
+use Rattle.launches.specs.Items.{acts_of, IsAsked}
+use Rattle.replay.specs.Items.{is_at, AreAlike, AreAsked, AreAt, AreAnswered, IsAskedAt}
+use Rattle.launches.specs.declared.slot.Slot.{Slot}
 
 -- what holds anyhow holds on an error
 pub on_err : {T E P : Type 0} (r : Result T E) → P → OnErr r P

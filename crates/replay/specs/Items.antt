@@ -4,25 +4,12 @@ use Rattle.std.specs.Option.{option_and_then}
 use Rattle.clmodel.specs.Launch.{Launch}
 use Rattle.clmodel.specs.Run.{stop_of, both_stop}
 use Rattle.clmodel.specs.declared.action.Action.{Action}
-use Rattle.clmodel.specs.declared.action.Action.TheVariants as action
 use Rattle.clmodel.specs.declared.action.Answer.{Answer}
 use Rattle.clmodel.specs.declared.action.Stop.{Stop}
-use Rattle.item_step.specs.Running.{Makes, action_of}
-use Rattle.replay.specs.declared.slot.Slot.{Slot}
-use Rattle.replay.specs.declared.slot.Slot.TheVariants as slot
+use Rattle.launches.specs.Items.{IsAsked, Stands, acts_of}
+use Rattle.launches.specs.declared.slot.Slot.{Slot}
+use Rattle.launches.specs.declared.slot.Slot.TheVariants as slot
 use Rattle.replay.specs.declared.slot.Stand.{Stand}
-
--- the action that an item makes after further answers: before it is asked what its launch says, and at its end the end
-abbrev pub acts_of : Launch → ℕ → Slot → List Answer → Action
-acts_of launch item slot.Waiting answers = launch.next item answers
-acts_of launch item (slot.Running running) answers = action_of running answers
-acts_of launch item slot.Ended answers = action.End
-
--- the item was asked
-abbrev pub IsAsked : Slot → Type 0
-IsAsked slot.Waiting = ⊥
-IsAsked (slot.Running running) = Unit {0}
-IsAsked slot.Ended = Unit {0}
 
 -- an item of this number, if there is one, was asked
 abbrev pub IsAskedAt : List Slot → ℕ → Type 0
@@ -42,13 +29,7 @@ stand_of slot.Ended = None
 abbrev pub stand_in : List Slot → ℕ → Option Stand
 stand_in items item = option_and_then stand_of (slice_get items item)
 
--- where an item is under way, the instruction where it stands makes this action, whatever follows it
-abbrev pub Stands : Slot → Action → Type 0
-Stands slot.Waiting action = Unit {0}
-Stands (slot.Running running) action = Makes running action
-Stands slot.Ended action = Unit {0}
-
--- so does the item of a number
+-- where the item of a number is under way, the instruction where it stands makes this action, whatever follows it
 abbrev pub StandsAt : List Slot → ℕ → Action → Type 0
 StandsAt items item action = (i : Slot) → slice_get items item ≡ Some i → Stands i action
 

@@ -30,7 +30,8 @@ number_in (location.Buffer name) (region.Local group number) = None
 number_in (location.Local told name) (region.Buffer number) = None
 number_in (location.Local told name) (region.Local group number) = if group == told then Some number else None
 
--- an access is of this item and kind and at this byte, and lies here: the number of its object, and its interval where one is asked for, else 0
+-- an access is of this item and kind and at this byte, and lies here: the number of its object, and its interval where
+-- one is asked for, else 0
 pub record IsSpot (item : ℕ) (kind : AccessKind) (place : Location) (byte : ℕ) (one_group : Bool) (x : Access) (spot : Spot) : Type 0 where
   pub of_item : x.item ≡ item
   pub of_kind : x.kind ≡ kind

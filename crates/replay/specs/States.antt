@@ -14,25 +14,28 @@ use Rattle.clmodel.specs.declared.action.Fences.{Fences}
 use Rattle.clmodel.specs.declared.action.Stop.{Stop}
 use Rattle.clmodel.specs.declared.schedule.Event.{Event}
 use Rattle.launches.specs.Objects.{SpacesHold}
-use Rattle.replay.specs.Items.{acts_of}
+use Rattle.launches.specs.Items.{acts_of}
 use Rattle.launches.specs.Groups.{IsRunnable}
 use Rattle.replay.specs.declared.group.Group.{Group}
 use Rattle.replay.specs.declared.group.Performed.{Performed}
 use Rattle.replay.specs.declared.player.Player.{Player}
-use Rattle.replay.specs.declared.slot.Slot.{Slot}
+use Rattle.launches.specs.declared.slot.Slot.{Slot}
 
--- a group's local objects hold a memory: before the first access of an item of the group they aren't made, and all their bytes are unset (6.5.2)
+-- a group's local objects hold a memory: before the first access of an item of the group they aren't made, and all
+-- their bytes are unset (6.5.2)
 abbrev pub LocalsHold : Launch → ℕ → List (List (Option ℕ)) → Memory → Type 0
 LocalsHold launch group locals memory =
     SpacesHold (λ cells. cells) launch (length launch.local_sizes) (region.Local group) locals memory
     ⊎ ((locals ≡ []) × ((number byte : ℕ) → memory (region.Local group number) byte ≡ None))
 
--- what an operation of an item of a group does to a memory, or None where it is out of range or reads an unset byte (3.3)
+-- what an operation of an item of a group does to a memory, or None where it is out of range or reads an unset byte
+-- (3.3)
 abbrev pub attempt : Launch → ℕ → Memory → Object → ℤ → Operation → Option Outcome
 attempt launch group memory object element operation =
     option_and_then (perform operation (memory (region_of group object))) (first_byte (bytes_of launch (region_of group object)) element (size_of operation))
 
--- an operation was done, and what is kept holds the memory that it leaves; or it isn't possible, and the memory is as before
+-- an operation was done, and what is kept holds the memory that it leaves; or it isn't possible, and the memory is as
+-- before
 abbrev pub IsPerformed : Launch → ℕ → (Memory → Type 0) → Memory → Object → ℤ → Operation → Option Performed → Type 0
 IsPerformed launch group new memory object element operation None = (attempt launch group memory object element operation ≡ None) × new memory
 IsPerformed launch group new memory object element operation (Some done) =
@@ -52,14 +55,15 @@ pub record IsGroupIn (launch : Launch) (group : ℕ) (kept : Group) (state : Sta
   pub local_interval : kept.local_interval ≡ state.local_interval group
   pub global_interval : kept.global_interval ≡ state.global_interval group
 
--- A group's intervals are at most the answers of its first item: a release answers it once, and raises each interval by one at most (6.12.8).
+-- A group's intervals are at most the answers of its first item: a release answers it once, and raises each interval by
+-- one at most (6.12.8).
 abbrev pub IsPaced : Launch → State → Type 0
 IsPaced launch state =
     (group : ℕ)
     → (state.local_interval group ≤ length (state.answers (group * launch.group_size))) × (state.global_interval group ≤ length (state.answers (group * launch.group_size)))
 
--- Items, buffers, groups and a log, the oldest access first, tell of a state: each item acts as the launch says after the answers of the
--- state, and the rest is what the state has.
+-- Items, buffers, groups and a log, the oldest access first, tell of a state: each item acts as the launch says after
+-- the answers of the state, and the rest is what the state has.
 pub record Tells (launch : Launch) (items : List Slot) (buffers : List (List (Option ℕ))) (groups : List Group) (log : List Access) (state : State) : Type 0 where
   pub many : length items ≡ launch.items
   pub acting : (k : ℕ) (i : Slot) → slice_get items k ≡ Some i → (answers : List Answer) → acts_of launch k i answers ≡ launch.next k (state.answers k ++ answers)
@@ -96,7 +100,8 @@ passed kept fences =
       global_interval = if fences.global then kept.global_interval + 1 else kept.global_interval;
     }
 
--- an event was played, and what is kept tells of the state that it leads to; or it isn't possible, and what is kept tells of the state as before
+-- an event was played, and what is kept tells of the state that it leads to; or it isn't possible, and what is kept
+-- tells of the state as before
 abbrev pub IsPlayed : Launch → State → Event → (State → Type 0) → Bool → Type 0
 IsPlayed launch state event new true = (next : State) × (step launch state event ≡ Some next) × new next
 IsPlayed launch state event new false = (step launch state event ≡ None) × new state

@@ -7,7 +7,8 @@ use clmodel::text::Name;
 use spaces_base::{Buffers, Plain};
 use std::alloc::{AllocError, Global};
 
-/// A copy of the buffers of these names, none of whose bytes are unset (OpenCL 1.2, section 5.2.1). An error is out of memory.
+/// A copy of the buffers of these names, none of whose bytes are unset (OpenCL 1.2, section 5.2.1). An error is out of
+/// memory.
 pub fn copies(alloc: Global, names: &[Name], buffers: &Buffers) -> Result<Vec<Plain>, AllocError>
     ensures { IfOk result (λ copies. copies.items ≡ map (λ name. map Some (bytes_in buffers.now name)) names.now) }
 {

@@ -32,7 +32,8 @@ pub struct Place<'a> {
     pub byte: u64,
 }
 
-/// Where a partner's access lies: the number of its object and, where barriers can order the two partners, its interval, else 0.
+/// Where a partner's access lies: the number of its object and, where barriers can order the two partners, its
+/// interval, else 0.
 #[derive(Clone, Copy, PartialEq, Eq, Hash)]
 pub struct Spot {
     pub number: u32,
@@ -109,7 +110,8 @@ fn spot_of(partner: Partner, place: &Place<'_>, one_group: bool, access: &Access
     Some(Spot { number, interval })
 }
 
-/// Where the accesses of a log lie that are a partner's at the told byte, and what they left there. An error is out of memory.
+/// Where the accesses of a log lie that are a partner's at the told byte, and what they left there. An error is out of
+/// memory.
 fn spots_of(
     alloc: Global,
     partner: Partner,
@@ -130,8 +132,8 @@ fn spots_of(
     Ok(spots)
 }
 
-/// Whether an access is a partner's at the told location and byte, and lies at one of these spots, where another byte was left. An error is
-/// out of memory.
+/// Whether an access is a partner's at the told location and byte, and lies at one of these spots, where another byte
+/// was left. An error is out of memory.
 fn meets<D: Described>(
     launch: &D,
     partner: Partner,
@@ -201,8 +203,9 @@ fn rule_of<D: Runnable>(launch: &D, first: Partner, second: Partner) -> Rule
     }
 }
 
-/// Whether a log, the oldest access first, has a conflict (OpenCL 1.2, sections 3.3.1 and 6.12.8). It goes over the log twice, whatever
-/// conflicts there are; in a uniform launch two stores conflict where they left different bytes. An error is out of memory.
+/// Whether a log, the oldest access first, has a conflict (OpenCL 1.2, sections 3.3.1 and 6.12.8). It goes over the log
+/// twice, whatever conflicts there are; in a uniform launch two stores conflict where they left different bytes. An
+/// error is out of memory.
 pub fn shows_conflict<D: Runnable>(
     alloc: Global,
     launch: &D,

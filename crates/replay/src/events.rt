@@ -41,8 +41,8 @@ fn play_run<D: Runnable>(player: &mut Player<'_, D>, run: EventRun) -> Result<bo
     }
 }
 
-/// Plays the events of a schedule up to the first that isn't possible (OpenCL 1.2, section 3.2), and tells whether all are. An error is out of
-/// memory.
+/// Plays the events of a schedule up to the first that isn't possible (OpenCL 1.2, section 3.2), and tells whether all
+/// are. An error is out of memory.
 pub fn play_schedule<D: Runnable>(
     player: &mut Player<'_, D>,
     schedule: &Schedule,

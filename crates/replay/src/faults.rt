@@ -36,7 +36,8 @@ fn stops_at<D: Runnable>(
     }
 }
 
-/// Whether two items of a group are at these two stops, which aren't one (OpenCL 1.2, section 6.12.8). An error is out of memory.
+/// Whether two items of a group are at these two stops, which aren't one (OpenCL 1.2, section 6.12.8). An error is out
+/// of memory.
 fn shows_divergence<D: Runnable>(
     launch: &D,
     player: &mut Player<'_, D>,
@@ -67,8 +68,8 @@ fn is_of_kind(operation: Operation, kind: AccessKind) -> bool
     operation.kind() == kind
 }
 
-/// Whether an item's next action is an access of this kind to this element of an object at this location, and out of range
-/// (C99 6.5.2.1, 6.5.6). An error is out of memory.
+/// Whether an item's next action is an access of this kind to this element of an object at this location, and out of
+/// range (C99 6.5.2.1, 6.5.6). An error is out of memory.
 fn shows_bounds<D: Runnable>(
     launch: &D,
     player: &mut Player<'_, D>,
@@ -120,8 +121,8 @@ fn reads_unset<D: Runnable>(player: &Player<'_, D>, item: u32, next: NextAccess,
     }
 }
 
-/// Whether an item's next action is an access of this kind to an object at this location, and reads unset bytes, of which this is the lowest
-/// (C99 6.7.8). An error is out of memory.
+/// Whether an item's next action is an access of this kind to an object at this location, and reads unset bytes, of
+/// which this is the lowest (C99 6.7.8). An error is out of memory.
 fn shows_unset<D: Runnable>(
     launch: &D,
     player: &mut Player<'_, D>,

@@ -14,8 +14,8 @@ use launches::objects::{local_objects, perform_on, size_of};
 use spaces_base::{LocalMem, Plain, Space, SpaceFault, first_byte};
 use std::alloc::{AllocError, Global};
 
-/// The local objects of a work-group, none before the first access of one of its items, and its intervals (OpenCL 1.2, sections 6.5.2
-/// and 6.12.8).
+/// The local objects of a work-group, none before the first access of one of its items, and its intervals (OpenCL 1.2,
+/// sections 6.5.2 and 6.12.8).
 #[derive(Drop)]
 pub struct Group {
     locals: Vec<LocalMem>,
@@ -45,8 +45,8 @@ fn place(
     first_byte(size_of(buffers, locals, object), element, count)
 }
 
-/// Does an operation on an element of an object, or answers `None` where it isn't possible: the element is out of range, or a byte that is
-/// read is unset. An error is out of memory.
+/// Does an operation on an element of an object, or answers `None` where it isn't possible: the element is out of
+/// range, or a byte that is read is unset. An error is out of memory.
 fn perform(
     buffers: &mut Vec<Plain>,
     locals: &mut Vec<LocalMem>,
@@ -129,7 +129,8 @@ impl Group {
         Ok(())
     }
 
-    /// Does an operation of one of its items on an element of an object, or answers `None` where it isn't possible. An error is out of memory.
+    /// Does an operation of one of its items on an element of an object, or answers `None` where it isn't possible. An
+    /// error is out of memory.
     pub fn perform(
         &mut self,
         alloc: Global,
@@ -192,8 +193,8 @@ impl Group {
         }
     }
 
-    /// The lowest unset byte among those of an operation of one of its items, from `first` on, which the object has, if one is unset. A local
-    /// object that isn't made yet is unset.
+    /// The lowest unset byte among those of an operation of one of its items, from `first` on, which the object has, if
+    /// one is unset. A local object that isn't made yet is unset.
     pub fn unset_byte(
         &self,
         buffers: &[Plain],

@@ -6,10 +6,10 @@
 //! and answers below 2^32.
 //!
 //! A `Player` plays single events: one item's access or one group's release at a time, over one memory that all items
-//! share. `play` answers true exactly where the event is possible in the state that the player is at, and then the player
-//! is at the state that the event leads to; else it stays. The other calls tell of that state: what an item does next, the
-//! accesses so far, where an element begins, the lowest byte that is unset. An event costs the same however many items
-//! there are, and no buffer is copied. The crate uses neither overlays nor the runner of groups.
+//! share. `play` answers true exactly where the event is possible in the state that the player is at, and then the
+//! player is at the state that the event leads to; else it stays. The other calls tell of that state: what an item does
+//! next, the accesses so far, where an element begins, the lowest byte that is unset. An event costs the same however
+//! many items there are, and no buffer is copied. The crate uses neither overlays nor the runner of groups.
 #![tactic(auto)]
 
 ghost use Rattle.std.specs.Prelude.{IfOk};
@@ -46,9 +46,10 @@ pub use slot::Stand;
 use spaces_base::Buffers;
 use std::alloc::{AllocError, Global};
 
-/// Whether a schedule leads a launch to a state that shows a fault: each event is possible in its turn (OpenCL 1.2, section 3.2), and the
-/// state after all of them shows the fault with its items, places and kinds. It takes the time of the events and of two passes over the
-/// accesses that they make, and ends with the first event that isn't possible. The buffers stay. An error is out of memory.
+/// Whether a schedule leads a launch to a state that shows a fault: each event is possible in its turn (OpenCL 1.2,
+/// section 3.2), and the state after all of them shows the fault with its items, places and kinds. It takes the time of
+/// the events and of two passes over the accesses that they make, and ends with the first event that isn't possible.
+/// The buffers stay. An error is out of memory.
 pub fn replay(
     alloc: Global,
     launch: &Launch<'_>,

@@ -5,13 +5,13 @@ ghost use Rattle.clmodel.specs.Launch.{Launch};
 ghost use Rattle.clmodel.specs.declared.action.Answer.TheVariants.{Done};
 ghost use Rattle.replay.specs.Items.{AreAlike, AreAsked, AreAt, AreAnswered};
 
-use crate::slot::Slot;
+use crate::slot::{answer, is_at};
 use clmodel::action::{Answer, Stop};
-use launches::Runnable;
+use launches::{Runnable, Slot};
 use std::alloc::{AllocError, Global};
 
-/// Whether the items from the first on, below an end, are at a stop: a walk over them, up to the first one that isn't. An error is out of
-/// memory.
+/// Whether the items from the first on, below an end, are at a stop: a walk over them, up to the first one that isn't.
+/// An error is out of memory.
 pub fn are_at<'a, D: Runnable>(
     items: &mut Vec<Slot<'a>>,
     alloc: Global,
@@ -26,7 +26,7 @@ pub fn are_at<'a, D: Runnable>(
     ensures asked { IfOk result (λ yes. yes ≡ true → AreAsked items.new.items first end) }
 {
     for item in first..end {
-        if !items[item as usize].is_at(alloc, launch, item, stop)? {
+        if !is_at(&mut items[item as usize], alloc, launch, item, stop)? {
             return Ok(false);
         }
     }
@@ -41,6 +41,6 @@ pub fn answer_all(items: &mut Vec<Slot<'_>>, first: u32, end: u32)
     ensures { (launch : Launch) → AreAnswered launch first end Done items.old.items items.new.items }
 {
     for item in first..end {
-        items[item as usize].answer(Answer::Done);
+        answer(&mut items[item as usize], Answer::Done);
     }
 }

@@ -13,11 +13,11 @@ ghost use Rattle.replay.specs.States.{ActsNext, Gathers, IsAt, IsPlayed};
 
 use crate::group::{Group, new_groups};
 use crate::members::{answer_all, are_at};
-use crate::slot::{Slot, Stand, waiting_items};
+use crate::slot::{Stand, answer, stand_of};
 use clmodel::access::{Access, Object, Operation};
 use clmodel::action::{Action, Fences, Stop};
 use clmodel::schedule::Event;
-use launches::Runnable;
+use launches::{Runnable, Slot, waiting_items};
 use spaces_base::{Plain, Space, first_byte};
 use std::alloc::{AllocError, Global};
 
@@ -33,8 +33,8 @@ pub struct Player<'a, D> {
 }
 
 impl<'a, D: Runnable> Player<'a, D> {
-    /// A launch of so many work-groups before its first event (OpenCL 1.2, section 3.2), with spaces for its buffers that hold their first bytes.
-    /// An error is out of memory.
+    /// A launch of so many work-groups before its first event (OpenCL 1.2, section 3.2), with spaces for its buffers
+    /// that hold their first bytes. An error is out of memory.
     pub fn new(
         alloc: Global,
         launch: &'a D,
@@ -58,8 +58,8 @@ impl<'a, D: Runnable> Player<'a, D> {
         })
     }
 
-    /// Does this access, which is what an item that was asked does next, where it is possible. An error is out of memory. The log has
-    /// room for the access before anything is done, so that an error leaves all as it was.
+    /// Does this access, which is what an item that was asked does next, where it is possible. An error is out of
+    /// memory. The log has room for the access before anything is done, so that an error leaves all as it was.
     fn access(
         &mut self,
         item: u32,
@@ -89,12 +89,12 @@ impl<'a, D: Runnable> Player<'a, D> {
         };
         let access = group.access_of(number, item, object, done.first, operation);
         self.log.push_reserved(access);
-        self.items[item as usize].answer(done.answer);
+        answer(&mut self.items[item as usize], done.answer);
         Ok(true)
     }
 
-    /// The next action of an item, `None` where there is no such item (OpenCL 1.2, section 3.2). It stays the next one. An error is out of
-    /// memory.
+    /// The next action of an item, `None` where there is no such item (OpenCL 1.2, section 3.2). It stays the next one.
+    /// An error is out of memory.
     pub fn action(&mut self, item: u32) -> Result<Option<Action>, AllocError>
         ensures same { (launch : Launch) (state : State) → IsAt D.launch launch self.old state → IsAt D.launch launch self.new state }
         ensures value { IfOk result (λ action. (launch : Launch) (state : State) → IsAt D.launch launch self.old state → ActsNext launch state item action) }
@@ -108,13 +108,13 @@ impl<'a, D: Runnable> Player<'a, D> {
         Ok(Some(action))
     }
 
-    /// Where an item stands, if it is under way. Once `action` has told its next action, it is the instruction that makes
-    /// the action. An item that wasn't asked, or has ended, stands nowhere.
+    /// Where an item stands, if it is under way. Once `action` has told its next action, it is the instruction that
+    /// makes the action. An item that wasn't asked, or has ended, stands nowhere.
     pub fn stand(&self, item: u32) -> Option<Stand>
         ensures { result ≡ stand_in self.now.items.items item }
     {
         match self.items.get(item as usize) {
-            Some(slot) => slot.stand(self.alloc),
+            Some(slot) => stand_of(slot, self.alloc),
             None => None,
         }
     }
@@ -142,7 +142,8 @@ impl<'a, D: Runnable> Player<'a, D> {
         }
     }
 
-    /// The first byte of an element of an object, for an item of any group, or `None` where the element is out of range (C99 6.5.2.1, 6.5.6).
+    /// The first byte of an element of an object, for an item of any group, or `None` where the element is out of range
+    /// (C99 6.5.2.1, 6.5.6).
     pub fn first_byte(&self, object: Object, element: i64, operation: Operation) -> Option<u64>
         ensures value { (launch : Launch) (state : State) → IsAt D.launch launch self.now state → (item : ℕ) → result ≡ byte_at launch item object element operation }
         ensures inside { IfSome result (λ first. (launch : Launch) (state : State) → IsAt D.launch launch self.now state
@@ -152,9 +153,9 @@ impl<'a, D: Runnable> Player<'a, D> {
         first_byte(self.size_of(object), element, count)
     }
 
-    /// The lowest byte that is unset among those of an item's operation on an object from `first` on, which the object has, if one is unset
-    /// (C99 6.7.8; own in what reading it is). Local objects are unset until the first access of one of their group's items (OpenCL 1.2,
-    /// section 6.5.2).
+    /// The lowest byte that is unset among those of an item's operation on an object from `first` on, which the object
+    /// has, if one is unset (C99 6.7.8; own in what reading it is). Local objects are unset until the first access of
+    /// one of their group's items (OpenCL 1.2, section 6.5.2).
     pub fn unset_byte(
         &self,
         item: u32,
@@ -172,7 +173,8 @@ impl<'a, D: Runnable> Player<'a, D> {
         group.unset_byte(self.buffers.as_slice(), object, first, operation)
     }
 
-    /// An event of an item: its access, where that is what it does next and is possible. An error is out of memory, and leaves the state.
+    /// An event of an item: its access, where that is what it does next and is possible. An error is out of memory, and
+    /// leaves the state.
     pub fn play_item(&mut self, item: u32) -> Result<bool, AllocError>
         requires { (launch : Launch) × (state : State) × IsAt D.launch launch self.old state }
         ensures played { IfOk result (λ yes. (launch : Launch) (state : State) → IsAt D.launch launch self.old state → IsPlayed launch state (event.Item item) (IsAt D.launch launch self.new) yes) }
@@ -212,7 +214,8 @@ impl<'a, D: Runnable> Player<'a, D> {
         )
     }
 
-    /// Releases a group, all of whose items were asked, from a barrier with these fences, at which its first item is: a walk over its items.
+    /// Releases a group, all of whose items were asked, from a barrier with these fences, at which its first item is: a
+    /// walk over its items.
     fn release(&mut self, group: u32, fences: Fences)
         requires { (launch : Launch) × (state : State) × (instance : Instance) × IsAt D.launch launch self.old state × (group * launch.group_size < launch.items)
             × (next_action launch state (group * launch.group_size) ≡ action.Barrier instance fences)
@@ -225,9 +228,10 @@ impl<'a, D: Runnable> Player<'a, D> {
         answer_all(&mut self.items, first, first + size);
     }
 
-    /// A group's release, where all its items are at one barrier in the same turns of the loops round it (OpenCL 1.2, section 6.12.8): each
-    /// item goes on, and the interval of each fenced address space is one higher. It takes a walk over the group's items to compare them with
-    /// the first, and one to answer them. An error is out of memory, and leaves the state.
+    /// A group's release, where all its items are at one barrier in the same turns of the loops round it (OpenCL 1.2,
+    /// section 6.12.8): each item goes on, and the interval of each fenced address space is one higher. It takes a walk
+    /// over the group's items to compare them with the first, and one to answer them. An error is out of memory, and
+    /// leaves the state.
     pub fn play_release(&mut self, group: u32) -> Result<bool, AllocError>
         requires { (launch : Launch) × (state : State) × IsAt D.launch launch self.old state }
         ensures played { IfOk result (λ yes. (launch : Launch) (state : State) → IsAt D.launch launch self.old state → IsPlayed launch state (event.Release group) (IsAt D.launch launch self.new) yes) }
@@ -250,8 +254,8 @@ impl<'a, D: Runnable> Player<'a, D> {
         Ok(true)
     }
 
-    /// An event, where it is possible: an item's access or a group's release (OpenCL 1.2, sections 3.2 and 6.12.8). An error is out of memory,
-    /// and leaves the state.
+    /// An event, where it is possible: an item's access or a group's release (OpenCL 1.2, sections 3.2 and 6.12.8). An
+    /// error is out of memory, and leaves the state.
     pub fn play(&mut self, event: Event) -> Result<bool, AllocError>
         requires { (launch : Launch) × (state : State) × IsAt D.launch launch self.old state }
         ensures played { IfOk result (λ yes. (launch : Launch) (state : State) → IsAt D.launch launch self.old state → IsPlayed launch state event (IsAt D.launch launch self.new) yes) }

@@ -1,10 +1,12 @@
 use Rattle.std.proofs.Common.{lives, subst, ◌*◌, ◌+◌, ◌<◌, ◌^◌, length, refl, sym, ap, ◌∙◌, map, replicate, None, Some, option_map}
 use Rattle.std.specs.Box.{box_value}
-use Rattle.group_run.specs.Items.{acts_of}
+use Rattle.group_run.specs.Items.{acts_at}
 use Rattle.clmodel.specs.Run.{State, Events, start}
 use Rattle.group_run.specs.Fits.{Fits}
 use Rattle.joining.specs.Group.{Plan, Reached}
-use Rattle.group_run.proofs.Starting.{begins, items_fit, done_result, stopped_result}
+use Rattle.std.proofs.lemmas.List.{length-replicate}
+use Rattle.launches.specs.declared.slot.Slot.TheVariants as slot
+use Rattle.group_run.proofs.Starting.{begins, items_fit, done_result, stopped_result, waiting_start}
 use Rattle.group_run.proofs.running.run_group.Goals as goal
 
 pub run_items-requires : goal.run_items-requires
@@ -13,12 +15,12 @@ run_items-requires g c κs within =
     let size = c.group_size-count in
     let items = c.in_ok-items.items.items in
     let p : Plan = record { launch = l; group = c.args.group; first = c.args.group * size.result; count = length items } in
-    let fits : Events → State → Type 0 = Fits (acts_of g.D.Described.launch) g.G.Space.bytes g.G.Space.read_only p items 0 c.args.globals.items c.in_ok-locals.locals.items (g.L.Logged.log c.args.log) in
+    let fits : Events → State → Type 0 = Fits (acts_at l p.first) g.G.Space.bytes g.G.Space.read_only p items 0 c.args.globals.items c.in_ok-locals.locals.items (g.L.Logged.log c.args.log) in
     let b =
-    begins (acts_of g.D.Described.launch) g.G.Space.bytes g.G.Space.read_only l c.args.group (c.args.group * size.result) size.result c.in_ok-items.items.items c.args.globals.items c.in_ok-locals.locals.items
+    begins (acts_at l p.first) g.G.Space.bytes g.G.Space.read_only l c.args.group (c.args.group * size.result) size.result c.in_ok-items.items.items c.args.globals.items c.in_ok-locals.locals.items
     (g.L.Logged.log c.args.log) c.requires.runnable c.requires.there c.requires.writable c.requires.filled
     (c.in_ok-locals.ensures ∙ ap (map (λ size. replicate size None)) c.local_sizes.ensures) c.requires.fresh (ap (λ n. c.args.group * n) size.ensures.value) size.ensures.value
-    c.in_ok-items.ensures in (
+    (waiting_start l p.first size.result items c.in_ok-items.ensures) in (
       search (lives, within.0.0, within.1.0, within.1.1.0, within.1.1.1.0) depth 64 fits 20000,
       (b.whole, (b.brief, subst (Reached p fits (start l)) (sym c.new-runs.ensures) b.reached)),
     )
@@ -27,26 +29,22 @@ pub returns : goal.returns
 returns g c = let m = c.run_items.new.m in (
   refl,
   c.into_schedule-runs.ensures.merged,
-  done_result (acts_of g.D.Described.launch) g.G.Space.bytes g.G.Space.read_only (g.D.Described.launch c.args.launch.now) c.args.group c.group_size-count.result
-      m.items.items m.made m.buffers.items m.locals.items (g.L.Logged.log m.log) (option_map box_value c.in_ok-report.report) c.group_size-count.ensures.value c.in_ok-items.items.items c.in_ok-items.ensures.many c.in_ok-report.ensures.plan_same c.into_schedule-runs.ensures.events c.in_ok-report.ensures.ran (ap (option_map box_value) c.in-None.is),
+  done_result (acts_at (g.D.Described.launch m.launch.now) m.first) g.G.Space.bytes g.G.Space.read_only (g.D.Described.launch c.args.launch.now) c.args.group c.group_size-count.result
+      m.items.items m.made m.buffers.items m.locals.items (g.L.Logged.log m.log) (option_map box_value c.in_ok-report.report) c.group_size-count.ensures.value c.in_ok-items.items.items (ap length c.in_ok-items.ensures ∙ length-replicate c.group_size-count.result slot.Waiting) c.in_ok-report.ensures.plan_same c.into_schedule-runs.ensures.events c.in_ok-report.ensures.ran (ap (option_map box_value) c.in-None.is),
 )
 
 pub returns-in-Some : goal.returns-in-Some
 returns-in-Some g c = let m = c.run_items.new.m in (
   refl,
   c.into_schedule-runs.ensures.merged,
-  stopped_result (acts_of g.D.Described.launch) g.G.Space.bytes g.G.Space.read_only (g.D.Described.launch c.args.launch.now) c.args.group c.group_size-count.result
-      m.items.items m.made m.buffers.items m.locals.items (g.L.Logged.log m.log) (option_map box_value c.in_ok-report.report) c.group_size-count.ensures.value c.in_ok-items.items.items c.in_ok-items.ensures.many c.in_ok-report.ensures.plan_same c.into_schedule-runs.ensures.events c.in_ok-report.ensures.ran c.into_inner.result (ap (option_map box_value) c.in-Some.is ∙ ap Some (sym c.into_inner.ensures)),
+  stopped_result (acts_at (g.D.Described.launch m.launch.now) m.first) g.G.Space.bytes g.G.Space.read_only (g.D.Described.launch c.args.launch.now) c.args.group c.group_size-count.result
+      m.items.items m.made m.buffers.items m.locals.items (g.L.Logged.log m.log) (option_map box_value c.in_ok-report.report) c.group_size-count.ensures.value c.in_ok-items.items.items (ap length c.in_ok-items.ensures ∙ length-replicate c.group_size-count.result slot.Waiting) c.in_ok-report.ensures.plan_same c.into_schedule-runs.ensures.events c.in_ok-report.ensures.ran c.into_inner.result (ap (option_map box_value) c.in-Some.is ∙ ap Some (sym c.into_inner.ensures)),
 )
-
-pub waiting_items-requires : goal.waiting_items-requires
-waiting_items-requires g c =
-    items_fit (g.D.Described.launch c.args.launch.now) c.args.group c.group_size-count.result c.requires.runnable c.requires.there c.group_size-count.ensures.value
 
 pub invariant_of-machine : goal.invariant_of-machine
 invariant_of-machine g c =
     record {
       numbered =
-          subst (λ n. c.args.group * c.group_size-count.result + n < 2 ^ 32) (sym c.in_ok-items.ensures.many)
+          subst (λ n. c.args.group * c.group_size-count.result + n < 2 ^ 32) (sym (ap length c.in_ok-items.ensures ∙ length-replicate c.group_size-count.result slot.Waiting))
           (items_fit (g.D.Described.launch c.args.launch.now) c.args.group c.group_size-count.result c.requires.runnable c.requires.there c.group_size-count.ensures.value);
     }

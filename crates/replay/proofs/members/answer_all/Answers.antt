@@ -29,7 +29,7 @@ loop-item-preserved c = λ l.
     let many = (c.loop-item.invariant l).many in
     let inside : k < length xs = omega (arith, c.loop-item-test.true, many, c.requires.inside) in
     let there = slice_get_read xs (length xs) k x refl inside c.index_mut.ensures.value in
-    answered_more l c.args.first Done c.args.items.now.items xs k x c.answer.new.self c.loop-item.auto.item there (c.answer.ensures l k) (c.loop-item.invariant l)
+    answered_more l c.args.first Done c.args.items.now.items xs k x c.answer.new.slot c.loop-item.auto.item there (c.answer.ensures l k) (c.loop-item.invariant l)
 
 pub returns : goal.returns
 returns c = λ l.

@@ -2,7 +2,7 @@ use Rattle.std.proofs.Math.Facts.{Fits-of_lt}
 use Rattle.std.proofs.Common.{◌≡◌, length, refl, ap}
 use Rattle.joining.specs.Group.{Plan}
 use Rattle.group_run.proofs.Stepping.{release_room, release_made}
-use Rattle.group_run.specs.Items.{acts_of}
+use Rattle.group_run.specs.Items.{acts_at}
 use Rattle.group_run.proofs.group.GroupMachine.release.Goals as goal
 
 pub pass-requires-clause-local : goal.pass-requires-clause-local
@@ -21,5 +21,5 @@ returns-clause-made g c = λ events s fits gathered instance waits.
     let items2 = c.answer_all.new.items.items in
     let r : Plan = record { launch = p.launch; group = p.group; first = p.first; count = length items2 } in
     let last : r ≡ p = ap (λ n. record { launch = p.launch; group = p.group; first = p.first; count = n }) c.answer_all.ensures.many in
-    release_made (acts_of g.D.Described.launch) g.G.Space.bytes g.G.Space.read_only p r t.items.items items2 t.made t.buffers.items t.locals.items (g.L.Logged.log t.log)
+    release_made (acts_at (g.D.Described.launch t.launch.now) t.first) g.G.Space.bytes g.G.Space.read_only p r t.items.items items2 t.made t.buffers.items t.locals.items (g.L.Logged.log t.log)
     (g.L.Logged.log c.pass.new.log) events s instance c.args.fences last fits refl gathered waits c.in_ok-answer_all.ensures.answered c.pass.ensures

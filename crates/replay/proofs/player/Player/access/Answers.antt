@@ -5,7 +5,7 @@ use Rattle.clmodel.specs.declared.access.Access.{Access}
 use Rattle.clmodel.specs.declared.action.Answer.{Answer}
 use Rattle.clmodel.specs.declared.schedule.Event.TheVariants.{Item}
 use Rattle.launches.specs.Objects.{ObjectsHold}
-use Rattle.replay.specs.Items.{acts_of}
+use Rattle.launches.specs.Items.{acts_of}
 use Rattle.replay.specs.States.{IsPerformed, IsPlayed, Tells}
 use Rattle.replay.proofs.Playing.{refused_in, done_in, group_kept, is_none, group_there}
 use Rattle.replay.proofs.Walks.{on_err}
@@ -55,9 +55,9 @@ returns-clause-played g c = λ l s at acts.
     (subst (IsPerformed l n (ObjectsHold (λ b. b) l n c.perform.new.buffers.items c.perform.new.self.locals.items) s.memory c.args.object (to_z w64 (of_z w64 c.args.element)) c.args.operation) c.in-Some.is held) in
     let answered = c.answer.ensures l k in
     let played =
-    done_in l p.items.items p.buffers.items c.perform.new.buffers.items p.groups.items p.log.items s k n i c.answer.new.self x c.perform.new.self c.args.object c.args.element c.args.operation
+    done_in l p.items.items p.buffers.items c.perform.new.buffers.items p.groups.items p.log.items s k n i c.answer.new.slot x c.perform.new.self c.args.object c.args.element c.args.operation
     d c.access_of-access.result e t under acts item answered there c.in_ok-done.ensures.local_interval c.in_ok-done.ensures.global_interval c.access_of-access.ensures done in
-    let h = subst (λ z. IsPlayed l s (Item k) (Tells l (set p.items.items k c.answer.new.self) c.perform.new.buffers.items (set p.groups.items n c.perform.new.self) z) true) (sym {A = List Access} (c.push_reserved.ensures.items ∙ ap (λ es. es ++ c.access_of-access.result ∷ []) c.reserve.ensures.items)) played in
+    let h = subst (λ z. IsPlayed l s (Item k) (Tells l (set p.items.items k c.answer.new.slot) c.perform.new.buffers.items (set p.groups.items n c.perform.new.self) z) true) (sym {A = List Access} (c.push_reserved.ensures.items ∙ ap (λ es. es ++ c.access_of-access.result ∷ []) c.reserve.ensures.items)) played in
     (h.0, h.1, record { plays = at.plays; runnable = at.runnable; tells = h.2 })
 
 pub answer-requires : goal.answer-requires

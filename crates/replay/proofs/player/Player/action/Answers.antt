@@ -1,10 +1,10 @@
 use Rattle.std.proofs.Common.{◌≡◌, ◌<◌, List, [], length, refl, ap, ◌∙◌, subst, arith}
 use Rattle.std.proofs.lemmas.Option.{slice_get_read}
 use Rattle.clmodel.specs.declared.action.Answer.{Answer}
-use Rattle.replay.specs.Items.{acts_of, IsAsked, Stands}
+use Rattle.launches.specs.Items.{acts_of, IsAsked, Stands}
 use Rattle.replay.proofs.Playing.{asked, action_as}
 use Rattle.replay.proofs.Walks.{at_set}
-use Rattle.replay.specs.declared.slot.Slot.{Slot}
+use Rattle.launches.specs.declared.slot.Slot.{Slot}
 use Rattle.replay.proofs.player.Player.action.Goals as goal
 
 pub returns-in_err-action-clause-same : goal.returns-in_err-action-clause-same

@@ -4,7 +4,7 @@ use Rattle.clmodel.specs.Run.{start}
 use Rattle.clmodel.specs.declared.access.Access.{Access}
 use Rattle.launches.specs.Groups.{filled}
 use Rattle.replay.specs.States.{Tells}
-use Rattle.replay.specs.declared.slot.Slot.TheVariants as slot
+use Rattle.launches.specs.declared.slot.Slot.TheVariants as slot
 use Rattle.replay.proofs.Starting.{starts}
 use Rattle.replay.proofs.player.Player.new.Goals as goal
 
