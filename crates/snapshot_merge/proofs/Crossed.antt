@@ -62,8 +62,8 @@ pub record IsFurther (launch : Launch) (group : ℕ) (lower : Joined) (part : Pa
 abbrev pub Misses : Bool → List Entry → List Access → ℕ → Type 0
 Misses uniform entries kept count = (k : ℕ) (e : Entry) → k < count → slice_get entries k ≡ Some e → meeting uniform e.access kept ≡ None
 
--- What the join comes to where an entry is the first that meets: the group's events up to its own, and the meeting as the report, unless
--- the entry is the last and the group stopped with a conflict on a lower byte.
+-- What the join comes to where an entry is the first that meets: the group's events up to its own, and the meeting as
+-- the report, unless the entry is the last and the group stopped with a conflict on a lower byte.
 pub record Crosses (launch : Launch) (lower : Joined) (part : Part) (e : Entry) (met : Meeting) (last : Bool) : Type 0 where
   pub inside : e.event < length part.events
   pub events : (join launch lower part).events ≡ lower.events ++ take (e.event + 1) part.events

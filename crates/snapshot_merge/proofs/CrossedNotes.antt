@@ -93,8 +93,8 @@ abbrev pub EndsAt : ℕ → List Entry → List Entry → Type 0
 EndsAt k [] kept = k + 1 ≡ length kept
 EndsAt k (z ∷ more) kept = Unit {0}
 
--- What was made, round an entry that is kept at a place: what was made before it is kept below the place; and where the place is the last,
--- what was made after it ends with a repeat.
+-- What was made, round an entry that is kept at a place: what was made before it is kept below the place; and where the
+-- place is the last, what was made after it ends with a repeat.
 pub record Found (made kept : List Entry) (k : ℕ) (e : Entry) : Type 0 where
   pub later : List Entry
   pub rest : List Entry

@@ -8,6 +8,7 @@ use Rattle.clmodel.specs.Outcome.{Concludes, events_of}
 use Rattle.clmodel.specs.Run.{contents}
 use Rattle.clmodel.specs.Setup.{Setup, group_items}
 use Rattle.clmodel.specs.declared.fault.Fault.{Fault}
+use Rattle.clmodel.specs.declared.outcome.Outcome.{Outcome}
 use Rattle.clmodel.specs.declared.outcome.Outcome.TheVariants.{Clean, Faulted}
 use Rattle.clmodel.specs.declared.schedule.EventRun.{EventRun}
 use Rattle.group_run.specs.declared.result.GroupResult.{GroupResult}
@@ -20,6 +21,7 @@ use Rattle.shadow_list.specs.declared.log.Entry.{Entry}
 use Rattle.snapshot_merge.specs.Launches.{Followed, AreResults, IsShortResult, AreResultsTo}
 use Rattle.snapshot_merge.specs.Laws.{JoiningLaws}
 use Rattle.snapshot_merge.specs.JoinedGroups.{HoldsGroups, IsStopped, CameOfNext}
+use Rattle.snapshot_merge.specs.declared.joined_groups.JoinEnd.TheVariants.{Continues, Ends}
 use Rattle.snapshot_merge.specs.declared.joined_groups.JoinedGroups.{JoinedGroups}
 use Rattle.snapshot_merge.proofs.Contents.{contents_end}
 use Rattle.snapshot_merge.proofs.Listed.{short_whole}
@@ -48,13 +50,13 @@ further_there group groups size items e b =
 
 -- ---- what a join came to
 
-pub next_stopped : {G : Type 0} (l : Launch) (g : ℕ) (end : GroupEnd G) (fault : Fault) (so_far : JoinedGroups) → CameOfNext l g end (Some fault) so_far → IsStopped l fault so_far.runs.items
-next_stopped l g (Done spaces) fault so_far h = h
-next_stopped l g (Stopped stop) fault so_far h = h
+pub next_ends : {G : Type 0} (L : Type 0) (l : Launch) (g : ℕ) (end : GroupEnd G) (outcome : Outcome) (so_far : JoinedGroups) → CameOfNext {L = L} l g end (Ends outcome) so_far → Concludes l outcome
+next_ends L l g (Done spaces) outcome so_far h = h
+next_ends L l g (Stopped stop) outcome so_far h = h
 
-pub next_held : {G : Type 0} (l : Launch) (g : ℕ) (end : GroupEnd G) (so_far : JoinedGroups) → CameOfNext l g end None so_far → HoldsGroups l (suc g) so_far
-next_held l g (Done spaces) so_far h = h
-next_held l g (Stopped stop) so_far h = absurd h
+pub next_held : {G L : Type 0} (l : Launch) (g : ℕ) (end : GroupEnd G) (log : L) (so_far : JoinedGroups) → CameOfNext l g end (Continues log) so_far → HoldsGroups l (suc g) so_far
+next_held l g (Done spaces) log so_far h = h
+next_held l g (Stopped stop) log so_far h = absurd h
 
 pub concludes_fault : (l : Launch) (fault : Fault) (runs : List EventRun) → IsStopped l fault runs → Concludes l (Faulted fault runs)
 concludes_fault l fault runs h = (events_of runs, h.0.0, h.0.1, refl, h.1)
@@ -70,13 +72,14 @@ module _ {G L : Type 0} (bytes : G → List (Option ℕ)) (listed : L → List E
   pub round_result : (r : GroupResult G L) (rs : List (GroupResult G L)) → AreResultsTo bytes listed has_last l last g (r ∷ rs) → IsShortResult bytes listed has_last l g r
   round_result r rs h = h.1
 
-  after : (end : GroupEnd G) (more none : Type 0) (so_far : JoinedGroups) → CameOfNext l g end None so_far → Followed end more none → more
-  after (Done spaces) more none so_far n h = h
-  after (Stopped fault) more none so_far n h = absurd n
+  after : (end : GroupEnd G) (log : L) (more none : Type 0) (so_far : JoinedGroups) → CameOfNext l g end (Continues log) so_far → Followed end more none → more
+  after (Done spaces) log more none so_far n h = h
+  after (Stopped fault) log more none so_far n h = absurd n
 
   pub round_rest :
-      (r : GroupResult G L) (rs : List (GroupResult G L)) (so_far : JoinedGroups) → AreResultsTo bytes listed has_last l last g (r ∷ rs) → CameOfNext l g r.end None so_far → AreResultsTo bytes listed has_last l last (suc g) rs
-  round_rest r rs so_far h n = after r.end (AreResultsTo bytes listed has_last l last (suc g) rs) (rs ≡ []) so_far n h.2
+      (r : GroupResult G L) (rs : List (GroupResult G L)) (log : L) (so_far : JoinedGroups) → AreResultsTo bytes listed has_last l last g (r ∷ rs) → CameOfNext l g r.end (Continues log) so_far
+      → AreResultsTo bytes listed has_last l last (suc g) rs
+  round_rest r rs log so_far h n = after r.end log (AreResultsTo bytes listed has_last l last (suc g) rs) (rs ≡ []) so_far n h.2
 
 -- ---- results that are handed in
 

@@ -42,8 +42,8 @@ pub record AreChanged (old new : List (List ℕ)) (changes : List ByteChange) : 
 abbrev pub number_or_0 : Cells → ℕ → ℕ → ℕ
 number_or_0 cells first count = unwrap_or (number cells first count) 0
 
--- what a byte becomes that an access of a further group wrote, `both` if a lower group wrote it too: an update joins the numbers of its
--- word, and else it is the further group's own (6.12.11)
+-- what a byte becomes that an access of a further group wrote, `both` if a lower group wrote it too: an update joins
+-- the numbers of its word, and else it is the further group's own (6.12.11)
 abbrev pub joined_value : AccessKind → Bool → Cells → Cells → Cells → ℕ → ℕ
 joined_value kind false first lower own byte = number_or_0 own byte 1
 joined_value kind.Load true first lower own byte = number_or_0 own byte 1
@@ -77,7 +77,8 @@ cells_at spaces number = cells_of (slice_index_or spaces number [])
 abbrev pub filled_at : List (List ℕ) → ℕ → Cells
 filled_at buffers number = cells_of (map Some (buffer_at buffers number))
 
--- what a byte becomes that a further group's access wrote, by the first bytes, what the lower groups left and wrote, and the group's own bytes (own)
+-- what a byte becomes that a further group's access wrote, by the first bytes, what the lower groups left and wrote,
+-- and the group's own bytes (own)
 abbrev pub value_of : List (List ℕ) → List (List ℕ) → (ℕ → ℕ → Bool) → List (List (Option ℕ)) → ℕ → Access → ℕ → ℕ
 value_of first lower wrote own number x byte =
     joined_value x.kind (wrote number byte) (filled_at first number) (filled_at lower number) (cells_at own number) byte
@@ -128,7 +129,8 @@ abbrev pub kept_at : ℕ → List JoinedUpdate → Option ℕ
 kept_at place [] = None
 kept_at place (update ∷ updates) = if update.place == place then Some update.value else None
 
--- how many updates stand before those of the later accesses, where so many stood before an access of which this is kept (own)
+-- how many updates stand before those of the later accesses, where so many stood before an access of which this is kept
+-- (own)
 abbrev pub next_after : ℕ → Option ℕ → ℕ
 next_after next None = next
 next_after next (Some value) = next + 1

@@ -17,7 +17,7 @@ use Rattle.shadow.specs.Seen.{IsFootprint}
 use Rattle.shadow.specs.declared.footprint.Footprint.{Footprint}
 use Rattle.snapshot_merge.specs.Memory.{HoldsBytes}
 use Rattle.snapshot_merge.specs.declared.joined_groups.JoinEnd.{JoinEnd}
-use Rattle.snapshot_merge.specs.declared.joined_groups.JoinEnd.TheVariants.{Continues, Reports}
+use Rattle.snapshot_merge.specs.declared.joined_groups.JoinEnd.TheVariants.{Continues, Ends}
 use Rattle.snapshot_merge.specs.declared.joined_groups.JoinedGroups.{JoinedGroups}
 
 -- a footprint and runs hold the accesses and the events of the groups so far (own)
@@ -28,8 +28,8 @@ pub record HoldsLog (joined : Joined) (footprint : Footprint) (runs : List Event
   pub events : events_of runs ≡ joined.events
   pub merged : IsMerged runs
 
--- a program holds the groups below one, joined without a report; where there is a further group it holds their accesses and
--- events too (own)
+-- a program holds the groups below one, joined without a report; where there is a further group it holds their accesses
+-- and events too (own)
 pub record HoldsGroups (launch : Launch) (group : ℕ) (so_far : JoinedGroups) : Type 0 where
   pub joined : Joined
   pub is_joined : IsJoined launch group joined
@@ -46,21 +46,17 @@ abbrev pub CameOfDone : Launch → ℕ → Option Fault → JoinedGroups → Typ
 CameOfDone launch group (Some fault) so_far = IsStopped launch fault so_far.runs.items
 CameOfDone launch group None so_far = HoldsGroups launch (suc group) so_far
 
--- the report of a join, if it has one (own)
-abbrev pub report_of : {L : Type 0} → JoinEnd L → Option Fault
-report_of (Continues log) = None
-report_of (Reports fault) = Some fault
+-- what comes of joining the result of one more group, by its end: what is held of all groups so far, or what the launch
+-- concludes; a group that stopped always brings a report (own)
+abbrev pub CameOfNext : {G L : Type 0} → Launch → ℕ → GroupEnd G → JoinEnd L → JoinedGroups → Type 0
+CameOfNext launch group end (Ends outcome) so_far = Concludes launch outcome
+CameOfNext launch group (Done spaces) (Continues log) so_far = HoldsGroups launch (suc group) so_far
+CameOfNext launch group (Stopped fault) (Continues log) so_far = ⊥
 
--- what comes of joining the result of one more group, by its end: a group that stopped always brings a report (own)
-abbrev pub CameOfNext : {G : Type 0} → Launch → ℕ → GroupEnd G → Option Fault → JoinedGroups → Type 0
-CameOfNext launch group (Done spaces) report so_far = CameOfDone launch group report so_far
-CameOfNext launch group (Stopped fault) (Some report) so_far = IsStopped launch report so_far.runs.items
-CameOfNext launch group (Stopped fault) None so_far = ⊥
-
--- the log that a join hands back, if it has no report, is that of the result (own)
+-- the log that a join hands back, if the launch goes on, is that of the result (own)
 abbrev pub HandsBack : {L : Type 0} → L → JoinEnd L → Type 0
 HandsBack log (Continues back) = back ≡ log
-HandsBack log (Reports fault) = Unit {0}
+HandsBack log (Ends outcome) = Unit {0}
 
 -- where all groups of a launch are joined without a report, the launch ends clean with what they leave (3.2)
 abbrev pub JoinedConclude : Type 0

@@ -14,7 +14,8 @@ use Rattle.shadow_list.specs.declared.list.ListLog.{ListLog}
 use Rattle.shadow_list.specs.declared.log.Entry.{Entry}
 use Rattle.snapshot_merge.specs.declared.heap_log.HeapLog.{HeapLog}
 
--- What stands behind a result among others: `more` behind that of a group that has ended, `none` behind that of one that stopped (own).
+-- What stands behind a result among others: `more` behind that of a group that has ended, `none` behind that of one
+-- that stopped (own).
 abbrev pub Followed : {G : Type 0} → GroupEnd G → Type 0 → Type 0 → Type 0
 Followed (Done spaces) more none = more
 Followed (Stopped fault) more none = none
@@ -27,21 +28,23 @@ is_stop (Stopped fault) = true
 abbrev pub is_stopped : {G L : Type 0} → GroupResult G L → Bool
 is_stopped came = is_stop came.end
 
--- The results of the groups from one on, each of which is that of its canonical run on the launch's first memory (3.2): there are results
--- of all of them, or up to and with one that stopped (own). `bytes` says what a space holds, `log_of` what a log keeps.
+-- The results of the groups from one on, each of which is that of its canonical run on the launch's first memory (3.2):
+-- there are results of all of them, or up to and with one that stopped (own). `bytes` says what a space holds, `log_of`
+-- what a log keeps.
 abbrev pub AreResults : {G L : Type 0} → (G → List (Option ℕ)) → (L → Log) → Launch → ℕ → List (GroupResult G L) → Type 0
 AreResults bytes log_of launch group [] = launch.items ≤ group * launch.group_size
 AreResults bytes log_of launch group (came ∷ results) =
     HasGroup launch group × IsResult bytes log_of launch group came × Followed came.end (AreResults bytes log_of launch (suc group) results) (results ≡ [])
 
--- The result of a group, that of its canonical run on the launch's first memory (3.2), with a short list that stands for its log: `listed`
--- says which entries are there, and `has_last` whether the last of all is one of them (own).
+-- The result of a group, that of its canonical run on the launch's first memory (3.2), with a short list that stands
+-- for its log: `listed` says which entries are there, and `has_last` whether the last of all is one of them (own).
 abbrev pub IsShortResult : {G L : Type 0} → (G → List (Option ℕ)) → (L → List Entry) → (L → Bool) → Launch → ℕ → GroupResult G L → Type 0
 IsShortResult bytes listed has_last launch group came =
     (whole : Log) × StandsWith (has_last came.log) (listed came.log) whole.accesses
     × IsResult bytes (λ log. log) launch group (record { group = came.group; log = whole; runs = came.runs; end = came.end })
 
--- The results of the groups from one on up to another, which isn't among them: of all of them, or up to and with one that stopped (own).
+-- The results of the groups from one on up to another, which isn't among them: of all of them, or up to and with one
+-- that stopped (own).
 abbrev pub AreResultsTo : {G L : Type 0} → (G → List (Option ℕ)) → (L → List Entry) → (L → Bool) → Launch → ℕ → ℕ → List (GroupResult G L) → Type 0
 AreResultsTo bytes listed has_last launch last group [] = last ≤ group
 AreResultsTo bytes listed has_last launch last group (came ∷ results) =

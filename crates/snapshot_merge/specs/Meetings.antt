@@ -27,8 +27,8 @@ abbrev pub MissUpTo : Bool → List Entry → List Access → ℕ → Type 0
 MissUpTo uniform entries kept count =
     (k : ℕ) (e : Entry) → k < count → slice_get entries k ≡ Some e → met_at uniform e.access.region e.access kept ≡ None
 
--- the first of the entries that meets these accesses, if there is one, and whether it is the last of its group, which is the last of them
--- where `has_last` holds (own)
+-- the first of the entries that meets these accesses, if there is one, and whether it is the last of its group, which
+-- is the last of them where `has_last` holds (own)
 abbrev pub IsFirstMet : Bool → Bool → List Entry → List Access → Option FirstConflict → Type 0
 IsFirstMet uniform has_last entries kept None = MissUpTo uniform entries kept (length entries)
 IsFirstMet uniform has_last entries kept (Some met) =
@@ -36,7 +36,7 @@ IsFirstMet uniform has_last entries kept (Some met) =
     × (met_at uniform met.entry.access.region met.entry.access kept ≡ Some met.meeting)
     × (met.last ≡ (has_last && (k + 1 == length entries)))
 
--- the report where an access meets those of the lower groups: the group's own, if the access is its last and it stopped with a conflict on
--- a lower byte, else the meeting (own)
+-- the report where an access meets those of the lower groups: the group's own, if the access is its last and it stopped
+-- with a conflict on a lower byte, else the meeting (own)
 abbrev pub report_at : Launch → FirstConflict → Option Fault → Option Fault
 report_at launch met stopped = if met.last && is_below stopped met.meeting.byte then stopped else Some (meeting_fault launch met.entry.access met.meeting)

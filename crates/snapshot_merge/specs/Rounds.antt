@@ -3,10 +3,11 @@ use Rattle.std.specs.Prelude.{ℕ}
 use Rattle.clmodel.specs.Launch.{Launch}
 use Rattle.clmodel.specs.Outcome.{Concludes}
 use Rattle.snapshot_merge.specs.JoinedGroups.{HoldsGroups}
-use Rattle.snapshot_merge.specs.declared.rounds.RoundEnd.{RoundEnd}
-use Rattle.snapshot_merge.specs.declared.rounds.RoundEnd.TheVariants.{Continues, Ends}
+use Rattle.snapshot_merge.specs.declared.joined_groups.JoinEnd.{JoinEnd}
+use Rattle.snapshot_merge.specs.declared.joined_groups.JoinEnd.TheVariants.{Continues, Ends}
+use Rattle.snapshot_merge.specs.declared.joined_groups.JoinedGroups.{JoinedGroups}
 
 -- the groups below one are joined without a report, or it is known what the launch concludes (own)
-abbrev pub CameOfRound : Launch → ℕ → RoundEnd → Type 0
+abbrev pub CameOfRound : Launch → ℕ → JoinEnd JoinedGroups → Type 0
 CameOfRound launch last (Continues so_far) = HoldsGroups launch last so_far
 CameOfRound launch last (Ends outcome) = Concludes launch outcome

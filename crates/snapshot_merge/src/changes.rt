@@ -314,8 +314,8 @@ fn next_after(next: usize, kept: Option<u64>) -> usize
     }
 }
 
-/// Adds an access of the further group to those of the lower groups, where a group after it is to be joined. An error is
-/// out of memory.
+/// Adds an access of the further group to those of the lower groups, where a group after it is to be joined. An error
+/// is out of memory.
 fn mark_access(
     alloc: Global,
     footprint: &mut Footprint,
@@ -331,8 +331,8 @@ fn mark_access(
     Ok(())
 }
 
-/// Makes the changes of a group's accesses, one after another, and adds the accesses to those of the lower groups where a
-/// group after it is to be joined. Each access is got once. An error is out of memory.
+/// Makes the changes of a group's accesses, one after another, and adds the accesses to those of the lower groups where
+/// a group after it is to be joined. Each access is got once. An error is out of memory.
 pub(crate) fn join_accesses<L: GroupAccesses>(
     alloc: Global,
     contents: &mut [Bytes],

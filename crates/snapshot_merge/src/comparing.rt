@@ -11,7 +11,7 @@ ghost use Rattle.snapshot_merge.specs.Meetings.{AreOthers, IsFirstMet};
 
 use crate::changes::{Before, JoinedUpdate};
 use crate::meetings::{FirstConflict, is_last};
-use shadow::GroupAccesses;
+use shadow::{Footprint, GroupAccesses};
 use std::alloc::{AllocError, Global};
 
 /// What one walk of a further group's accesses finds.
@@ -24,8 +24,31 @@ pub(crate) enum Compared {
     Apart(Vec<JoinedUpdate>),
 }
 
-/// Keeps what the bytes of the access at a place become, if it is an update of which something is kept. An error is out of
-/// memory.
+/// The first access of a group that conflicts with those of lower groups, by whether the launch is uniform, if there is
+/// one. Each access is got at most once.
+pub(crate) fn first_conflict<L: GroupAccesses>(
+    footprint: &Footprint,
+    uniform: bool,
+    log: &L,
+) -> Option<FirstConflict>
+    ensures { (kept : List TheAccess) → IsFootprint footprint.now kept → AreOthers (L.listed log.now) kept → IsFirstMet uniform (L.has_last log.now) (L.listed log.now) kept result }
+{
+    let count = log.len();
+    for place in 0..count {
+        let entry = log.get(place);
+        if let Some(meeting) = footprint.meeting(uniform, &entry.access) {
+            return Some(FirstConflict {
+                entry,
+                meeting,
+                last: is_last(log, place),
+            });
+        }
+    }
+    None
+}
+
+/// Keeps what the bytes of the access at a place become, if it is an update of which something is kept. An error is out
+/// of memory.
 fn keep_update(
     updates: &mut Vec<JoinedUpdate>,
     place: usize,

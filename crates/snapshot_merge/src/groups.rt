@@ -35,9 +35,9 @@ fn overlays_of<'a>(
     Ok(overlays)
 }
 
-/// The canonical run of one work-group of a launch on the buffers as they are (OpenCL 1.2, sections 3.2 and 5.8), whatever other groups
-/// do: the overlays hold what the group leaves, and the buffers stay. The log is one without accesses, of the launch's flag, in whose memory
-/// the group's are kept. An error is out of memory.
+/// The canonical run of one work-group of a launch on the buffers as they are (OpenCL 1.2, sections 3.2 and 5.8),
+/// whatever other groups do: the overlays hold what the group leaves, and the buffers stay. The log is one without
+/// accesses, of the launch's flag, in whose memory the group's are kept. An error is out of memory.
 pub fn one_group<'a, L: AccessLog + Drop>(
     alloc: Global,
     launch: &Launch<'_>,

@@ -1,8 +1,9 @@
 //! What the work-groups of a launch come to, one after another.
 
-ghost use Rattle.std.specs.Prelude.{◌≡◌, ◌+◌, ◌++◌, ◌<◌, ℕ, List, Option, Some, None, [], map, suc, take, true, IfOk, OnOk};
+ghost use Rattle.std.specs.Prelude.{◌≡◌, ◌+◌, ◌*◌, ◌++◌, ◌<◌, ℕ, List, Option, Some, None, [], map, suc, take, true, IfOk, OnOk};
 ghost use Rattle.clmodel.specs.Next.{launch_of};
-ghost use Rattle.clmodel.specs.Outcome.{events_of, IsMerged};
+ghost use Rattle.clmodel.specs.Launch.{Launch as TheLaunch};
+ghost use Rattle.clmodel.specs.Outcome.{events_of, Concludes, IsMerged};
 ghost use Rattle.clmodel.specs.Run.{start};
 ghost use Rattle.clmodel.specs.declared.access.Access.{Access as TheAccess};
 ghost use Rattle.clmodel.specs.declared.access.Region.TheVariants as region;
@@ -22,14 +23,15 @@ ghost use Rattle.snapshot_merge.specs.Comparing.{met_of, KeepsUpdates};
 ghost use Rattle.snapshot_merge.specs.Launches.{IsShortResult};
 ghost use Rattle.snapshot_merge.specs.Meetings.{AreOthers, IsFirstMet, report_at};
 ghost use Rattle.snapshot_merge.specs.Runs.{Adds, MayFollow};
-ghost use Rattle.snapshot_merge.specs.JoinedGroups.{HoldsGroups, IsStopped, CameOfDone, CameOfNext, HandsBack, report_of};
+ghost use Rattle.snapshot_merge.specs.JoinedGroups.{HoldsGroups, IsStopped, CameOfDone, CameOfNext, HandsBack};
 
 use crate::changes::{Before, JoinedUpdate, join_accesses};
-use crate::comparing::Compared;
+use crate::comparing::{Compared, first_conflict};
 use crate::cutting::{add_all, add_first, add_runs};
 use crate::laws::laws;
 use crate::meetings::{FirstConflict, report_at};
 use clmodel::fault::Fault;
+use clmodel::outcome::Outcome;
 use clmodel::schedule::{EventRun, Schedule};
 use clmodel::text::{Bytes, Name};
 use group_run::{GroupEnd, GroupResult};
@@ -39,8 +41,10 @@ use shadow::{Footprint, GroupAccesses};
 use spaces::Overlay;
 use spaces_base::Buffers;
 use std::alloc::{AllocError, Global};
+use std::mem::replace;
 
-/// What the groups so far come to: what they leave in the launch's buffers, the bytes that they accessed, and their events.
+/// What the groups so far come to: what they leave in the launch's buffers, the bytes that they accessed, and their
+/// events.
 #[derive(Drop)]
 pub struct JoinedGroups<'a> {
     /// The bytes of the launch's buffers before any group.
@@ -50,20 +54,20 @@ pub struct JoinedGroups<'a> {
     pub(crate) runs: Vec<EventRun>,
 }
 
-/// What comes of joining the result of one more group.
+/// What comes of joining one or more groups.
 #[derive(Drop)]
-pub(crate) enum JoinEnd<L> {
-    /// Nothing to report so far. The group's log is handed back.
-    Continues(L),
-    /// The launch's report.
-    Reports(Fault),
+pub enum JoinEnd<T> {
+    /// Nothing to report so far. This is handed on.
+    Continues(T),
+    /// What the launch comes to.
+    Ends(Outcome),
 }
 
 /// The number of a group, and whether a further group is to be joined after it.
 #[derive(Clone, Copy)]
-pub(crate) struct GroupPlace {
-    pub(crate) group: u32,
-    pub(crate) further: bool,
+struct GroupPlace {
+    group: u32,
+    further: bool,
 }
 
 /// The bytes of the buffers that have these names, none where there is no such buffer.
@@ -107,8 +111,8 @@ impl<'a> JoinedGroups<'a> {
         })
     }
 
-    /// Compares a group's accesses with those of the lower groups, by whether the launch is uniform. Group 0 has none below
-    /// it, and isn't walked. A group that stopped leaves no spaces. An error is out of memory.
+    /// Compares a group's accesses with those of the lower groups, by whether the launch is uniform. Group 0 has none
+    /// below it, and isn't walked. An error is out of memory.
     fn compare<L: GroupAccesses>(
         &self,
         alloc: Global,
@@ -132,8 +136,25 @@ impl<'a> JoinedGroups<'a> {
         before.compare(alloc, uniform, log)
     }
 
-    /// Adds a group of which nothing conflicts: what it leaves, and its accesses and events where a group after it is to be
-    /// joined.
+    /// The first access of a group that conflicts with those of the lower groups, by whether the launch is uniform, if
+    /// there is one. Group 0 has none below it, and isn't walked.
+    fn first_conflict<L: GroupAccesses>(
+        &self,
+        uniform: bool,
+        group: u32,
+        log: &L,
+    ) -> Option<FirstConflict>
+        ensures { (kept : List TheAccess) → IsFootprint self.now.footprint kept → (group ≡ 0 → kept ≡ []) → AreOthers (L.listed log.now) kept → IsFirstMet uniform (L.has_last log.now) (L.listed log.now) kept result }
+    {
+        if group > 0 {
+            first_conflict(&self.footprint, uniform, log)
+        } else {
+            None
+        }
+    }
+
+    /// Adds a group of which nothing conflicts: what it leaves, and its accesses and events where a group after it is
+    /// to be joined.
     fn add<L: GroupAccesses>(
         &mut self,
         alloc: Global,
@@ -178,7 +199,8 @@ impl<'a> JoinedGroups<'a> {
         report_at(launch, met, stopped)
     }
 
-    /// Joins a group that has ended: the report of its first access that conflicts with a lower group's, if there is one.
+    /// Joins a group that has ended: the report of its first access that conflicts with a lower group's, if there is
+    /// one.
     fn join_done<D: Described, L: GroupAccesses>(
         &mut self,
         alloc: Global,
@@ -206,7 +228,8 @@ impl<'a> JoinedGroups<'a> {
         }
     }
 
-    /// Joins a group that has stopped: its report, or that of its first access that conflicts with a lower group's, if there is one.
+    /// Joins a group that has stopped: its report, or that of its first access that conflicts with a lower group's, if
+    /// there is one.
     fn join_stopped<D: Described, L: GroupAccesses>(
         &mut self,
         alloc: Global,
@@ -224,43 +247,59 @@ impl<'a> JoinedGroups<'a> {
         ensures { IfOk result (λ report. IsStopped (D.launch launch.now) report self.new.runs.items) }
     {
         laws();
-        match self.compare(alloc, launch.uniform(), group, &[], log)? {
-            Compared::Conflict(met) => self.cross(launch, &met, Some(fault), runs),
-            Compared::Apart(_updates) => {
+        match self.first_conflict(launch.uniform(), group, log) {
+            Some(met) => self.cross(launch, &met, Some(fault), runs),
+            None => {
                 add_all(&mut self.runs, runs.as_slice())?;
                 Ok(fault)
             }
         }
     }
 
-    /// Joins the result of one more group: its report, or that of its first access that conflicts with a lower group's, if there is one.
-    /// Where no further group is to be joined, its accesses and events aren't added. An error is out of memory.
+    /// What the launch comes to where it ends with this report: the events of the groups so far are its schedule, and
+    /// leave them.
+    fn faulted(&mut self, alloc: Global, report: Fault) -> Outcome
+        ensures { (launch : TheLaunch) → IsStopped launch report self.old.runs.items → Concludes launch result }
+    {
+        let runs = replace(&mut self.runs, Vec::new(alloc));
+        Outcome::Faulted(report, Schedule::new(runs))
+    }
+
+    /// Joins the result of one more group, of so many that the launch has: its log is handed back, or the launch ends
+    /// with its report, or with that of its first access that conflicts with a lower group's, if there is one. The last
+    /// group's accesses and events aren't added. An error is out of memory.
     pub(crate) fn join<D: Described, L: GroupAccesses + Drop>(
         &mut self,
         alloc: Global,
         launch: &D,
-        number: GroupPlace,
+        groups: u32,
+        group: u32,
         came: GroupResult<Overlay<'_>, L>,
     ) -> Result<JoinEnd<L>, AllocError>
         requires grouped { IsGrouped (D.launch launch.now) }
-        requires there { HasGroup (D.launch launch.now) number.group }
-        requires further { HasGroup (D.launch launch.now) (suc number.group) → number.further ≡ true }
-        requires so_far { HoldsGroups (D.launch launch.now) number.group self.old }
-        requires result { IsShortResult (λ overlay. overlay.bytes) L.listed L.has_last (D.launch launch.now) number.group came }
-        ensures came { IfOk result (λ end. CameOfNext (D.launch launch.now) number.group came.entry.end (report_of end) self.new) }
+        requires counted { groups * (D.launch launch.now).group_size ≡ (D.launch launch.now).items }
+        requires inside { group < groups }
+        requires there { HasGroup (D.launch launch.now) group }
+        requires so_far { HoldsGroups (D.launch launch.now) group self.old }
+        requires result { IsShortResult (λ overlay. overlay.bytes) L.listed L.has_last (D.launch launch.now) group came }
+        ensures came { IfOk result (λ end. CameOfNext (D.launch launch.now) group came.entry.end end self.new) }
         ensures log { IfOk result (HandsBack came.entry.log) }
     {
         let GroupResult { log, runs, end, .. } = came;
         match end {
             GroupEnd::Done(spaces) => {
+                let number = GroupPlace {
+                    group,
+                    further: group + 1 < groups,
+                };
                 match self.join_done(alloc, launch, number, spaces.as_slice(), &log, &runs)? {
                     None => Ok(JoinEnd::Continues(log)),
-                    Some(report) => Ok(JoinEnd::Reports(report)),
+                    Some(report) => Ok(JoinEnd::Ends(self.faulted(alloc, report))),
                 }
             }
             GroupEnd::Stopped(fault) => {
-                let report = self.join_stopped(alloc, launch, number.group, fault, &log, &runs)?;
-                Ok(JoinEnd::Reports(report))
+                let report = self.join_stopped(alloc, launch, group, fault, &log, &runs)?;
+                Ok(JoinEnd::Ends(self.faulted(alloc, report)))
             }
         }
     }
@@ -270,12 +309,5 @@ impl<'a> JoinedGroups<'a> {
         ensures { result ≡ self.entry.contents }
     {
         self.contents
-    }
-
-    /// The events of the groups.
-    pub(crate) fn into_schedule(self) -> Schedule
-        ensures { result ≡ self.entry.runs.items }
-    {
-        Schedule::new(self.runs)
     }
 }

@@ -6,8 +6,8 @@ ghost use Rattle.joining.specs.Memory.{joined_number};
 use clmodel::access::Class;
 use spaces_base::cells::combined;
 
-/// The number left of a first one where the lower groups left one of it and a further group another, by updates of one class
-/// (OpenCL 1.2, section 6.12.11).
+/// The number left of a first one where the lower groups left one of it and a further group another, by updates of one
+/// class (OpenCL 1.2, section 6.12.11).
 #[tactic(auto, unfolding(joining::specs::Memory::joined_number, clmodel::specs::Cells::combined))]
 pub(crate) fn joined_number(class: Class, first: u32, lower: u32, own: u32) -> u32
     ensures { result ≡ joined_number class first lower own }

@@ -19,7 +19,8 @@ pub(crate) fn is_last<L: GroupAccesses>(log: &L, i: usize) -> bool
     log.has_last() && i + 1 == count
 }
 
-/// The first access of a group that conflicts with the lower groups' accesses, the conflict, and whether it is the group's last access.
+/// The first access of a group that conflicts with the lower groups' accesses, the conflict, and whether it is the
+/// group's last access.
 #[derive(Clone, Copy)]
 pub(crate) struct FirstConflict {
     pub(crate) entry: Entry,
@@ -45,8 +46,8 @@ fn meeting_fault<D: Described>(launch: &D, met: &FirstConflict) -> Result<Fault,
     conflict_fault(launch, &conflict)
 }
 
-/// The report where an access conflicts with a lower group's: this conflict, or that with the group's own accesses, if the access is the
-/// last of a group that stopped with a conflict on a lower byte.
+/// The report where an access conflicts with a lower group's: this conflict, or that with the group's own accesses, if
+/// the access is the last of a group that stopped with a conflict on a lower byte.
 pub(crate) fn report_at<D: Described>(
     launch: &D,
     met: &FirstConflict,

@@ -19,8 +19,9 @@ use spaces::Overlay;
 use spaces_base::Buffers;
 use std::alloc::{AllocError, Global};
 
-/// What the results of a launch's work-groups come to, joined in the order of the groups: what its canonical run comes to (OpenCL 1.2,
-/// section 3.2). The results are those of all groups, or up to and with one that stopped. An error is out of memory.
+/// What the results of a launch's work-groups come to, joined in the order of the groups: what its canonical run comes
+/// to (OpenCL 1.2, section 3.2). The results are those of all groups, or up to and with one that stopped. An error is
+/// out of memory.
 pub fn merge<'a, L: Accesses + Drop>(
     alloc: Global,
     launch: &Launch<'_>,

@@ -11,7 +11,7 @@ ghost use Rattle.snapshot_merge.specs.JoinedGroups.{HoldsGroups, JoinedConclude}
 ghost use Rattle.snapshot_merge.specs.Launches.{AreResultsTo};
 ghost use Rattle.snapshot_merge.specs.Rounds.{CameOfRound};
 
-use crate::joined_groups::{GroupPlace, JoinEnd, JoinedGroups};
+use crate::joined_groups::{JoinEnd, JoinedGroups};
 use crate::laws::laws;
 use clmodel::outcome::Outcome;
 use group_run::GroupResult;
@@ -22,16 +22,8 @@ use spaces::Overlay;
 use spaces_base::Buffers;
 use std::alloc::{AllocError, Global};
 
-/// What comes of joining some groups that follow one another.
-#[derive(Drop)]
-pub enum RoundEnd<'a> {
-    /// Nothing to report so far.
-    Continues(JoinedGroups<'a>),
-    /// What the launch comes to.
-    Ends(Outcome),
-}
-
-/// Joins the results of the groups `first..last` in their order (OpenCL 1.2, section 3.2). The results are those of all of them, or up to and with one that stopped. Each result is let go once it is joined. An error is out of memory.
+/// Joins the results of the groups `first..last` in their order (OpenCL 1.2, section 3.2). The results are those of all
+/// of them, or up to and with one that stopped. Each result is let go once it is joined. An error is out of memory.
 pub fn join_round<'a, L: GroupAccesses + Drop>(
     alloc: Global,
     launch: &Launch<'_>,
@@ -40,7 +32,7 @@ pub fn join_round<'a, L: GroupAccesses + Drop>(
     first: u32,
     last: u32,
     results: Vec<GroupResult<Overlay<'_>, L>>,
-) -> Result<RoundEnd<'a>, AllocError>
+) -> Result<JoinEnd<JoinedGroups<'a>>, AllocError>
     requires whole { HasGroups (setup_of launch.now) }
     requires order { first ≤ last }
     requires so_far { HoldsGroups (launch_of (setup_of launch.now) (bytes_in buffers.now)) first so_far }
@@ -54,18 +46,12 @@ pub fn join_round<'a, L: GroupAccesses + Drop>(
         let Some(result) = results.next() else {
             unreachable!()
         };
-        let number = GroupPlace {
-            group,
-            further: group + 1 < groups,
-        };
-        match so_far.join(alloc, &loaded, number, result)? {
+        match so_far.join(alloc, &loaded, groups, group, result)? {
             JoinEnd::Continues(log) => drop(log),
-            JoinEnd::Reports(fault) => {
-                return Ok(RoundEnd::Ends(Outcome::Faulted(fault, so_far.into_schedule())));
-            }
+            JoinEnd::Ends(outcome) => return Ok(JoinEnd::Ends(outcome)),
         }
     }
-    Ok(RoundEnd::Continues(so_far))
+    Ok(JoinEnd::Continues(so_far))
 }
 
 /// Where all groups of a launch are joined without a report, the launch ends clean with what they leave.
@@ -76,7 +62,12 @@ fn joined_groups_conclude()
 }
 
 /// What a launch comes to, of which all groups are joined or one brought a report.
-pub fn outcome_of(launch: &Launch<'_>, buffers: &Buffers, end: RoundEnd<'_>, groups: u32) -> Outcome
+pub fn outcome_of(
+    launch: &Launch<'_>,
+    buffers: &Buffers,
+    end: JoinEnd<JoinedGroups<'_>>,
+    groups: u32,
+) -> Outcome
     requires whole { HasGroups (setup_of launch.now) }
     requires some { 0 < group_items (setup_of launch.now).range }
     requires all { groups * group_items (setup_of launch.now).range ≡ item_count (setup_of launch.now).range }
@@ -85,7 +76,7 @@ pub fn outcome_of(launch: &Launch<'_>, buffers: &Buffers, end: RoundEnd<'_>, gro
 {
     joined_groups_conclude();
     match end {
-        RoundEnd::Continues(joined) => Outcome::Clean(joined.into_contents()),
-        RoundEnd::Ends(outcome) => outcome,
+        JoinEnd::Continues(joined) => Outcome::Clean(joined.into_contents()),
+        JoinEnd::Ends(outcome) => outcome,
     }
 }

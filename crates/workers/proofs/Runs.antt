@@ -16,8 +16,8 @@ use Rattle.joining.specs.Steps.{HasGroup}
 use Rattle.shadow_list.specs.Log.{Log}
 use Rattle.shadow.specs.Lasting.{StandsWith}
 use Rattle.shadow.specs.declared.group_accesses.AccessSummary.{AccessSummary}
-use Rattle.group_log.specs.declared.group.GroupLog.{GroupLog}
-use Rattle.snapshot_merge.specs.Launches.{Followed, group_log, is_stop, is_stopped}
+use Rattle.snapshot_merge.specs.declared.heap_log.HeapLog.{HeapLog}
+use Rattle.snapshot_merge.specs.Launches.{Followed, heap_log, is_stop, is_stopped}
 use Rattle.spaces.specs.Overlay.{Overlaid}
 use Rattle.workers_draw.specs.Groups.{AreResults}
 use Rattle.workers.specs.Results.{IsListed, AreOfRound, IsOfGroup, IsStopping, place_among}
@@ -66,9 +66,9 @@ pub stops_stopped : (launch : Launch) (group : ℕ) (came : Came) → OnePart �
 stops_stopped launch group came one is stops = stops_end bytes_of launch group is.1.0 (events_of came.runs) came.end one is.1.2.2 stops
 
 -- a result stays that of its group where a list stands for its log
-pub result_listed : (launch : Launch) (group : ℕ) (came : GroupResult Overlaid GroupLog) (list : AccessSummary) → StandsWith list.has_last list.entries.items (group_log came.log).accesses
-    → IsResult bytes_of group_log launch group came → IsListed launch group (record { group = came.group; log = list; runs = came.runs; end = came.end })
-result_listed launch group came list stand is = (group_log came.log, stand, is)
+pub result_listed : (launch : Launch) (group : ℕ) (came : GroupResult Overlaid HeapLog) (list : AccessSummary) → StandsWith list.has_last list.entries.items (heap_log came.log).accesses
+    → IsResult bytes_of heap_log launch group came → IsListed launch group (record { group = came.group; log = list; runs = came.runs; end = came.end })
+result_listed launch group came list stand is = (heap_log came.log, stand, is)
 
 -- what a group's run comes to, where memory isn't refused, is of that group
 pub listed_of_group : (launch : Launch) (group : ℕ) (r : Result Came AllocError) → HasGroup launch group → IfOk r (IsListed launch group) → IfOk r (IsOfGroup launch group)

@@ -17,7 +17,7 @@ use crate::spare::SpareLogs;
 use group_run::GroupResult;
 use item_step::Launch;
 use shadow::AccessSummary;
-use snapshot_merge::{JoinedGroups, RoundEnd, join_round};
+use snapshot_merge::{JoinEnd, JoinedGroups, join_round};
 use spaces::Overlay;
 use spaces_base::Buffers;
 use std::alloc::{AllocError, Global};
@@ -29,7 +29,8 @@ use workers_draw::run::{run_groups, run_groups_after};
 /// The results of the groups of a round, in their order.
 pub(crate) type Results<'a> = Vec<GroupResult<Overlay<'a>, AccessSummary>>;
 
-/// Runs the groups from one on up to another, which isn't among them: the results of all of them, or up to and with one that stopped.
+/// Runs the groups from one on up to another, which isn't among them: the results of all of them, or up to and with one
+/// that stopped.
 pub(crate) fn run_round<'a, G: Gate, R: Threads + Wait + Sync>(
     rt: &R,
     alloc: Global,
@@ -55,8 +56,9 @@ pub(crate) fn run_round<'a, G: Gate, R: Threads + Wait + Sync>(
     Ok(results)
 }
 
-/// Joins a round, whose groups are those from `first` up to `last`, to what is joined so far, while the other workers run the next, whose
-/// groups are those from `last` up to `end`. The calling thread joins, and then runs groups of the next round with the others.
+/// Joins a round, whose groups are those from `first` up to `last`, to what is joined so far, while the other workers
+/// run the next, whose groups are those from `last` up to `end`. The calling thread joins, and then runs groups of the
+/// next round with the others.
 pub(crate) fn join_and_run<'a, 'b, G: Gate, R: Threads + Wait + Sync>(
     rt: &R,
     alloc: Global,
@@ -72,7 +74,7 @@ pub(crate) fn join_and_run<'a, 'b, G: Gate, R: Threads + Wait + Sync>(
     end: u32,
 ) -> (
     Result<Results<'a>, AllocError>,
-    Result<RoundEnd<'b>, AllocError>,
+    Result<JoinEnd<JoinedGroups<'b>>, AllocError>,
 )
     requires whole { HasGroups (setup_of launch.now) }
     requires some { 0 < group_items (setup_of launch.now).range }
@@ -93,7 +95,7 @@ pub(crate) fn join_and_run<'a, 'b, G: Gate, R: Threads + Wait + Sync>(
         &round,
         workers as usize,
         &gate,
-        move || -> Result<RoundEnd<'_>, AllocError>
+        move || -> Result<JoinEnd<JoinedGroups<'_>>, AllocError>
             requires { HasGroups (setup_of launch.now) × (first ≤ last) × HoldsGroups (launch_of (setup_of launch.now) (bytes_in buffers.now)) first so_far × AreOfRound (launch_of (setup_of launch.now) (bytes_in buffers.now)) last first results.items }
             ensures { IfOk result (CameOfRound (launch_of (setup_of launch.entry.now) (bytes_in buffers.entry.now)) last) }
         { join_round(alloc, launch, buffers, so_far, first, last, results) },

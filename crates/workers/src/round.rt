@@ -8,23 +8,23 @@ ghost use Rattle.group_run.specs.Results.{IsResult};
 ghost use Rattle.item_step.specs.Launches.{setup_of};
 ghost use Rattle.launches.specs.Groups.{HasGroups};
 ghost use Rattle.shadow.specs.Lasting.{StandsWith};
-ghost use Rattle.snapshot_merge.specs.Launches.{group_log, is_stopped};
+ghost use Rattle.snapshot_merge.specs.Launches.{heap_log, is_stopped};
 ghost use Rattle.spaces_base.specs.Buffers.{bytes_in};
 ghost use Rattle.workers.specs.Results.{IsListed, IsOfGroup, IsStopping, place_among};
 
 use crate::spare::SpareLogs;
-use group_log::GroupLog;
 use group_run::GroupResult;
 use item_step::Launch;
 use joining::one_part;
 use shadow::AccessSummary;
-use snapshot_merge::{has_stopped, one_group};
+use snapshot_merge::{HeapLog, has_stopped, one_group};
 use spaces::Overlay;
 use spaces_base::Buffers;
 use std::alloc::{AllocError, Global};
 use workers_draw::work::Work;
 
-/// Some work-groups of a launch on these buffers, which follow one another (OpenCL 1.2, sections 3.2 and 5.8). A group has one run, whatever other groups do.
+/// Some work-groups of a launch on these buffers, which follow one another (OpenCL 1.2, sections 3.2 and 5.8). A group
+/// has one run, whatever other groups do.
 #[derive(Clone, Copy)]
 pub(crate) struct Round<'a, 's> {
     launch: &'a Launch<'a>,
@@ -67,23 +67,24 @@ impl<'a, 's> Round<'a, 's> {
     }
 }
 
-/// The accesses of a log that tell other groups something new. The log serves a further group. An error is out of memory.
-fn listed(alloc: Global, spares: &SpareLogs, log: GroupLog) -> Result<AccessSummary, AllocError>
-    ensures { IfOk result (λ list. StandsWith list.has_last list.entries.items (group_log log).accesses) }
+/// The accesses of a log that tell other groups something new. The log serves a further group. An error is out of
+/// memory.
+fn listed(alloc: Global, spares: &SpareLogs, log: HeapLog) -> Result<AccessSummary, AllocError>
+    ensures { IfOk result (λ list. StandsWith list.has_last list.entries.items (heap_log log).accesses) }
 {
     let list = log.list(alloc)?;
     spares.give(alloc, log);
     Ok(list)
 }
 
-/// A result with the accesses of its log that tell other groups something new in place of the log: the join asks for no more. The log serves a
-/// further group. An error is out of memory.
+/// A result with the accesses of its log that tell other groups something new in place of the log: the join asks for no
+/// more. The log serves a further group. An error is out of memory.
 fn shortened<'a>(
     alloc: Global,
     spares: &SpareLogs,
-    came: GroupResult<Overlay<'a>, GroupLog>,
+    came: GroupResult<Overlay<'a>, HeapLog>,
 ) -> Result<GroupResult<Overlay<'a>, AccessSummary>, AllocError>
-    ensures { (launch : TheLaunch) (group : ℕ) → IsResult (λ overlay. overlay.bytes) group_log launch group came.entry → IfOk result (IsListed launch group) }
+    ensures { (launch : TheLaunch) (group : ℕ) → IsResult (λ overlay. overlay.bytes) heap_log launch group came.entry → IfOk result (IsListed launch group) }
 {
     let GroupResult {
         group,
@@ -123,7 +124,7 @@ impl<'a> Work for Round<'a, '_> {
         group: u32,
     ) -> Result<GroupResult<Overlay<'a>, AccessSummary>, AllocError> {
         let number = self.first + group;
-        let log = self.spares.take(alloc, self.launch.range().uniform);
+        let log = self.spares.take(alloc, self.launch.range().uniform)?;
         let came = one_group(alloc, self.launch, self.buffers, number, log)?;
         shortened(alloc, self.spares, came)
     }

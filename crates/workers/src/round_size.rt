@@ -1,5 +1,5 @@
-//! How many groups a round has. The workers wait for each other at the end of a round, so few large rounds are sooner done; the results of two
-//! rounds wait for their join, so small rounds hold less memory.
+//! How many groups a round has. The workers wait for each other at the end of a round, so few large rounds are sooner
+//! done; the results of two rounds wait for their join, so small rounds hold less memory.
 
 ghost use Rattle.std.specs.Prelude.{◌≤◌};
 
@@ -104,9 +104,9 @@ pub(crate) fn first_round(workers: u32) -> u32
     FIRST_EACH * workers
 }
 
-/// How many groups the next round has, of those that are left: as many as may be if each result takes as many bytes as those of the round
-/// before. Where more are left than the last round is to have, a quarter of them stay for the round that runs beside its join, and half of
-/// them where a join takes long.
+/// How many groups the next round has, of those that are left: as many as may be if each result takes as many bytes as
+/// those of the round before. Where more are left than the last round is to have, a quarter of them stay for the round
+/// that runs beside its join, and half of them where a join takes long.
 pub(crate) fn next_round(results: &Results<'_>, workers: u32, left: u32) -> u32
     requires { (1 ≤ workers) × (workers ≤ 16) }
     ensures { 1 ≤ result }

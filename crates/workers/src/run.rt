@@ -13,7 +13,7 @@ use crate::spare::SpareLogs;
 use clmodel::outcome::Outcome;
 use item_step::Launch;
 use snapshot_merge::{
-    JoinedGroups, RoundEnd, group_count, join_round, outcome_of, run_launch_around,
+    JoinEnd, JoinedGroups, group_count, join_round, outcome_of, run_launch_around,
 };
 use spaces_base::Buffers;
 use std::alloc::{AllocError, Global};
@@ -21,8 +21,9 @@ use std::sync::Wait;
 use std::thread::Threads;
 use workers_draw::gate::Gate;
 
-/// The canonical run of a launch by some workers, in rounds. The calling thread joins the groups of a round in their order while the others
-/// run the next, and then works with them. The logs of groups that are done serve further groups, of all rounds.
+/// The canonical run of a launch by some workers, in rounds. The calling thread joins the groups of a round in their
+/// order while the others run the next, and then works with them. The logs of groups that are done serve further
+/// groups, of all rounds.
 fn run_rounds<G: Gate, R: Threads + Wait + Sync>(
     rt: &R,
     alloc: Global,
@@ -50,8 +51,8 @@ fn run_rounds<G: Gate, R: Threads + Wait + Sync>(
             rt, alloc, launch, buffers, &spares, workers, gate, so_far, results, first, last, end,
         );
         match joined? {
-            RoundEnd::Continues(joined) => so_far = joined,
-            RoundEnd::Ends(outcome) => return Ok(outcome),
+            JoinEnd::Continues(joined) => so_far = joined,
+            JoinEnd::Ends(outcome) => return Ok(outcome),
         }
         results = next?;
         first = last;
@@ -61,11 +62,12 @@ fn run_rounds<G: Gate, R: Threads + Wait + Sync>(
     Ok(outcome_of(launch, buffers, end, last))
 }
 
-/// The canonical run of a launch, by 1 to 16 workers (OpenCL 1.2, sections 3.2 and 5.8). Each worker draws groups and runs them on the
-/// buffers as they are, between two calls of the gate with the group's number; a thread that can't be started is done without. Several
-/// workers run the groups in rounds, and the calling thread joins each round before it runs groups of the next. One worker is the calling thread: it
-/// runs and joins group after group, as `run_launch` does. What the launch comes to is what `run_launch` answers, however many workers there
-/// are and whatever the gate does. The buffers stay as they are. An error is out of memory.
+/// The canonical run of a launch, by 1 to 16 workers (OpenCL 1.2, sections 3.2 and 5.8). Each worker draws groups and
+/// runs them on the buffers as they are, between two calls of the gate with the group's number; a thread that can't be
+/// started is done without. Several workers run the groups in rounds, and the calling thread joins each round before it
+/// runs groups of the next. One worker is the calling thread: it runs and joins group after group, as `run_launch`
+/// does. What the launch comes to is what `run_launch` answers, however many workers there are and whatever the gate
+/// does. The buffers stay as they are. An error is out of memory.
 pub fn run_parallel<G: Gate, R: Threads + Wait + Sync>(
     rt: &R,
     alloc: Global,

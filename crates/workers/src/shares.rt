@@ -11,8 +11,8 @@ use clmodel::setup::{Argument, Range};
 use clmodel::text::Name;
 use clmodel::tree::{Parameter, Statement};
 use clnum::IntType;
-use group_log::logs_are_sent;
 use regcode::Code;
+use snapshot_merge::heap_logs_are_sent;
 use spaces_base::Buffers;
 use std::marker::Sync;
 use steps::Step;
@@ -57,7 +57,7 @@ fn launches_are_shared()
 fn spares_are_shared()
     ensures { IsSync SpareLogsType.the_row }
 {
-    logs_are_sent();
+    heap_logs_are_sent();
 }
 
 /// Groups of launches may be shared.

@@ -197,7 +197,8 @@ begins count =
     alone F f zero u e = subst F (some-injective _ _ e) f
     alone F f (suc j) u e = absurd (some-ne-none u (sym e))
 
--- What the end tells: a seat that has all parts, and one number past the end among those that it drew, drew each number, and knows each stop that it saw.
+-- What the end tells: a seat that has all parts, and one number past the end among those that it drew, drew each
+-- number, and knows each stop that it saw.
 pub all_drawn : (count : ℕ) (words : List ℕ) (views : List Hand) (id : ℕ) (v : Hand) → Holds count words views → get_elem? views id ≡ some v
     → v.parts ≡ 16 → (m : ℕ) → Has v.drawn m → count ≤ m → (x : ℕ) → x < count → Has v.drawn x
 all_drawn count [] views id v h at all m drew past x low = absurd h

@@ -1,5 +1,5 @@
--- The rule of the two words that workers share, and what each step tells. All of it is own: the standard doesn't say who runs which group.
--- Word 0 is the number of draws. Word 1 is the count of groups, or a group whose run stops.
+-- The rule of the two words that workers share, and what each step tells. All of it is own: the standard doesn't say
+-- who runs which group. Word 0 is the number of draws. Word 1 is the count of groups, or a group whose run stops.
 use Rattle.std.specs.Prelude.{◌≡◌, ◌⊎◌, ℕ, suc, zero, ◌+◌, ◌-◌, ◌<◌, ◌≤◌, ◌==◌, if◌then◌else◌, List, [], ◌∷◌, ◌++◌, nat_le}
 use mathlib.Core.Option.{some}
 use lib.ListN.{get_elem?}
@@ -38,7 +38,8 @@ module _ (count : ℕ) where
   abbrev pub IsLeast : List Hand → ℕ → Type 0
   IsLeast views e = (e ≡ count) ⊎ IsStop views e
 
-  -- What was drawn, by all, are the numbers below the draw word, each once. A seat draws past the end at most as often as it has parts.
+  -- What was drawn, by all, are the numbers below the draw word, each once. A seat draws past the end at most as often
+  -- as it has parts.
   pub record Kept (draws low : ℕ) (views : List Hand) : Type 0 where
     pub parts : total (λ (v : Hand). v.parts) views ≡ 16
     pub drawn : (h : ℕ → ℕ) → total (λ (v : Hand). total h v.drawn) views ≡ total_below h draws

@@ -12,7 +12,8 @@ module _ {T : Type 0} (count : ℕ) (gives : ℕ → T → Type 0) where
   abbrev pub IsOfSome : T → Type 0
   IsOfSome output = (group : ℕ) × (group < count) × gives group output
 
-  -- What a worker did: of each group that it drew it has the result, or the group lies above a least fault that it saw (own).
+  -- What a worker did: of each group that it drew it has the result, or the group lies above a least fault that it saw
+  -- (own).
   pub record Worked (v : Hand) (outputs : List T) : Type 0 where
     pub each : All IsOfSome outputs
     pub covered : (group : ℕ) → Has v.drawn group → group < count → Any (gives group) outputs ⊎ ((least : ℕ) × Has v.seen least × (least < group))

@@ -2,7 +2,8 @@
 use atomic_table::{Join, Play, Seat, Shared, Split, TableRule};
 use std::collections::LinkedList;
 
-/// What a worker knows: its parts of the right to know the whole, the numbers that it drew, what it saw the least fault to be, and the groups that it knows to stop. No value of it is made.
+/// What a worker knows: its parts of the right to know the whole, the numbers that it drew, what it saw the least fault
+/// to be, and the groups that it knows to stop. No value of it is made.
 pub struct Hand {
     pub parts: u64,
     pub drawn: LinkedList<u64>,

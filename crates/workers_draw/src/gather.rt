@@ -16,7 +16,8 @@ pub(crate) fn places<T: Drop>(alloc: Global, count: u32) -> Result<Vec<Option<T>
     Ok(places)
 }
 
-/// Puts a result at its group's place. A result of a group that has one already, or of no group, is refused, and comes back.
+/// Puts a result at its group's place. A result of a group that has one already, or of no group, is refused, and comes
+/// back.
 pub fn accept<W: Work>(
     work: &W,
     places: &mut Vec<Option<W::Output>>,

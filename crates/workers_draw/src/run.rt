@@ -16,7 +16,8 @@ use std::thread::Threads;
 
 pub(crate) type WorkTable = Table<u8, Hand, u64, Drawing, Global>;
 
-/// Ends the table with the seat that has all parts: each group was drawn, and each least fault that was seen is known to stop.
+/// Ends the table with the seat that has all parts: each group was drawn, and each least fault that was seen is known
+/// to stop.
 fn finish(table: WorkTable, seat: Place)
     requires table { seat.table_id ≡ table.shared.table_id }
     requires slots { table.shared.table_id.slots ≡ 0 }
@@ -35,7 +36,8 @@ fn open(alloc: Global, count: u32) -> Result<(WorkTable, Place), AllocError>
     WorkTable::of_words(alloc, &[0, u64::from(count)], &u64::from(count))
 }
 
-/// The results in order, up to and with the first that stopped, once all parts of the work are done. An error is out of memory.
+/// The results in order, up to and with the first that stopped, once all parts of the work are done. An error is out of
+/// memory.
 fn gathered<W: Work>(
     alloc: Global,
     work: &W,
@@ -54,9 +56,9 @@ fn gathered<W: Work>(
     in_order(alloc, work, ready)
 }
 
-/// The results of all groups in order, up to and with the first that stopped, by 1 to 16 workers (OpenCL 1.2, sections 3.2 and 5.8). The
-/// calling thread is one of them, and a thread that can't be started is done without. An error is out of memory, in a group's run or for
-/// the results.
+/// The results of all groups in order, up to and with the first that stopped, by 1 to 16 workers (OpenCL 1.2, sections
+/// 3.2 and 5.8). The calling thread is one of them, and a thread that can't be started is done without. An error is out
+/// of memory, in a group's run or for the results.
 pub fn run_groups<W: Work, G: Gate, R: Threads + Wait + Sync>(
     rt: &R,
     alloc: Global,

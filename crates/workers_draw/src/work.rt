@@ -4,7 +4,8 @@ ghost use Rattle.std.specs.Prelude.{◌≡◌, ℕ, ◌<◌, IfOk, Bool, true};
 use std::alloc::{AllocError, Global};
 use std::marker::{Send, Sync};
 
-/// Groups, each of which runs alone: the work-groups of a launch (OpenCL 1.2, sections 3.2 and 5.8). They are numbered from 0.
+/// Groups, each of which runs alone: the work-groups of a launch (OpenCL 1.2, sections 3.2 and 5.8). They are numbered
+/// from 0.
 pub trait Work: Sync {
     /// What the run of a group comes to.
     type Output: Send + Drop;

@@ -5,7 +5,8 @@ use Rattle.shadow.specs.Seen.{IsFootprint}
 use Rattle.snapshot_merge.specs.Changes.{AreChanged, AreUpdates, AllWroteBytes, changes_of}
 use Rattle.snapshot_merge.proofs.changes.join_accesses.Given as goal
 
--- the changes so far are made, the updates from the next on are those of the later accesses, and the accesses so far are added
+-- the changes so far are made, the updates from the next on are those of the later accesses, and the accesses so far
+-- are added
 abbrev pub invariant-loop-place : goal.invariant-loop-place
 invariant-loop-place g l =
     record {

@@ -11,6 +11,6 @@ use Rattle.workers.proofs.shares.spares_are_shared.Goals as goal
 
 pub returns : goal.returns
 returns c =
-    let spare : IsSend Spare.the_row = declared_send Spare.the_type (c.logs_are_sent.ensures, tt) in
+    let spare : IsSend Spare.the_row = declared_send Spare.the_type (c.heap_logs_are_sent.ensures, tt) in
     let lock : IsSync (Mutex.the_row (Vec.the_row Spare.the_row Global.the_row ghosts)) = search (sendable, crosses, Vec-send Spare.the_row spare) in
     declared_sync SpareLogs.the_type (record { shared = lock.shared }, tt)

@@ -1,0 +1,28 @@
+use Rattle.std.proofs.Common.{◌≡◌, ℕ, ◌<◌, Some, length, sym, ◌∙◌, arith}
+use Rattle.std.specs.Prelude.{slice_get}
+use Rattle.snapshot_merge.proofs.Entries.{entry_at, miss_more}
+use Rattle.snapshot_merge.proofs.comparing.first_conflict.Goals as goal
+
+pub loop-place-preserved : goal.loop-place-preserved
+loop-place-preserved g c = λ kept h others.
+    let entries = (g.L.GroupAccesses.listed c.args.log.now) in
+    let i = c.loop-place.place in
+    let x = c.get-entry.result in
+    let at : slice_get entries i ≡ Some x = entry_at entries i x (omega (arith, c.loop-place-test.true, c.len-count.ensures)) c.get-entry.ensures.value in
+    miss_more c.args.uniform entries kept i x at (sym (c.meeting.ensures kept h (others i x at)) ∙ c.in_default.is) (c.loop-place.invariant kept h others)
+
+pub returns-in-Some : goal.returns-in-Some
+returns-in-Some g c = λ kept h others.
+    let entries = (g.L.GroupAccesses.listed c.args.log.now) in
+    let i = c.loop-place.place in
+    let x = c.get-entry.result in
+    let at : slice_get entries i ≡ Some x = entry_at entries i x (omega (arith, c.loop-place-test.true, c.len-count.ensures)) c.get-entry.ensures.value in (
+      i,
+      at,
+      c.loop-place.invariant kept h others,
+      sym (c.meeting.ensures kept h (others i x at)) ∙ c.in-Some.is,
+      c.is_last.ensures,
+    )
+
+pub returns : goal.returns
+returns g c = λ kept h others. λ k e b q. c.loop-place.invariant kept h others k e (omega (arith, b, c.loop-place-test.false, c.len-count.ensures)) q
