@@ -31,7 +31,11 @@ pub record IsCall (text : List ℕ) (first at : ℕ) (call : CallSite) : Type 0 
   pub stands : IsPlace text first call.offset call.line call.column call.script_line
   pub told : IsToldLine text call.offset (string_bytes call.text)
 
+-- each call is that of the byte of its number among these
+abbrev pub BeginAt : List ℕ → ℕ → List ℕ → List CallSite → Type 0
+BeginAt text first through calls = (k at : ℕ) (call : CallSite) → slice_get through k ≡ Some at → slice_get calls k ≡ Some call → IsCall text first at call
+
 -- the calls that begin at these bytes, each with its line, in this order
 pub record AreCalls (text : List ℕ) (first : ℕ) (through : List ℕ) (calls : List CallSite) : Type 0 where
   pub many : length calls ≡ length through
-  pub each : (k at : ℕ) (call : CallSite) → slice_get through k ≡ Some at → slice_get calls k ≡ Some call → IsCall text first at call
+  pub each : BeginAt text first through calls
