@@ -4,7 +4,7 @@
 use crate::context::Context;
 use crate::events::{is_access, is_release};
 use crate::turns::{LoopTurns, SeenTurns, turns_seen};
-use crate::words::{counted, joined};
+use crate::wording::{counted, joined};
 use explain_play::Played;
 use marked_play::Mark;
 use std::alloc::{AllocError, Global};
@@ -45,7 +45,7 @@ fn dearest(alloc: Global, seen: &SeenTurns) -> Result<Vec<LoopTurns>, AllocError
             })?;
         }
     }
-    loops.sort_by_key(|turns| u64::MAX - turns.turns)?;
+    loops.sort_by_key(|turns| u64::MAX.saturating_sub(turns.turns))?;
     Ok(loops)
 }
 
@@ -60,9 +60,7 @@ fn sum_of(loops: &[LoopTurns]) -> u64 {
 
 /// Whether these are all turns that a loop has made since it was entered, which wasn't left.
 fn is_within(within: &[LoopTurns], turns: &LoopTurns) -> bool {
-    within
-        .iter()
-        .any(|other| other.place == turns.place && other.turns == turns.turns)
+    within.iter().any(|other| other.place == turns.place && other.turns == turns.turns)
 }
 
 /// The turns of a loop: all that it made, where those of all loops were seen; those since it was entered, where it wasn't
@@ -117,7 +115,9 @@ fn loops_reason(alloc: Global, seen: &SeenTurns, turns: u64) -> Result<String, A
     let unseen = turns.saturating_sub(sum_of(loops.as_slice()));
     let mut words = words_of_loops(alloc, seen, loops.as_slice(), unseen == 0)?;
     if unseen > 0 {
-        words.push(format!(in alloc; "{unseen} of loops that it had left, which no access or barrier shows")?)?;
+        words.push(format!(in alloc;
+            "{unseen} of loops that it had left, which no access or barrier shows"
+        )?)?;
     }
     if words.is_empty() {
         return Ok(String::new(alloc));

@@ -13,7 +13,7 @@ mod reasons;
 mod schedule_steps;
 mod turns;
 mod unset;
-mod words;
+mod wording;
 
 pub use arrays::{PrivateArray, array_of};
 pub use context::Context;

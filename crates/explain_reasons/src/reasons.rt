@@ -6,7 +6,7 @@ use crate::budget::budget_reason;
 use crate::context::Context;
 use crate::events::is_release;
 use crate::unset::unset_reason;
-use crate::words::counted;
+use crate::wording::counted;
 use clmodel::access::{AccessKind, Clash, Class};
 use clmodel::fault::{Fault, Location};
 use clmodel::text::Name;

@@ -45,11 +45,7 @@ fn loops_round(alloc: Global, spot: &Spot) -> Result<Vec<LoopPlace>, AllocError>
 }
 
 /// Loops with their turns, both from the outermost one on.
-fn turned(
-    alloc: Global,
-    loops: &[LoopPlace],
-    turns: &[u32],
-) -> Result<Vec<LoopTurns>, AllocError> {
+fn turned(alloc: Global, loops: &[LoopPlace], turns: &[u32]) -> Result<Vec<LoopTurns>, AllocError> {
     let mut found = Vec::new(alloc);
     for (place, turns) in loops.iter().zip(turns) {
         found.push(LoopTurns {
@@ -120,7 +116,11 @@ impl SeenTurns {
     fn see(&mut self, now: Vec<LoopTurns>) -> Result<(), AllocError> {
         let mut is_same = true;
         for (depth, turn) in now.iter().enumerate() {
-            let known = if is_same { before(self.within.get(depth), turn) } else { None };
+            let known = if is_same {
+                before(self.within.get(depth), turn)
+            } else {
+                None
+            };
             self.add(turn.place, turn.turns.saturating_sub(known.unwrap_or(0)))?;
             is_same = known == Some(turn.turns);
         }

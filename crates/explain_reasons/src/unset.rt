@@ -94,18 +94,18 @@ const MISSING: &str =
     "if another work-item sets this byte later, a barrier between the two is missing";
 
 /// The bytes of one store.
-fn one_side(
-    context: &Context<'_>,
-    played: &Played,
-    near: Near,
-) -> Result<String, AllocError> {
+fn one_side(context: &Context<'_>, played: &Played, near: Near) -> Result<String, AllocError> {
     let words = store_words(context, played, near)?;
     let words = words.as_str();
     let is_byte = match played.touches.get(near.number) {
         Some(touch) => touch.bytes == 1,
         None => false,
     };
-    let head = if is_byte { "byte that was set is" } else { "bytes that were set are" };
+    let head = if is_byte {
+        "byte that was set is"
+    } else {
+        "bytes that were set are"
+    };
     format!(in context.alloc; "the nearest {head} {words}; {MISSING}")
 }
 
@@ -119,9 +119,7 @@ fn both_sides(
     let below = store_words(context, played, below)?;
     let above = store_words(context, played, above)?;
     let (below, above) = (below.as_str(), above.as_str());
-    format!(in context.alloc;
-        "the nearest bytes that were set are {below}, and {above}; {MISSING}"
-    )
+    format!(in context.alloc; "the nearest bytes that were set are {below}, and {above}; {MISSING}")
 }
 
 /// Which bytes beside an unset one were set, and where: those of the nearest stores, on both sides of it. An error is

@@ -1,4 +1,4 @@
-//! Words and lists of sentences.
+//! Numbers and lists in sentences.
 #![tactic(auto)]
 
 use std::alloc::{AllocError, Global};
