@@ -1,6 +1,6 @@
 -- What a schedule came to that was played (own).
-use Rattle.std.specs.Prelude.{◌≡◌, ◌==◌, ◌&&◌, ℕ, Bool, true, false, Some, List, count_by, map, reverse, slice_get, take}
-use Rattle.std.specs.Option.{IfSome}
+use Rattle.std.specs.Prelude.{◌≡◌, ◌<◌, ◌==◌, ◌&&◌, ℕ, Bool, true, false, Option, None, Some, List, count_by, map, reverse, slice_get, take}
+use Rattle.std.specs.Option.{IfSome, option_map_or}
 use Rattle.clmodel.specs.Cells.{byte_count}
 use Rattle.clmodel.specs.Launch.{Launch, both_store, group_of, location_of}
 use Rattle.clmodel.specs.Run.{State, Events, start}
@@ -53,6 +53,20 @@ pub record IsEventOf (marks : List Mark) (item number : ℕ) : Type 0 where
   pub mark : Mark
   pub at : slice_get marks number ≡ Some mark
   pub is : mark.event ≡ event.Item item
+
+-- an event is one of an item (own)
+abbrev pub is_event_of : ℕ → Event → Bool
+is_event_of item (event.Item other) = other == item
+is_event_of item (event.Release group) = false
+
+-- the event of a number is one of an item (own)
+abbrev pub acts_at : List Mark → ℕ → ℕ → Bool
+acts_at marks item number = option_map_or (λ mark. is_event_of item mark.event) (slice_get marks number) false
+
+-- the last number below n of which p holds, if it holds of any (own)
+abbrev pub IsLast : (ℕ → Bool) → ℕ → Option ℕ → Type 0
+IsLast p n None = (k : ℕ) → k < n → p k ≡ false
+IsLast p n (Some last) = (last < n) × (p last ≡ true) × ((k : ℕ) → last < k → k < n → p k ≡ false)
 
 -- The events were played from the start to a state, each with where its item stands that acts by it, and with the numbers that its access finds
 -- and leaves. The first accesses of the log there are told.

@@ -1,7 +1,7 @@
 //! A schedule played with where its items stand.
 #![tactic(auto)]
 
-ghost use Rattle.std.specs.Prelude.{◌≡◌, ◌≤◌, map, count_by, take, Some, IfOk, IfNone, IfSome};
+ghost use Rattle.std.specs.Prelude.{◌≡◌, ◌≤◌, map, count_by, length, take, Some, IfOk, IfNone, IfSome, if◌then◌else◌};
 ghost use Rattle.clmodel.specs.Launch.{Launch as TheLaunch};
 ghost use Rattle.clmodel.specs.Law.{Reaches};
 ghost use Rattle.clmodel.specs.Next.{launch_of};
@@ -17,7 +17,7 @@ ghost use Rattle.marked_play.specs.Replicas.{Mirrors};
 ghost use Rattle.marked_play.specs.declared.pairs.Told.{Told};
 ghost use Rattle.replay.specs.States.{IsAt};
 ghost use Rattle.spaces_base.specs.Buffers.{bytes_in};
-ghost use Rattle.explain_play.specs.PlayedOut.{IsEventOf, IsPlayedOut, MadeAccess, Tells, is_access, touch_of};
+ghost use Rattle.explain_play.specs.PlayedOut.{IsEventOf, IsLast, IsPlayedOut, MadeAccess, Tells, acts_at, is_access, touch_of};
 
 use clmodel::access::{Access, AccessKind};
 use clmodel::action::Action;
@@ -248,17 +248,33 @@ pub fn event_of(marks: &[Mark], access: usize) -> Option<usize>
     None
 }
 
-/// The number of the last event of an item.
+/// Whether the event of a number is one of an item.
+fn acts_at(marks: &[Mark], item: u32, number: usize) -> bool
+    ensures { result ≡ acts_at marks.now item number }
+{
+    let Some(mark) = marks.get(number) else {
+        return false;
+    };
+    match mark.event {
+        Event::Item(other) => other == item,
+        Event::Release(_) => false,
+    }
+}
+
+fn this_or_earlier(is_such: bool, number: usize, earlier: Option<usize>) -> Option<usize>
+    ensures { result ≡ (if is_such then Some number else earlier) }
+{
+    if is_such { Some(number) } else { earlier }
+}
+
+/// The number of the last event of an item, if it made one.
 pub fn last_of(marks: &[Mark], item: u32) -> Option<usize>
-    ensures { IfSome result (IsEventOf marks.now item) }
+    ensures event { IfSome result (IsEventOf marks.now item) }
+    ensures last { IsLast (acts_at marks.now item) (length marks.now) result }
 {
     let mut last = None;
-    for (number, mark) in marks.iter().enumerate() {
-        if let Event::Item(other) = mark.event {
-            if other == item {
-                last = Some(number);
-            }
-        }
+    for number in 0..marks.len() {
+        last = this_or_earlier(acts_at(marks, item, number), number, last);
     }
     last
 }

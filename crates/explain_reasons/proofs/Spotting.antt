@@ -1,10 +1,10 @@
 -- From the origin of an instruction to its place in the source, and from an event to where its item stands.
-use Rattle.std.proofs.Common.{◌≡◌, ℕ, Option, None, Some, List, refl, sym, ap, ◌∙◌}
+use Rattle.std.proofs.Common.{◌≡◌, ℕ, Option, None, Some, List, length, refl, sym, ap, ◌∙◌}
 use Rattle.std.specs.Option.{IfSome, option_and_then}
 use Rattle.std.proofs.lemmas.Option.{IfSome_then}
 use Rattle.clmodel.specs.Setup.{Setup, kernel_in}
 use Rattle.clmodel.specs.Tree.{Func}
-use Rattle.explain_play.specs.PlayedOut.{IsEventOf, MadeAccess}
+use Rattle.explain_play.specs.PlayedOut.{IsEventOf, IsLast, MadeAccess, acts_at}
 use Rattle.explanation.specs.declared.places.Spot.{Spot}
 use Rattle.explanation.specs.declared.told.NamedItem.{NamedItem}
 use Rattle.marked_play.specs.declared.marks.Mark.{Mark}
@@ -31,10 +31,11 @@ access_stand marks access (Some number) stand made e p is =
     record { number = number; made = made; at = sym (ap (option_and_then (λ mark. mark.stand)) made.at) ∙ sym e ∙ is }
 
 pub item_stand :
-    (marks : List Mark) (item : ℕ) (event : Option ℕ) (stand : Option Stand) → IfSome event (IsEventOf marks item) → stand ≡ stand_of marks event → (p : Stand) → stand ≡ Some p → IsItemStand marks item p
-item_stand marks item None stand made e p is = let n : None ≡ Some p = sym e ∙ is in cc
-item_stand marks item (Some number) stand made e p is =
-    record { number = number; event = made; at = sym (ap (option_and_then (λ mark. mark.stand)) made.at) ∙ sym e ∙ is }
+    (marks : List Mark) (item : ℕ) (event : Option ℕ) (stand : Option Stand) → IfSome event (IsEventOf marks item) → IsLast (acts_at marks item) (length marks) event → stand ≡ stand_of marks event
+    → (p : Stand) → stand ≡ Some p → IsItemStand marks item p
+item_stand marks item None stand made last e p is = let n : None ≡ Some p = sym e ∙ is in cc
+item_stand marks item (Some number) stand made last e p is =
+    record { number = number; last = last; event = made; at = sym (ap (option_and_then (λ mark. mark.stand)) made.at) ∙ sym e ∙ is }
 
 -- the same item, where more is known of the places
 pub named_at :

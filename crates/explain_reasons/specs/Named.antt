@@ -1,12 +1,12 @@
 -- The items that an explanation tells of a fault, each where it stands (own).
-use Rattle.std.specs.Prelude.{◌≡◌, ℕ, Option, Some, List, [], ◌∷◌, nat_lt, slice_get, if◌then◌else◌}
+use Rattle.std.specs.Prelude.{◌≡◌, ℕ, Option, Some, List, [], ◌∷◌, length, nat_lt, slice_get, if◌then◌else◌}
 use Rattle.std.specs.List.{AllZip}
 use Rattle.std.specs.Option.{option_and_then, option_map_or}
 use Rattle.clmodel.specs.declared.action.Stop.{Stop}
 use Rattle.clmodel.specs.declared.action.Stop.TheVariants as stop
 use Rattle.clmodel.specs.declared.fault.Fault.{Fault}
 use Rattle.clmodel.specs.declared.fault.Fault.TheVariants as fault
-use Rattle.explain_play.specs.PlayedOut.{IsEventOf, MadeAccess}
+use Rattle.explain_play.specs.PlayedOut.{IsEventOf, IsLast, MadeAccess, acts_at}
 use Rattle.explain_play.specs.declared.played.Played.{Played}
 use Rattle.explanation.specs.declared.told.NamedItem.{NamedItem}
 use Rattle.item_step.specs.Launches.{setup_of}
@@ -26,9 +26,10 @@ pub record IsAccessStand (marks : List Mark) (access : ℕ) (stand : Stand) : Ty
   pub made : MadeAccess marks access number
   pub at : made.mark.stand ≡ Some stand
 
--- where an item stood that made an access
+-- where an item stood that made its last access
 pub record IsItemStand (marks : List Mark) (item : ℕ) (stand : Stand) : Type 0 where
   pub number : ℕ
+  pub last : IsLast (acts_at marks item) (length marks) (Some number)
   pub event : IsEventOf marks item number
   pub at : event.mark.stand ≡ Some stand
 

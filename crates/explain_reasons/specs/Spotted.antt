@@ -10,13 +10,14 @@ use Rattle.origins.specs.Finding.{plain}
 use Rattle.origins.specs.Origins.{kernel_origins, node_at, node_of}
 use Rattle.origins.specs.declared.origin.Origin.{Origin}
 use Rattle.replay.specs.declared.slot.Stand.{Stand}
-use Rattle.source_spots.specs.Spots.{HaveTurns, IsPlace, IsToldLine}
+use Rattle.source_spots.specs.Spots.{AreCalls, HaveTurns, IsPlace, IsToldLine}
 
--- a place in the source is where the node of an origin begins, and is told with its line
+-- a place in the source is where the node of an origin begins, and is told with its line; the calls of helpers round it are those of the origin
 pub record BeginsAt (text : List ℕ) (first : ℕ) (origin : Origin) (spot : Spot) : Type 0 where
   pub begins : spot.offset ≡ min (node_at (node_of origin.node)) (length text)
   pub stands : IsPlace text first spot.offset spot.line spot.column spot.script_line
   pub told : IsToldLine text spot.offset (string_bytes spot.text)
+  pub called : AreCalls text first origin.through.items spot.calls.items
 
 -- Where an item stands in the source: where the node begins whose own instruction stands at the item's place. The loops round it are told in the
 -- item's turns.

@@ -5,11 +5,15 @@
 #![tactic(auto)]
 
 mod arrays;
+mod budget;
 mod context;
 mod events;
 mod named;
 mod reasons;
 mod schedule_steps;
+mod turns;
+mod unset;
+mod wording;
 
 pub use arrays::{PrivateArray, array_of};
 pub use context::Context;

@@ -2,13 +2,16 @@
 #![tactic(auto)]
 
 use crate::arrays::array_of;
+use crate::budget::budget_reason;
 use crate::context::Context;
-use crate::events::{is_access, is_release, stand_at};
+use crate::events::is_release;
+use crate::unset::unset_reason;
+use crate::wording::counted;
 use clmodel::access::{AccessKind, Clash, Class};
 use clmodel::fault::{Fault, Location};
 use clmodel::text::Name;
-use explain_play::{Played, Touch, event_of};
-use explanation::{Memory, NodeKind};
+use explain_play::{Played, event_of};
+use explanation::Memory;
 use marked_play::{Mark, Stand};
 use std::alloc::{AllocError, Global};
 
@@ -41,7 +44,7 @@ fn fence_of(location: &Location) -> (&'static str, &'static str) {
 }
 
 /// The text where an item stands behind a comma, if it is known.
-fn text_at(context: &Context<'_>, stand: Option<&Stand>) -> Result<String, AllocError> {
+pub(crate) fn text_at(context: &Context<'_>, stand: Option<&Stand>) -> Result<String, AllocError> {
     let alloc = context.alloc;
     match context.code(stand)? {
         Some(code) => {
@@ -176,12 +179,6 @@ fn clash_reason(
     String::from_str(alloc, words)
 }
 
-/// A number with a word behind it, whose plural has an ending.
-fn counted(alloc: Global, count: u64, word: &str, ending: &str) -> Result<String, AllocError> {
-    let ending = if count == 1 { "" } else { ending };
-    format!(in alloc; "{count} {word}{ending}")
-}
-
 /// How many elements an object has, where it has this many bytes.
 fn count_reason(alloc: Global, name: &str, size: u64, width: u64) -> Result<String, AllocError> {
     let count = if width == 0 { 0 } else { size / width };
@@ -209,7 +206,7 @@ fn bounds_reason(
 }
 
 /// Whether two locations have one name and one group.
-fn is_same(location: &Location, other: &Location) -> bool {
+pub(crate) fn is_same(location: &Location, other: &Location) -> bool {
     match (location, other) {
         (Location::Buffer(name), Location::Buffer(other)) => name == other,
         (
@@ -221,145 +218,6 @@ fn is_same(location: &Location, other: &Location) -> bool {
         ) => *group == *other_group && name == other,
         _ => false,
     }
-}
-
-/// How far two numbers are apart.
-fn distance_of(one: u64, other: u64) -> u64 {
-    one.max(other) - one.min(other)
-}
-
-/// A store, by its number, with its distance from a byte.
-#[derive(Clone, Copy)]
-struct Near {
-    distance: u64,
-    number: usize,
-}
-
-/// The nearer of two stores; of two that are equally near, the earlier one.
-fn nearer(known: Option<Near>, found: Near) -> Near {
-    match known {
-        Some(near) if near.distance <= found.distance => near,
-        _ => found,
-    }
-}
-
-/// The store that is nearest to a byte of a location, if there is one.
-fn nearest_store(touches: &[Touch], location: &Location, byte: u64) -> Option<Near> {
-    let mut nearest = None;
-    for (number, touch) in touches.iter().enumerate() {
-        if touch.kind == AccessKind::Store && is_same(&touch.location, location) {
-            let distance = distance_of(byte, touch.byte);
-            nearest = Some(nearer(nearest, Near { distance, number }));
-        }
-    }
-    nearest
-}
-
-/// Which bytes were set by a store.
-fn store_reason(
-    context: &Context<'_>,
-    touch: &Touch,
-    stand: Option<&Stand>,
-) -> Result<String, AllocError> {
-    let alloc = context.alloc;
-    let (item, first) = (touch.item, touch.byte);
-    let last = first.saturating_add(touch.bytes.saturating_sub(1));
-    let at = text_at(context, stand)?;
-    let at = at.as_str();
-    if last == first {
-        return format!(in alloc;
-            "the nearest byte that was set is {first}, by work-item {item}{at}; if another work-item sets this byte later, a barrier between the two is missing"
-        );
-    }
-    format!(in alloc;
-        "the nearest bytes that were set are {first} to {last}, by work-item {item}{at}; if another work-item sets this byte later, a barrier between the two is missing"
-    )
-}
-
-/// Which bytes beside an unset one were set, and where: those of the nearest store.
-fn unset_reason(
-    context: &Context<'_>,
-    played: &Played,
-    location: &Location,
-    byte: u64,
-) -> Result<String, AllocError> {
-    let (marks, touches) = (played.marks.as_slice(), played.touches.as_slice());
-    if let Some(near) = nearest_store(touches, location, byte) {
-        if let Some(touch) = touches.get(near.number) {
-            let stand = stand_at(marks, event_of(marks, near.number));
-            return store_reason(context, touch, stand);
-        }
-    }
-    String::from_str(
-        context.alloc,
-        "no work-item has stored anything there by then: if another one does so later, a barrier between the two is missing",
-    )
-}
-
-/// How many accesses an item made.
-fn accesses_of(marks: &[Mark], item: u32) -> u64 {
-    let mut count = 0u64;
-    for mark in marks {
-        if is_access(mark.event, item) {
-            count = count.saturating_add(1);
-        }
-    }
-    count
-}
-
-/// How many barriers a group passed.
-fn barriers_of(marks: &[Mark], group: u32) -> u64 {
-    let mut count = 0u64;
-    for mark in marks {
-        if is_release(mark.event, group) {
-            count = count.saturating_add(1);
-        }
-    }
-    count
-}
-
-/// The loop that has no tick left for a turn, if the item stands at one, and how many turns it has made since it was
-/// entered.
-fn loop_reason(context: &Context<'_>, stand: Option<&Stand>) -> Result<String, AllocError> {
-    let alloc = context.alloc;
-    let (Some(stand), Some(spot)) = (stand, context.spot(stand)?) else {
-        return Ok(String::new(alloc));
-    };
-    // the loops that are told are those round it, so its own turns stand behind theirs
-    match (spot.node, stand.turns.as_slice().get(spot.loops.len())) {
-        (NodeKind::Loop, Some(turns)) => {
-            let (line, column) = (spot.script_line, spot.column);
-            format!(in alloc;
-                ", {turns} of them of the loop at {line}:{column} since it was entered"
-            )
-        }
-        _ => Ok(String::new(alloc)),
-    }
-}
-
-/// What a budget went to: each tick is an access, a barrier or a turn of a loop.
-fn budget_reason(
-    context: &Context<'_>,
-    played: &Played,
-    budget: u32,
-) -> Result<String, AllocError> {
-    let alloc = context.alloc;
-    let item = played.first.item;
-    let marks = played.marks.as_slice();
-    let accesses = accesses_of(marks, item);
-    let barriers = barriers_of(marks, item / context.launch.group_size());
-    let turns = u64::from(budget).saturating_sub(accesses.saturating_add(barriers));
-    let ticks = counted(alloc, u64::from(budget), "tick", "s")?;
-    let accesses = counted(alloc, accesses, "access", "es")?;
-    let barriers = counted(alloc, barriers, "barrier", "s")?;
-    let turns = counted(alloc, turns, "turn", "s")?;
-    let (ticks, accesses) = (ticks.as_str(), accesses.as_str());
-    let (barriers, turns) = (barriers.as_str(), turns.as_str());
-    let of_one = loop_reason(context, played.first.stand.as_ref())?;
-    let of_one = of_one.as_str();
-    format!(in alloc;
-        "the budget of {ticks} went to {accesses}, {barriers} and {turns} of loops{of_one}; a loop without end uses up any budget"
-    )
 }
 
 /// Why a fault comes about whose reason needs no number.

@@ -2,7 +2,7 @@
 #![tactic(auto)]
 
 ghost use Rattle.std.specs.Prelude.{◌≡◌, ◌+◌, ◌-◌, min, length, string_bytes, IfOk};
-ghost use Rattle.source_spots.specs.Spots.{HaveTurns, IsPlace, IsToldLine};
+ghost use Rattle.source_spots.specs.Spots.{AreCalls, HaveTurns, IsCall, IsPlace, IsToldLine};
 
 use crate::loops::loops_of;
 use crate::places::{Source, line_of, place_of};
@@ -27,9 +27,7 @@ fn form_of(node: NodeKind) -> Form {
 
 /// A call of a helper round a place.
 fn call_of(alloc: Global, source: &Source<'_>, at: u32) -> Result<CallSite, AllocError>
-    ensures at { IfOk result (λ call. call.offset ≡ min at (length source.now.text.now)) }
-    ensures place { IfOk result (λ call. IsPlace source.now.text.now source.now.first_line call.offset call.line call.column call.script_line) }
-    ensures text { IfOk result (λ call. IsToldLine source.now.text.now call.offset (string_bytes call.text)) }
+    ensures { IfOk result (IsCall source.now.text.now source.now.first_line at) }
 {
     let place = place_of(source, at);
     let text = line_of(alloc, source, place)?;
@@ -58,11 +56,14 @@ fn loop_of(source: &Source<'_>, at: u32, turn: Option<u32>) -> LoopSite
     }
 }
 
+/// The calls of helpers that begin at these bytes.
 fn calls_of(
     alloc: Global,
     source: &Source<'_>,
     through: &[u32],
-) -> Result<Vec<CallSite>, AllocError> {
+) -> Result<Vec<CallSite>, AllocError>
+    ensures { IfOk result (λ calls. AreCalls source.now.text.now source.now.first_line through.now calls.items) }
+{
     let mut calls = Vec::new(alloc);
     for at in through {
         calls.push(call_of(alloc, source, *at)?)?;
@@ -101,6 +102,7 @@ pub fn spot_of(
     ensures place { IfOk result (λ spot. IsPlace source.now.text.now source.now.first_line spot.offset spot.line spot.column spot.script_line) }
     ensures node { IfOk result (λ spot. spot.node ≡ node) }
     ensures text { IfOk result (λ spot. IsToldLine source.now.text.now spot.offset (string_bytes spot.text)) }
+    ensures calls { IfOk result (λ spot. AreCalls source.now.text.now source.now.first_line through.now spot.calls.items) }
     ensures turns { IfOk result (λ spot. HaveTurns turns.now spot.loops.items) }
 {
     let place = place_of(source, at);

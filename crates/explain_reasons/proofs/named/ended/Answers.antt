@@ -1,7 +1,7 @@
-use Rattle.std.proofs.Common.{refl, ap, option_copied, subst, ◌∙◌}
+use Rattle.std.proofs.Common.{length, refl, ap, option_copied, subst, ◌∙◌}
 use Rattle.std.specs.Option.{IfSome}
 use Rattle.std.proofs.lemmas.Option.{IfSome_then}
-use Rattle.explain_play.specs.PlayedOut.{IsEventOf}
+use Rattle.explain_play.specs.PlayedOut.{IsEventOf, IsLast, acts_at}
 use Rattle.explain_reasons.specs.Named.{stand_of}
 use Rattle.explain_reasons.proofs.Spotting.{item_stand}
 use Rattle.explain_reasons.proofs.named.ended.Goals as goal
@@ -9,7 +9,8 @@ use Rattle.explain_reasons.proofs.named.ended.Goals as goal
 pub returns : goal.returns
 returns c =
     let same = c.as_slice-marks.ensures.value in
-    let made = subst (λ xs. IfSome c.last_of.result (IsEventOf xs c.args.item)) same c.last_of.ensures in
+    let made = subst (λ xs. IfSome c.last_of.result (IsEventOf xs c.args.item)) same c.last_of.ensures.event in
+    let last = subst (λ xs. IsLast (acts_at xs c.args.item) (length xs) c.last_of.result) same c.last_of.ensures.last in
     let stand = c.stand_at-stand.ensures ∙ ap (λ xs. stand_of xs c.last_of.result) same in
     record {
       number = refl;
@@ -17,5 +18,5 @@ returns c =
       spotted = tt;
       last_spotted =
           IfSome_then c.in_ok-spot.field-0 c.in_ok-spot.ensures
-          (λ spot s. (s.0, item_stand c.args.played.now.marks.items c.args.item c.last_of.result (option_copied c.stand_at-stand.result) made stand s.0 s.1, s.2));
+          (λ spot s. (s.0, item_stand c.args.played.now.marks.items c.args.item c.last_of.result (option_copied c.stand_at-stand.result) made last stand s.0 s.1, s.2));
     }
