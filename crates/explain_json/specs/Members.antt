@@ -1,4 +1,5 @@
--- An explanation in JSON (RFC 8259; the members are this project's own, version 1). Members stand in the order of their names.
+-- An explanation in JSON (RFC 8259; the members are this project's own, version 1). Members stand in the order of their
+-- names.
 use Rattle.std.specs.Prelude.{ℕ, ℤ, String, Option, None, Some, List, map, codes, decimal, string_bytes}
 use Rattle.std.specs.Fmt.{signed_decimal}
 use Rattle.std.specs.declared.alloc.Global.{Global}

@@ -17,8 +17,8 @@ use Rattle.marked_play.specs.declared.pairs.Told.{Told}
 use Rattle.explain_play.specs.declared.played.Played.{Played}
 use Rattle.explain_play.specs.declared.played.Touch.{Touch}
 
--- a fault is a conflict of these two partners, at this location and byte; barriers can order the two where they are of one group, and they have
--- to leave different bytes where both store in a uniform launch (own)
+-- a fault is a conflict of these two partners, at this location and byte; barriers can order the two where they are of
+-- one group, and they have to leave different bytes where both store in a uniform launch (own)
 pub record Tells (launch : Launch) (f : Fault) (told : Told) : Type 0 where
   pub clash : Clash
   pub is : f ≡ fault.Conflict clash told.first.item told.first.kind told.second.item told.second.kind told.location.now told.byte
@@ -68,10 +68,10 @@ abbrev pub IsLast : (ℕ → Bool) → ℕ → Option ℕ → Type 0
 IsLast p n None = (k : ℕ) → k < n → p k ≡ false
 IsLast p n (Some last) = (last < n) × (p last ≡ true) × ((k : ℕ) → last < k → k < n → p k ≡ false)
 
--- The events were played from the start to a state, each with where its item stands that acts by it, and with the numbers that its access finds
--- and leaves. The first accesses of the log there are told.
--- If two accesses are found, they are in the log, and are those of the fault; and each of the two named items acts from where it is
--- told to stand (own).
+-- The events were played from the start to a state, each with where its item stands that acts by it, and with the
+-- numbers that its access finds and leaves. The first accesses of the log there are told. If two accesses are found,
+-- they are in the log, and are those of the fault; and each of the two named items acts from where it is told to stand
+-- (own).
 pub record IsPlayedOut (launch : Launch) (size : ℕ) (events : Events) (f : Fault) (first second most : ℕ) (played : Played) : Type 0 where
   pub end : State
   pub marked : events_in played.marks.items ≡ events

@@ -12,15 +12,16 @@ use Rattle.origins.specs.declared.origin.Origin.{Origin}
 use Rattle.replay.specs.declared.slot.Stand.{Stand}
 use Rattle.source_spots.specs.Spots.{AreCalls, HaveTurns, IsPlace, IsToldLine}
 
--- a place in the source is where the node of an origin begins, and is told with its line; the calls of helpers round it are those of the origin
+-- a place in the source is where the node of an origin begins, and is told with its line; the calls of helpers round it
+-- are those of the origin
 pub record BeginsAt (text : List ℕ) (first : ℕ) (origin : Origin) (spot : Spot) : Type 0 where
   pub begins : spot.offset ≡ min (node_at (node_of origin.node)) (length text)
   pub stands : IsPlace text first spot.offset spot.line spot.column spot.script_line
   pub told : IsToldLine text spot.offset (string_bytes spot.text)
   pub called : AreCalls text first origin.through.items spot.calls.items
 
--- Where an item stands in the source: where the node begins whose own instruction stands at the item's place. The loops round it are told in the
--- item's turns.
+-- Where an item stands in the source: where the node begins whose own instruction stands at the item's place. The loops
+-- round it are told in the item's turns.
 pub record IsSpotted (setup : Setup) (stand : Stand) (text : List ℕ) (first : ℕ) (spot : Spot) : Type 0 where
   pub kernel : Func
   pub known : kernel_in setup.program.functions setup.kernel ≡ Some kernel
@@ -33,8 +34,8 @@ pub record IsSpotted (setup : Setup) (stand : Stand) (text : List ℕ) (first : 
 abbrev pub HasSpot : Setup → List ℕ → ℕ → (Stand → Type 0) → Spot → Type 0
 HasSpot setup text first p spot = (stand : Stand) × p stand × IsSpotted setup stand text first spot
 
--- The item of a number with its own ids (OpenCL 1.2, sections 3.2 and 6.12.1). What it does is told where it stands so that `here` holds,
--- and its last access where it stood so that `before` holds.
+-- The item of a number with its own ids (OpenCL 1.2, sections 3.2 and 6.12.1). What it does is told where it stands so
+-- that `here` holds, and its last access where it stood so that `before` holds.
 pub record IsNamed (setup : Setup) (text : List ℕ) (first : ℕ) (here before : Stand → Type 0) (item : ℕ) (named : NamedItem) : Type 0 where
   pub number : named.item ≡ item
   pub ids : AreIds setup.range item named.ids

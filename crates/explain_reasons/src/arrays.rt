@@ -166,7 +166,8 @@ fn function_at(functions: &[Function], at: u32) -> Option<&Function> {
     last
 }
 
-/// The private array of a name that is used where an item stands, if its declaration is found. An error is out of memory.
+/// The private array of a name that is used where an item stands, if its declaration is found. An error is out of
+/// memory.
 pub fn array_of(
     context: &Context<'_>,
     stand: Option<&Stand>,

@@ -63,8 +63,8 @@ fn is_within(within: &[LoopTurns], turns: &LoopTurns) -> bool {
     within.iter().any(|other| other.place == turns.place && other.turns == turns.turns)
 }
 
-/// The turns of a loop: all that it made, where those of all loops were seen; those since it was entered, where it wasn't
-/// left; or at least these.
+/// The turns of a loop: all that it made, where those of all loops were seen; those since it was entered, where it
+/// wasn't left; or at least these.
 fn loop_words(
     alloc: Global,
     turns: &LoopTurns,

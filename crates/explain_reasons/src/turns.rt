@@ -77,7 +77,8 @@ impl KnownLoops {
         Ok(())
     }
 
-    /// The loops round the place where an item stands, with the turns that they have made there since they were entered.
+    /// The loops round the place where an item stands, with the turns that they have made there since they were
+    /// entered.
     fn at(&mut self, context: &Context<'_>, stand: &Stand) -> Result<Vec<LoopTurns>, AllocError> {
         self.find(context, stand)?;
         match self.places.get(&stand.place) {

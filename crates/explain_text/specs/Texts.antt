@@ -1,5 +1,5 @@
--- The text of an explanation (own): its ids, places, sentences and schedule as they are told. The wording of the rest, the lines of source and the
--- steps are any text.
+-- The text of an explanation (own): its ids, places, sentences and schedule as they are told. The wording of the rest,
+-- the lines of source and the steps are any text.
 use Rattle.std.specs.Prelude.{◌≡◌, ℕ, ◌==◌, String, Option, None, Some, List, [], ◌∷◌, ◌++◌, length, codes, decimal, string_bytes, if◌then◌else◌}
 use Rattle.std.specs.List.{AllZip, flat_map}
 use Rattle.std.specs.declared.alloc.Global.{Global}

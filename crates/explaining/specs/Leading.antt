@@ -38,7 +38,8 @@ EndsAt ticket r walked.Clean = ⊥
 EndsAt ticket r (walked.Faulted case) = (case.ticket ≡ ticket) × (r ≡ reply.Fault case.fault case.schedule)
 EndsAt ticket r (walked.Unbuilt build) = (build.ticket ≡ ticket) × (r ≡ reply.Refused (refusal.BuildFailed build.fault))
 
--- The command of a number gets this reply, after those before it, whose replies are neither faults nor refusals of builds.
+-- The command of a number gets this reply, after those before it, whose replies are neither faults nor refusals of
+-- builds.
 pub record IsFirst (old : Machine) (commands : List Command) (new : Machine) (ticket : ℕ) (r : Reply) : Type 0 where
   pub before : Machine
   pub command : Command

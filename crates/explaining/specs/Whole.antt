@@ -59,7 +59,8 @@ pub record TellsFault (f : Fault) (facts : FaultFacts) : Type 0 where
 abbrev pub AreNamed : Fault → ℕ → ℕ → Type 0
 AreNamed f first second = ((named_items f ≡ first ∷ []) × (second ≡ first)) ⊎ (named_items f ≡ first ∷ second ∷ [])
 
--- The items of an explanation: those that the fault names, each where it stands behind the events of a schedule that were played.
+-- The items of an explanation: those that the fault names, each where it stands behind the events of a schedule that
+-- were played.
 pub record TellsItems (launch : Launch) (context : Context) (f : Fault) (runs : List EventRun) (e : Explanation) : Type 0 where
   pub first : ℕ
   pub second : ℕ
@@ -76,14 +77,15 @@ pub record IsExplained (launch : Launch) (context : Context) (ticket : ℕ) (ran
   pub schedule : string_bytes e.schedule.short ≡ schedule_words runs
   pub items : TellsItems launch context f runs e
 
--- the source of a kernel's program: that of a command of a script; an empty one, where none of those that were done made it
+-- the source of a kernel's program: that of a command of a script; an empty one, where none of those that were done
+-- made it
 abbrev pub IsSourceOf : List Command → List ℕ → ProgramSource → Type 0
 IsSourceOf commands kernel source =
     (source.text.now ≡ [])
     ⊎ ((done : List Bool) × (at : ℕ) × IsSource commands done kernel source.kernel_command source.program.now source.function.now source.text.now at)
 
--- An explanation of the launch of a ticket, whose schedule leads the launch to the fault and isn't longer than the given one; its places are those
--- in the source of the kernel's program.
+-- An explanation of the launch of a ticket, whose schedule leads the launch to the fault and isn't longer than the
+-- given one; its places are those in the source of the kernel's program.
 pub record HasWhole (m : Machine) (commands : List Command) (ticket : ℕ) (f : Fault) (given runs : List EventRun) (e : Explanation) : Type 0 where
   pub kernel : List ℕ
   pub range : Range

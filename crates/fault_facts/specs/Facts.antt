@@ -1,4 +1,5 @@
--- What a fault tells (own): its number and name in the line of a reply, the items that it names, and its place in memory.
+-- What a fault tells (own): its number and name in the line of a reply, the items that it names, and its place in
+-- memory.
 use Rattle.std.specs.Prelude.{◌≡◌, ◌==◌, ◌+◌, ℕ, ℤ, List, [], ◌∷◌, codes, string_bytes, Option, None, Some, if◌then◌else◌}
 use Rattle.std.specs.Option.{IsSomeAnd}
 use Rattle.std.specs.Str.Lossy.{utf8_lossy}

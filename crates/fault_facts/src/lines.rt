@@ -73,8 +73,8 @@ fn schedule_of(line: &[u8], fault: usize) -> &[u8]
     behind(inner, BETWEEN)
 }
 
-/// The line of a fault as a reply has it, split in front of its schedule. Bytes that are no UTF-8 are replaced, of which
-/// no name of a source has any. An error is out of memory.
+/// The line of a fault as a reply has it, split in front of its schedule. Bytes that are no UTF-8 are replaced, of
+/// which no name of a source has any. An error is out of memory.
 pub fn fault_line(
     alloc: Global,
     fault: &Fault,

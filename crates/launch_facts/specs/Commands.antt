@@ -1,4 +1,5 @@
--- What the commands before a launch, each of which was done or refused, tell of its program (own; OpenCL 1.2, sections 5.6 and 5.7).
+-- What the commands before a launch, each of which was done or refused, tell of its program (own; OpenCL 1.2, sections
+-- 5.6 and 5.7).
 use Rattle.std.specs.Prelude.{◌≡◌, ◌⊎◌, ℕ, ◌+◌, ◌-◌, ◌^◌, ◌<◌, ◌==◌, ◌&&◌, Bool, true, false, Option, None, Some, List, take, length, min, count_by, slice_get, option_and_then}
 use Rattle.std.specs.List.{sum_by}
 use Rattle.std.specs.Option.{option_map_or, unwrap_or}
@@ -45,14 +46,16 @@ lines_of _ = 1
 abbrev pub line_of : List Command → ℕ → ℕ → ℕ
 line_of commands number before = min (before + 1 + sum_by lines_of (take number commands)) (2 ^ 64 - 1)
 
--- the kernel of a name is that of the last command that was done and made it, and the source that of the last one before it that made its program
+-- the kernel of a name is that of the last command that was done and made it, and the source that of the last one
+-- before it that made its program
 pub record IsSource (commands : List Command) (done : List Bool) (kernel : List ℕ) (kernel_at : ℕ) (program function text : List ℕ) (program_at : ℕ) : Type 0 where
   pub kernel_last : IsLast (did (makes_kernel kernel) commands done) (length commands) (Some kernel_at)
   pub names : option_and_then kernel_names (slice_get commands kernel_at) ≡ Some (program, function)
   pub program_last : IsLast (did (makes_program program) commands done) kernel_at (Some program_at)
   pub source : option_and_then program_source (slice_get commands program_at) ≡ Some text
 
--- the kernel of a name is that of the last command that was done and made it, and no command before it that was done made its program
+-- the kernel of a name is that of the last command that was done and made it, and no command before it that was done
+-- made its program
 pub record LacksProgram (commands : List Command) (done : List Bool) (kernel : List ℕ) : Type 0 where
   pub kernel_at : ℕ
   pub program : List ℕ

@@ -1,4 +1,5 @@
--- The parameters of a kernel as an explanation tells them (own), and which of them the commands before a launch give a buffer.
+-- The parameters of a kernel as an explanation tells them (own), and which of them the commands before a launch give a
+-- buffer.
 use Rattle.std.specs.Prelude.{◌≡◌, ℕ, ◌==◌, ◌&&◌, ◌<◌, ◌/◌, suc, Bool, true, false, Option, None, Some, List, [], ◌∷◌, ◌++◌, length, codes, map, slice_get, slice_index_or, string_bytes, if◌then◌else◌}
 use Rattle.std.specs.Option.{option_map_or, unwrap_or}
 use Rattle.std.specs.Str.Lossy.{utf8_lossy}

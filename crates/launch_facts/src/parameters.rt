@@ -219,7 +219,8 @@ fn is_named(parameters: &[Parameter], index: usize, name: &Name, names: &[Name])
     }
 }
 
-/// The parameters of a kernel that have a name, in their order, with the element in which a byte lies. An error is out of memory.
+/// The parameters of a kernel that have a name, in their order, with the element in which a byte lies. An error is out
+/// of memory.
 pub fn parameters_named(
     alloc: Global,
     name: &Name,

@@ -1,5 +1,5 @@
--- Events played with where their items stand, and with the numbers that their accesses find and leave (own; the events are those of OpenCL 1.2,
--- sections 3.2 and 6.12.8).
+-- Events played with where their items stand, and with the numbers that their accesses find and leave (own; the events
+-- are those of OpenCL 1.2, sections 3.2 and 6.12.8).
 use Rattle.std.specs.Prelude.{◌≡◌, ℕ, ◌*◌, ◌≤◌, ◌⊎◌, Bool, true, false, Option, None, Some, List, [], ◌∷◌, ◌++◌, map}
 use Rattle.std.specs.Option.{IfSome}
 use Rattle.clmodel.specs.Cells.{byte_count, number}
@@ -26,8 +26,8 @@ abbrev pub item_of : ℕ → Event → ℕ
 item_of size (event.Item item) = item
 item_of size (event.Release group) = group * size
 
--- a machine stands at a place after these turns of loops, and the instruction there makes the item's next action, whatever follows it; no place
--- is told of an item that is at its end, and where there is no such item (own)
+-- a machine stands at a place after these turns of loops, and the instruction there makes the item's next action,
+-- whatever follows it; no place is told of an item that is at its end, and where there is no such item (own)
 abbrev pub ActsFrom : Launch → State → ℕ → Option Stand → Type 0
 ActsFrom launch state item None = (next_action launch state item ≡ action.End) ⊎ (launch.items ≤ item)
 ActsFrom launch state item (Some stand) =
@@ -41,14 +41,14 @@ events_in marks = map (λ mark. mark.event) marks
 abbrev pub HasThere : State → State → Memory → ℕ → Type 0
 HasThere state next memory x = (access : Access) × (next.log ≡ access ∷ state.log) × (number (memory access.region) access.first (byte_count access.width) ≡ Some x)
 
--- The numbers of a mark, where they are known: what the bytes of its access held before the event, which a load and an atomic function give
--- (6.12.11: "returns old"), and what they hold behind it.
+-- The numbers of a mark, where they are known: what the bytes of its access held before the event, which a load and an
+-- atomic function give (6.12.11: "returns old"), and what they hold behind it.
 pub record IsCounted (state next : State) (mark : Mark) : Type 0 where
   pub found : IfSome mark.found (HasThere state next state.memory)
   pub left : IfSome mark.left (HasThere state next next.memory)
 
--- marks lead from a state to another: each event is possible in its turn, its item acts from where it stands, and its numbers are those of its access
--- (own)
+-- marks lead from a state to another: each event is possible in its turn, its item acts from where it stands, and its
+-- numbers are those of its access (own)
 abbrev pub Lead : Launch → ℕ → State → List Mark → State → Type 0
 Lead launch size state [] end = state ≡ end
 Lead launch size state (mark ∷ marks) end =

@@ -22,7 +22,8 @@ use std::alloc::AllocError;
 pub struct Mark {
     pub event: Event,
     pub stand: Option<Stand>,
-    /// The number that the bytes of its access held before it, where it is known: what a load and an atomic function give
+    /// The number that the bytes of its access held before it, where it is known: what a load and an atomic function
+    /// give
     pub found: Option<u64>,
     /// The number that they hold behind it, where it is known
     pub left: Option<u64>,
@@ -172,8 +173,8 @@ fn mark_run<D: Runnable>(
     }
 }
 
-/// Plays the events of a schedule (OpenCL 1.2, section 3.2), up to one that isn't possible, and adds each with where its
-/// item stands and with its numbers. Answers whether all are. An error is out of memory.
+/// Plays the events of a schedule (OpenCL 1.2, section 3.2), up to one that isn't possible, and adds each with where
+/// its item stands and with its numbers. Answers whether all are. An error is out of memory.
 pub fn mark_schedule<D: Runnable>(
     player: &mut Player<'_, D>,
     replica: &mut Replica,

@@ -5,7 +5,8 @@ use Rattle.explanation.specs.declared.places.CallSite.{CallSite}
 use Rattle.explanation.specs.declared.places.LoopSite.{LoopSite}
 use Rattle.source_lines.specs.Lines.{line_of, BeginsLine, EndsLine}
 
--- the line of the byte `at`, the column from the line's beginning, and the line of the script, if the source begins at its line `first`
+-- the line of the byte `at`, the column from the line's beginning, and the line of the script, if the source begins at
+-- its line `first`
 pub record IsPlace (text : List ℕ) (first at line column script_line : ℕ) : Type 0 where
   pub counted : line ≡ line_of text at
   pub begin : ℕ

@@ -87,9 +87,9 @@ fn loop_sites(
     Ok(loops)
 }
 
-/// The place of a node that begins at a byte, with the calls of helpers that begin at these bytes round it, and with the
-/// loops round it and round these calls, in these turns: calls, loops and turns from the outermost one on. A byte past
-/// the end stands for the end. An error is out of memory. It takes the time of the source.
+/// The place of a node that begins at a byte, with the calls of helpers that begin at these bytes round it, and with
+/// the loops round it and round these calls, in these turns: calls, loops and turns from the outermost one on. A byte
+/// past the end stands for the end. An error is out of memory. It takes the time of the source.
 pub fn spot_of(
     alloc: Global,
     source: &Source<'_>,
