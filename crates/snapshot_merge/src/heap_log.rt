@@ -9,7 +9,7 @@ ghost use Rattle.snapshot_merge.specs.Launches.{heap_log, heap_listed, heap_has_
 ghost use Rattle.snapshot_merge.specs.contracts.heap_log.HeapLog as HeapLogType;
 
 use group_log::{GroupLog, logs_are_sent};
-use shadow::{GroupAccesses, AccessSummary};
+use shadow::{AccessSummary, GroupAccesses};
 use shadow_list::{AccessLog, Entry, Fenced, Hit, Logged};
 use std::alloc::{AllocError, Global};
 
