@@ -10,7 +10,7 @@ use Rattle.clmodel.specs.declared.fault.Fault.{Fault}
 use Rattle.clmodel.specs.declared.fault.Fault.TheVariants as fault
 use Rattle.clmodel.specs.declared.schedule.Event.{Event}
 use Rattle.clmodel.specs.declared.schedule.Event.TheVariants as event
-use Rattle.marked_play.specs.Marks.{ActsFrom, Lead, events_in}
+use Rattle.marked_play.specs.Marks.{ActsFrom, Divides, Lead, events_in}
 use Rattle.marked_play.specs.Pairs.{IsFoundPair}
 use Rattle.marked_play.specs.declared.marks.Mark.{Mark}
 use Rattle.marked_play.specs.declared.pairs.Told.{Told}
@@ -82,3 +82,4 @@ pub record IsPlayedOut (launch : Launch) (size : ℕ) (events : Events) (f : Fau
   pub second_named : played.second.item ≡ second
   pub first_acts : ActsFrom launch end first played.first.stand
   pub second_acts : ActsFrom launch end second played.second.stand
+  pub first_divides : Divides launch end first played.first.dividend

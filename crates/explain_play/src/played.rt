@@ -11,7 +11,7 @@ ghost use Rattle.clmodel.specs.Setup.{group_items};
 ghost use Rattle.clmodel.specs.declared.fault.Fault.{Fault};
 ghost use Rattle.item_step.specs.Launches.{setup_of};
 ghost use Rattle.launches.specs.Groups.{HasGroups};
-ghost use Rattle.marked_play.specs.Marks.{ActsFrom};
+ghost use Rattle.marked_play.specs.Marks.{ActsFrom, Divides};
 ghost use Rattle.marked_play.specs.Pairs.{IsFoundPair};
 ghost use Rattle.marked_play.specs.Replicas.{Mirrors};
 ghost use Rattle.marked_play.specs.declared.pairs.Told.{Told};
@@ -24,10 +24,13 @@ use clmodel::action::Action;
 use clmodel::fault::{Fault, Location};
 use clmodel::schedule::{Event, Schedule};
 use clmodel::text::Name;
+use clnum::Value;
 use item_step::Launch;
 use launches::laws::setups_are_runnable;
 use launches::{Described, LoadedLaunch, Runnable, group_count};
-use marked_play::{Mark, Pair, Partner, Replica, Stand, Told, find_pair, mark_schedule, stand_of};
+use marked_play::{
+    Mark, Pair, Partner, Replica, Stand, Told, dividend_of, find_pair, mark_schedule, stand_of,
+};
 use replay::Player;
 use shadow_list::both_store;
 use spaces_base::{Buffers, Plain};
@@ -43,13 +46,14 @@ pub struct Touch {
     pub bytes: u64,
 }
 
-/// Where a named item stands behind a schedule, if it hasn't ended, and the element size of its next access, if it is
-/// one.
+/// Where a named item stands behind a schedule, if it hasn't ended, the element size of its next access, if it is one,
+/// and the left operand of the division that it makes next, if it makes one.
 #[derive(Drop)]
 pub struct Standing {
     pub item: u32,
     pub stand: Option<Stand>,
     pub width: Option<u64>,
+    pub dividend: Option<Value>,
 }
 
 /// What a schedule came to: its events with where their items stand, its accesses, the conflicting two of these, and
@@ -156,6 +160,7 @@ fn touches_of<D: Described>(
 fn standing_of<D: Runnable>(player: &mut Player<'_, D>, item: u32) -> Result<Standing, AllocError>
     ensures same { (launch : TheLaunch) (state : State) → IsAt D.launch launch player.old state → IsAt D.launch launch player.new state }
     ensures item { IfOk result (λ standing. standing.item ≡ item) }
+    ensures divides { IfOk result (λ standing. (launch : TheLaunch) (state : State) → IsAt D.launch launch player.old state → Divides launch state item standing.dividend) }
     ensures acts { IfOk result (λ standing. (launch : TheLaunch) (state : State) → IsAt D.launch launch player.old state → ActsFrom launch state item standing.stand) }
 {
     let stand = stand_of(player, item)?;
@@ -163,7 +168,13 @@ fn standing_of<D: Runnable>(player: &mut Player<'_, D>, item: u32) -> Result<Sta
         Some(Action::Access { operation, .. }) => Some(operation.width().bytes()),
         _ => None,
     };
-    Ok(Standing { item, stand, width })
+    let dividend = dividend_of(player, item)?;
+    Ok(Standing {
+        item,
+        stand,
+        width,
+        dividend,
+    })
 }
 
 /// A replica of the memory of a launch of so many groups, before its first event. An error is out of memory.

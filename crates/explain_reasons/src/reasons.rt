@@ -229,14 +229,25 @@ fn plain_reason(fault: &Fault) -> &'static str {
             "the variable was declared without a value, and no assignment came before this read",
         Fault::UnsetElement { .. } =>
             "a private array begins without values, and no assignment to this element came before this read",
-        Fault::DivideByZero { .. } => "the right operand is 0",
         Fault::DivideOverflow { .. } =>
             "the left operand is the least number of its type and the right one is -1: their quotient is one above the greatest",
         Fault::Conflict { .. }
         | Fault::Bounds { .. }
         | Fault::PrivateBounds { .. }
         | Fault::Unset { .. }
+        | Fault::DivideByZero { .. }
         | Fault::Budget { .. } => "",
+    }
+}
+
+/// Why a division by zero fails, with the left operand, where it is known.
+fn division_reason(alloc: Global, played: &Played) -> Result<String, AllocError> {
+    match played.first.dividend {
+        Some(value) => {
+            let number = value.number();
+            format!(in alloc; "the right operand is 0, and the left one is {number}")
+        }
+        None => String::from_str(alloc, "the right operand is 0"),
     }
 }
 
@@ -318,6 +329,7 @@ pub fn reasons_of(
         Fault::Unset { location, byte, .. } => {
             one(alloc, unset_reason(context, played, location, *byte)?)
         }
+        Fault::DivideByZero { .. } => one(alloc, division_reason(alloc, played)?),
         Fault::Budget { .. } => one(alloc, budget_reason(context, played, budget)?),
         _ => one(alloc, String::from_str(alloc, plain_reason(fault))?),
     }

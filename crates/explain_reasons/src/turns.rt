@@ -130,13 +130,9 @@ impl SeenTurns {
     }
 }
 
-/// Whether an event shows where an item stands: an access of it, or a barrier that it passes with the others of its
-/// group, which stand at the same place in the same turns.
-fn shows(mark: &Mark, item: u32, group: u32) -> bool {
-    is_access(mark.event, item) || is_release(mark.event, group)
-}
-
-/// The turns of loops that the events of an item show, and where it stands behind them. An error is out of memory.
+/// The turns of loops that the events of an item show, and where it stands behind them: its accesses, and the barriers
+/// that it passes with the others of its group, which stand at the same place in the same turns. An error is out of
+/// memory.
 pub(crate) fn turns_seen(
     context: &Context<'_>,
     marks: &[Mark],
@@ -154,8 +150,10 @@ pub(crate) fn turns_seen(
         all: BTreeMap::new(alloc),
     };
     for mark in marks {
-        if let (true, Some(stand)) = (shows(mark, item, group), mark.stand.as_ref()) {
-            seen.see(known.at(context, stand)?)?;
+        if is_access(mark.event, item) || is_release(mark.event, group) {
+            if let Some(stand) = mark.stand.as_ref() {
+                seen.see(known.at(context, stand)?)?;
+            }
         }
     }
     if let Some(stand) = stand {

@@ -9,11 +9,6 @@ use clmodel::fault::Location;
 use explain_play::{Played, Touch, event_of};
 use std::alloc::{AllocError, Global};
 
-/// How far two numbers are apart.
-fn distance_of(one: u64, other: u64) -> u64 {
-    one.max(other) - one.min(other)
-}
-
 /// A store, by its number, with its distance from a byte.
 #[derive(Clone, Copy)]
 struct Near {
@@ -40,7 +35,7 @@ impl Nearest {
     /// With a store more, by its number and its first byte.
     fn with(self, byte: u64, first: u64, number: usize) -> Self {
         let found = Near {
-            distance: distance_of(byte, first),
+            distance: byte.max(first) - byte.min(first),
             number,
         };
         if first < byte {

@@ -98,6 +98,14 @@ fn given_schedule(
     })
 }
 
+/// How many accesses are told: those of the steps; or all, where the reasons of a fault are looked for among them.
+fn most_of(fault: &Fault) -> usize {
+    match fault {
+        Fault::Conflict { .. } | Fault::Unset { .. } => usize::MAX,
+        _ => MOST_STEPS,
+    }
+}
+
 /// An explanation of what is played of the schedule that is told.
 fn whole_of(
     context: &Context<'_>,
@@ -115,7 +123,16 @@ fn whole_of(
 {
     let (alloc, launch) = (context.alloc, context.launch);
     let (items, schedule) = (items_of(fault), &short.schedule);
-    let Some(played) = play(alloc, launch, buffers, fault, schedule, items, MOST_STEPS)? else {
+    let Some(played) = play(
+        alloc,
+        launch,
+        buffers,
+        fault,
+        schedule,
+        items,
+        most_of(fault),
+    )?
+    else {
         unreachable!();
     };
     let marks = played.marks.as_slice();

@@ -14,13 +14,15 @@ use Rattle.clmodel.specs.declared.schedule.EventRun.{EventRun}
 use Rattle.item_step.specs.Running.{Makes}
 use Rattle.replay.proofs.Played.{after_then, replicate_more, events_more, events_split}
 use Rattle.launches.specs.Items.{IsAsked, Stands, acts_of}
-use Rattle.replay.specs.Items.{IsAskedAt, StandsAt, stand_of, stand_in}
+use Rattle.clnum.specs.Integer.{Integer}
+use Rattle.item_state.specs.Dividing.{dividend_of}
+use Rattle.replay.specs.Items.{IsAskedAt, StandsAt, dividend_at, dividend_in, stand_of, stand_in}
 use Rattle.replay.specs.States.{ActsNext, IsAt, IsPlayed}
 use Rattle.replay.specs.declared.player.Player.{Player}
 use Rattle.launches.specs.declared.slot.Slot.{Slot}
 use Rattle.launches.specs.declared.slot.Slot.TheVariants as slot
 use Rattle.replay.specs.declared.slot.Stand.{Stand}
-use Rattle.marked_play.specs.Marks.{ActsFrom, AreMarked, IsCounted, Lead, events_in, item_of}
+use Rattle.marked_play.specs.Marks.{ActsFrom, AreMarked, Divides, IsCounted, Lead, events_in, item_of}
 use Rattle.marked_play.specs.declared.marks.Mark.{Mark}
 
 -- ---- where an item stands
@@ -52,6 +54,26 @@ acts_from launch_of l p s item (Some a) stand at next asked stands e =
     subst (ActsFrom l s item) (sym e)
     (at_slot l s item a (slice_get p.items.items item) next.0 (λ none. subst (λ n. n ≤ item) at.tells.many (missing p.items.items item none)) next.1 stands asked
     (λ i there. at.tells.acting item i there [] ∙ ap (l.next item) (append-nil (s.answers item))))
+
+divides_at :
+    (l : Launch) (s : State) (item : ℕ) (a : Action) (o : Option Slot) (d : Option Integer) → next_action l s item ≡ a → ((i : Slot) → o ≡ Some i → Stands i a)
+    → d ≡ option_and_then dividend_at o → Divides l s item d
+divides_at l s item a None d e h same = subst (Divides l s item) (sym same) tt
+divides_at l s item a (Some slot.Waiting) d e h same = subst (Divides l s item) (sym same) tt
+divides_at l s item a (Some (slot.Running r)) d e h same = subst (Divides l s item) (sym same) (of (dividend_of r) refl)
+  where
+    of : (x : Option Integer) → dividend_of r ≡ x → Divides l s item x
+    of None is = tt
+    of (Some number) is = (r, subst (Makes r) (sym e) (h (slot.Running r) refl), is)
+divides_at l s item a (Some slot.Ended) d e h same = subst (Divides l s item) (sym same) tt
+
+pub divides :
+    (l : Launch) (p : List Slot) (s : State) (item : ℕ) (action : Option Action) (d : Option Integer) → length p ≡ l.items → ActsNext l s item action → IfSome action (StandsAt p item)
+    → d ≡ dividend_in p item → Divides l s item d
+divides l p s item None d many past stands e =
+    let none : slice_get p item ≡ None = slice_get_past p item (subst (λ n. n ≤ item) (sym many) past) in
+    subst (Divides l s item) (sym (e ∙ ap (option_and_then dividend_at) none)) tt
+divides l p s item (Some a) d many next stands e = divides_at l s item a (slice_get p item) d next.1 stands e
 
 -- ---- marks one behind another
 

@@ -1,7 +1,8 @@
 -- Events played with where their items stand, and with the numbers that their accesses find and leave (own; the events
 -- are those of OpenCL 1.2, sections 3.2 and 6.12.8).
-use Rattle.std.specs.Prelude.{◌≡◌, ℕ, ◌*◌, ◌≤◌, ◌⊎◌, Bool, true, false, Option, None, Some, List, [], ◌∷◌, ◌++◌, map}
+use Rattle.std.specs.Prelude.{◌≡◌, ℕ, ◌*◌, ◌≤◌, ◌⊎◌, ⊤, Bool, true, false, Option, None, Some, List, [], ◌∷◌, ◌++◌, map}
 use Rattle.std.specs.Option.{IfSome}
+use Rattle.clnum.specs.Integer.{Integer}
 use Rattle.clmodel.specs.Cells.{byte_count, number}
 use Rattle.clmodel.specs.Launch.{Launch}
 use Rattle.clmodel.specs.Run.{State, Events, Memory, next_action, step}
@@ -9,6 +10,7 @@ use Rattle.clmodel.specs.declared.access.Access.{Access}
 use Rattle.clmodel.specs.declared.action.Action.TheVariants as action
 use Rattle.clmodel.specs.declared.schedule.Event.{Event}
 use Rattle.clmodel.specs.declared.schedule.Event.TheVariants as event
+use Rattle.item_state.specs.Dividing.{dividend_of}
 use Rattle.item_step.specs.Running.{Running, Makes}
 use Rattle.replay.specs.States.{IsAt}
 use Rattle.replay.specs.declared.player.Player.{Player}
@@ -32,6 +34,11 @@ abbrev pub ActsFrom : Launch → State → ℕ → Option Stand → Type 0
 ActsFrom launch state item None = (next_action launch state item ≡ action.End) ⊎ (launch.items ≤ item)
 ActsFrom launch state item (Some stand) =
     (running : Running) × (running.state.place ≡ stand.place) × (running.state.counters ≡ stand.turns) × Makes running (next_action launch state item)
+
+-- a machine whose instruction makes the item's next action has this number as its left operand, where it is a division (C99 6.5.5)
+abbrev pub Divides : Launch → State → ℕ → Option Integer → Type 0
+Divides launch state item None = ⊤
+Divides launch state item (Some number) = (running : Running) × Makes running (next_action launch state item) × (dividend_of running ≡ Some number)
 
 -- the events of marks (own)
 abbrev pub events_in : List Mark → List Event

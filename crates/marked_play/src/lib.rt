@@ -7,7 +7,7 @@ mod marks;
 mod pairs;
 mod replica;
 
-pub use marks::{Mark, mark_schedule, stand_of};
+pub use marks::{Mark, dividend_of, mark_schedule, stand_of};
 pub use pairs::{Pair, Partner, Told, find_pair};
 pub use replay::Stand;
 pub use replica::Replica;

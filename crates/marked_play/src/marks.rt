@@ -7,12 +7,13 @@ ghost use Rattle.clmodel.specs.Outcome.{events_of};
 ghost use Rattle.clmodel.specs.Run.{State};
 ghost use Rattle.clmodel.specs.declared.schedule.Event.TheVariants as event;
 ghost use Rattle.replay.specs.States.{IsAt};
-ghost use Rattle.marked_play.specs.Marks.{ActsFrom, AreMarked, Follows, item_of};
+ghost use Rattle.marked_play.specs.Marks.{ActsFrom, AreMarked, Divides, Follows, item_of};
 ghost use Rattle.marked_play.specs.Replicas.{IsAbout, IsNext};
 
 use crate::replica::{Deed, Replica};
 use clmodel::action::Action;
 use clmodel::schedule::{Event, EventRun};
+use clnum::Value;
 use launches::Runnable;
 use replay::{Player, Stand};
 use std::alloc::AllocError;
@@ -39,6 +40,18 @@ pub fn stand_of<D: Runnable>(
 {
     player.action(item)?;
     Ok(player.stand(item))
+}
+
+/// The left operand of the division that an item makes next, if it makes one (C99 6.5.5). An error is out of memory.
+pub fn dividend_of<D: Runnable>(
+    player: &mut Player<'_, D>,
+    item: u32,
+) -> Result<Option<Value>, AllocError>
+    ensures same { (launch : Launch) (state : State) → IsAt D.launch launch player.old state → IsAt D.launch launch player.new state }
+    ensures divides { IfOk result (λ dividend. (launch : Launch) (state : State) → IsAt D.launch launch player.old state → Divides launch state item dividend) }
+{
+    player.action(item)?;
+    Ok(player.dividend(item))
 }
 
 /// Where the item of an event stands, before it is played. An error is out of memory.

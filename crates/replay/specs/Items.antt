@@ -6,6 +6,8 @@ use Rattle.clmodel.specs.Run.{stop_of, both_stop}
 use Rattle.clmodel.specs.declared.action.Action.{Action}
 use Rattle.clmodel.specs.declared.action.Answer.{Answer}
 use Rattle.clmodel.specs.declared.action.Stop.{Stop}
+use Rattle.clnum.specs.Integer.{Integer}
+use Rattle.item_state.specs.Dividing.{dividend_of}
 use Rattle.launches.specs.Items.{IsAsked, Stands, acts_of}
 use Rattle.launches.specs.declared.slot.Slot.{Slot}
 use Rattle.launches.specs.declared.slot.Slot.TheVariants as slot
@@ -28,6 +30,16 @@ stand_of slot.Ended = None
 -- that of the item of a number
 abbrev pub stand_in : List Slot → ℕ → Option Stand
 stand_in items item = option_and_then stand_of (slice_get items item)
+
+-- the left operand of the division where an item stands that is under way, if it stands at one (C99 6.5.5)
+abbrev pub dividend_at : Slot → Option Integer
+dividend_at slot.Waiting = None
+dividend_at (slot.Running running) = dividend_of running
+dividend_at slot.Ended = None
+
+-- that of the item of a number
+abbrev pub dividend_in : List Slot → ℕ → Option Integer
+dividend_in items item = option_and_then dividend_at (slice_get items item)
 
 -- where the item of a number is under way, the instruction where it stands makes this action, whatever follows it
 abbrev pub StandsAt : List Slot → ℕ → Action → Type 0

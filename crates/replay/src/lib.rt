@@ -23,6 +23,7 @@ ghost use Rattle.spaces_base.specs.Buffers.{bytes_in};
 
 mod buffers;
 mod conflicts;
+mod dividends;
 mod events;
 mod faults;
 mod group;

@@ -8,15 +8,17 @@ ghost use Rattle.clmodel.specs.declared.action.Action.TheVariants as action;
 ghost use Rattle.clmodel.specs.declared.action.Instance.{Instance};
 ghost use Rattle.clmodel.specs.declared.schedule.Event.TheVariants as event;
 ghost use Rattle.launches.specs.Groups.{IsRunnable, filled};
-ghost use Rattle.replay.specs.Items.{AreAsked, IsAskedAt, StandsAt, stand_in};
+ghost use Rattle.replay.specs.Items.{AreAsked, IsAskedAt, StandsAt, dividend_in, stand_in};
 ghost use Rattle.replay.specs.States.{ActsNext, Gathers, IsAt, IsPlayed};
 
+use crate::dividends::dividend_at;
 use crate::group::{Group, new_groups};
 use crate::members::{answer_all, are_at};
 use crate::slot::{Stand, answer, stand_of};
 use clmodel::access::{Access, Object, Operation};
 use clmodel::action::{Action, Fences, Stop};
 use clmodel::schedule::Event;
+use clnum::Value;
 use launches::{Runnable, Slot, waiting_items};
 use spaces_base::{Plain, Space, first_byte};
 use std::alloc::{AllocError, Global};
@@ -115,6 +117,17 @@ impl<'a, D: Runnable> Player<'a, D> {
     {
         match self.items.get(item as usize) {
             Some(slot) => stand_of(slot, self.alloc),
+            None => None,
+        }
+    }
+
+    /// The left operand of the division where an item stands, if it is under way and stands at one (C99 6.5.5). Once
+    /// `action` has told its next action, it is that of the division that makes the action.
+    pub fn dividend(&self, item: u32) -> Option<Value>
+        ensures { result ≡ dividend_in self.now.items.items item }
+    {
+        match self.items.get(item as usize) {
+            Some(slot) => dividend_at(slot),
             None => None,
         }
     }

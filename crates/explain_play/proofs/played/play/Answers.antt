@@ -83,5 +83,6 @@ returns-clause-played c =
       first_named = c.in_ok-first.ensures.item;
       second_named = c.in_ok-second.ensures.item;
       first_acts = c.in_ok-first.ensures.acts l m.1 here;
+      first_divides = c.in_ok-first.ensures.divides l m.1 here;
       second_acts = c.in_ok-second.ensures.acts l m.1 (c.standing_of.ensures.same l m.1 here);
     })
