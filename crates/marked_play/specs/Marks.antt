@@ -35,7 +35,8 @@ ActsFrom launch state item None = (next_action launch state item ≡ action.End)
 ActsFrom launch state item (Some stand) =
     (running : Running) × (running.state.place ≡ stand.place) × (running.state.counters ≡ stand.turns) × Makes running (next_action launch state item)
 
--- a machine whose instruction makes the item's next action has this number as its left operand, where it is a division (C99 6.5.5)
+-- a machine whose instruction makes the item's next action has this number as its left operand, where it is a division
+-- (C99 6.5.5)
 abbrev pub Divides : Launch → State → ℕ → Option Integer → Type 0
 Divides launch state item None = ⊤
 Divides launch state item (Some number) = (running : Running) × Makes running (next_action launch state item) × (dividend_of running ≡ Some number)

@@ -7,8 +7,8 @@ ghost use Rattle.replay.specs.Items.{dividend_at};
 use clnum::Value;
 use launches::Slot;
 
-/// The left operand of the division where an item stands that is under way, if it stands at one (C99 6.5.5). After `next`
-/// it is that of the division that makes the action.
+/// The left operand of the division where an item stands that is under way, if it stands at one (C99 6.5.5). After
+/// `next` it is that of the division that makes the action.
 pub(crate) fn dividend_at(slot: &Slot<'_>) -> Option<Value>
     ensures { result ≡ dividend_at slot.now }
 {
