@@ -1,9 +1,9 @@
 //! The declarations of private arrays.
 #![tactic(auto)]
 
-use crate::context::Context;
 use clmodel::text::Name;
 use clmodel::tree::{Expression, Function, Statement};
+use explain_items::Context;
 use marked_play::Stand;
 use origins::Node;
 use std::alloc::AllocError;

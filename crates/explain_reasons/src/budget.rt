@@ -1,10 +1,9 @@
 //! What a used-up budget went to.
 #![tactic(auto)]
 
-use crate::context::Context;
-use crate::events::{is_access, is_release};
 use crate::turns::{LoopTurns, SeenTurns, turns_seen};
 use crate::wording::{counted, joined};
+use explain_items::{Context, is_access, is_release};
 use explain_play::Played;
 use marked_play::Mark;
 use std::alloc::{AllocError, Global};

@@ -3,13 +3,12 @@
 
 use crate::arrays::array_of;
 use crate::budget::budget_reason;
-use crate::context::Context;
-use crate::events::is_release;
 use crate::unset::unset_reason;
 use crate::wording::counted;
 use clmodel::access::{AccessKind, Clash, Class};
 use clmodel::fault::{Fault, Location};
 use clmodel::text::Name;
+use explain_items::{Context, is_release};
 use explain_play::{Played, event_of};
 use explanation::Memory;
 use marked_play::{Mark, Stand};

@@ -1,10 +1,10 @@
 //! The steps of a schedule.
 #![tactic(auto)]
 
-use crate::context::Context;
 use clmodel::access::AccessKind;
 use clmodel::fault::Location;
 use clmodel::schedule::Event;
+use explain_items::Context;
 use explain_play::{Played, Touch};
 use explanation::Step;
 use marked_play::Mark;

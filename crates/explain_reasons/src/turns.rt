@@ -5,8 +5,7 @@
 //! is counted is never more than what was made.
 #![tactic(auto)]
 
-use crate::context::Context;
-use crate::events::{is_access, is_release};
+use explain_items::{Context, is_access, is_release};
 use explanation::{NodeKind, Spot};
 use marked_play::{Mark, Stand};
 use std::alloc::{AllocError, Global};

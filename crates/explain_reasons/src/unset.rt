@@ -1,11 +1,10 @@
 //! What was set beside an unset byte.
 #![tactic(auto)]
 
-use crate::context::Context;
-use crate::events::stand_at;
 use crate::reasons::{is_same, text_at};
 use clmodel::access::AccessKind;
 use clmodel::fault::Location;
+use explain_items::{Context, stand_at};
 use explain_play::{Played, Touch, event_of};
 use std::alloc::{AllocError, Global};
 

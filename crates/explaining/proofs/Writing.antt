@@ -15,8 +15,8 @@ use Rattle.device.specs.Machine.{Machine, opening, kernel_of, setup_of}
 use Rattle.device.specs.Prepared.{IsPrepared}
 use Rattle.explain_play.specs.PlayedOut.{IsPlayedOut}
 use Rattle.explain_play.specs.declared.played.Played.{Played}
-use Rattle.explain_reasons.specs.Named.{AreTold, told_items}
-use Rattle.explain_reasons.specs.declared.context.Context.{Context}
+use Rattle.explain_items.specs.Named.{AreTold, told_items}
+use Rattle.explain_items.specs.declared.context.Context.{Context}
 use Rattle.explanation.specs.declared.steps.ScheduleFacts.{ScheduleFacts}
 use Rattle.explanation.specs.declared.told.Explanation.{Explanation}
 use Rattle.host_commands.specs.declared.command.Command.{Command}

@@ -13,8 +13,8 @@ use Rattle.device.specs.Machine.{Machine, opening, kernel_of, setup_of, bytes_of
 use Rattle.explain_json.specs.Members.{explanation_data}
 use Rattle.explain_play.specs.PlayedOut.{IsPlayedOut}
 use Rattle.explain_play.specs.declared.played.Played.{Played}
-use Rattle.explain_reasons.specs.Named.{AreTold, told_items}
-use Rattle.explain_reasons.specs.declared.context.Context.{Context}
+use Rattle.explain_items.specs.Named.{AreTold, told_items}
+use Rattle.explain_items.specs.declared.context.Context.{Context}
 use Rattle.explain_text.specs.Texts.{IsText}
 use Rattle.explanation.specs.declared.told.Explanation.{Explanation}
 use Rattle.explanation.specs.declared.told.FaultFacts.{FaultFacts}

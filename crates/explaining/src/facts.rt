@@ -2,15 +2,16 @@
 #![tactic(auto)]
 
 ghost use Rattle.std.specs.Prelude.{◌≡◌, ◌≤◌, IfOk, string_bytes};
-ghost use Rattle.explain_reasons.specs.Named.{AreTold, told_items};
+ghost use Rattle.explain_items.specs.Named.{AreTold, told_items};
 ghost use Rattle.explaining.specs.Whole.{AreNamed, TellsFault, TellsLaunch, schedule_words};
 
 use clmodel::fault::{Fault, Location};
 use clmodel::schedule::Schedule;
 use clmodel::setup::Range;
 use clmodel::text::Name;
+use explain_items::{Context, named_items};
 use explain_play::{Played, event_of};
-use explain_reasons::{Context, array_of, items_in, named_items, reasons_of, steps_of};
+use explain_reasons::{array_of, items_in, reasons_of, steps_of};
 use explanation::{
     Explanation, FaultFacts, LaunchFacts, Memory, NamedItem, ParameterFacts, ScheduleFacts,
 };

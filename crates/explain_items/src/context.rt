@@ -6,7 +6,7 @@ ghost use Rattle.clmodel.specs.Setup.{kernel_in};
 ghost use Rattle.item_step.specs.Launches.{setup_of};
 ghost use Rattle.origins.specs.Finding.{IsOriginIn};
 ghost use Rattle.source_spots.specs.Spots.{HaveTurns};
-ghost use Rattle.explain_reasons.specs.Spotted.{BeginsAt, HasSpot, IsSpotted};
+ghost use Rattle.explain_items.specs.Spotted.{BeginsAt, HasSpot, IsSpotted};
 
 use clmodel::text::Name;
 use clmodel::tree::{Expression, Statement, Target};
@@ -107,7 +107,7 @@ impl<'a> Context<'a> {
     }
 
     /// The origin of the instruction at a place of the code. An error is out of memory.
-    pub(crate) fn origin(&self, place: usize) -> Result<Option<Origin<'a>>, AllocError>
+    pub fn origin(&self, place: usize) -> Result<Option<Origin<'a>>, AllocError>
         ensures origin { IfOk result (IsOriginIn (setup_of self.now.launch.now).program.functions (setup_of self.now.launch.now).kernel place) }
         ensures none { IfOk result (λ found. kernel_in (setup_of self.now.launch.now).program.functions (setup_of self.now.launch.now).kernel ≡ None → found ≡ None) }
     {
@@ -131,7 +131,7 @@ impl<'a> Context<'a> {
     }
 
     /// The same, if the item stands anywhere. An error is out of memory.
-    pub(crate) fn spot(&self, stand: Option<&Stand>) -> Result<Option<Spot>, AllocError>
+    pub fn spot(&self, stand: Option<&Stand>) -> Result<Option<Spot>, AllocError>
         ensures { IfOk result (λ found. IfSome found (HasSpot (setup_of self.now.launch.now) self.now.program.text.now self.now.program.first_line (λ s. option_copied stand.entry ≡ Some s))) }
     {
         match stand {
@@ -141,7 +141,7 @@ impl<'a> Context<'a> {
     }
 
     /// The same in short.
-    pub(crate) fn code(&self, stand: Option<&Stand>) -> Result<Option<Code>, AllocError> {
+    pub fn code(&self, stand: Option<&Stand>) -> Result<Option<Code>, AllocError> {
         let (Some(stand), Some(source)) = (stand, self.source()) else {
             return Ok(None);
         };

@@ -2,13 +2,13 @@
 #![tactic(auto)]
 
 ghost use Rattle.std.specs.Prelude.{◌≡◌, option_copied};
-ghost use Rattle.explain_reasons.specs.Named.{stand_of};
+ghost use Rattle.explain_items.specs.Named.{stand_of};
 
 use clmodel::schedule::Event;
 use marked_play::{Mark, Stand};
 
 /// Whether an event is an access of an item.
-pub(crate) fn is_access(event: Event, item: u32) -> bool {
+pub fn is_access(event: Event, item: u32) -> bool {
     match event {
         Event::Item(other) => other == item,
         Event::Release(_) => false,
@@ -16,7 +16,7 @@ pub(crate) fn is_access(event: Event, item: u32) -> bool {
 }
 
 /// Whether an event is the release of a group.
-pub(crate) fn is_release(event: Event, group: u32) -> bool {
+pub fn is_release(event: Event, group: u32) -> bool {
     match event {
         Event::Item(_) => false,
         Event::Release(other) => other == group,
@@ -24,7 +24,7 @@ pub(crate) fn is_release(event: Event, group: u32) -> bool {
 }
 
 /// Where the item of an event stands, by the event's number.
-pub(crate) fn stand_at(marks: &[Mark], event: Option<usize>) -> Option<&Stand>
+pub fn stand_at(marks: &[Mark], event: Option<usize>) -> Option<&Stand>
     ensures { option_copied result ≡ stand_of marks.now event }
 {
     match marks.get(event?) {

@@ -2,9 +2,9 @@ use Rattle.std.proofs.Common.{sym, subst, ◌∙◌}
 use Rattle.item_step.specs.Launches.{setup_of}
 use Rattle.origins.specs.Finding.{IsOriginIn}
 use Rattle.source_spots.specs.Spots.{HaveTurns}
-use Rattle.explain_reasons.specs.Spotted.{BeginsAt}
-use Rattle.explain_reasons.proofs.Spotting.{spotted}
-use Rattle.explain_reasons.proofs.context.Context.spot_at.Goals as goal
+use Rattle.explain_items.specs.Spotted.{BeginsAt}
+use Rattle.explain_items.proofs.Spotting.{spotted}
+use Rattle.explain_items.proofs.context.Context.spot_at.Goals as goal
 
 pub returns-in_ok-spot_in-in-Some-2 : goal.returns-in_ok-spot_in-in-Some-2
 returns-in_ok-spot_in-in-Some-2 c =

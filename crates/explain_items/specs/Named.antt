@@ -13,8 +13,8 @@ use Rattle.item_step.specs.Launches.{setup_of}
 use Rattle.marked_play.specs.declared.marks.Mark.{Mark}
 use Rattle.marked_play.specs.declared.pairs.Pair.{Pair}
 use Rattle.replay.specs.declared.slot.Stand.{Stand}
-use Rattle.explain_reasons.specs.Spotted.{IsNamed}
-use Rattle.explain_reasons.specs.declared.context.Context.{Context}
+use Rattle.explain_items.specs.Spotted.{IsNamed}
+use Rattle.explain_items.specs.declared.context.Context.{Context}
 
 -- where the item of the event of a number stands, if there is one
 abbrev pub stand_of : List Mark → Option ℕ → Option Stand

@@ -12,8 +12,8 @@ use Rattle.origins.specs.Finding.{IsOriginIn}
 use Rattle.origins.specs.declared.origin.Origin.{Origin}
 use Rattle.replay.specs.declared.slot.Stand.{Stand}
 use Rattle.source_spots.specs.Spots.{HaveTurns}
-use Rattle.explain_reasons.specs.Named.{IsAccessStand, IsItemStand, stand_of}
-use Rattle.explain_reasons.specs.Spotted.{BeginsAt, IsNamed, IsSpotted}
+use Rattle.explain_items.specs.Named.{IsAccessStand, IsItemStand, stand_of}
+use Rattle.explain_items.specs.Spotted.{BeginsAt, IsNamed, IsSpotted}
 
 pub spotted :
     (setup : Setup) (stand : Stand) (text : List ℕ) (first : ℕ) (origin : Origin) (spot : Spot) → IsOriginIn setup.program.functions setup.kernel stand.place (Some origin)

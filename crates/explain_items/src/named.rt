@@ -5,8 +5,8 @@ ghost use Rattle.std.specs.Prelude.{◌≡◌, [], ◌∷◌, Some, IfOk, option
 ghost use Rattle.std.specs.Option.{option_map_or};
 ghost use Rattle.item_ids.specs.Ids.{AreIds};
 ghost use Rattle.item_step.specs.Launches.{setup_of};
-ghost use Rattle.explain_reasons.specs.Named.{AreTold, AtAccess, AtEnd, AtStand, IsTold, in_order, site_of, told_items};
-ghost use Rattle.explain_reasons.specs.Spotted.{IsNamed};
+ghost use Rattle.explain_items.specs.Named.{AreTold, AtAccess, AtEnd, AtStand, IsTold, in_order, site_of, told_items};
+ghost use Rattle.explain_items.specs.Spotted.{IsNamed};
 
 use crate::context::Context;
 use crate::events::stand_at;

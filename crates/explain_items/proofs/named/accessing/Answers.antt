@@ -3,9 +3,9 @@ use Rattle.std.specs.Option.{IfSome}
 use Rattle.std.proofs.lemmas.Result.{IfOk-weaker}
 use Rattle.explain_play.specs.PlayedOut.{MadeAccess}
 use Rattle.item_step.specs.Launches.{setup_of}
-use Rattle.explain_reasons.specs.Named.{AtAccess, IsHere, IsBefore, stand_of}
-use Rattle.explain_reasons.proofs.Spotting.{access_stand, named_at}
-use Rattle.explain_reasons.proofs.named.accessing.Goals as goal
+use Rattle.explain_items.specs.Named.{AtAccess, IsHere, IsBefore, stand_of}
+use Rattle.explain_items.proofs.Spotting.{access_stand, named_at}
+use Rattle.explain_items.proofs.named.accessing.Goals as goal
 
 pub returns : goal.returns
 returns c =

@@ -2,9 +2,9 @@ use Rattle.std.proofs.Common.{length, refl, ap, option_copied, subst, ◌∙◌}
 use Rattle.std.specs.Option.{IfSome}
 use Rattle.std.proofs.lemmas.Option.{IfSome_then}
 use Rattle.explain_play.specs.PlayedOut.{IsEventOf, IsLast, acts_at}
-use Rattle.explain_reasons.specs.Named.{stand_of}
-use Rattle.explain_reasons.proofs.Spotting.{item_stand}
-use Rattle.explain_reasons.proofs.named.ended.Goals as goal
+use Rattle.explain_items.specs.Named.{stand_of}
+use Rattle.explain_items.proofs.Spotting.{item_stand}
+use Rattle.explain_items.proofs.named.ended.Goals as goal
 
 pub returns : goal.returns
 returns c =

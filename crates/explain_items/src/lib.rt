@@ -1,0 +1,12 @@
+//! The items that a fault names, each with its ids and where it stands in the source, as an explanation tells them: where
+//! an instruction's own expression or statement begins, with the loops and calls round it. It knows a launch with its
+//! source, and performs no command.
+#![tactic(auto)]
+
+mod context;
+mod events;
+mod named;
+
+pub use context::Context;
+pub use events::{is_access, is_release, stand_at};
+pub use named::named_items;
