@@ -1,5 +1,5 @@
-//! Why a fault comes about that was played, in sentences, and the events of its schedule one after another. Sentences and
-//! steps are only tested. It knows a launch with its source, and performs no command.
+//! Why a fault comes about that was played, in sentences, and the events of its schedule one after another. Sentences
+//! and steps are only tested. It knows a launch with its source, and performs no command.
 #![tactic(auto)]
 
 mod arrays;
