@@ -26,7 +26,7 @@ pub record IsAccessStand (marks : List Mark) (access : ℕ) (stand : Stand) : Ty
   pub made : MadeAccess marks access number
   pub at : made.mark.stand ≡ Some stand
 
--- where an item stood that made its last access
+-- where an item stood when it made its last access
 pub record IsItemStand (marks : List Mark) (item : ℕ) (stand : Stand) : Type 0 where
   pub number : ℕ
   pub last : IsLast (acts_at marks item) (length marks) (Some number)

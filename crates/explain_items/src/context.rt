@@ -30,6 +30,7 @@ pub struct Context<'a> {
     pub kernel: &'a Name,
 }
 
+/// What kind of node an expression is.
 fn expression_kind(expression: &Expression) -> NodeKind {
     match expression {
         Expression::Number { .. } | Expression::Variable { .. } => NodeKind::Operand,
@@ -43,6 +44,7 @@ fn expression_kind(expression: &Expression) -> NodeKind {
     }
 }
 
+/// What kind of node a target is.
 fn target_kind(target: &Target) -> NodeKind {
     match target {
         Target::Variable { .. } => NodeKind::Operand,
@@ -51,6 +53,7 @@ fn target_kind(target: &Target) -> NodeKind {
     }
 }
 
+/// What kind of node a statement is.
 fn statement_kind(statement: &Statement) -> NodeKind {
     match statement {
         Statement::Declare { .. } | Statement::DeclareArray { .. } => NodeKind::Declaration,

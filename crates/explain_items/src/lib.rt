@@ -1,6 +1,7 @@
 //! The items that a fault names, each with its ids and where it stands in the source, as an explanation tells them:
-//! where an instruction's own expression or statement begins, with the loops and calls round it. It knows a launch with
-//! its source, and performs no command.
+//! where an instruction's own expression or statement begins, with the loops and calls round it. The items are those of
+//! the fault, with the ids, places, calls and turns that are defined; what each does, and the number of its event, are
+//! only tested. It knows a launch with its source, and performs no command.
 #![tactic(auto)]
 
 mod context;

@@ -70,8 +70,8 @@ IsLast p n (Some last) = (last < n) × (p last ≡ true) × ((k : ℕ) → last 
 
 -- The events were played from the start to a state, each with where its item stands that acts by it, and with the
 -- numbers that its access finds and leaves. The first accesses of the log there are told. If two accesses are found,
--- they are in the log, and are those of the fault; and each of the two named items acts from where it is told to stand
--- (own).
+-- they are in the log, and are those of the fault; each of the two named items acts from where it is told to stand, and
+-- the first has the left operand that is told, if it stands at a division (own).
 pub record IsPlayedOut (launch : Launch) (size : ℕ) (events : Events) (f : Fault) (first second most : ℕ) (played : Played) : Type 0 where
   pub end : State
   pub marked : events_in played.marks.items ≡ events

@@ -156,7 +156,7 @@ fn touches_of<D: Described>(
     Ok(touches)
 }
 
-/// Where an item stands.
+/// Where an item stands, and what is told of what it does next.
 fn standing_of<D: Runnable>(player: &mut Player<'_, D>, item: u32) -> Result<Standing, AllocError>
     ensures same { (launch : TheLaunch) (state : State) → IsAt D.launch launch player.old state → IsAt D.launch launch player.new state }
     ensures item { IfOk result (λ standing. standing.item ≡ item) }
@@ -272,6 +272,7 @@ fn acts_at(marks: &[Mark], item: u32, number: usize) -> bool
     }
 }
 
+/// This number, if it is such a one, else the earlier one.
 fn this_or_earlier(is_such: bool, number: usize, earlier: Option<usize>) -> Option<usize>
     ensures { result ≡ (if is_such then Some number else earlier) }
 {

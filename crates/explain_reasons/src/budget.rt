@@ -57,7 +57,7 @@ fn sum_of(loops: &[LoopTurns]) -> u64 {
     sum
 }
 
-/// Whether these are all turns that a loop has made since it was entered, which wasn't left.
+/// Whether a loop wasn't left, and these are the turns that it has made since it was entered.
 fn is_within(within: &[LoopTurns], turns: &LoopTurns) -> bool {
     within.iter().any(|other| other.place == turns.place && other.turns == turns.turns)
 }

@@ -1,4 +1,4 @@
-//! Why a fault comes about that was played, in sentences, and the events of its schedule one after another. Sentences
+//! Why a fault that was played comes about, in sentences, and the events of its schedule one after another. Sentences
 //! and steps are only tested. It knows a launch with its source, and performs no command.
 #![tactic(auto)]
 

@@ -87,8 +87,9 @@ impl KnownLoops {
     }
 }
 
-/// The turns that a loop had made when it was seen last, if it wasn't left since, where all loops round it are in the
-/// turns that they were in then. One that has made fewer turns was entered again.
+/// The turns that a loop had made when the item was seen last, if it wasn't left since then, as far as its turns tell.
+/// It is asked only where all loops round it are in the same turns as then. A loop that has made fewer turns was
+/// entered again.
 fn before(last: Option<&LoopTurns>, now: &LoopTurns) -> Option<u64> {
     match last {
         Some(last) if last.place == now.place && last.turns <= now.turns => Some(last.turns),

@@ -56,24 +56,24 @@ acts_from launch_of l p s item (Some a) stand at next asked stands e =
     (λ i there. at.tells.acting item i there [] ∙ ap (l.next item) (append-nil (s.answers item))))
 
 divides_at :
-    (l : Launch) (s : State) (item : ℕ) (a : Action) (o : Option Slot) (d : Option Integer) → next_action l s item ≡ a → ((i : Slot) → o ≡ Some i → Stands i a)
-    → d ≡ option_and_then dividend_at o → Divides l s item d
-divides_at l s item a None d e h same = subst (Divides l s item) (sym same) tt
-divides_at l s item a (Some slot.Waiting) d e h same = subst (Divides l s item) (sym same) tt
-divides_at l s item a (Some (slot.Running r)) d e h same = subst (Divides l s item) (sym same) (of (dividend_of r) refl)
-  where
-    of : (x : Option Integer) → dividend_of r ≡ x → Divides l s item x
-    of None is = tt
-    of (Some number) is = (r, subst (Makes r) (sym e) (h (slot.Running r) refl), is)
-divides_at l s item a (Some slot.Ended) d e h same = subst (Divides l s item) (sym same) tt
+    (l : Launch) (s : State) (item : ℕ) (a : Action) (o : Option Slot) → (o ≡ None → l.items ≤ item) → next_action l s item ≡ a → ((i : Slot) → o ≡ Some i → Stands i a)
+    → ((i : Slot) → o ≡ Some i → IsAsked i) → ((i : Slot) → o ≡ Some i → acts_of l item i [] ≡ next_action l s item) → Divides l s item (option_and_then dividend_at o)
+divides_at l s item a None past e h asked acts = inl (refl, inr (past refl))
+divides_at l s item a (Some slot.Waiting) past e h asked acts = absurd (asked slot.Waiting refl)
+divides_at l s item a (Some (slot.Running r)) past e h asked acts = inr (r, subst (Makes r) (sym e) (h (slot.Running r) refl), refl)
+divides_at l s item a (Some slot.Ended) past e h asked acts = inl (refl, inl (sym (acts slot.Ended refl)))
 
 pub divides :
-    (l : Launch) (p : List Slot) (s : State) (item : ℕ) (action : Option Action) (d : Option Integer) → length p ≡ l.items → ActsNext l s item action → IfSome action (StandsAt p item)
-    → d ≡ dividend_in p item → Divides l s item d
-divides l p s item None d many past stands e =
-    let none : slice_get p item ≡ None = slice_get_past p item (subst (λ n. n ≤ item) (sym many) past) in
-    subst (Divides l s item) (sym (e ∙ ap (option_and_then dividend_at) none)) tt
-divides l p s item (Some a) d many next stands e = divides_at l s item a (slice_get p item) d next.1 stands e
+    {D : Type 0} (launch_of : D → Launch) (l : Launch) (p : Player D) (s : State) (item : ℕ) (action : Option Action) (dividend : Option Integer)
+    → IsAt launch_of l p s → ActsNext l s item action → IfSome action (λ _. IsAskedAt p.items.items item) → IfSome action (StandsAt p.items.items item)
+    → dividend ≡ dividend_in p.items.items item → Divides l s item dividend
+divides launch_of l p s item None dividend at past asked stands e =
+    let none : slice_get p.items.items item ≡ None = slice_get_past p.items.items item (subst (λ n. n ≤ item) (sym at.tells.many) past) in
+    subst (Divides l s item) (sym (e ∙ ap (option_and_then dividend_at) none)) (inl (refl, inr past))
+divides launch_of l p s item (Some a) dividend at next asked stands e =
+    subst (Divides l s item) (sym e)
+    (divides_at l s item a (slice_get p.items.items item) (λ none. subst (λ n. n ≤ item) at.tells.many (missing p.items.items item none)) next.1 stands asked
+    (λ i there. at.tells.acting item i there [] ∙ ap (l.next item) (append-nil (s.answers item))))
 
 -- ---- marks one behind another
 

@@ -1,6 +1,6 @@
 -- Events played with where their items stand, and with the numbers that their accesses find and leave (own; the events
 -- are those of OpenCL 1.2, sections 3.2 and 6.12.8).
-use Rattle.std.specs.Prelude.{◌≡◌, ℕ, ◌*◌, ◌≤◌, ◌⊎◌, ⊤, Bool, true, false, Option, None, Some, List, [], ◌∷◌, ◌++◌, map}
+use Rattle.std.specs.Prelude.{◌≡◌, ℕ, ◌*◌, ◌≤◌, ◌⊎◌, Bool, true, false, Option, None, Some, List, [], ◌∷◌, ◌++◌, map}
 use Rattle.std.specs.Option.{IfSome}
 use Rattle.clnum.specs.Integer.{Integer}
 use Rattle.clmodel.specs.Cells.{byte_count, number}
@@ -35,11 +35,12 @@ ActsFrom launch state item None = (next_action launch state item ≡ action.End)
 ActsFrom launch state item (Some stand) =
     (running : Running) × (running.state.place ≡ stand.place) × (running.state.counters ≡ stand.turns) × Makes running (next_action launch state item)
 
--- a machine whose instruction makes the item's next action has this number as its left operand, where it is a division
--- (C99 6.5.5)
+-- the left operand of the division by which a machine makes the item's next action, if its instruction there is one;
+-- none is told of an item that is at its end, and where there is no such item (own, on C99 6.5.5)
 abbrev pub Divides : Launch → State → ℕ → Option Integer → Type 0
-Divides launch state item None = ⊤
-Divides launch state item (Some number) = (running : Running) × Makes running (next_action launch state item) × (dividend_of running ≡ Some number)
+Divides launch state item dividend =
+    ((dividend ≡ None) × ((next_action launch state item ≡ action.End) ⊎ (launch.items ≤ item)))
+    ⊎ ((running : Running) × Makes running (next_action launch state item) × (dividend_of running ≡ dividend))
 
 -- the events of marks (own)
 abbrev pub events_in : List Mark → List Event

@@ -1,4 +1,3 @@
-use Rattle.std.proofs.Common.{length}
 use Rattle.explain_play.specs.PlayedOut.{acts_at}
 use Rattle.explain_play.proofs.Lasts.{last_acts, last_more}
 use Rattle.explain_play.proofs.played.last_of.Goals as goal

@@ -3,5 +3,14 @@ use Rattle.explain_play.proofs.played.standing_of.Goals as goal
 pub returns-in_err-operation-clause-same : goal.returns-in_err-operation-clause-same
 returns-in_err-operation-clause-same g c = λ launch state at. c.action.ensures.same launch state (c.stand_of.ensures.same launch state at)
 
+pub returns-in_err-dividend-clause-same : goal.returns-in_err-dividend-clause-same
+returns-in_err-dividend-clause-same g c =
+    λ launch state at. c.dividend_of.ensures.same launch state (c.action.ensures.same launch state (c.stand_of.ensures.same launch state at))
+
 pub returns-clause-same : goal.returns-clause-same
-returns-clause-same g c = λ launch state at. c.action.ensures.same launch state (c.stand_of.ensures.same launch state at)
+returns-clause-same g c =
+    λ launch state at. c.dividend_of.ensures.same launch state (c.action.ensures.same launch state (c.stand_of.ensures.same launch state at))
+
+pub returns-clause-divides : goal.returns-clause-divides
+returns-clause-divides g c =
+    λ launch state at. c.in_ok-dividend.ensures.divides launch state (c.action.ensures.same launch state (c.stand_of.ensures.same launch state at))

@@ -3,6 +3,5 @@ use Rattle.marked_play.proofs.marks.dividend_of.Goals as goal
 
 pub returns-clause-divides : goal.returns-clause-divides
 returns-clause-divides g c = λ l s at.
-    let here = c.action.ensures.same l s at in
-    divides l c.action.new.self.items.items s c.args.item c.in_ok-action.field-0 c.dividend.result here.tells.many (c.in_ok-action.ensures.value l s at) c.in_ok-action.ensures.stands
-    c.dividend.ensures
+    divides {D = g.row.D.Denot} g.D.Described.launch l c.action.new.self s c.args.item c.in_ok-action.field-0 c.dividend.result
+    (c.action.ensures.same l s at) (c.in_ok-action.ensures.value l s at) c.in_ok-action.ensures.asked c.in_ok-action.ensures.stands c.dividend.ensures
