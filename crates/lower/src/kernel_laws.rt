@@ -1,4 +1,4 @@
-//! Laws of kernels' code and tables: verified, and within bounds. Each is the contract of a function that does nothing.
+//! Laws of the code of kernels with its tables: it is verified, and short. Each is the contract of an empty function.
 #![tactic(auto)]
 
 ghost use Rattle.lower.specs.Accepted.{ExpressionsSuit, TargetsSuit, ExpressionsFlat, ExpressionsSound, StatementsSound, KernelsGo, KernelsVerified, SuitFits, TypedKernelsVerified};

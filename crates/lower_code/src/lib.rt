@@ -1,7 +1,7 @@
 //! The register code of what statements are made of: assignments, declarations, calls, tests, returns and the turns of
-//! loops, with the bodies of helper functions left out of their calls. `lower` puts statements together of it.
+//! loops, and calls whose helpers' bodies are still to be put in. `lower` puts statements together of it.
 //!
-//! Each function writes exactly the defined code where it succeeds, and the scope after a statement is the defined one.
+//! Each function writes exactly the defined code where it succeeds, and the scope after it is the defined one.
 //! The code is written from its end: what a jump passes is there before the jump is put in front of it.
 //!
 //! The only error is out of memory. Code that was lent is only longer then: a draft ends with what was there. A scope

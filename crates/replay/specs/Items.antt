@@ -1,4 +1,4 @@
--- The items of a launch, started when they are first asked (own).
+-- The items of a replayed launch: which were asked, and where each stands (own).
 use Rattle.std.specs.Prelude.{◌≡◌, ℕ, ◌<◌, ◌≤◌, ◌⊎◌, Bool, true, false, Option, None, Some, List, [], ◌∷◌, length, slice_get}
 use Rattle.std.specs.Option.{option_and_then}
 use Rattle.clmodel.specs.Launch.{Launch}

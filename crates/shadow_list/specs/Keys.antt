@@ -32,10 +32,11 @@ access_key x =
       value = x.value;
     }
 
--- two keys are one (own)
+-- two cells' keys are one (own)
 abbrev pub same_cell : CellKey → CellKey → Bool
 same_cell a b = beq a.is_buffer b.is_buffer && ((a.number == b.number) && (a.cell == b.cell))
 
+-- two accesses' keys are one (own)
 abbrev pub same_key : AccessKey → AccessKey → Bool
 same_key a b =
     beq a.is_buffer b.is_buffer

@@ -1,7 +1,7 @@
 -- The results of a launch's work-groups, each run apart (OpenCL 1.2, 3.2, 5.8; own).
 use Rattle.std.specs.Prelude.{◌≡◌, ℕ, suc, ◌*◌, ◌≤◌, Bool, true, false, Option, List, [], ◌∷◌}
 use Rattle.clmodel.specs.Launch.{Launch}
-use Rattle.group_log.specs.Lasting.{all_of}
+use Rattle.group_log.specs.Logged.{log_of}
 use Rattle.group_log.specs.declared.group.GroupLog.{GroupLog}
 use Rattle.group_run.specs.Results.{IsResult}
 use Rattle.group_run.specs.declared.result.GroupResult.{GroupResult}
@@ -55,10 +55,6 @@ AreResultsTo bytes listed has_last launch last group (came ∷ results) =
 abbrev pub list_log : ListLog → Log
 list_log l = logged l.entries.items l.local_interval l.global_interval l.uniform
 
--- the log of a group that is running, as all accesses with the running intervals (own)
-abbrev pub group_log : GroupLog → Log
-group_log l = logged (all_of l.whole.items) l.local.interval l.global.interval l.global.uniform
-
 -- the entries that it has for other groups, and whether the last of all is one of them (own)
 abbrev pub listed_of : GroupLog → List Entry
 listed_of l = l.lasting.entries.items
@@ -68,7 +64,7 @@ has_last_of l = l.lasting.has_last
 
 -- the same of a log on the heap (own)
 abbrev pub heap_log : HeapLog → Log
-heap_log l = group_log l.log.value
+heap_log l = log_of l.log.value
 
 abbrev pub heap_listed : HeapLog → List Entry
 heap_listed l = listed_of l.log.value
