@@ -112,7 +112,7 @@ pub fn put(
     ensures longer { OnErr result (IsLonger code.old.items code.new.items) }
 {
     match destination.kind {
-        TargetKind::Variable => hold(scope, destination.name, from, code),
+        TargetKind::Variable => set_variable(scope, destination.name, from, code),
         TargetKind::Index(index) => {
             let index = register_at(level, index);
             private_store(scope, destination.name, index, from, code)
@@ -126,7 +126,7 @@ pub fn put(
 }
 
 /// Adds the code that gives a variable a register's value.
-fn hold(
+fn set_variable(
     scope: &Scope,
     name: u32,
     from: Register,
