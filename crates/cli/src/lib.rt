@@ -8,9 +8,9 @@
 
 pub mod checking;
 pub mod command_line;
-mod desk;
 pub mod dialogue;
 pub mod dumping;
+mod only_client;
 pub mod reading;
 pub mod replaying;
 pub mod session;

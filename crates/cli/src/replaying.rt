@@ -89,7 +89,7 @@ fn lacks_memory(device: &mut Device, command: Command) -> bool
 }
 
 /// Performs commands on a device, up to one that is refused for want of memory.
-fn lead(device: &mut Device, commands: Vec<Command>) -> Result<(), AllocError>
+fn perform_all(device: &mut Device, commands: Vec<Command>) -> Result<(), AllocError>
     ensures { OnOk result (Leads (machine_of device.old) commands.items (machine_of device.new)) }
 {
     for command in commands {
@@ -100,12 +100,12 @@ fn lead(device: &mut Device, commands: Vec<Command>) -> Result<(), AllocError>
     Ok(())
 }
 
-/// A new device after these commands.
-fn led(alloc: Global, commands: Vec<Command>) -> Result<Device, AllocError>
+/// A new device after these commands, with the default budget.
+fn device_after(alloc: Global, commands: Vec<Command>) -> Result<Device, AllocError>
     ensures { IfOk result (λ device. Leads (opening 100000) commands.items (machine_of device)) }
 {
     let mut device = Device::new(alloc, Options::DEFAULT_BUDGET);
-    lead(&mut device, commands)?;
+    perform_all(&mut device, commands)?;
     Ok(device)
 }
 
@@ -137,7 +137,7 @@ fn judge(alloc: Global, mut commands: Vec<Command>, task: &Task) -> Result<bool,
     let Some(launched) = take_launch(&mut commands, task.ticket) else {
         return Err(RunFault::NotALaunch(task.ticket));
     };
-    let device = led(alloc, commands)?;
+    let device = device_after(alloc, commands)?;
     // A refusal's fault names the ticket, so no `From` can make it.
     match decide(alloc, &device, &launched, task) {
         Ok(yes) => Ok(yes),

@@ -9,7 +9,7 @@ ghost use Rattle.counted_io.specs.Sink.{Wrote, Stopped};
 ghost use Rattle.simfile.specs.Lines.{line};
 ghost use Rattle.cli.specs.Session.{one_end, Answered, Broken, Unanswered, Ran, Failed, status_of};
 
-use crate::desk::Desk;
+use crate::only_client::OnlyClient;
 use crate::reading::commands_of;
 use counted_io::{Read, Write, WriteFailed};
 use fault_lines::ReadFault as FileFault;
@@ -252,22 +252,22 @@ fn write_answered<W: Write>(
 /// Performs the commands in order, all in the one box, and writes a line for each reply.
 fn answer_all<T: Threads + Wait + Sync, W: Write>(
     rt: &T,
-    desk: &mut Desk,
+    client: &mut OnlyClient,
     mut request: Box<Request<Command, Reply>>,
     commands: Vec<Command>,
     writer: &mut W,
 ) -> Result<RunEnd, WriteFailed>
-    requires new { length desk.old.driver.driver.seat.me.0.known ≡ 0 }
+    requires new { length client.old.driver.driver.seat.me.0.known ≡ 0 }
     requires few { length commands.items ≤ 4096 }
-    ensures ok { IfOk result (λ end. (budget : ℕ) → machine_of desk.old.driver.driver.machine ≡ opening budget → Answered budget commands.items (W.sink writer.old) (W.sink writer.new) end) }
-    ensures err { OnErr result ((budget : ℕ) → machine_of desk.old.driver.driver.machine ≡ opening budget → Broken budget commands.items (W.sink writer.old) (W.sink writer.new)) }
+    ensures ok { IfOk result (λ end. (budget : ℕ) → machine_of client.old.driver.driver.machine ≡ opening budget → Answered budget commands.items (W.sink writer.old) (W.sink writer.new) end) }
+    ensures err { OnErr result ((budget : ℕ) → machine_of client.old.driver.driver.machine ≡ opening budget → Broken budget commands.items (W.sink writer.old) (W.sink writer.new)) }
 {
     let mut end = RunEnd {
         faulted: false,
         refused: false,
     };
     for command in commands {
-        request = desk.ask(rt, request, command);
+        request = client.ask(rt, request, command);
         end = write_answered(&request, end, writer)?;
     }
     writer.flush()?;
@@ -287,9 +287,9 @@ fn perform<T: Threads + Wait + Sync, W: Write>(
     ensures ok { IfOk result (λ end. Answered options.budget commands.items (W.sink writer.old) (W.sink writer.new) end) }
     ensures err { IfErr result (Unanswered options.budget commands.items (W.sink writer.old) (W.sink writer.new)) }
 {
-    let mut desk = Desk::open(alloc, options)?;
+    let mut client = OnlyClient::open(alloc, options)?;
     let request = Box::new(alloc, Request::Answered(Reply::Done))?;
-    Ok(answer_all(rt, &mut desk, request, commands, writer)?)
+    Ok(answer_all(rt, &mut client, request, commands, writer)?)
 }
 
 /// Reads a script, hands its commands to the queue of a new device, each for the next ticket, and writes a line for

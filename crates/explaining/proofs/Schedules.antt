@@ -13,7 +13,7 @@ use Rattle.explaining.specs.Explaining.{Explained, IsTold, NoLaunch, Tells, Unex
 use Rattle.explaining.specs.Leading.{Leads}
 use Rattle.explaining.specs.declared.faults.ExplainFault.{ExplainFault}
 use Rattle.explaining.specs.declared.faults.ExplainFault.TheVariants as fault
-use Rattle.explaining.specs.declared.told.Told.{Told}
+use Rattle.explaining.specs.declared.told.ExplainedCase.{ExplainedCase}
 
 -- the commands that were performed are those before a ticket, on a new device
 pub led_there :
@@ -23,7 +23,7 @@ led_there budget commands before ticket first new start same led =
     subst (λ (m : Machine). Leads m (take ticket commands) new) start (subst (λ (l : List Command). Leads first l new) same led)
 
 pub told_there :
-    (budget : ℕ) (commands : List Command) (ticket : ℕ) (f : Fault) (runs : List EventRun) (m : Machine) (r : Result (Option Told) ExplainFault) → Leads (opening budget) (take ticket commands) m
+    (budget : ℕ) (commands : List Command) (ticket : ℕ) (f : Fault) (runs : List EventRun) (m : Machine) (r : Result (Option ExplainedCase) ExplainFault) → Leads (opening budget) (take ticket commands) m
     → IfOk r (λ found. Tells m commands ticket f runs (is_some found)) → IfOk r (λ found. IsTold budget commands ticket f runs (is_some found))
 told_there budget commands ticket f runs m (Ok found) led tells = record { machine = m; led = led; tells = tells }
 told_there budget commands ticket f runs m (Err why) led tells = tt
@@ -38,7 +38,7 @@ untold budget script commands ticket m led (fault.NotALaunch named) h = h
 untold budget script commands ticket m led (fault.CommandRefused named) h = (h.0, record { machine = m; led = led; refuses = h.1 })
 
 pub untold_there :
-    (budget : ℕ) (script : List ℕ) (commands : List Command) (ticket : ℕ) (m : Machine) (r : Result (Option Told) ExplainFault) → Leads (opening budget) (take ticket commands) m
+    (budget : ℕ) (script : List ℕ) (commands : List Command) (ticket : ℕ) (m : Machine) (r : Result (Option ExplainedCase) ExplainFault) → Leads (opening budget) (take ticket commands) m
     → IfErr r (Untold m commands ticket) → IfErr r (Unled budget script commands ticket)
 untold_there budget script commands ticket m (Ok found) led h = tt
 untold_there budget script commands ticket m (Err why) led h = untold budget script commands ticket m led why h
@@ -54,7 +54,7 @@ unread_there budget script commands ticket (fault.CommandRefused named) h = absu
 
 -- the case of a schedule file
 pub explained :
-    (budget : ℕ) (script schedule : List ℕ) (commands : List Command) (ticket : ℕ) (f : Fault) (runs : List EventRun) (r : Result (Option Told) ExplainFault) → IsScript script commands
+    (budget : ℕ) (script schedule : List ℕ) (commands : List Command) (ticket : ℕ) (f : Fault) (runs : List EventRun) (r : Result (Option ExplainedCase) ExplainFault) → IsScript script commands
     → IsScheduleFile schedule ticket f runs → IfOk r (λ found. IsTold budget commands ticket f runs (is_some found))
     → IfOk r (λ found. Explained budget script schedule (is_some found))
 explained budget script schedule commands ticket f runs (Ok found) is file told =
@@ -79,7 +79,7 @@ unled budget script schedule commands ticket f runs is file (fault.CommandRefuse
     record { commands = commands; ticket = ticket; f = f; runs = runs; is = is; file = file; untold = inr (h.1, ap (λ n. fault.CommandRefused n) h.0) }
 
 pub unexplained :
-    (budget : ℕ) (script schedule : List ℕ) (commands : List Command) (ticket : ℕ) (f : Fault) (runs : List EventRun) (r : Result (Option Told) ExplainFault) → IsScript script commands
+    (budget : ℕ) (script schedule : List ℕ) (commands : List Command) (ticket : ℕ) (f : Fault) (runs : List EventRun) (r : Result (Option ExplainedCase) ExplainFault) → IsScript script commands
     → IsScheduleFile schedule ticket f runs → IfErr r (Unled budget script commands ticket) → IfErr r (Unexplained budget script schedule)
 unexplained budget script schedule commands ticket f runs (Ok found) is file h = tt
 unexplained budget script schedule commands ticket f runs (Err why) is file h = unled budget script schedule commands ticket f runs is file why h

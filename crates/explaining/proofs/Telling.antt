@@ -22,7 +22,7 @@ use Rattle.item_step.specs.declared.launch.Launch.{Launch}
 use Rattle.spaces_base.specs.Buffers.{bytes_in}
 use Rattle.spaces_base.specs.Tables.{Table}
 use Rattle.explaining.specs.Explaining.{HasShort, IsShort, Refuses, Tells}
-use Rattle.explaining.specs.declared.told.Told.{Told}
+use Rattle.explaining.specs.declared.told.ExplainedCase.{ExplainedCase}
 
 -- two facts of what was answered
 pub ok_both : {A E : Type 0} (r : Result A E) (P Q R : A → Type 0) → IfOk r P → IfOk r Q → ((x : A) → P x → Q x → R x) → IfOk r R
@@ -42,7 +42,7 @@ decided_not answer not d p = false≢true (sym not ∙ d.1 p)
 
 -- a prepared launch whose explanation was found exactly if its schedule leads to the fault
 pub tells :
-    (m : Machine) (commands : List Command) (ticket : ℕ) (kernel : List ℕ) (range : Range) (launch : Launch) (buffers : Table (List ℕ)) (f : Fault) (runs : List EventRun) (found : Option Told)
+    (m : Machine) (commands : List Command) (ticket : ℕ) (kernel : List ℕ) (range : Range) (launch : Launch) (buffers : Table (List ℕ)) (f : Fault) (runs : List EventRun) (found : Option ExplainedCase)
     → slice_get commands ticket ≡ Some (command.Launch kernel range) → IsPrepared m kernel range launch → buffers ≡ m.buffers
     → IfNone found (Reaches (launch_of (launches.setup_of launch) (bytes_in buffers)) (events_of runs) f → ⊥)
     → IfSome found (λ _. Reaches (launch_of (launches.setup_of launch) (bytes_in buffers)) (events_of runs) f) → Tells m commands ticket f runs (is_some found)
@@ -60,7 +60,7 @@ tells m commands ticket kernel range launch buffers f runs found at p e none som
     moved d = subst (λ (b : Table (List ℕ)). D (setup_of m (kernel_of m kernel) range) b) e (subst (λ (s : Setup). D s buffers) p.setup d)
 
     go :
-        (o : Option Told) → IfNone o (Reaches (launch_of (launches.setup_of launch) (bytes_in buffers)) (events_of runs) f → ⊥)
+        (o : Option ExplainedCase) → IfNone o (Reaches (launch_of (launches.setup_of launch) (bytes_in buffers)) (events_of runs) f → ⊥)
         → IfSome o (λ _. Reaches (launch_of (launches.setup_of launch) (bytes_in buffers)) (events_of runs) f)
         → Decides (is_some o) (Reaches (launch_of (launches.setup_of launch) (bytes_in buffers)) (events_of runs) f)
     go None n s = (λ e. absurd (false≢true e), λ r. absurd (n r))

@@ -35,7 +35,7 @@ use Rattle.explaining.specs.Whole.{AnswersTo, AreNamed, HasWhole, IsExplained, I
 use Rattle.explaining.specs.declared.answers.Answer.{Answer}
 use Rattle.explaining.specs.declared.facts.Format.{Format}
 use Rattle.explaining.specs.declared.faults.ExplainFault.{ExplainFault}
-use Rattle.explaining.specs.declared.told.Told.{Told}
+use Rattle.explaining.specs.declared.told.ExplainedCase.{ExplainedCase}
 use Rattle.explaining.specs.declared.walks.Case.{Case}
 use Rattle.explaining.specs.declared.walks.Unbuilt.{Unbuilt}
 use Rattle.explaining.specs.declared.walks.Walked.{Walked}
@@ -88,14 +88,14 @@ some_both (Some x) P Q R S p q r h = h x p q r
 some_both None P Q R S p q r h = tt
 
 pub whole_there :
-    (budget : ℕ) (commands : List Command) (ticket : ℕ) (f : Fault) (runs : List EventRun) (m : Machine) (r : Result (Option Told) ExplainFault) → Leads (opening budget) (take ticket commands) m
+    (budget : ℕ) (commands : List Command) (ticket : ℕ) (f : Fault) (runs : List EventRun) (m : Machine) (r : Result (Option ExplainedCase) ExplainFault) → Leads (opening budget) (take ticket commands) m
     → IfOk r (λ found. IfSome found (λ told. HasWhole m commands ticket f runs told.schedule told.whole)) → IfOk r (λ found. IfSome found (IsToldThere budget commands ticket f runs))
 whole_there budget commands ticket f runs m (Ok (Some told)) led h = record { machine = m; led = led; whole = h }
 whole_there budget commands ticket f runs m (Ok None) led h = tt
 whole_there budget commands ticket f runs m (Err why) led h = tt
 
 pub whole_of :
-    (budget : ℕ) (script schedule : List ℕ) (commands : List Command) (ticket : ℕ) (f : Fault) (runs : List EventRun) (r : Result (Option Told) ExplainFault) → IsScript script commands
+    (budget : ℕ) (script schedule : List ℕ) (commands : List Command) (ticket : ℕ) (f : Fault) (runs : List EventRun) (r : Result (Option ExplainedCase) ExplainFault) → IsScript script commands
     → IsScheduleFile schedule ticket f runs → IfOk r (λ found. IfSome found (IsToldThere budget commands ticket f runs)) → IfOk r (λ found. IfSome found (IsToldOf budget script schedule))
 whole_of budget script schedule commands ticket f runs (Ok (Some told)) is file h =
     record { commands = commands; ticket = ticket; f = f; runs = runs; is = is; file = file; there = h }
@@ -103,7 +103,7 @@ whole_of budget script schedule commands ticket f runs (Ok None) is file h = tt
 whole_of budget script schedule commands ticket f runs (Err why) is file h = tt
 
 pub says_of :
-    (budget : ℕ) (f : Format) (script schedule : List ℕ) (o : Option Told) (answer : Answer) → IfSome o (IsToldOf budget script schedule) → answer.yes ≡ is_some o
+    (budget : ℕ) (f : Format) (script schedule : List ℕ) (o : Option ExplainedCase) (answer : Answer) → IfSome o (IsToldOf budget script schedule) → answer.yes ≡ is_some o
     → AnswersTo f (codes "no\n") o answer → SaysOf budget f script schedule answer.yes (string_bytes answer.text)
 says_of budget f script schedule (Some told) answer is agrees h = subst (λ y. SaysOf budget f script schedule y (string_bytes answer.text)) (sym agrees) (told, is, h)
 says_of budget f script schedule None answer is agrees h = subst (λ y. SaysOf budget f script schedule y (string_bytes answer.text)) (sym agrees) h
@@ -117,7 +117,7 @@ says_unbuilt budget f script commands m w u answer is h e agrees =
     (record { commands = commands; ticket = u.ticket; machine = m; is = is; found = inr (u.fault, first) })
 
 told_first :
-    (budget : ℕ) (f : Format) (script : List ℕ) (commands : List Command) (m : Machine) (ticket : ℕ) (fault : Fault) (runs : List EventRun) (o : Option Told) (answer : Answer)
+    (budget : ℕ) (f : Format) (script : List ℕ) (commands : List Command) (m : Machine) (ticket : ℕ) (fault : Fault) (runs : List EventRun) (o : Option ExplainedCase) (answer : Answer)
     → IsScript script commands → IsFirst (opening budget) commands m ticket (reply.Fault fault runs) → is_some o ≡ true
     → IfSome o (λ told. HasWhole m commands ticket fault runs told.schedule told.whole) → answer.yes ≡ is_some o → AnswersTo f (codes "no\n") o answer
     → SaysScript budget f script answer.yes (string_bytes answer.text)
@@ -133,7 +133,7 @@ told_first budget f script commands m ticket fault runs (Some told) answer is fi
     })
 
 pub says_faulted :
-    (budget : ℕ) (f : Format) (script : List ℕ) (commands : List Command) (m : Machine) (w : Walked) (case : Case) (o : Option Told) (answer : Answer) → IsScript script commands
+    (budget : ℕ) (f : Format) (script : List ℕ) (commands : List Command) (m : Machine) (w : Walked) (case : Case) (o : Option ExplainedCase) (answer : Answer) → IsScript script commands
     → WalkedTo (opening budget) commands m w → w ≡ walked.Faulted case → Tells m commands case.ticket case.fault case.schedule (is_some o)
     → IfSome o (λ told. HasWhole m commands case.ticket case.fault case.schedule told.schedule told.whole) → answer.yes ≡ is_some o → AnswersTo f (codes "no\n") o answer
     → SaysScript budget f script answer.yes (string_bytes answer.text)

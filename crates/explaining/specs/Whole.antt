@@ -37,7 +37,7 @@ use Rattle.explaining.specs.declared.answers.Answer.{Answer}
 use Rattle.explaining.specs.declared.facts.Format.{Format}
 use Rattle.explaining.specs.declared.facts.Format.TheVariants as format
 use Rattle.explaining.specs.declared.facts.Given.{Given}
-use Rattle.explaining.specs.declared.told.Told.{Told}
+use Rattle.explaining.specs.declared.told.ExplainedCase.{ExplainedCase}
 
 -- a schedule as a schedule file has it
 abbrev pub schedule_words : List EventRun → List ℕ
@@ -103,18 +103,18 @@ IsTextOf format.Text e text = IsText e text
 IsTextOf format.Json e text = (line : List ℕ) × (text ≡ line ++ 10 ∷ []) × (read line ≡ Some (explanation_data e))
 
 -- a text of what is told, or the word that there is nothing
-abbrev pub AnswersTo : Format → List ℕ → Option Told → Answer → Type 0
+abbrev pub AnswersTo : Format → List ℕ → Option ExplainedCase → Answer → Type 0
 AnswersTo f word None answer = string_bytes answer.text ≡ word
 AnswersTo f word (Some told) answer = IsTextOf f told.whole (string_bytes answer.text)
 
 -- what is told of a case on a new device, to which the commands before its ticket led
-pub record IsToldThere (budget : ℕ) (commands : List Command) (ticket : ℕ) (f : Fault) (given : List EventRun) (told : Told) : Type 0 where
+pub record IsToldThere (budget : ℕ) (commands : List Command) (ticket : ℕ) (f : Fault) (given : List EventRun) (told : ExplainedCase) : Type 0 where
   pub machine : Machine
   pub led : Leads (opening budget) (take ticket commands) machine
   pub whole : HasWhole machine commands ticket f given told.schedule told.whole
 
 -- what is told of the case of a schedule file
-pub record IsToldOf (budget : ℕ) (script schedule : List ℕ) (told : Told) : Type 0 where
+pub record IsToldOf (budget : ℕ) (script schedule : List ℕ) (told : ExplainedCase) : Type 0 where
   pub commands : List Command
   pub ticket : ℕ
   pub f : Fault
@@ -125,7 +125,7 @@ pub record IsToldOf (budget : ℕ) (script schedule : List ℕ) (told : Told) : 
 
 -- the text for a schedule file
 abbrev pub SaysOf : ℕ → Format → List ℕ → List ℕ → Bool → List ℕ → Type 0
-SaysOf budget f script schedule true text = (told : Told) × IsToldOf budget script schedule told × IsTextOf f told.whole text
+SaysOf budget f script schedule true text = (told : ExplainedCase) × IsToldOf budget script schedule told × IsTextOf f told.whole text
 SaysOf budget f script schedule false text = text ≡ codes "no\n"
 
 -- what is told of the first fault of a script, and its text
@@ -133,7 +133,7 @@ pub record TellsFirst (budget : ℕ) (f : Format) (commands : List Command) (mac
   pub fault : Fault
   pub runs : List EventRun
   pub first : IsFirst (opening budget) commands machine ticket (reply.Fault fault runs)
-  pub told : Told
+  pub told : ExplainedCase
   pub whole : HasWhole machine commands ticket fault runs told.schedule told.whole
   pub written : IsTextOf f told.whole text
 

@@ -6,7 +6,7 @@ ghost use Rattle.counted_io.specs.Sink.{Puts};
 ghost use Rattle.explaining.specs.Whole.{AnswersTo, IsTextOf};
 
 use crate::facts::Format;
-use crate::told::Told;
+use crate::told::ExplainedCase;
 use counted_io::{Write, WriteFailed};
 use explain_json::json_of;
 use explain_text::text_of;
@@ -42,7 +42,7 @@ fn written(alloc: Global, whole: &Explanation, format: Format) -> Result<String,
 /// The text of what is told, or the word that there is nothing.
 pub(crate) fn answer_of(
     alloc: Global,
-    told: Option<Told>,
+    told: Option<ExplainedCase>,
     format: Format,
     word: &str,
 ) -> Result<Answer, AllocError>

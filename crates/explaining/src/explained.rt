@@ -14,8 +14,8 @@ use crate::answers::{Answer, answer_of, tell, word_answer};
 use crate::building::{explain_source, explain_unbuilt};
 use crate::facts::{ExplainOptions, Format, Given, lines_before};
 use crate::faults::ExplainFault;
-use crate::told::{Asked, Told, explain_case};
-use crate::walks::{Performed, Unbuilt, Walked, lead, walk_anew};
+use crate::told::{Asked, ExplainedCase, explain_case};
+use crate::walks::{Performed, Unbuilt, Walked, perform_all, walk_anew};
 use clmodel::fault::Fault;
 use clmodel::schedule::Schedule;
 use counted_io::Write;
@@ -44,7 +44,7 @@ fn told_at(
     ticket: usize,
     fault: &Fault,
     schedule: Schedule,
-) -> Result<Option<Told>, ExplainFault>
+) -> Result<Option<ExplainedCase>, ExplainFault>
     requires { IsScript given.script.now commands.now }
     ensures told { IfOk result (λ found. IsTold options.budget commands.now ticket fault.now schedule (is_some found)) }
     ensures whole { IfOk result (λ found. IfSome found (IsToldThere options.budget commands.now ticket fault.now schedule)) }
@@ -52,7 +52,7 @@ fn told_at(
 {
     let before = read_first(alloc, given.script, ticket)?;
     let mut device = Device::new(alloc, options.budget);
-    let done = lead(alloc, &mut device, before)?;
+    let done = perform_all(alloc, &mut device, before)?;
     let asked = Asked {
         given,
         options,
@@ -69,7 +69,7 @@ fn told_in(
     options: ExplainOptions,
     commands: &[Command],
     schedule: &[u8],
-) -> Result<Option<Told>, ExplainFault>
+) -> Result<Option<ExplainedCase>, ExplainFault>
     requires { IsScript given.script.now commands.now }
     ensures explained { IfOk result (λ found. Explained options.budget given.entry.script.now schedule.now (is_some found)) }
     ensures whole { IfOk result (λ found. IfSome found (IsToldOf options.budget given.entry.script.now schedule.now)) }

@@ -32,9 +32,9 @@ use shortening::{Named, Shortened, event_count};
 use spaces_base::Buffers;
 use std::alloc::{AllocError, Global};
 
-/// An explanation, and the schedule that it tells.
+/// A case that is explained: its explanation, and the schedule that it tells.
 #[derive(Drop)]
-pub(crate) struct Told {
+pub(crate) struct ExplainedCase {
     pub whole: Explanation,
     pub schedule: Schedule,
 }
@@ -149,7 +149,7 @@ fn told_of(
     fault: &Fault,
     schedule: Schedule,
     as_given: bool,
-) -> Result<Told, AllocError>
+) -> Result<ExplainedCase, AllocError>
     requires groups { HasGroups (setup_of context.now.launch.now) }
     requires leads { Reaches (launch_of (setup_of context.now.launch.now) (bytes_in buffers.now)) (events_of schedule) fault.now }
     ensures short { IfOk result (λ told. IsShort (launch_of (setup_of context.now.launch.now) (bytes_in buffers.now)) fault.now schedule told.schedule) }
@@ -160,7 +160,7 @@ fn told_of(
     let given = given_schedule(context.alloc, fault, &schedule)?;
     let short = chosen(context, buffers, fault, schedule, as_given)?;
     let whole = whole_of(context, buffers, place, fault, given, &short)?;
-    Ok(Told {
+    Ok(ExplainedCase {
         whole,
         schedule: short.schedule,
     })
@@ -174,7 +174,7 @@ fn explain_launch(
     fault: &Fault,
     schedule: Schedule,
     as_given: bool,
-) -> Result<Option<Told>, AllocError>
+) -> Result<Option<ExplainedCase>, AllocError>
     requires { HasGroups (setup_of context.now.launch.now) }
     ensures none { IfOk result (λ found. IfNone found (Reaches (launch_of (setup_of context.now.launch.now) (bytes_in buffers.now)) (events_of schedule) fault.now → ⊥)) }
     ensures leads { IfOk result (λ found. IfSome found (λ _. Reaches (launch_of (setup_of context.now.launch.now) (bytes_in buffers.now)) (events_of schedule) fault.now)) }
@@ -240,7 +240,7 @@ pub(crate) fn explain_case(
     ticket: usize,
     fault: &Fault,
     schedule: Schedule,
-) -> Result<Option<Told>, ExplainFault>
+) -> Result<Option<ExplainedCase>, ExplainFault>
     ensures told { IfOk result (λ found. Tells (machine_of device.now) asked.now.commands.now ticket fault.now schedule (is_some found)) }
     ensures short { IfOk result (λ found. IfSome found (λ told. HasShort (machine_of device.now) asked.now.commands.now ticket fault.now schedule told.schedule)) }
     ensures whole { IfOk result (λ found. IfSome found (λ told. HasWhole (machine_of device.now) asked.now.commands.now ticket fault.now schedule told.schedule told.whole)) }

@@ -75,7 +75,7 @@ fn perform(device: &mut Device, command: Command, done: &mut Vec<bool>) -> Resul
 }
 
 /// Performs commands, and notes of each whether it was done. An error is out of memory.
-pub(crate) fn lead(
+pub(crate) fn perform_all(
     alloc: Global,
     device: &mut Device,
     commands: Vec<Command>,

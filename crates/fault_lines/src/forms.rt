@@ -7,10 +7,10 @@ ghost use Rattle.clmodel.specs.declared.action.Stop.{Stop};
 ghost use Rattle.clmodel.specs.declared.fault.Fault.TheVariants as fault;
 ghost use Rattle.fault_lines.specs.Reading.{kind_of, kind_at, buffer_at, local_at, local_place_at, place_at, listed_at, turns_at, barrier_at, barrier_stop_at, stop_at, conflict_at, divergence_at, element_at, private_fault_at, access_bounds_at, bounds_at, variable_at, access_unset_at, unset_at, alone_fault_at, memory_fault_at, fault_at};
 ghost use Rattle.fault_lines.specs.Views.{location_of, stop_of, fault_of};
-ghost use Rattle.fault_lines.specs.declared.told.Told.TheVariants as told;
+ghost use Rattle.fault_lines.specs.declared.lent.LentFault.TheVariants as lent;
 
 use crate::fields::{list_before, name_before, number32_before, signed_before};
-use crate::told::{Bounds, Conflict, Divergence, Halt, Place, Private, Told, Unset};
+use crate::lent::{Bounds, Conflict, Divergence, Halt, LentFault, Place, Private, Unset};
 use clmodel::access::{AccessKind, Clash, Class};
 use line_fields::{after, number_before};
 
@@ -140,7 +140,7 @@ fn stop_at(bytes: &[u8]) -> Option<(Halt<'_>, &[u8])>
 }
 
 #[tactic(auto, unfolding(crate::specs::Reading::conflict_at))]
-fn conflict_at(clash: Clash, bytes: &[u8]) -> Option<(Told<'_>, &[u8])>
+fn conflict_at(clash: Clash, bytes: &[u8]) -> Option<(LentFault<'_>, &[u8])>
     ensures { option_map (λ read. (fault_of read.0, read.1.now)) result ≡ conflict_at clash bytes.now }
 {
     let (item, rest) = number32_before(b' ', bytes)?;
@@ -160,11 +160,11 @@ fn conflict_at(clash: Clash, bytes: &[u8]) -> Option<(Told<'_>, &[u8])>
         place,
         byte,
     };
-    Some((Told::Conflict(conflict), rest))
+    Some((LentFault::Conflict(conflict), rest))
 }
 
 #[tactic(auto, unfolding(crate::specs::Reading::divergence_at))]
-fn divergence_at(bytes: &[u8]) -> Option<(Told<'_>, &[u8])>
+fn divergence_at(bytes: &[u8]) -> Option<(LentFault<'_>, &[u8])>
     ensures { option_map (λ read. (fault_of read.0, read.1.now)) result ≡ divergence_at bytes.now }
 {
     let (item, rest) = number32_before(b' ', bytes)?;
@@ -178,7 +178,7 @@ fn divergence_at(bytes: &[u8]) -> Option<(Told<'_>, &[u8])>
         other_item,
         other_stop,
     };
-    Some((Told::Divergence(divergence), rest))
+    Some((LentFault::Divergence(divergence), rest))
 }
 
 #[tactic(auto, unfolding(crate::specs::Reading::element_at))]
@@ -192,8 +192,8 @@ fn element_at(bytes: &[u8]) -> Option<(i64, &[u8])>
 /// An item at an element of one of its private arrays, and the rest.
 #[tactic(auto, unfolding(crate::specs::Reading::private_fault_at))]
 fn private_at(item: u32, bytes: &[u8]) -> Option<(Private<'_>, &[u8])>
-    ensures bounds { option_map (λ read. (fault_of (told.PrivateBounds read.0), read.1.now)) result ≡ private_fault_at (fault.PrivateBounds item) bytes.now }
-    ensures unset { option_map (λ read. (fault_of (told.UnsetElement read.0), read.1.now)) result ≡ private_fault_at (fault.UnsetElement item) bytes.now }
+    ensures bounds { option_map (λ read. (fault_of (lent.PrivateBounds read.0), read.1.now)) result ≡ private_fault_at (fault.PrivateBounds item) bytes.now }
+    ensures unset { option_map (λ read. (fault_of (lent.UnsetElement read.0), read.1.now)) result ≡ private_fault_at (fault.UnsetElement item) bytes.now }
 {
     let (array, rest) = name_before(b' ', bytes)?;
     let (element, rest) = element_at(rest)?;
@@ -206,7 +206,7 @@ fn private_at(item: u32, bytes: &[u8]) -> Option<(Private<'_>, &[u8])>
 }
 
 #[tactic(auto, unfolding(crate::specs::Reading::access_bounds_at))]
-fn access_bounds_at(item: u32, bytes: &[u8]) -> Option<(Told<'_>, &[u8])>
+fn access_bounds_at(item: u32, bytes: &[u8]) -> Option<(LentFault<'_>, &[u8])>
     ensures { option_map (λ read. (fault_of read.0, read.1.now)) result ≡ access_bounds_at item bytes.now }
 {
     let (kind, rest) = kind_at(bytes)?;
@@ -218,31 +218,31 @@ fn access_bounds_at(item: u32, bytes: &[u8]) -> Option<(Told<'_>, &[u8])>
         place,
         element,
     };
-    Some((Told::Bounds(bounds), rest))
+    Some((LentFault::Bounds(bounds), rest))
 }
 
 #[tactic(auto, unfolding(crate::specs::Reading::bounds_at))]
-fn bounds_at(bytes: &[u8]) -> Option<(Told<'_>, &[u8])>
+fn bounds_at(bytes: &[u8]) -> Option<(LentFault<'_>, &[u8])>
     ensures { option_map (λ read. (fault_of read.0, read.1.now)) result ≡ bounds_at bytes.now }
 {
     let (item, rest) = number32_before(b' ', bytes)?;
     if let Some(rest) = after(b"private ", rest) {
         let (place, rest) = private_at(item, rest)?;
-        return Some((Told::PrivateBounds(place), rest));
+        return Some((LentFault::PrivateBounds(place), rest));
     }
     access_bounds_at(item, rest)
 }
 
 #[tactic(auto, unfolding(crate::specs::Reading::variable_at))]
-fn variable_at(item: u32, bytes: &[u8]) -> Option<(Told<'_>, &[u8])>
+fn variable_at(item: u32, bytes: &[u8]) -> Option<(LentFault<'_>, &[u8])>
     ensures { option_map (λ read. (fault_of read.0, read.1.now)) result ≡ variable_at item bytes.now }
 {
     let (variable, rest) = name_before(b' ', bytes)?;
-    Some((Told::UnsetVariable { item, variable }, rest))
+    Some((LentFault::UnsetVariable { item, variable }, rest))
 }
 
 #[tactic(auto, unfolding(crate::specs::Reading::access_unset_at))]
-fn access_unset_at(item: u32, bytes: &[u8]) -> Option<(Told<'_>, &[u8])>
+fn access_unset_at(item: u32, bytes: &[u8]) -> Option<(LentFault<'_>, &[u8])>
     ensures { option_map (λ read. (fault_of read.0, read.1.now)) result ≡ access_unset_at item bytes.now }
 {
     let (kind, rest) = kind_at(bytes)?;
@@ -255,11 +255,11 @@ fn access_unset_at(item: u32, bytes: &[u8]) -> Option<(Told<'_>, &[u8])>
         place,
         byte,
     };
-    Some((Told::Unset(unset), rest))
+    Some((LentFault::Unset(unset), rest))
 }
 
 #[tactic(auto, unfolding(crate::specs::Reading::unset_at))]
-fn unset_at(bytes: &[u8]) -> Option<(Told<'_>, &[u8])>
+fn unset_at(bytes: &[u8]) -> Option<(LentFault<'_>, &[u8])>
     ensures { option_map (λ read. (fault_of read.0, read.1.now)) result ≡ unset_at bytes.now }
 {
     let (item, rest) = number32_before(b' ', bytes)?;
@@ -268,32 +268,32 @@ fn unset_at(bytes: &[u8]) -> Option<(Told<'_>, &[u8])>
     }
     if let Some(rest) = after(b"private ", rest) {
         let (place, rest) = private_at(item, rest)?;
-        return Some((Told::UnsetElement(place), rest));
+        return Some((LentFault::UnsetElement(place), rest));
     }
     access_unset_at(item, rest)
 }
 
 /// A fault that names an item alone, behind the word `fault`.
 #[tactic(auto, unfolding(crate::specs::Reading::alone_fault_at, crate::specs::Reading::item_fault_at, line_fields::specs::Fronts::after))]
-fn alone_fault_at(bytes: &[u8]) -> Option<(Told<'_>, &[u8])>
+fn alone_fault_at(bytes: &[u8]) -> Option<(LentFault<'_>, &[u8])>
     ensures { option_map (λ read. (fault_of read.0, read.1.now)) result ≡ alone_fault_at bytes.now }
 {
     if let Some(rest) = after(b"6 divide_by_zero item ", bytes) {
         let (item, rest) = number32_before(b' ', rest)?;
-        return Some((Told::DivideByZero { item }, rest));
+        return Some((LentFault::DivideByZero { item }, rest));
     }
     if let Some(rest) = after(b"7 divide_overflow item ", bytes) {
         let (item, rest) = number32_before(b' ', rest)?;
-        return Some((Told::DivideOverflow { item }, rest));
+        return Some((LentFault::DivideOverflow { item }, rest));
     }
     let rest = after(b"8 budget item ", bytes)?;
     let (item, rest) = number32_before(b' ', rest)?;
-    Some((Told::Budget { item }, rest))
+    Some((LentFault::Budget { item }, rest))
 }
 
 /// A fault behind the word `fault`.
 #[tactic(auto, unfolding(crate::specs::Reading::memory_fault_at, line_fields::specs::Fronts::after))]
-fn memory_fault_at(bytes: &[u8]) -> Option<(Told<'_>, &[u8])>
+fn memory_fault_at(bytes: &[u8]) -> Option<(LentFault<'_>, &[u8])>
     ensures { option_map (λ read. (fault_of read.0, read.1.now)) result ≡ memory_fault_at bytes.now }
 {
     if let Some(rest) = after(b"1 race item ", bytes) {
@@ -316,7 +316,7 @@ fn memory_fault_at(bytes: &[u8]) -> Option<(Told<'_>, &[u8])>
 
 /// A fault in front of a space, and the rest behind it.
 #[tactic(auto, unfolding(crate::specs::Reading::fault_at))]
-pub fn fault_at(bytes: &[u8]) -> Option<(Told<'_>, &[u8])>
+pub fn fault_at(bytes: &[u8]) -> Option<(LentFault<'_>, &[u8])>
     ensures { option_map (λ read. (fault_of read.0, read.1.now)) result ≡ fault_at bytes.now }
 {
     let rest = after(b"fault ", bytes)?;

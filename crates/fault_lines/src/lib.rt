@@ -7,9 +7,9 @@
 
 mod fields;
 mod forms;
+mod lent;
 mod reading;
 mod runs;
-mod told;
 pub mod writing;
 
 pub use reading::{ReadFault, read};

@@ -14,8 +14,8 @@ ghost use Rattle.fault_lines.specs.Faults.{IsRefused};
 
 use crate::fields::turn_of;
 use crate::forms::fault_at;
+use crate::lent::{Bounds, Conflict, Divergence, Halt, LentFault, Place, Private, Unset};
 use crate::runs::{schedule_at, schedule_of};
-use crate::told::{Bounds, Conflict, Divergence, Halt, Place, Private, Told, Unset};
 use clmodel::action::{Instance, Stop, Turns};
 use clmodel::fault::{Fault, Location};
 use clmodel::schedule::Schedule;
@@ -80,79 +80,79 @@ fn stop_of(alloc: Global, halt: Halt<'_>) -> Result<Stop, AllocError>
     }
 }
 
-fn conflict_of(alloc: Global, told: Conflict<'_>) -> Result<Fault, AllocError>
-    ensures { IfOk result (λ fault. fault ≡ conflict_of told.entry) }
+fn conflict_of(alloc: Global, lent: Conflict<'_>) -> Result<Fault, AllocError>
+    ensures { IfOk result (λ fault. fault ≡ conflict_of lent.entry) }
 {
     Ok(Fault::Conflict {
-        clash: told.clash,
-        item: told.item,
-        kind: told.kind,
-        other_item: told.other_item,
-        other_kind: told.other_kind,
-        location: location_of(alloc, told.place)?,
-        byte: told.byte,
+        clash: lent.clash,
+        item: lent.item,
+        kind: lent.kind,
+        other_item: lent.other_item,
+        other_kind: lent.other_kind,
+        location: location_of(alloc, lent.place)?,
+        byte: lent.byte,
     })
 }
 
-fn divergence_of(alloc: Global, told: Divergence<'_>) -> Result<Fault, AllocError>
-    ensures { IfOk result (λ fault. fault ≡ divergence_of told.entry) }
+fn divergence_of(alloc: Global, lent: Divergence<'_>) -> Result<Fault, AllocError>
+    ensures { IfOk result (λ fault. fault ≡ divergence_of lent.entry) }
 {
     Ok(Fault::Divergence {
-        item: told.item,
-        stop: stop_of(alloc, told.stop)?,
-        other_item: told.other_item,
-        other_stop: stop_of(alloc, told.other_stop)?,
+        item: lent.item,
+        stop: stop_of(alloc, lent.stop)?,
+        other_item: lent.other_item,
+        other_stop: stop_of(alloc, lent.other_stop)?,
     })
 }
 
-fn bounds_of(alloc: Global, told: Bounds<'_>) -> Result<Fault, AllocError>
-    ensures { IfOk result (λ fault. fault ≡ bounds_of told.entry) }
+fn bounds_of(alloc: Global, lent: Bounds<'_>) -> Result<Fault, AllocError>
+    ensures { IfOk result (λ fault. fault ≡ bounds_of lent.entry) }
 {
     Ok(Fault::Bounds {
-        item: told.item,
-        kind: told.kind,
-        location: location_of(alloc, told.place)?,
-        element: told.element,
+        item: lent.item,
+        kind: lent.kind,
+        location: location_of(alloc, lent.place)?,
+        element: lent.element,
     })
 }
 
-fn unset_of(alloc: Global, told: Unset<'_>) -> Result<Fault, AllocError>
-    ensures { IfOk result (λ fault. fault ≡ unset_of told.entry) }
+fn unset_of(alloc: Global, lent: Unset<'_>) -> Result<Fault, AllocError>
+    ensures { IfOk result (λ fault. fault ≡ unset_of lent.entry) }
 {
     Ok(Fault::Unset {
-        item: told.item,
-        kind: told.kind,
-        location: location_of(alloc, told.place)?,
-        byte: told.byte,
+        item: lent.item,
+        kind: lent.kind,
+        location: location_of(alloc, lent.place)?,
+        byte: lent.byte,
     })
 }
 
 /// A fault with copies of the names.
-fn fault_of(alloc: Global, told: Told<'_>) -> Result<Fault, AllocError>
-    ensures { IfOk result (λ fault. fault ≡ fault_of told.entry) }
+fn fault_of(alloc: Global, lent: LentFault<'_>) -> Result<Fault, AllocError>
+    ensures { IfOk result (λ fault. fault ≡ fault_of lent.entry) }
 {
-    match told {
-        Told::Conflict(conflict) => conflict_of(alloc, conflict),
-        Told::Divergence(divergence) => divergence_of(alloc, divergence),
-        Told::Bounds(bounds) => bounds_of(alloc, bounds),
-        Told::PrivateBounds(place) => Ok(Fault::PrivateBounds {
+    match lent {
+        LentFault::Conflict(conflict) => conflict_of(alloc, conflict),
+        LentFault::Divergence(divergence) => divergence_of(alloc, divergence),
+        LentFault::Bounds(bounds) => bounds_of(alloc, bounds),
+        LentFault::PrivateBounds(place) => Ok(Fault::PrivateBounds {
             item: place.item,
             array: Name::copy_of(alloc, place.array)?,
             element: place.element,
         }),
-        Told::Unset(unset) => unset_of(alloc, unset),
-        Told::UnsetVariable { item, variable } => Ok(Fault::UnsetVariable {
+        LentFault::Unset(unset) => unset_of(alloc, unset),
+        LentFault::UnsetVariable { item, variable } => Ok(Fault::UnsetVariable {
             item,
             variable: Name::copy_of(alloc, variable)?,
         }),
-        Told::UnsetElement(place) => Ok(Fault::UnsetElement {
+        LentFault::UnsetElement(place) => Ok(Fault::UnsetElement {
             item: place.item,
             array: Name::copy_of(alloc, place.array)?,
             element: place.element,
         }),
-        Told::DivideByZero { item } => Ok(Fault::DivideByZero { item }),
-        Told::DivideOverflow { item } => Ok(Fault::DivideOverflow { item }),
-        Told::Budget { item } => Ok(Fault::Budget { item }),
+        LentFault::DivideByZero { item } => Ok(Fault::DivideByZero { item }),
+        LentFault::DivideOverflow { item } => Ok(Fault::DivideOverflow { item }),
+        LentFault::Budget { item } => Ok(Fault::Budget { item }),
     }
 }
 
@@ -160,7 +160,7 @@ fn fault_of(alloc: Global, told: Told<'_>) -> Result<Fault, AllocError>
 #[derive(Clone, Copy)]
 struct File<'a> {
     ticket: u64,
-    fault: Told<'a>,
+    fault: LentFault<'a>,
     schedule: &'a [u8],
 }
 

@@ -2,7 +2,7 @@
 //! takes.
 ghost use Rattle.std.specs.Prelude.{◌≡◌, IfOk};
 
-use crate::desk::{Desk, desks_of, drive};
+use crate::clients::{NumberedClient, drive, numbered_clients};
 use clmodel::text::{Bytes, Name};
 use device::{Command, Device, Reply};
 use host_queue::{Driver, Queue, close, open};
@@ -14,7 +14,7 @@ use std::thread;
 use std::thread::Threads;
 
 /// A client at the device's queue.
-type Guest<'a> = Desk<'a, Device, Command, Reply>;
+type DeviceClient<'a> = NumberedClient<'a, Device, Command, Reply>;
 
 /// The name of a client's buffer: b with the client's number.
 fn buffer_of(alloc: Global, number: u8) -> Result<Name, AllocError> {
@@ -61,33 +61,37 @@ fn is_right(number: u8, place: u32, reply: &Reply) -> bool {
 /// A client after its thread's work.
 #[derive(Drop)]
 struct Report<'a> {
-    guest: Guest<'a>,
+    client: DeviceClient<'a>,
     /// Of the commands with the right reply
     tickets: Vec<u64>,
 }
 
 /// Gives the client's 256 commands.
-fn work<'a, W: Wait>(rt: &W, alloc: Global, guest: Guest<'a>) -> Result<Report<'a>, AllocError> {
-    let mut guest = guest;
-    let number = guest.number;
+fn work<'a, W: Wait>(
+    rt: &W,
+    alloc: Global,
+    client: DeviceClient<'a>,
+) -> Result<Report<'a>, AllocError> {
+    let mut client = client;
+    let number = client.number;
     let mut tickets = Vec::new(alloc);
     for place in 0..256 {
         let asked = command(alloc, number, place)?;
-        if let Some((ticket, reply)) = guest.ask(rt, alloc, asked)? {
+        if let Some((ticket, reply)) = client.ask(rt, alloc, asked)? {
             if is_right(number, place, &reply) {
                 tickets.push(ticket)?;
             }
         }
     }
-    Ok(Report { guest, tickets })
+    Ok(Report { client, tickets })
 }
 
-/// Lets all guests work, each in a thread of its own, while another drives.
+/// Lets all clients work, each in a thread of its own, while another drives.
 fn serve<'a, W: Threads + Wait + Sync>(
     rt: &W,
     alloc: Global,
     queue: &'a Queue<Device, Command, Reply>,
-    guests: Vec<Guest<'a>>,
+    clients: Vec<DeviceClient<'a>>,
     driver: Driver<Device, Command, Reply>,
 ) -> Result<
     (
@@ -101,7 +105,7 @@ fn serve<'a, W: Threads + Wait + Sync>(
 {
     let (reports, driver) = thread::join(
         rt,
-        || thread::map_vec(rt, guests, &|guest| work(rt, alloc, guest)),
+        || thread::map_vec(rt, clients, &|client| work(rt, alloc, client)),
         move || -> Driver<Device, Command, Reply>
             requires { driver.seat.table_id ≡ queue.now.table.shared.table_id }
             ensures { result.seat.table_id ≡ queue.entry.now.table.shared.table_id }
@@ -140,7 +144,7 @@ fn counted(
         let mut report = report?;
         right = right.wrapping_add(report.tickets.len());
         mark(&mut drawn, &report.tickets);
-        if report.guest.is_full(alloc, command(alloc, 1, 2)?)? {
+        if report.client.is_full(alloc, command(alloc, 1, 2)?)? {
             full.push(())?;
         }
     }
@@ -165,8 +169,8 @@ fn written(alloc: Global, buffers: &Buffers) -> Result<usize, AllocError> {
 /// Sixteen clients give their commands to a device: what came of them, and the device as it is then.
 fn shared<W: Threads + Wait + Sync>(rt: &W, alloc: Global) -> Result<(Count, Device), AllocError> {
     let (queue, clients, driver) = open(alloc, Device::new(alloc, 1000000), 16)?;
-    let guests = desks_of(alloc, &queue, clients)?;
-    let (reports, driver) = serve(rt, alloc, &queue, guests, driver)?;
+    let numbered = numbered_clients(alloc, &queue, clients)?;
+    let (reports, driver) = serve(rt, alloc, &queue, numbered, driver)?;
     let count = counted(alloc, reports)?;
     Ok((count, close(rt, queue, Vec::new(alloc), driver)))
 }

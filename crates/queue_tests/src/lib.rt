@@ -6,7 +6,7 @@
 #[cfg(test)]
 mod agreed;
 #[cfg(test)]
-mod desk;
+mod clients;
 #[cfg(test)]
 mod device_clients;
 #[cfg(test)]

@@ -2,7 +2,7 @@
 //! the replies are those of one history.
 ghost use Rattle.std.specs.Prelude.{◌≡◌, IfOk};
 
-use crate::desk::{Desk, desks_of, drive};
+use crate::clients::{NumberedClient, drive, numbered_clients};
 use crate::tally::Tally;
 use host_queue::{Driver, Queue, close, open};
 use std::alloc::{AllocError, Global};
@@ -12,7 +12,7 @@ use std::thread;
 use std::thread::Threads;
 
 /// A client at the queue of a machine that adds.
-type Seated<'a> = Desk<'a, Tally, u32, u32>;
+type TallyClient<'a> = NumberedClient<'a, Tally, u32, u32>;
 
 /// What was asked for under a ticket, and the reply.
 #[derive(Drop)]
@@ -22,58 +22,58 @@ struct Line {
     reply: u32,
 }
 
-/// A desk after its thread's work.
+/// A client after its thread's work.
 #[derive(Drop)]
 struct Report<'a> {
     /// None where it left
-    desk: Option<Seated<'a>>,
+    client: Option<TallyClient<'a>>,
     lines: Vec<Line>,
 }
 
 /// Submits 256 requests, collects none of their replies, and leaves.
-fn leave<'a>(alloc: Global, desk: Seated<'a>) -> Result<Report<'a>, AllocError> {
-    let mut desk = desk;
-    let add = u32::from(desk.number);
+fn leave<'a>(alloc: Global, client: TallyClient<'a>) -> Result<Report<'a>, AllocError> {
+    let mut client = client;
+    let add = u32::from(client.number);
     for _ in 0..256 {
-        desk.is_full(alloc, add)?;
+        client.is_full(alloc, add)?;
     }
     Ok(Report {
-        desk: None,
+        client: None,
         lines: Vec::new(alloc),
     })
 }
 
-/// Asks 256 times for the desk's number to be added, unless it is the desk that leaves.
+/// Asks 256 times for the client's number to be added, unless it is the client that leaves.
 fn work<'a, W: Wait>(
     rt: &W,
     alloc: Global,
-    desk: Seated<'a>,
+    client: TallyClient<'a>,
     leaver: u8,
 ) -> Result<Report<'a>, AllocError> {
-    if desk.number == leaver {
-        return leave(alloc, desk);
+    if client.number == leaver {
+        return leave(alloc, client);
     }
-    let mut desk = desk;
-    let add = u32::from(desk.number);
+    let mut client = client;
+    let add = u32::from(client.number);
     let mut lines = Vec::new(alloc);
     for _ in 0..256 {
-        if let Some((ticket, reply)) = desk.ask(rt, alloc, add)? {
+        if let Some((ticket, reply)) = client.ask(rt, alloc, add)? {
             lines.push(Line { ticket, add, reply })?;
         }
     }
     Ok(Report {
-        desk: Some(desk),
+        client: Some(client),
         lines,
     })
 }
 
-/// Lets all desks work, each in a thread of its own, while another drives until so many tickets are answered. One desk
-/// may leave.
+/// Lets all clients work, each in a thread of its own, while another drives until so many tickets are answered. One
+/// client may leave.
 fn serve<'a, W: Threads + Wait + Sync>(
     rt: &W,
     alloc: Global,
     queue: &'a Queue<Tally, u32, u32>,
-    desks: Vec<Seated<'a>>,
+    clients: Vec<TallyClient<'a>>,
     driver: Driver<Tally, u32, u32>,
     leaver: u8,
     count: u64,
@@ -83,7 +83,7 @@ fn serve<'a, W: Threads + Wait + Sync>(
 {
     let (reports, driver) = thread::join(
         rt,
-        || thread::map_vec(rt, desks, &|desk| work(rt, alloc, desk, leaver)),
+        || thread::map_vec(rt, clients, &|client| work(rt, alloc, client, leaver)),
         move || -> Driver<Tally, u32, u32>
             requires { driver.seat.table_id ≡ queue.now.table.shared.table_id }
             ensures { result.seat.table_id ≡ queue.entry.now.table.shared.table_id }
@@ -120,16 +120,16 @@ fn exact(history: &Vec<u32>, replies: &Vec<Option<u32>>) -> usize {
 fn sixteen_clients_have_one_history(rt: HostRuntime) -> Result<(), Fail> {
     let alloc: Global = rt.alloc();
     let (queue, clients, driver) = open(alloc, Tally { total: 0 }, 16)?;
-    let desks = desks_of(alloc, &queue, clients)?;
-    let (reports, driver) = serve(&rt, alloc, &queue, desks, driver, 0, 4096)?;
+    let numbered = numbered_clients(alloc, &queue, clients)?;
+    let (reports, driver) = serve(&rt, alloc, &queue, numbered, driver, 0, 4096)?;
     let mut history = Vec::from_elem(alloc, 0u32, 4096)?;
     let mut replies = Vec::from_elem(alloc, None, 4096)?;
     for report in reports {
-        let Report { desk, lines } = report?;
-        let Some(mut desk) = desk else {
-            panic!(rt; "no desk")
+        let Report { client, lines } = report?;
+        let Some(mut client) = client else {
+            panic!(rt; "no client")
         };
-        assert!(rt; desk.is_full(alloc, 1)?);
+        assert!(rt; client.is_full(alloc, 1)?);
         gather(&mut history, &mut replies, &lines);
     }
     assert_eq!(rt; exact(&history, &replies), 4096);
@@ -138,13 +138,13 @@ fn sixteen_clients_have_one_history(rt: HostRuntime) -> Result<(), Fail> {
     Ok(())
 }
 
-/// The desk 1 leaves with 256 replies uncollected, while three others work: each reply of theirs is exact.
+/// The client 1 leaves with 256 replies uncollected, while three others work: each reply of theirs is exact.
 #[test]
 fn one_of_four_leaves(rt: HostRuntime) -> Result<(), Fail> {
     let alloc: Global = rt.alloc();
     let (queue, clients, driver) = open(alloc, Tally { total: 0 }, 4)?;
-    let desks = desks_of(alloc, &queue, clients)?;
-    let (reports, driver) = serve(&rt, alloc, &queue, desks, driver, 1, 1024)?;
+    let numbered = numbered_clients(alloc, &queue, clients)?;
+    let (reports, driver) = serve(&rt, alloc, &queue, numbered, driver, 1, 1024)?;
     let mut history = Vec::from_elem(alloc, 1u32, 1024)?;
     let mut replies = Vec::from_elem(alloc, None, 1024)?;
     for report in reports {

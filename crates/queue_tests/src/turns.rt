@@ -4,7 +4,7 @@ ghost use Rattle.std.specs.Box.{box_value};
 ghost use Rattle.host_queue.specs.declared.view.Request.TheVariants.{Asked};
 ghost use Rattle.host_queue.specs.Clients.{IsOpen, StaysOpenBut};
 
-use crate::desk::answered;
+use crate::clients::answered;
 use crate::pair::{boxed, open_two, reply};
 use crate::tally::Tally;
 use clmodel::text::{Bytes, Name};

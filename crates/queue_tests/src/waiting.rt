@@ -1,7 +1,7 @@
 //! No lock lies round the queue: a submit returns while the device does a command.
 ghost use Rattle.std.specs.Prelude.{◌≡◌};
 
-use crate::desk::drive;
+use crate::clients::drive;
 use crate::pair::{boxed, open_one};
 use host_queue::{Client, Driver, Machine, Queue};
 use std::alloc::{AllocError, Global};

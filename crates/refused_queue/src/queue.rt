@@ -48,23 +48,23 @@ fn asked_known<D: Machine<C, R>, C: Drop, R: Drop + Tells>(
     }
 }
 
-/// What the replies to two clients say, all in one box.
+/// What came of the calls of two clients, whose requests are all in one box.
 #[derive(Clone, Copy)]
-struct Told {
+struct CallResults {
     polled: Came,
     known: Came,
     kept: Came,
     agreed: Came,
 }
 
-/// The requests of two clients: the third one may take memory.
-fn told_of<D: Machine<C, R>, C: Drop, R: Drop + Tells>(
+/// What comes of the calls for four requests of two clients: the third one may take memory.
+fn results_of_calls<D: Machine<C, R>, C: Drop, R: Drop + Tells>(
     queue: &Queue<D, C, R>,
     first: &mut Client<D, C, R>,
     second: &mut Client<D, C, R>,
     driver: &mut Driver<D, C, R>,
     requests: &mut Requests<C, R>,
-) -> Told
+) -> CallResults
     requires one { (first.old.seat.table_id ≡ queue.now.table.shared.table_id) × (second.old.seat.table_id ≡ queue.now.table.shared.table_id) × (driver.old.seat.table_id ≡ queue.now.table.shared.table_id) }
     requires two { first.old.seat.me.0.name ≢ second.old.seat.me.0.name }
     ensures one { (second.new.seat.table_id ≡ second.old.seat.table_id) × (driver.new.seat.table_id ≡ driver.old.seat.table_id) }
@@ -74,7 +74,7 @@ fn told_of<D: Machine<C, R>, C: Drop, R: Drop + Tells>(
     first.agree(queue, second);
     let kept = asked(queue, second, driver, requests);
     let agreed = asked_known(queue, first, driver, requests);
-    Told {
+    CallResults {
         polled,
         known,
         kept,
@@ -83,15 +83,19 @@ fn told_of<D: Machine<C, R>, C: Drop, R: Drop + Tells>(
 }
 
 /// Writes the lines of the replies.
-fn tell_all<T: Print>(rt: &T, told: Told) {
+fn tell_results<T: Print>(rt: &T, results: CallResults) {
     is_done(
         rt,
         "queue submit, poll and drive_one without memory",
-        told.polled,
+        results.polled,
     );
-    is_done(rt, "queue poll_known without memory", told.known);
-    is_done(rt, "queue drive_one where memory may be refused", told.kept);
-    is_done(rt, "queue agree without memory", told.agreed);
+    is_done(rt, "queue poll_known without memory", results.known);
+    is_done(
+        rt,
+        "queue drive_one where memory may be refused",
+        results.kept,
+    );
+    is_done(rt, "queue agree without memory", results.agreed);
 }
 
 /// What comes of the third request, which is given again where memory was refused.
@@ -128,7 +132,7 @@ fn try_again<T: Print, D: Machine<C, R>, C: Drop, R: Drop + Tells>(
 }
 
 /// Tries the calls of two clients with every request for memory refused, and then the one that takes memory.
-fn try_told<T: Print + Eprint, D: Machine<C, R>, C: Drop, R: Drop + Tells>(
+fn try_calls<T: Print + Eprint, D: Machine<C, R>, C: Drop, R: Drop + Tells>(
     rt: &T,
     queue: &Queue<D, C, R>,
     first: &mut Client<D, C, R>,
@@ -140,11 +144,11 @@ fn try_told<T: Print + Eprint, D: Machine<C, R>, C: Drop, R: Drop + Tells>(
     requires two { first.old.seat.me.0.name ≢ second.old.seat.me.0.name }
 {
     refuse_all(rt);
-    let told = told_of(queue, first, second, driver, requests);
+    let results = results_of_calls(queue, first, second, driver, requests);
     refuse_none(rt);
-    tell_all(rt, told);
-    let _ = try_again(rt, queue, second, driver, requests, told.kept)
-        || try_again(rt, queue, second, driver, requests, told.kept);
+    tell_results(rt, results);
+    let _ = try_again(rt, queue, second, driver, requests, results.kept)
+        || try_again(rt, queue, second, driver, requests, results.kept);
 }
 
 /// Opens a queue over a machine, and tries the calls of two clients. False where the queue is refused.
@@ -157,7 +161,7 @@ pub fn try_two<T: Print + Eprint, D: Machine<C, R>, C: Drop, R: Drop + Tells>(
     match open_two(alloc, machine) {
         Ok((queue, mut first, mut second, mut driver)) => {
             is_done(rt, "queue open", Came::Done);
-            try_told(rt, &queue, &mut first, &mut second, &mut driver, requests);
+            try_calls(rt, &queue, &mut first, &mut second, &mut driver, requests);
             true
         }
         Err(_) => is_done(rt, "queue open", Came::OutOfMemory),

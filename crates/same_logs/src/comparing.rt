@@ -22,9 +22,9 @@ use spaces::Overlay;
 use spaces_base::Buffers;
 use std::alloc::{AllocError, Global};
 
-/// What a launch comes to with one log.
+/// What a launch comes to with one log, as far as it is compared.
 #[derive(Drop)]
-struct Told {
+struct LaunchReport {
     /// The results of its groups, run apart, as text
     groups: Gathered,
     /// The accesses of the groups' logs, where these are lists
@@ -35,10 +35,10 @@ struct Told {
     outcome: Gathered,
 }
 
-impl Told {
+impl LaunchReport {
     /// Nothing yet.
     fn new(alloc: Global) -> Self {
-        Told {
+        LaunchReport {
             groups: Gathered::new(alloc),
             accesses: Vec::new(alloc),
             is_counted: true,
@@ -52,13 +52,13 @@ impl Told {
     }
 
     /// Whether results and outcome are the same.
-    fn comes_to(&self, other: &Told) -> bool {
+    fn comes_to(&self, other: &LaunchReport) -> bool {
         self.groups.bytes.as_slice() == other.groups.bytes.as_slice()
             && self.outcome.bytes.as_slice() == other.outcome.bytes.as_slice()
     }
 
     /// Whether the accesses are the same, with the same events.
-    fn lists(&self, other: &Told) -> bool {
+    fn lists(&self, other: &LaunchReport) -> bool {
         self.accesses.len() == other.accesses.len()
             && self
                 .accesses
@@ -77,9 +77,13 @@ fn list_accesses<L: Accesses>(log: &L, accesses: &mut Vec<Entry>) -> Result<(), 
 }
 
 /// Tells the accesses of a group's log.
-fn tell_log<L: Accesses>(alloc: Global, log: &L, told: &mut Told) -> Result<(), AllocError> {
-    list_accesses(log, &mut told.accesses)?;
-    told.is_counted = told.is_counted && counts_pages(alloc, log)?;
+fn tell_log<L: Accesses>(
+    alloc: Global,
+    log: &L,
+    report: &mut LaunchReport,
+) -> Result<(), AllocError> {
+    list_accesses(log, &mut report.accesses)?;
+    report.is_counted = report.is_counted && counts_pages(alloc, log)?;
     Ok(())
 }
 
@@ -87,10 +91,10 @@ fn tell_log<L: Accesses>(alloc: Global, log: &L, told: &mut Told) -> Result<(), 
 fn tell_logs<L: Accesses>(
     alloc: Global,
     results: &[GroupResult<Overlay<'_>, L>],
-    told: &mut Told,
+    report: &mut LaunchReport,
 ) -> Result<(), AllocError> {
     for came in results {
-        tell_log(alloc, &came.log, told)?;
+        tell_log(alloc, &came.log, report)?;
     }
     Ok(())
 }
@@ -99,16 +103,16 @@ fn tell_logs<L: Accesses>(
 fn tell_groups<L: Accesses>(
     alloc: Global,
     results: &[GroupResult<Overlay<'_>, L>],
-    told: &mut Told,
+    report: &mut LaunchReport,
 ) -> Result<(), NotRun> {
-    tell_results(results, &mut told.groups)?;
-    tell_logs(alloc, results, told)?;
+    tell_results(results, &mut report.groups)?;
+    tell_logs(alloc, results, report)?;
     Ok(())
 }
 
 /// Tells what a launch comes to.
-fn tell_end(outcome: Outcome, told: &mut Told) -> Result<(), NotRun> {
-    tell_outcome(&outcome, &mut told.outcome)?;
+fn tell_end(outcome: Outcome, report: &mut LaunchReport) -> Result<(), NotRun> {
+    tell_outcome(&outcome, &mut report.outcome)?;
     Ok(())
 }
 
@@ -117,13 +121,13 @@ fn run_with_lists<L: NewLog + Accesses>(
     alloc: Global,
     launch: &Launch<'_>,
     buffers: &Buffers,
-    told: &mut Told,
+    report: &mut LaunchReport,
 ) -> Result<(), NotRun>
     requires { HasGroups (setup_of launch.now) }
 {
     let results: Results<'_, L> = run_groups(alloc, launch, buffers)?;
-    let are_told = tell_groups(alloc, results.as_slice(), told);
-    tell_end(merge(alloc, launch, buffers, results)?, told)?;
+    let are_told = tell_groups(alloc, results.as_slice(), report);
+    tell_end(merge(alloc, launch, buffers, results)?, report)?;
     are_told
 }
 
@@ -132,12 +136,12 @@ fn run_apart<L: NewLog>(
     alloc: Global,
     launch: &Launch<'_>,
     buffers: &Buffers,
-    told: &mut Told,
+    report: &mut LaunchReport,
 ) -> Result<(), NotRun>
     requires { HasGroups (setup_of launch.now) }
 {
     let results: Results<'_, L> = run_groups(alloc, launch, buffers)?;
-    tell_results(results.as_slice(), &mut told.groups)?;
+    tell_results(results.as_slice(), &mut report.groups)?;
     Ok(())
 }
 
@@ -146,12 +150,12 @@ fn run_with_group_logs(
     alloc: Global,
     launch: &Launch<'_>,
     buffers: &Buffers,
-    told: &mut Told,
+    report: &mut LaunchReport,
 ) -> Result<(), NotRun>
     requires { HasGroups (setup_of launch.now) }
 {
-    run_apart::<GroupLog>(alloc, launch, buffers, told)?;
-    tell_end(run_launch(alloc, launch, buffers)?, told)
+    run_apart::<GroupLog>(alloc, launch, buffers, report)?;
+    tell_end(run_launch(alloc, launch, buffers)?, report)
 }
 
 /// Whether a launch comes to the same with the log with pages, which counts its comparisons right.
@@ -159,11 +163,11 @@ fn is_same_with_pages(
     alloc: Global,
     launch: &Launch<'_>,
     buffers: &Buffers,
-    lists: &Told,
+    lists: &LaunchReport,
 ) -> Result<bool, NotRun>
     requires { HasGroups (setup_of launch.now) }
 {
-    let mut pages = Told::new(alloc);
+    let mut pages = LaunchReport::new(alloc);
     run_with_lists::<PageLog>(alloc, launch, buffers, &mut pages)?;
     Ok(lists.comes_to(&pages) && lists.lists(&pages) && lists.is_counted && pages.is_counted)
 }
@@ -173,11 +177,11 @@ fn is_same_with_group_logs(
     alloc: Global,
     launch: &Launch<'_>,
     buffers: &Buffers,
-    lists: &Told,
+    lists: &LaunchReport,
 ) -> Result<bool, NotRun>
     requires { HasGroups (setup_of launch.now) }
 {
-    let mut groups = Told::new(alloc);
+    let mut groups = LaunchReport::new(alloc);
     run_with_group_logs(alloc, launch, buffers, &mut groups)?;
     Ok(lists.comes_to(&groups))
 }
@@ -200,7 +204,7 @@ impl Compared {
 pub fn compare(alloc: Global, launch: &Launch<'_>, buffers: &Buffers) -> Result<Compared, NotRun>
     requires { HasGroups (setup_of launch.now) }
 {
-    let mut lists = Told::new(alloc);
+    let mut lists = LaunchReport::new(alloc);
     run_with_lists::<ListLog>(alloc, launch, buffers, &mut lists)?;
     let with_pages = is_same_with_pages(alloc, launch, buffers, &lists)?;
     let with_group_logs = is_same_with_group_logs(alloc, launch, buffers, &lists)?;

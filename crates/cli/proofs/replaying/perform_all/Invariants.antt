@@ -1,8 +1,8 @@
 use Rattle.std.proofs.Common.{◌≡◌, ◌++◌}
 use Rattle.std.specs.Vec.Iter.{into_iter_items}
 use Rattle.device.specs.Machine.{machine_of}
-use Rattle.explaining.specs.Leading.{Leads}
-use Rattle.explaining.proofs.walks.lead.Given as goal
+use Rattle.cli.specs.Replaying.{Leads}
+use Rattle.cli.proofs.replaying.perform_all.Given as goal
 
 abbrev pub invariant-loop-command : goal.invariant-loop-command
 invariant-loop-command l = record {

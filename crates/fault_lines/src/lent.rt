@@ -1,4 +1,4 @@
-//! What a fault's line tells, with names that are lent.
+//! What is read from a fault's line, with names that are lent.
 #![tactic(auto)]
 
 use clmodel::access::{AccessKind, Clash};
@@ -66,7 +66,7 @@ pub struct Private<'a> {
 
 /// A fault, with names that are lent.
 #[derive(Clone, Copy)]
-pub enum Told<'a> {
+pub enum LentFault<'a> {
     Conflict(Conflict<'a>),
     Divergence(Divergence<'a>),
     Bounds(Bounds<'a>),

@@ -1,6 +1,6 @@
 use Rattle.std.proofs.Common.{◌≡◌}
 use Rattle.host_queue.specs.Clients.{IsOpen}
-use Rattle.queue_tests.proofs.desk.wait.Given as goal
+use Rattle.queue_tests.proofs.clients.wait.Given as goal
 
 abbrev pub invariant-loop : goal.invariant-loop
 invariant-loop g l = record {

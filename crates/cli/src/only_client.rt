@@ -19,7 +19,7 @@ use std::thread::Threads;
 
 /// A queue over a device, with its driver and its only client.
 #[derive(Drop)]
-pub(crate) struct Desk {
+pub(crate) struct OnlyClient {
     queue: Queue<Device, Command, Reply>,
     client: Client<Device, Command, Reply>,
     driver: Driver,
@@ -27,15 +27,15 @@ pub(crate) struct Desk {
     ghost only: { IsOnly driver.driver.seat.me.0 client.seat.me.0 },
 }
 
-impl Desk {
-    /// A desk over a new device, before the first command.
+impl OnlyClient {
+    /// The only client of a queue over a new device, before the first command.
     pub(crate) fn open(alloc: Global, options: Options) -> Result<Self, AllocError>
-        ensures new { IfOk result (λ desk. (machine_of desk.driver.driver.machine ≡ opening options.budget) × (length desk.driver.driver.seat.me.0.known ≡ 0)) }
+        ensures new { IfOk result (λ opened. (machine_of opened.driver.driver.machine ≡ opening options.budget) × (length opened.driver.driver.seat.me.0.known ≡ 0)) }
     {
         let device = Device::new(alloc, options.budget);
         let (queue, mut clients, driver) = open(alloc, device, options.workers, 1)?;
         let client = clients.pop().unwrap();
-        Ok(Desk {
+        Ok(OnlyClient {
             queue,
             client,
             driver,

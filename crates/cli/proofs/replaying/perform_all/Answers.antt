@@ -1,19 +1,19 @@
-use Rattle.std.proofs.Common.{◌≡◌, [], ◌∷◌, ◌++◌, ap, sym, ◌∙◌, append_assoc, refl, rules, arith, List, subst}
+use Rattle.std.proofs.Common.{◌≡◌, [], ◌∷◌, ◌++◌, ap, sym, ◌∙◌, append_assoc, rules, arith, List, subst}
 use Rattle.std.specs.Vec.Iter.{into_iter_items}
 use Rattle.std.proofs.lemmas.List.{append-nil, nil_from_length}
 use Rattle.device.specs.Machine.{machine_of}
 use Rattle.host_commands.specs.declared.command.Command.{Command}
-use Rattle.explaining.specs.Leading.{Leads}
-use Rattle.explaining.proofs.Performing.{leads_more}
-use Rattle.explaining.proofs.walks.lead.Goals as goal
+use Rattle.cli.specs.Replaying.{Leads}
+use Rattle.cli.proofs.Replays.{leads_none, leads_more}
+use Rattle.cli.proofs.replaying.perform_all.Goals as goal
 
 pub loop-command-init : goal.loop-command-init
-loop-command-init c = record { split = search rules; led = refl }
+loop-command-init c = record { split = search rules; led = leads_none _ }
 
 pub loop-command-preserved : goal.loop-command-preserved
 loop-command-preserved c = record {
   split = c.loop-command.invariant.split ∙ (ap (λ l. c.loop-command.yielded ++ l) c.in-Some.ensures.steps.0 ∙ sym (append_assoc c.loop-command.yielded (c.in-Some.command ∷ []) (into_iter_items c.next.new.self)));
-  led = leads_more _ _ _ c.loop-command.yielded c.in-Some.command _ c.loop-command.invariant.led c.in_ok-perform.ensures.step c.in_ok-perform.ensures.memory;
+  led = leads_more c.in-Some.command c.loop-command.invariant.led (c.lacks_memory.ensures c.if-lacks_memory.false);
 }
 
 pub returns : goal.returns

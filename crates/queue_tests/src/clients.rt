@@ -1,4 +1,4 @@
-//! A client at its queue.
+//! Clients at their queue, and what drives it.
 ghost use Rattle.std.specs.Prelude.{◌≡◌, ℕ};
 ghost use Rattle.std.specs.Box.{box_value};
 ghost use Rattle.host_queue.specs.declared.view.Request.TheVariants.{Answered};
@@ -12,7 +12,7 @@ use std::thread;
 
 /// A client at its queue, with its number.
 #[derive(Drop)]
-pub struct Desk<'a, D: Machine<C, R>, C: Drop, R: Drop> {
+pub struct NumberedClient<'a, D: Machine<C, R>, C: Drop, R: Drop> {
     queue: &'a Queue<D, C, R>,
     client: Client<D, C, R>,
     pub number: u8,
@@ -43,7 +43,7 @@ fn wait<W: Wait, D: Machine<C, R>, C: Drop, R: Drop>(
     unreachable!()
 }
 
-impl<'a, D: Machine<C, R>, C: Drop, R: Drop> Desk<'a, D, C, R> {
+impl<'a, D: Machine<C, R>, C: Drop, R: Drop> NumberedClient<'a, D, C, R> {
     /// Submits a request and waits for its reply: the ticket's number, and the reply. Nothing where all tickets are
     /// drawn.
     pub fn ask<W: Wait>(
@@ -71,37 +71,37 @@ impl<'a, D: Machine<C, R>, C: Drop, R: Drop> Desk<'a, D, C, R> {
     }
 }
 
-/// A desk for a client.
-fn open_desk<'a, D: Machine<C, R>, C: Drop, R: Drop>(
+/// A client at its queue, with a number.
+fn numbered_client<'a, D: Machine<C, R>, C: Drop, R: Drop>(
     queue: &'a Queue<D, C, R>,
     client: Client<D, C, R>,
     number: u8,
-) -> Desk<'a, D, C, R>
+) -> NumberedClient<'a, D, C, R>
     requires one { client.seat.table_id ≡ queue.now.table.shared.table_id }
 {
-    Desk {
+    NumberedClient {
         queue,
         client,
         number,
     }
 }
 
-/// A desk for each client. They are numbered from 1 on.
-pub fn desks_of<'a, D: Machine<C, R>, C: Drop, R: Drop>(
+/// The clients at their queue, numbered from 1 on.
+pub fn numbered_clients<'a, D: Machine<C, R>, C: Drop, R: Drop>(
     alloc: Global,
     queue: &'a Queue<D, C, R>,
     clients: Vec<Client<D, C, R>>,
-) -> Result<Vec<Desk<'a, D, C, R>>, AllocError>
+) -> Result<Vec<NumberedClient<'a, D, C, R>>, AllocError>
     requires one { Each clients.items (λ k c. c.seat.table_id ≡ queue.now.table.shared.table_id) }
 {
     let mut clients = clients;
-    let mut desks = Vec::new(alloc);
+    let mut numbered = Vec::new(alloc);
     let mut number = 1u8;
     while let Some(client) = clients.pop() {
-        desks.push(open_desk(queue, client, number))?;
+        numbered.push(numbered_client(queue, client, number))?;
         number = number.wrapping_add(1);
     }
-    Ok(desks)
+    Ok(numbered)
 }
 
 /// Drives once, and tells how many tickets are answered then: 0 where no request was there.

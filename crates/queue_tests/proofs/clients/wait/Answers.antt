@@ -1,6 +1,6 @@
 use Rattle.std.proofs.Common.{◌≡◌, ◌∙◌, sym, subst}
 use Rattle.host_queue.specs.Clients.{IsOpen}
-use Rattle.queue_tests.proofs.desk.wait.Goals as goal
+use Rattle.queue_tests.proofs.clients.wait.Goals as goal
 
 pub loop-preserved : goal.loop-preserved
 loop-preserved g c = let err = c.in-Err.ensures.err in record {
