@@ -4,11 +4,11 @@ use Rattle.clmodel.specs.Launch.{Launch}
 use Rattle.clmodel.specs.declared.action.Action.{Action}
 use Rattle.clmodel.specs.declared.action.Action.TheVariants as action
 use Rattle.clmodel.specs.declared.action.Answer.{Answer}
+use Rattle.item_step.specs.Listing.{Listing}
+use Rattle.item_step.specs.Machine.{ItemContext}
 use Rattle.item_step.specs.Running.{Makes, action_of}
 use Rattle.launches.specs.declared.slot.Slot.{Slot}
 use Rattle.launches.specs.declared.slot.Slot.TheVariants as slot
-use Rattle.regcode.specs.Listing.{Listing}
-use Rattle.regcode.specs.Machine.{ItemContext}
 
 -- what the items of a launch run: its kernel's code, and what each is given by its number, as its ids and the arguments
 -- (OpenCL 1.2, 3.2, 6.12.1; own in the code)
