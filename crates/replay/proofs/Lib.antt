@@ -2,6 +2,7 @@ pub mod Bytes
 pub mod Playing
 pub mod Releasing
 pub mod Starting
+pub mod Running
 pub mod Walks
 pub mod Played
 pub mod Reaching

@@ -8,7 +8,7 @@ use Rattle.clmodel.specs.declared.action.Answer.{Answer}
 use Rattle.clmodel.specs.declared.action.Stop.{Stop}
 use Rattle.clnum.specs.Integer.{Integer}
 use Rattle.item_state.specs.Dividing.{dividend_of}
-use Rattle.launches.specs.Items.{IsAsked, Stands, acts_of}
+use Rattle.launches.specs.Items.{IsAsked, Kernel, Runs, Stands, acts_of}
 use Rattle.launches.specs.declared.slot.Slot.{Slot}
 use Rattle.launches.specs.declared.slot.Slot.TheVariants as slot
 use Rattle.replay.specs.declared.slot.Stand.{Stand}
@@ -20,6 +20,10 @@ IsAskedAt items item = (i : Slot) → slice_get items item ≡ Some i → IsAske
 -- the items from `first` on, below `end`, were asked
 abbrev pub AreAsked : List Slot → ℕ → ℕ → Type 0
 AreAsked items first end = (k : ℕ) → first ≤ k → k < end → IsAskedAt items k
+
+-- each item that is under way runs the code of this kernel, with what it gives to the item of that number
+abbrev pub AllRun : Kernel → List Slot → Type 0
+AllRun kernel items = (k : ℕ) (i : Slot) → slice_get items k ≡ Some i → Runs kernel k i
 
 -- where an item stands that is under way: the place of its machine, and the turns that loops have made there
 abbrev pub stand_of : Slot → Option Stand

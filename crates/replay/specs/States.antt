@@ -14,8 +14,9 @@ use Rattle.clmodel.specs.declared.action.Fences.{Fences}
 use Rattle.clmodel.specs.declared.action.Stop.{Stop}
 use Rattle.clmodel.specs.declared.schedule.Event.{Event}
 use Rattle.launches.specs.Objects.{SpacesHold}
-use Rattle.launches.specs.Items.{acts_of}
+use Rattle.launches.specs.Items.{Kernel, acts_of}
 use Rattle.launches.specs.Groups.{IsRunnable}
+use Rattle.replay.specs.Items.{AllRun}
 use Rattle.replay.specs.declared.group.Group.{Group}
 use Rattle.replay.specs.declared.group.Performed.{Performed}
 use Rattle.replay.specs.declared.player.Player.{Player}
@@ -78,6 +79,10 @@ pub record IsAt {D : Type 0} (launch_of : D → Launch) (launch : Launch) (playe
   pub plays : launch_of player.launch.now ≡ launch
   pub runnable : IsRunnable launch
   pub tells : Tells launch player.items.items player.buffers.items player.groups.items player.log.items state
+
+-- a player's launch has this kernel, and the player's items run it; `kernel_of` says which one a launch has
+abbrev pub HasKernel : {D : Type 0} → (D → Kernel) → Kernel → Player D → Type 0
+HasKernel kernel_of kernel player = (kernel_of player.launch.now ≡ kernel) × AllRun kernel player.items.items
 
 -- an item's next action in a state, or None where there is no such item (3.2)
 abbrev pub ActsNext : Launch → State → ℕ → Option Action → Type 0

@@ -8,8 +8,9 @@ ghost use Rattle.clmodel.specs.declared.action.Action.TheVariants as action;
 ghost use Rattle.clmodel.specs.declared.action.Instance.{Instance};
 ghost use Rattle.clmodel.specs.declared.schedule.Event.TheVariants as event;
 ghost use Rattle.launches.specs.Groups.{IsRunnable, filled};
+ghost use Rattle.launches.specs.Items.{Kernel};
 ghost use Rattle.replay.specs.Items.{AreAsked, IsAskedAt, StandsAt, dividend_in, stand_in};
-ghost use Rattle.replay.specs.States.{ActsNext, Gathers, IsAt, IsPlayed};
+ghost use Rattle.replay.specs.States.{ActsNext, Gathers, HasKernel, IsAt, IsPlayed};
 
 use crate::dividends::dividend_at;
 use crate::group::{Group, new_groups};
@@ -46,7 +47,8 @@ impl<'a, D: Runnable> Player<'a, D> {
         requires runnable { IsRunnable (D.launch launch.now) }
         requires counted { groups * (D.launch launch.now).group_size ≡ (D.launch launch.now).items }
         requires filled { buffers.items ≡ filled (D.launch launch.now) }
-        ensures { IfOk result (λ player. IsAt D.launch (D.launch launch.now) player (start (D.launch launch.now))) }
+        ensures at { IfOk result (λ player. IsAt D.launch (D.launch launch.now) player (start (D.launch launch.now))) }
+        ensures runs { IfOk result (λ player. HasKernel D.kernel (D.kernel launch.now) player) }
     {
         let items = waiting_items(alloc, groups * launch.group_size())?;
         let groups = new_groups(alloc, groups)?;
@@ -74,6 +76,7 @@ impl<'a, D: Runnable> Player<'a, D> {
         ensures played { IfOk result (λ yes. (launch : Launch) (state : State) → IsAt D.launch launch self.old state → next_action launch state item ≡ action.Access object element operation
             → IsPlayed launch state (event.Item item) (IsAt D.launch launch self.new) yes) }
         ensures same { OnErr result ((launch : Launch) (state : State) → IsAt D.launch launch self.old state → IsAt D.launch launch self.new state) }
+        ensures runs { (kernel : Kernel) → HasKernel D.kernel kernel self.old → HasKernel D.kernel kernel self.new }
     {
         self.log.reserve(1)?;
         let number = item / self.launch.group_size();
@@ -102,6 +105,7 @@ impl<'a, D: Runnable> Player<'a, D> {
         ensures value { IfOk result (λ action. (launch : Launch) (state : State) → IsAt D.launch launch self.old state → ActsNext launch state item action) }
         ensures asked { IfOk result (λ action. IfSome action (λ _. IsAskedAt self.new.items.items item)) }
         ensures stands { IfOk result (λ action. IfSome action (StandsAt self.new.items.items item)) }
+        ensures runs { (kernel : Kernel) → HasKernel D.kernel kernel self.old → HasKernel D.kernel kernel self.new }
     {
         if item as usize >= self.items.len() {
             return Ok(None);
@@ -192,6 +196,7 @@ impl<'a, D: Runnable> Player<'a, D> {
         requires { (launch : Launch) × (state : State) × IsAt D.launch launch self.old state }
         ensures played { IfOk result (λ yes. (launch : Launch) (state : State) → IsAt D.launch launch self.old state → IsPlayed launch state (event.Item item) (IsAt D.launch launch self.new) yes) }
         ensures same { OnErr result ((launch : Launch) (state : State) → IsAt D.launch launch self.old state → IsAt D.launch launch self.new state) }
+        ensures runs { (kernel : Kernel) → HasKernel D.kernel kernel self.old → HasKernel D.kernel kernel self.new }
     {
         let Some(action) = self.action(item)? else {
             return Ok(false);
@@ -214,6 +219,7 @@ impl<'a, D: Runnable> Player<'a, D> {
         ensures value { IfOk result (λ yes. (launch : Launch) (state : State) → IsAt D.launch launch self.old state → Gathers launch state group stop.now yes) }
         ensures asked { IfOk result (λ yes. yes ≡ true → (launch : Launch) (state : State) → IsAt D.launch launch self.old state
             → AreAsked self.new.items.items (group * launch.group_size) (group * launch.group_size + launch.group_size)) }
+        ensures runs { (kernel : Kernel) → HasKernel D.kernel kernel self.old → HasKernel D.kernel kernel self.new }
     {
         let size = self.launch.group_size();
         let first = group * size;
@@ -233,7 +239,8 @@ impl<'a, D: Runnable> Player<'a, D> {
         requires { (launch : Launch) × (state : State) × (instance : Instance) × IsAt D.launch launch self.old state × (group * launch.group_size < launch.items)
             × (next_action launch state (group * launch.group_size) ≡ action.Barrier instance fences)
             × AreAsked self.old.items.items (group * launch.group_size) (group * launch.group_size + launch.group_size) }
-        ensures { (launch : Launch) (state : State) → IsAt D.launch launch self.old state → IsAt D.launch launch self.new (released launch state group fences) }
+        ensures played { (launch : Launch) (state : State) → IsAt D.launch launch self.old state → IsAt D.launch launch self.new (released launch state group fences) }
+        ensures runs { (kernel : Kernel) → HasKernel D.kernel kernel self.old → HasKernel D.kernel kernel self.new }
     {
         self.groups[group as usize].pass(fences);
         let size = self.launch.group_size();
@@ -249,6 +256,7 @@ impl<'a, D: Runnable> Player<'a, D> {
         requires { (launch : Launch) × (state : State) × IsAt D.launch launch self.old state }
         ensures played { IfOk result (λ yes. (launch : Launch) (state : State) → IsAt D.launch launch self.old state → IsPlayed launch state (event.Release group) (IsAt D.launch launch self.new) yes) }
         ensures same { OnErr result ((launch : Launch) (state : State) → IsAt D.launch launch self.old state → IsAt D.launch launch self.new state) }
+        ensures runs { (kernel : Kernel) → HasKernel D.kernel kernel self.old → HasKernel D.kernel kernel self.new }
     {
         if group as usize >= self.groups.len() {
             return Ok(false);
@@ -273,6 +281,7 @@ impl<'a, D: Runnable> Player<'a, D> {
         requires { (launch : Launch) × (state : State) × IsAt D.launch launch self.old state }
         ensures played { IfOk result (λ yes. (launch : Launch) (state : State) → IsAt D.launch launch self.old state → IsPlayed launch state event (IsAt D.launch launch self.new) yes) }
         ensures same { OnErr result ((launch : Launch) (state : State) → IsAt D.launch launch self.old state → IsAt D.launch launch self.new state) }
+        ensures runs { (kernel : Kernel) → HasKernel D.kernel kernel self.old → HasKernel D.kernel kernel self.new }
     {
         match event {
             Event::Item(item) => self.play_item(item),

@@ -41,7 +41,7 @@ returns-then-not-branch c =
     (subst (λ z. Reaches z events f → ⊥) same
     (never_reaches l events f
     (unplayed l (start l) events (IsAt {D = LoadedLaunch} of_loaded l c.play_schedule.new.player) c.in_ok-play_schedule.field-0
-    (c.in_ok-play_schedule.ensures l (start l) c.in_ok-player.ensures) c.if-not-branch.true)))
+    (c.in_ok-play_schedule.ensures l (start l) c.in_ok-player.ensures.at) c.if-not-branch.true)))
 
 pub shows-requires : goal.shows-requires
 shows-requires c =
@@ -49,7 +49,7 @@ shows-requires c =
     let events = events_of c.args.schedule.now in
     let p =
     played l (start l) events (IsAt {D = LoadedLaunch} of_loaded l c.play_schedule.new.player) c.in_ok-play_schedule.field-0
-    (c.in_ok-play_schedule.ensures l (start l) c.in_ok-player.ensures) c.if-not-branch.false in
+    (c.in_ok-play_schedule.ensures l (start l) c.in_ok-player.ensures.at) c.if-not-branch.false in
     (p.0, p.2)
 
 pub returns : goal.returns
@@ -60,7 +60,7 @@ returns c =
     let f = c.args.fault.now in
     let p =
     played l (start l) events (IsAt {D = LoadedLaunch} of_loaded l c.play_schedule.new.player) c.in_ok-play_schedule.field-0
-    (c.in_ok-play_schedule.ensures l (start l) c.in_ok-player.ensures) c.if-not-branch.false in
+    (c.in_ok-play_schedule.ensures l (start l) c.in_ok-player.ensures.at) c.if-not-branch.false in
     IfOk-weaker c.shows.result _ _
     (λ answer h. subst (λ z. Decides answer (Reaches z events f)) same (reaches l events f p.0 answer p.1 (h p.0 p.2)))
     c.shows.ensures

@@ -1,4 +1,5 @@
 use Rattle.std.proofs.lemmas.Bool.{false≢true}
+use Rattle.replay.proofs.Running.{run_set}
 use Rattle.replay.proofs.Walks.{there_still, alike_next, asked_all, asked_more, at_more, at_not}
 use Rattle.replay.proofs.members.are_at.Goals as goal
 
@@ -27,7 +28,18 @@ loop-item-preserved g c =
     let l = g.D.Described.launch c.args.launch.now in
     let there = there_still l _ _ _ _ _ c.loop-item-test.true c.requires c.index_mut.ensures.value c.loop-item.invariant.alike in
     record {
+      runs = λ h. run_set (g.D.kernel c.args.launch.now) _ _ _ _ there c.is_at.ensures.runs (c.loop-item.invariant.runs h);
       alike = alike_next l _ _ _ _ _ _ c.loop-item-test.true c.requires c.index_mut.ensures.value c.is_at.ensures.same c.loop-item.invariant.alike;
       asked = asked_more _ _ _ _ c.in_ok-is_at.ensures.asked c.loop-item.invariant.asked;
       at = at_more l _ _ _ _ _ _ _ there c.in_ok-is_at.ensures.value c.if-not-branch.false c.loop-item.invariant.alike c.loop-item.invariant.at;
     }
+
+pub returns-in_err-is_at-clause-runs : goal.returns-in_err-is_at-clause-runs
+returns-in_err-is_at-clause-runs g c = λ h.
+    let there = there_still (g.D.Described.launch c.args.launch.now) _ _ _ _ _ c.loop-item-test.true c.requires c.index_mut.ensures.value c.loop-item.invariant.alike in
+    run_set (g.D.kernel c.args.launch.now) _ _ _ _ there c.is_at.ensures.runs (c.loop-item.invariant.runs h)
+
+pub returns-then-not-branch-clause-runs : goal.returns-then-not-branch-clause-runs
+returns-then-not-branch-clause-runs g c = λ h.
+    let there = there_still (g.D.Described.launch c.args.launch.now) _ _ _ _ _ c.loop-item-test.true c.requires c.index_mut.ensures.value c.loop-item.invariant.alike in
+    run_set (g.D.kernel c.args.launch.now) _ _ _ _ there c.is_at.ensures.runs (c.loop-item.invariant.runs h)

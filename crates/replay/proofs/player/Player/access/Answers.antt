@@ -8,6 +8,7 @@ use Rattle.launches.specs.Objects.{ObjectsHold}
 use Rattle.launches.specs.Items.{acts_of}
 use Rattle.replay.specs.States.{IsPerformed, IsPlayed, Tells}
 use Rattle.replay.proofs.Playing.{refused_in, done_in, group_kept, is_none, group_there}
+use Rattle.replay.proofs.Running.{run_set}
 use Rattle.replay.proofs.Walks.{on_err}
 use Rattle.replay.proofs.player.Player.access.Goals as goal
 
@@ -53,7 +54,7 @@ returns-clause-played g c = λ l s at acts.
     subst (λ z. IsPerformed l n (ObjectsHold (λ b. b) l n c.perform.new.buffers.items c.perform.new.self.locals.items) s.memory c.args.object z c.args.operation (Some d))
     (let back : to_z w64 (of_z w64 c.args.element) ≡ c.args.element = search rules in back)
     (subst (IsPerformed l n (ObjectsHold (λ b. b) l n c.perform.new.buffers.items c.perform.new.self.locals.items) s.memory c.args.object (to_z w64 (of_z w64 c.args.element)) c.args.operation) c.in-Some.is held) in
-    let answered = c.answer.ensures l k in
+    let answered = c.answer.ensures.answered l k in
     let played =
     done_in l p.items.items p.buffers.items c.perform.new.buffers.items p.groups.items p.log.items s k n i c.answer.new.slot x c.perform.new.self c.args.object c.args.element c.args.operation
     d c.access_of-access.result e t under acts item answered there c.in_ok-done.ensures.local_interval c.in_ok-done.ensures.global_interval c.access_of-access.ensures done in
@@ -100,3 +101,11 @@ returns-in_err-done-clause-same g c =
           (group_kept l p.items.items p.buffers.items c.perform.new.buffers.items p.groups.items p.log.items s n x c.perform.new.self t there
           c.in_err-done.ensures.local_interval c.in_err-done.ensures.global_interval held.0 held.1);
     })
+
+pub returns-clause-runs : goal.returns-clause-runs
+returns-clause-runs g c = λ kernel h.
+    let xs = c.args.self.now.items.items in
+    let k = c.args.item in
+    let x = c.index_mut.result.now in
+    let inside : k < length xs = subst (λ w. k < w) (sym c.requires.at.2.tells.many) c.requires.at.3 in
+    (h.0, run_set kernel xs k x c.answer.new.slot (slice_get_read xs (length xs) k x refl inside c.index_mut.ensures.value) (c.answer.ensures.runs kernel k) h.1)

@@ -1,6 +1,6 @@
 use Rattle.std.proofs.Common.{◌+◌, ◌*◌, ◌<◌, ◌≤◌, refl, sym, ap, ◌∙◌, subst, arith}
 use Rattle.std.proofs.lemmas.Result.{IfOk-weaker}
-use Rattle.replay.specs.Items.{AreAlike, AreAsked, AreAt}
+use Rattle.replay.specs.Items.{AllRun, AreAlike, AreAsked, AreAt}
 use Rattle.replay.proofs.Releasing.{group_ends, gathers_as, alike_tells}
 use Rattle.replay.proofs.player.Player.gathers.Goals as goal
 
@@ -52,3 +52,7 @@ returns-clause-asked g c =
     (λ yes h. λ told l s at.
     subst (λ z. AreAsked c.are_at.new.items.items (n * z) (n * z + z)) (c.group_size-size.ensures.value ∙ ap (λ z. z.group_size) at.plays) (h told))
     c.are_at.ensures.asked
+
+pub returns-clause-runs : goal.returns-clause-runs
+returns-clause-runs g c = λ kernel h.
+    (h.0, subst (λ z. AllRun z c.args.self.now.items.items → AllRun z c.are_at.new.items.items) h.0 c.are_at.ensures.runs h.1)

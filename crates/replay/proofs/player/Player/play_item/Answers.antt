@@ -35,3 +35,6 @@ returns-clause-played g c =
 
 pub returns-clause-same : goal.returns-clause-same
 returns-clause-same g c = on_err_weaker c.access.result (λ h. λ l s at. h l s (c.action.ensures.same l s at)) c.access.ensures.same
+
+pub returns-clause-runs : goal.returns-clause-runs
+returns-clause-runs g c = λ kernel h. c.access.ensures.runs kernel (c.action.ensures.runs kernel h)

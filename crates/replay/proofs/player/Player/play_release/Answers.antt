@@ -94,8 +94,17 @@ returns-clause-played g c = λ l s at.
           (gathered l s n (n * l.group_size) (At c.in-Barrier.instance) (ap stop_of (w.acts ∙ c.in-Barrier.is))
           (subst (Gathers l s n (At c.in-Barrier.instance)) c.if-not-branch.false (c.in_ok-gathers.ensures.value l s same)))
           (w.acts ∙ c.in-Barrier.is),
-      c.release.ensures l s (c.gathers.ensures.same l s same),
+      c.release.ensures.played l s (c.gathers.ensures.same l s same),
     )
 
 pub returns-in_err-gathers-clause-same : goal.returns-in_err-gathers-clause-same
 returns-in_err-gathers-clause-same g c = on_err c.from_residual-in_err-gathers.result (λ l s at. c.gathers.ensures.same l s (c.action.ensures.same l s at))
+
+pub returns-then-not-branch-clause-runs : goal.returns-then-not-branch-clause-runs
+returns-then-not-branch-clause-runs g c = λ kernel h. c.gathers.ensures.runs kernel (c.action.ensures.runs kernel h)
+
+pub returns-in_err-gathers-clause-runs : goal.returns-in_err-gathers-clause-runs
+returns-in_err-gathers-clause-runs g c = λ kernel h. c.gathers.ensures.runs kernel (c.action.ensures.runs kernel h)
+
+pub returns-clause-runs : goal.returns-clause-runs
+returns-clause-runs g c = λ kernel h. c.release.ensures.runs kernel (c.gathers.ensures.runs kernel (c.action.ensures.runs kernel h))
