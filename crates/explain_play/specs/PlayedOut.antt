@@ -10,6 +10,7 @@ use Rattle.clmodel.specs.declared.fault.Fault.{Fault}
 use Rattle.clmodel.specs.declared.fault.Fault.TheVariants as fault
 use Rattle.clmodel.specs.declared.schedule.Event.{Event}
 use Rattle.clmodel.specs.declared.schedule.Event.TheVariants as event
+use Rattle.launches.specs.Items.{Kernel}
 use Rattle.marked_play.specs.Marks.{ActsFrom, Divides, Lead, events_in}
 use Rattle.marked_play.specs.Pairs.{IsFoundPair}
 use Rattle.marked_play.specs.declared.marks.Mark.{Mark}
@@ -72,14 +73,14 @@ IsLast p n (Some last) = (last < n) × (p last ≡ true) × ((k : ℕ) → last 
 -- numbers that its access finds and leaves. The first accesses of the log there are told. If two accesses are found,
 -- they are in the log, and are those of the fault; each of the two named items acts from where it is told to stand, and
 -- the first has the left operand that is told, if it stands at a division (own).
-pub record IsPlayedOut (launch : Launch) (size : ℕ) (events : Events) (f : Fault) (first second most : ℕ) (played : Played) : Type 0 where
+pub record IsPlayedOut (launch : Launch) (kernel : Kernel) (size : ℕ) (events : Events) (f : Fault) (first second most : ℕ) (played : Played) : Type 0 where
   pub end : State
   pub marked : events_in played.marks.items ≡ events
-  pub led : Lead launch size (start launch) played.marks.items end
+  pub led : Lead launch kernel size (start launch) played.marks.items end
   pub touched : played.touches.items ≡ map (touch_of launch) (take most (reverse end.log))
   pub paired : IfSome played.pair (λ pair. (told : Told) × Tells launch f told × IsFoundPair launch told (reverse end.log) pair)
   pub first_named : played.first.item ≡ first
   pub second_named : played.second.item ≡ second
-  pub first_acts : ActsFrom launch end first played.first.stand
-  pub second_acts : ActsFrom launch end second played.second.stand
-  pub first_divides : Divides launch end first played.first.dividend
+  pub first_acts : ActsFrom launch kernel end first played.first.stand
+  pub second_acts : ActsFrom launch kernel end second played.second.stand
+  pub first_divides : Divides launch kernel end first played.first.dividend

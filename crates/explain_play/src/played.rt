@@ -11,11 +11,12 @@ ghost use Rattle.clmodel.specs.Setup.{group_items};
 ghost use Rattle.clmodel.specs.declared.fault.Fault.{Fault};
 ghost use Rattle.item_step.specs.Launches.{setup_of};
 ghost use Rattle.launches.specs.Groups.{HasGroups};
+ghost use Rattle.launches.specs.Items.{Kernel, kernel_of};
 ghost use Rattle.marked_play.specs.Marks.{ActsFrom, Divides};
 ghost use Rattle.marked_play.specs.Pairs.{IsFoundPair};
 ghost use Rattle.marked_play.specs.Replicas.{Mirrors};
 ghost use Rattle.marked_play.specs.declared.pairs.Told.{Told};
-ghost use Rattle.replay.specs.States.{IsAt};
+ghost use Rattle.replay.specs.States.{HasKernel, IsAt};
 ghost use Rattle.spaces_base.specs.Buffers.{bytes_in};
 ghost use Rattle.explain_play.specs.PlayedOut.{IsEventOf, IsLast, IsPlayedOut, MadeAccess, Tells, acts_at, is_access, touch_of};
 
@@ -159,9 +160,10 @@ fn touches_of<D: Described>(
 /// Where an item stands, and what is told of what it does next.
 fn standing_of<D: Runnable>(player: &mut Player<'_, D>, item: u32) -> Result<Standing, AllocError>
     ensures same { (launch : TheLaunch) (state : State) → IsAt D.launch launch player.old state → IsAt D.launch launch player.new state }
+    ensures runs { (kernel : Kernel) → HasKernel D.kernel kernel player.old → HasKernel D.kernel kernel player.new }
     ensures item { IfOk result (λ standing. standing.item ≡ item) }
-    ensures divides { IfOk result (λ standing. (launch : TheLaunch) (state : State) → IsAt D.launch launch player.old state → Divides launch state item standing.dividend) }
-    ensures acts { IfOk result (λ standing. (launch : TheLaunch) (state : State) → IsAt D.launch launch player.old state → ActsFrom launch state item standing.stand) }
+    ensures divides { IfOk result (λ standing. (launch : TheLaunch) (kernel : Kernel) (state : State) → IsAt D.launch launch player.old state → HasKernel D.kernel kernel player.old → Divides launch kernel state item standing.dividend) }
+    ensures acts { IfOk result (λ standing. (launch : TheLaunch) (kernel : Kernel) (state : State) → IsAt D.launch launch player.old state → HasKernel D.kernel kernel player.old → ActsFrom launch kernel state item standing.stand) }
 {
     let stand = stand_of(player, item)?;
     let width = match player.action(item)? {
@@ -205,7 +207,7 @@ pub fn play(
     requires { HasGroups (setup_of launch.now) }
     ensures none { IfOk result (λ found. IfNone found ((other : Fault) → Reaches (launch_of (setup_of launch.now) (bytes_in buffers.now)) (events_of schedule.now) other → ⊥)) }
     ensures played { IfOk result (λ found. IfSome found
-        (IsPlayedOut (launch_of (setup_of launch.now) (bytes_in buffers.now)) (group_items (setup_of launch.now).range) (events_of schedule.now) fault.now items.0 items.1 most)) }
+        (IsPlayedOut (launch_of (setup_of launch.now) (bytes_in buffers.now)) (kernel_of launch.now) (group_items (setup_of launch.now).range) (events_of schedule.now) fault.now items.0 items.1 most)) }
 {
     setups_are_runnable();
     let loaded = LoadedLaunch::new(alloc, launch, buffers);

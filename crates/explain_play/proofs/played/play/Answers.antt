@@ -9,6 +9,7 @@ use Rattle.clmodel.specs.Setup.{buffer_names}
 use Rattle.clmodel.specs.declared.fault.Fault.{Fault}
 use Rattle.item_step.specs.Launches.{setup_of}
 use Rattle.launches.specs.Groups.{IsRunnable, filled}
+use Rattle.launches.specs.Items.{Kernel, kernel_of}
 use Rattle.launches.specs.declared.loaded.LoadedLaunch.{LoadedLaunch}
 use Rattle.replay.proofs.Reaching.{map_map, never_reaches}
 use Rattle.spaces_base.specs.Buffers.{bytes_in}
@@ -26,6 +27,9 @@ use Rattle.explain_play.proofs.played.play.Goals as goal
 abbrev of_loaded : LoadedLaunch → Launch
 of_loaded loaded = launch_of (setup_of loaded.launch.now) (bytes_in loaded.buffers.now)
 
+abbrev of_kernel : LoadedLaunch → Kernel
+of_kernel loaded = kernel_of loaded.launch.now
+
 mirrored : (k l : Launch) (replica : Replica) → k ≡ l → Mirrors k replica (initial k) → Mirrors l replica (initial l)
 mirrored k l replica same h = subst (λ (z : Launch). Mirrors z replica (initial z)) same h
 
@@ -33,7 +37,7 @@ pub mark_schedule-requires : goal.mark_schedule-requires
 mark_schedule-requires c =
     let same = ap₂ (λ x b. launch_of (setup_of x) (bytes_in b)) c.new-loaded.ensures.launch c.new-loaded.ensures.buffers in
     let l = of_loaded c.new-loaded.result in
-    (l, start l, (c.in_ok-player.ensures, mirrored _ l c.in_ok-replica.replica (sym same) c.in_ok-replica.ensures))
+    (l, of_kernel c.new-loaded.result, start l, (c.in_ok-player.ensures.at, c.in_ok-player.ensures.runs, mirrored _ l c.in_ok-replica.replica (sym same) c.in_ok-replica.ensures))
 
 pub new-requires-clause-runnable : goal.new-requires-clause-runnable
 new-requires-clause-runnable c =
@@ -50,39 +54,44 @@ pub returns-then-not-branch-clause-none : goal.returns-then-not-branch-clause-no
 returns-then-not-branch-clause-none c = λ other.
     let same = ap₂ (λ x b. launch_of (setup_of x) (bytes_in b)) c.new-loaded.ensures.launch c.new-loaded.ensures.buffers in
     let l = of_loaded c.new-loaded.result in
+    let k = of_kernel c.new-loaded.result in
     subst (λ z. Reaches z (events_of c.args.schedule.now) other → ⊥) same
     (never_reaches l (events_of c.args.schedule.now) other
     (subst (λ runs. after l (start l) (events_of runs) ≡ None) c.as_slice-runs.ensures
-    (unmarked l c.group_size-size.result (start l) _ _ _ (Follows {D = LoadedLaunch} of_loaded l c.mark_schedule.new.player c.mark_schedule.new.replica) c.in_ok-mark_schedule.field-0
-    c.if-not-branch.true (c.in_ok-mark_schedule.ensures l (start l) (c.in_ok-player.ensures, mirrored _ l c.in_ok-replica.replica (sym same) c.in_ok-replica.ensures)))))
+    (unmarked l k c.group_size-size.result (start l) _ _ _ (Follows {D = LoadedLaunch} of_loaded of_kernel l k c.mark_schedule.new.player c.mark_schedule.new.replica) c.in_ok-mark_schedule.field-0
+    c.if-not-branch.true (c.in_ok-mark_schedule.ensures l k (start l) (c.in_ok-player.ensures.at, c.in_ok-player.ensures.runs, mirrored _ l c.in_ok-replica.replica (sym same) c.in_ok-replica.ensures)))))
 
--- the same of a launch and a size that are the same
+-- the same of a launch, a kernel and a size that are the same
 moved :
-    (l k : Launch) (m n : ℕ) (events : Events) (f : Fault) (first second most : ℕ) (p : Played) → l ≡ k → m ≡ n → IsPlayedOut l m events f first second most p
-    → IsPlayedOut k n events f first second most p
-moved l k m n events f first second most p launch size h =
-    subst (λ z. IsPlayedOut z n events f first second most p) launch (subst (λ z. IsPlayedOut l z events f first second most p) size h)
+    (l h : Launch) (k j : Kernel) (m n : ℕ) (events : Events) (f : Fault) (first second most : ℕ) (p : Played) → l ≡ h → k ≡ j → m ≡ n → IsPlayedOut l k m events f first second most p
+    → IsPlayedOut h j n events f first second most p
+moved l h k j m n events f first second most p launch kernel size out =
+    subst (λ z. IsPlayedOut z j n events f first second most p) launch
+    (subst (λ z. IsPlayedOut l z n events f first second most p) kernel (subst (λ z. IsPlayedOut l k z events f first second most p) size out))
 
 pub returns-clause-played : goal.returns-clause-played
 returns-clause-played c =
     let same = ap₂ (λ x b. launch_of (setup_of x) (bytes_in b)) c.new-loaded.ensures.launch c.new-loaded.ensures.buffers in
     let l = of_loaded c.new-loaded.result in
-    let at = Follows {D = LoadedLaunch} of_loaded l c.mark_schedule.new.player c.mark_schedule.new.replica in
+    let k = of_kernel c.new-loaded.result in
+    let at = Follows {D = LoadedLaunch} of_loaded of_kernel l k c.mark_schedule.new.player c.mark_schedule.new.replica in
     let m =
-    marked l c.group_size-size.result (start l) (events_of c.as_slice-runs.result.now) c.new-marks.result.items c.mark_schedule.new.marks.items at c.in_ok-mark_schedule.field-0 c.if-not-branch.false
-    (c.in_ok-mark_schedule.ensures l (start l) (c.in_ok-player.ensures, mirrored _ l c.in_ok-replica.replica (sym same) c.in_ok-replica.ensures)) in
+    marked l k c.group_size-size.result (start l) (events_of c.as_slice-runs.result.now) c.new-marks.result.items c.mark_schedule.new.marks.items at c.in_ok-mark_schedule.field-0 c.if-not-branch.false
+    (c.in_ok-mark_schedule.ensures l k (start l) (c.in_ok-player.ensures.at, c.in_ok-player.ensures.runs, mirrored _ l c.in_ok-replica.replica (sym same) c.in_ok-replica.ensures)) in
     let here = m.5.0 in
+    let runs = m.5.1 in
     let made : c.mark_schedule.new.marks.items ≡ m.0 = m.2 ∙ ap (λ marks. marks ++ m.0) c.new-marks.ensures.items in
-    moved l _ c.group_size-size.result _ (events_of c.args.schedule.now) c.args.fault.now c.args.items.0 c.args.items.1 c.args.most _ same c.group_size-size.ensures.value
+    moved l _ k _ c.group_size-size.result _ (events_of c.args.schedule.now) c.args.fault.now c.args.items.0 c.args.items.1 c.args.most _ same (ap kernel_of c.new-loaded.ensures.launch)
+    c.group_size-size.ensures.value
     (record {
       end = m.1;
       marked = ap events_in made ∙ m.3 ∙ ap events_of c.as_slice-runs.ensures;
-      led = subst (λ ms. Lead l c.group_size-size.result (start l) ms m.1) (sym made) m.4;
+      led = subst (λ ms. Lead l k c.group_size-size.result (start l) ms m.1) (sym made) m.4;
       touched = c.in_ok-touches.ensures ∙ ap (map (touch_of l)) (c.first_of.ensures ∙ ap (take c.args.most) (c.log-2.ensures l m.1 here));
       paired = subst (λ log. IfSome c.in_ok-pair.pair (λ pair. (told : Told) × Tells l c.args.fault.now told × IsFoundPair l told log pair)) (c.log.ensures l m.1 here) c.in_ok-pair.ensures;
       first_named = c.in_ok-first.ensures.item;
       second_named = c.in_ok-second.ensures.item;
-      first_acts = c.in_ok-first.ensures.acts l m.1 here;
-      first_divides = c.in_ok-first.ensures.divides l m.1 here;
-      second_acts = c.in_ok-second.ensures.acts l m.1 (c.standing_of.ensures.same l m.1 here);
+      first_acts = c.in_ok-first.ensures.acts l k m.1 here runs;
+      first_divides = c.in_ok-first.ensures.divides l k m.1 here runs;
+      second_acts = c.in_ok-second.ensures.acts l k m.1 (c.standing_of.ensures.same l m.1 here) (c.standing_of.ensures.runs k runs);
     })
