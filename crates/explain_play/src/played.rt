@@ -11,14 +11,14 @@ ghost use Rattle.clmodel.specs.Setup.{group_items};
 ghost use Rattle.clmodel.specs.declared.fault.Fault.{Fault};
 ghost use Rattle.item_step.specs.Launches.{setup_of};
 ghost use Rattle.launches.specs.Groups.{HasGroups};
-ghost use Rattle.launches.specs.Items.{Kernel, kernel_of};
+ghost use Rattle.launches.specs.Items.{Kernel};
 ghost use Rattle.marked_play.specs.Marks.{ActsFrom, Divides};
 ghost use Rattle.marked_play.specs.Pairs.{IsFoundPair};
 ghost use Rattle.marked_play.specs.Replicas.{Mirrors};
 ghost use Rattle.marked_play.specs.declared.pairs.Told.{Told};
 ghost use Rattle.replay.specs.States.{HasKernel, IsAt};
 ghost use Rattle.spaces_base.specs.Buffers.{bytes_in};
-ghost use Rattle.explain_play.specs.PlayedOut.{IsEventOf, IsLast, IsPlayedOut, MadeAccess, Tells, acts_at, is_access, touch_of};
+ghost use Rattle.explain_play.specs.PlayedOut.{IsEventOf, IsLast, IsPlayedOut, MadeAccess, Tells, acts_at, is_access, kernel_of, touch_of};
 
 use clmodel::access::{Access, AccessKind};
 use clmodel::action::Action;

@@ -39,8 +39,8 @@ record IsFound (l : Launch) (k : Kernel) (s : State) (item : ℕ) (a : Action) (
 machine : (l : Launch) (k : Kernel) (s : State) (item : ℕ) (a : Action) (r : Running) → next_action l s item ≡ a → IsFound l k s item a (slot.Running r) → IsMachineOf l k s item r
 machine l k s item a r e h =
     record {
-      code = h.runs.code;
-      given = h.runs.given;
+      code = h.runs.0;
+      given = h.runs.1;
       makes = subst (Makes r) (sym e) h.stands;
       acts = h.acts;
     }

@@ -9,7 +9,7 @@ use Rattle.clmodel.specs.Setup.{buffer_names}
 use Rattle.clmodel.specs.declared.fault.Fault.{Fault}
 use Rattle.item_step.specs.Launches.{setup_of}
 use Rattle.launches.specs.Groups.{IsRunnable, filled}
-use Rattle.launches.specs.Items.{Kernel, kernel_of}
+use Rattle.launches.specs.Items.{Kernel}
 use Rattle.launches.specs.declared.loaded.LoadedLaunch.{LoadedLaunch}
 use Rattle.replay.proofs.Reaching.{map_map, never_reaches}
 use Rattle.spaces_base.specs.Buffers.{bytes_in}
@@ -19,7 +19,7 @@ use Rattle.marked_play.specs.Replicas.{Mirrors}
 use Rattle.marked_play.specs.declared.pairs.Told.{Told}
 use Rattle.marked_play.specs.declared.replica.Replica.{Replica}
 use Rattle.marked_play.proofs.Marking.{marked, unmarked}
-use Rattle.explain_play.specs.PlayedOut.{IsPlayedOut, Tells, touch_of}
+use Rattle.explain_play.specs.PlayedOut.{IsPlayedOut, Tells, kernel_of, touch_of}
 use Rattle.explain_play.specs.declared.played.Played.{Played}
 use Rattle.explain_play.proofs.played.play.Goals as goal
 
