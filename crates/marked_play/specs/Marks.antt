@@ -31,9 +31,10 @@ abbrev pub item_of : ℕ → Event → ℕ
 item_of size (event.Item item) = item
 item_of size (event.Release group) = group * size
 
--- A machine can stand for an item in a state: it runs the launch's code with the item's own ids and arguments, the
--- instruction where it stands makes the item's next action, whatever follows it, and it acts as the item does from
--- there on, whatever it is answered (own, on OpenCL 1.2, 3.2).
+-- A machine stands for an item in a state: it runs the launch's code with the item's own ids and arguments, the
+-- instruction where it stands makes the item's next action, whatever follows it, and from there on it acts as the item
+-- does, whatever it is answered. What its registers have isn't said, nor that it came there from the code's start (own,
+-- on OpenCL 1.2, 3.2).
 pub record IsMachineOf (launch : Launch) (kernel : Kernel) (state : State) (item : ℕ) (running : Running) : Type 0 where
   pub code : running.code ≡ kernel.code
   pub given : running.given ≡ kernel.given item
@@ -48,7 +49,8 @@ ActsFrom launch kernel state item (Some stand) =
     (running : Running) × (running.state.place ≡ stand.place) × (running.state.counters ≡ stand.turns) × IsMachineOf launch kernel state item running
 
 -- the left operand of the division where such a machine stands, if its instruction there is one; none is told of an
--- item that is at its end, and where there is no such item (own, on C99 6.5.5)
+-- item that is at its end, and where there is no such item (own, on C99 6.5.5). A division by zero fails with each left
+-- operand alike.
 abbrev pub Divides : Launch → Kernel → State → ℕ → Option Integer → Type 0
 Divides launch kernel state item dividend =
     ((dividend ≡ None) × ((next_action launch state item ≡ action.End) ⊎ (launch.items ≤ item)))

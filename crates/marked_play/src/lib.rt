@@ -1,6 +1,8 @@
 //! A schedule that is played with where the item of each event stands, which is an instruction and the turns of the
 //! loops round it, and with the numbers that its access finds and leaves. And the two accesses of a log that a fault
-//! tells as a conflict. It knows a launch by what `launches` says of it, and neither a tree nor a source.
+//! tells as a conflict. From where an item is told to stand, a machine that runs the launch's code with the item's own
+//! ids and arguments acts as the item does. It knows a launch by what `launches` says of it, and neither a tree nor a
+//! source.
 #![tactic(auto)]
 
 mod marks;
