@@ -14,7 +14,7 @@ play-requires g c =
 pub returns-then-not-branch : goal.returns-then-not-branch
 returns-then-not-branch g c = λ l k s at.
     one_never l k c.args.group_size s c.args.event c.args.marks.now.items (IsAt {D = g.row.D.Denot} g.D.Described.launch l c.play.new.self)
-    (Follows {D = g.row.D.Denot} g.D.Described.launch g.D.kernel l k c.play.new.self c.args.replica.now) c.in_ok-play.field-0 c.if-not-branch.true
+    (Follows {D = g.row.D.Denot} g.D.Described.launch g.D.Runnable.kernel l k c.play.new.self c.args.replica.now) c.in_ok-play.field-0 c.if-not-branch.true
     (c.in_ok-play.ensures.played l s (c.deed_before.ensures.same l s (c.stand_before.ensures.same l s at.0)))
 
 pub returns : goal.returns
@@ -22,7 +22,7 @@ returns g c = λ l k s at.
     let mark : Mark = record { event = c.args.event; stand = c.in_ok-stand.stand; found = c.number_at-found.result; left = c.number_at-left.result } in
     let before = c.stand_before.ensures.same l s at.0 in
     one_marked l k c.args.group_size s mark c.args.marks.now.items c.push.new.self.items
-    (IsAt {D = g.row.D.Denot} g.D.Described.launch l c.play.new.self) (Follows {D = g.row.D.Denot} g.D.Described.launch g.D.kernel l k c.play.new.self c.follow.new.self) c.in_ok-play.field-0
+    (IsAt {D = g.row.D.Denot} g.D.Described.launch l c.play.new.self) (Follows {D = g.row.D.Denot} g.D.Described.launch g.D.Runnable.kernel l k c.play.new.self c.follow.new.self) c.in_ok-play.field-0
     c.if-not-branch.false (c.in_ok-stand.ensures.acts l k s at.0 at.1) (c.in_ok-play.ensures.played l s (c.deed_before.ensures.same l s before))
     (λ t goes h.
     let about = c.in_ok-deed.ensures.about l s before in

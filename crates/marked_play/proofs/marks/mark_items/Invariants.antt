@@ -8,5 +8,5 @@ use Rattle.marked_play.proofs.marks.mark_items.Given as goal
 
 abbrev pub invariant-loop : goal.invariant-loop
 invariant-loop g l =
-    (launch : Launch) (kernel : Kernel) (state : State) → Follows {D = g.row.D.Denot} g.D.Described.launch g.D.kernel launch kernel l.fn.player l.fn.replica state
-    → AreMarked launch kernel l.group_size state (replicate l.counter (event.Item l.item)) l.fn.marks.items l.marks.items (Follows {D = g.row.D.Denot} g.D.Described.launch g.D.kernel launch kernel l.player l.replica) true
+    (launch : Launch) (kernel : Kernel) (state : State) → Follows {D = g.row.D.Denot} g.D.Described.launch g.D.Runnable.kernel launch kernel l.fn.player l.fn.replica state
+    → AreMarked launch kernel l.group_size state (replicate l.counter (event.Item l.item)) l.fn.marks.items l.marks.items (Follows {D = g.row.D.Denot} g.D.Described.launch g.D.Runnable.kernel launch kernel l.player l.replica) true

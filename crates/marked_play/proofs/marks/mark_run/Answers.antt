@@ -12,7 +12,7 @@ returns-in-Item g c =
     IfOk-weaker c.mark_items.result _ _
     (λ answer h. λ l k s at.
     marked_as l k c.args.group_size s (replicate c.in-Item.count (event.Item c.in-Item.item)) (events_of (c.args.run ∷ [])) c.args.marks.now.items c.mark_items.new.marks.items
-    (Follows {D = g.row.D.Denot} g.D.Described.launch g.D.kernel l k c.mark_items.new.player c.mark_items.new.replica) answer (item_events c.in-Item.item c.in-Item.count ∙ ap (λ r. events_of (r ∷ [])) (sym c.in-Item.is)) (h l k s at))
+    (Follows {D = g.row.D.Denot} g.D.Described.launch g.D.Runnable.kernel l k c.mark_items.new.player c.mark_items.new.replica) answer (item_events c.in-Item.item c.in-Item.count ∙ ap (λ r. events_of (r ∷ [])) (sym c.in-Item.is)) (h l k s at))
     c.mark_items.ensures
 
 pub returns-in-Release : goal.returns-in-Release
@@ -20,5 +20,5 @@ returns-in-Release g c =
     IfOk-weaker c.mark_event.result _ _
     (λ answer h. λ l k s at.
     marked_as l k c.args.group_size s (event.Release c.in-Release.group ∷ []) (events_of (c.args.run ∷ [])) c.args.marks.now.items c.mark_event.new.marks.items
-    (Follows {D = g.row.D.Denot} g.D.Described.launch g.D.kernel l k c.mark_event.new.player c.mark_event.new.replica) answer (ap (λ r. events_of (r ∷ [])) (sym c.in-Release.is)) (h l k s at))
+    (Follows {D = g.row.D.Denot} g.D.Described.launch g.D.Runnable.kernel l k c.mark_event.new.player c.mark_event.new.replica) answer (ap (λ r. events_of (r ∷ [])) (sym c.in-Release.is)) (h l k s at))
     c.mark_event.ensures

@@ -10,14 +10,14 @@ pub returns-in-Item-clause-acts : goal.returns-in-Item-clause-acts
 returns-in-Item-clause-acts g c =
     let item : c.in-Item.item ≡ item_of c.args.group_size c.args.event = ap (item_of c.args.group_size) (sym c.in-Item.is) in
     subst
-    (λ i. IfOk c.stand_of.result (λ stand. (launch : Launch) (kernel : Kernel) (state : State) → IsAt {D = g.row.D.Denot} g.D.Described.launch launch c.args.player.now state → HasKernel {D = g.row.D.Denot} g.D.kernel kernel c.args.player.now → ActsFrom launch kernel state i stand))
+    (λ i. IfOk c.stand_of.result (λ stand. (launch : Launch) (kernel : Kernel) (state : State) → IsAt {D = g.row.D.Denot} g.D.Described.launch launch c.args.player.now state → HasKernel {D = g.row.D.Denot} g.D.Runnable.kernel kernel c.args.player.now → ActsFrom launch kernel state i stand))
     item c.stand_of.ensures.acts
 
 pub returns-in-Some-clause-acts : goal.returns-in-Some-clause-acts
 returns-in-Some-clause-acts g c =
     let item : c.in-Some.first ≡ item_of c.args.group_size c.args.event = c.in-Some.ensures.1 ∙ ap (item_of c.args.group_size) (sym c.in-Release.is) in
     subst
-    (λ i. IfOk c.stand_of-in-Some.result (λ stand. (launch : Launch) (kernel : Kernel) (state : State) → IsAt {D = g.row.D.Denot} g.D.Described.launch launch c.args.player.now state → HasKernel {D = g.row.D.Denot} g.D.kernel kernel c.args.player.now → ActsFrom launch kernel state i stand))
+    (λ i. IfOk c.stand_of-in-Some.result (λ stand. (launch : Launch) (kernel : Kernel) (state : State) → IsAt {D = g.row.D.Denot} g.D.Described.launch launch c.args.player.now state → HasKernel {D = g.row.D.Denot} g.D.Runnable.kernel kernel c.args.player.now → ActsFrom launch kernel state i stand))
     item c.stand_of-in-Some.ensures.acts
 
 pub returns-in-None-clause-acts : goal.returns-in-None-clause-acts

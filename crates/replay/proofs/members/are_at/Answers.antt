@@ -28,7 +28,7 @@ loop-item-preserved g c =
     let l = g.D.Described.launch c.args.launch.now in
     let there = there_still l _ _ _ _ _ c.loop-item-test.true c.requires c.index_mut.ensures.value c.loop-item.invariant.alike in
     record {
-      runs = λ h. run_set (g.D.kernel c.args.launch.now) _ _ _ _ there c.is_at.ensures.runs (c.loop-item.invariant.runs h);
+      runs = λ h. run_set (g.D.Runnable.kernel c.args.launch.now) _ _ _ _ there c.is_at.ensures.runs (c.loop-item.invariant.runs h);
       alike = alike_next l _ _ _ _ _ _ c.loop-item-test.true c.requires c.index_mut.ensures.value c.is_at.ensures.same c.loop-item.invariant.alike;
       asked = asked_more _ _ _ _ c.in_ok-is_at.ensures.asked c.loop-item.invariant.asked;
       at = at_more l _ _ _ _ _ _ _ there c.in_ok-is_at.ensures.value c.if-not-branch.false c.loop-item.invariant.alike c.loop-item.invariant.at;
@@ -37,9 +37,9 @@ loop-item-preserved g c =
 pub returns-in_err-is_at-clause-runs : goal.returns-in_err-is_at-clause-runs
 returns-in_err-is_at-clause-runs g c = λ h.
     let there = there_still (g.D.Described.launch c.args.launch.now) _ _ _ _ _ c.loop-item-test.true c.requires c.index_mut.ensures.value c.loop-item.invariant.alike in
-    run_set (g.D.kernel c.args.launch.now) _ _ _ _ there c.is_at.ensures.runs (c.loop-item.invariant.runs h)
+    run_set (g.D.Runnable.kernel c.args.launch.now) _ _ _ _ there c.is_at.ensures.runs (c.loop-item.invariant.runs h)
 
 pub returns-then-not-branch-clause-runs : goal.returns-then-not-branch-clause-runs
 returns-then-not-branch-clause-runs g c = λ h.
     let there = there_still (g.D.Described.launch c.args.launch.now) _ _ _ _ _ c.loop-item-test.true c.requires c.index_mut.ensures.value c.loop-item.invariant.alike in
-    run_set (g.D.kernel c.args.launch.now) _ _ _ _ there c.is_at.ensures.runs (c.loop-item.invariant.runs h)
+    run_set (g.D.Runnable.kernel c.args.launch.now) _ _ _ _ there c.is_at.ensures.runs (c.loop-item.invariant.runs h)

@@ -5,7 +5,7 @@ use Rattle.replay.proofs.members.are_at.Given as goal
 abbrev pub invariant-loop-item : goal.invariant-loop-item
 invariant-loop-item g l =
     record {
-      runs : AllRun (g.D.kernel l.fn.launch) l.fn.items.items → AllRun (g.D.kernel l.fn.launch) l.items.items;
+      runs : AllRun (g.D.Runnable.kernel l.fn.launch) l.fn.items.items → AllRun (g.D.Runnable.kernel l.fn.launch) l.items.items;
       alike : AreAlike (g.D.Described.launch l.fn.launch) l.fn.items.items l.items.items;
       asked : AreAsked l.items.items l.fn.first l.item;
       at : AreAt (g.D.Described.launch l.fn.launch) l.fn.items.items l.fn.first l.item l.fn.stop true;

@@ -27,5 +27,5 @@ returns-clause-at g c =
 
 pub returns-clause-runs : goal.returns-clause-runs
 returns-clause-runs g c =
-    let kernel = g.D.kernel c.args.launch.now in
+    let kernel = g.D.Runnable.kernel c.args.launch.now in
     (refl, subst (AllRun kernel) (sym c.in_ok-items.ensures) (none_runs kernel (c.args.groups * c.group_size.result)))
