@@ -1,8 +1,8 @@
--- An item before its first action.
-use Rattle.std.proofs.Common.{◌≡◌, ℕ, List, length, ap, ◌∙◌}
+-- An item before its first action: what it is given, and what it does.
+use Rattle.std.proofs.Common.{◌≡◌, ℕ, List, length, ap, ap₂, ◌∙◌}
 use Rattle.clmodel.specs.Next.{next, here_of}
 use Rattle.clmodel.specs.declared.action.Answer.{Answer}
-use Rattle.item_step.specs.Launches.{setup_of}
+use Rattle.item_step.specs.Launches.{given_to, setup_of}
 use Rattle.item_step.specs.declared.launch.Launch.{Launch}
 use Rattle.item_step.specs.Running.{Running, action_of}
 use Rattle.regcode.specs.Machine.{ItemContext, acts, acts_from, at_start}
@@ -11,6 +11,11 @@ use Rattle.regcode.specs.declared.tables.Register.{Register}
 abbrev given_with : Launch → ℕ → List (List ℕ) → List Register → ItemContext
 given_with launch number buffers registers =
     record { here = here_of (setup_of launch) number; buffers = buffers; arguments = launch.setup.arguments.now; registers = registers }
+
+-- it is given what the launch says
+pub given_as_said : (launch : Launch) (number : ℕ) (buffers : List (List ℕ)) (registers : List Register) → buffers ≡ launch.buffers.items → registers ≡ launch.code.now.registers
+    → given_with launch number buffers registers ≡ given_to launch number
+given_as_said launch number buffers registers named tabled = ap₂ (given_with launch number) (named ∙ launch.named) tabled
 
 -- it acts as comes next
 pub acts_as_next : (launch : Launch) (number : ℕ) (buffers : List (List ℕ)) (registers : List Register) (item : Running) → buffers ≡ launch.buffers.items → registers ≡ launch.code.now.registers

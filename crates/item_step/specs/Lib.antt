@@ -8,3 +8,5 @@ pub mod Waiting
 pub use Rattle.item_state.specs.Sound
 pub use Rattle.item_value.specs.Arrays
 pub use Rattle.item_value.specs.ItemContext
+pub use Rattle.regcode.specs.Listing
+pub use Rattle.regcode.specs.Machine

@@ -70,7 +70,7 @@ fn contains(names: &[Name], name: &Name) -> bool
 impl<'a> Launch<'a> {
     ghost use Rattle.clmodel.specs.Setup.{buffer_names};
     ghost use Rattle.clmodel.specs.Tree.{program};
-    ghost use Rattle.item_step.specs.Launches.{setup_of};
+    ghost use Rattle.item_step.specs.Launches.{code_of, given_to, setup_of};
 
     /// A launch of code that acts as the setup's program. The group's size is that of the range, and no local size is
     /// 0. The buffers have numbers of 32 bits, and the local objects are no more than a group may have. Err if out of
@@ -163,7 +163,9 @@ impl<'a> Launch<'a> {
 
     /// An item before its first action.
     pub fn start(&self, alloc: Global, item: u32) -> Result<Item<'_>, AllocError>
-        ensures { IfOk result (λ started. (answers : List Answer) → action_of started answers ≡ next (setup_of self.now) item answers) }
+        ensures acts { IfOk result (λ started. (answers : List Answer) → action_of started answers ≡ next (setup_of self.now) item answers) }
+        ensures code { IfOk result (λ started. started.code ≡ code_of self.now) }
+        ensures given { IfOk result (λ started. started.given ≡ given_to self.now item) }
     {
         let position = ItemPosition {
             alloc,

@@ -30,7 +30,7 @@ pub(crate) enum Pending {
     Pass,
 }
 
-/// The access that a load or a store makes, and how the item goes on with the answer.
+/// The access that a load, a store or an atomic update makes, and how the item goes on with the answer.
 #[derive(Clone, Copy)]
 pub(crate) struct FoundAccess {
     pub(crate) pointer: Pointer,

@@ -4,5 +4,7 @@ pub mod Objects
 pub use Rattle.clmodel.specs.Launch
 pub use Rattle.clmodel.specs.Next
 pub use Rattle.item_step.specs.Launches
+pub use Rattle.item_step.specs.Listing
+pub use Rattle.item_step.specs.Machine
 pub use Rattle.item_step.specs.Running
 pub use Rattle.spaces_base.specs.Buffers

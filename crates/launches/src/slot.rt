@@ -3,7 +3,7 @@
 ghost use Rattle.std.specs.Prelude.{◌≡◌, ℕ, [], ◌∷◌, List, replicate, IfOk, OnOk};
 ghost use Rattle.clmodel.specs.Launch.{Launch};
 ghost use Rattle.clmodel.specs.declared.action.Answer.{Answer};
-ghost use Rattle.launches.specs.Items.{acts_of, IsAsked, Stands};
+ghost use Rattle.launches.specs.Items.{acts_of, IsAsked, Kernel, Runs, Stands};
 ghost use Rattle.launches.specs.declared.slot.Slot.TheVariants as slot;
 
 use crate::runnable::Runnable;
@@ -47,6 +47,7 @@ impl<'a> Slot<'a> {
     ) -> Result<(), AllocError>
         ensures same { (answers : List Answer) → acts_of (D.launch launch.now) item self.new answers ≡ acts_of (D.launch launch.now) item self.old answers }
         ensures asked { OnOk result (IsAsked self.new) }
+        ensures runs { Runs (D.kernel launch.now) item self.old → Runs (D.kernel launch.now) item self.new }
     {
         if let Slot::Waiting = *self {
             // No `?`: it would move an item once more.
@@ -69,6 +70,7 @@ impl<'a> Slot<'a> {
     ) -> Result<(), AllocError>
         ensures same { (answers : List Answer) → acts_of (D.launch launch.now) item self.new answers ≡ acts_of (D.launch launch.now) item self.old answers }
         ensures asked { OnOk result (IsAsked self.new) }
+        ensures runs { Runs (D.kernel launch.now) item self.old → Runs (D.kernel launch.now) item self.new }
     {
         match *self {
             Slot::Waiting => self.begin(alloc, launch, item),
@@ -93,6 +95,7 @@ impl<'a> Slot<'a> {
         ensures same { (launch : Launch) (item : ℕ) (answers : List Answer) → acts_of launch item self.new answers ≡ acts_of launch item self.old answers }
         ensures asked { IsAsked self.new }
         ensures stands { Stands self.new result }
+        ensures runs { (kernel : Kernel) (item : ℕ) → Runs kernel item self.old → Runs kernel item self.new }
     {
         let Slot::Running(running) = self else {
             return Action::End;
@@ -116,6 +119,7 @@ impl<'a> Slot<'a> {
         ensures same { (answers : List Answer) → acts_of (D.launch launch.now) item self.new answers ≡ acts_of (D.launch launch.now) item self.old answers }
         ensures asked { OnOk result (IsAsked self.new) }
         ensures stands { IfOk result (Stands self.new) }
+        ensures runs { Runs (D.kernel launch.now) item self.old → Runs (D.kernel launch.now) item self.new }
     {
         self.start(alloc, launch, item)?;
         Ok(self.goes_on())
@@ -127,6 +131,7 @@ impl<'a> Slot<'a> {
         requires { IsAsked self.old }
         ensures answered { (launch : Launch) (item : ℕ) (answers : List Answer) → acts_of launch item self.new answers ≡ acts_of launch item self.old (answer ∷ answers) }
         ensures asked { IsAsked self.new }
+        ensures runs { (kernel : Kernel) (item : ℕ) → Runs kernel item self.old → Runs kernel item self.new }
     {
         if let Slot::Running(running) = self {
             running.answer(answer);
