@@ -17,7 +17,6 @@ use Rattle.item_step.specs.Running.{Running, Makes}
 use Rattle.replay.proofs.Played.{after_then, replicate_more, events_more, events_split}
 use Rattle.launches.specs.Items.{IsAsked, Kernel, Runs, Stands, acts_of}
 use Rattle.clnum.specs.Integer.{Integer}
-use Rattle.item_state.specs.Dividing.{dividend_of}
 use Rattle.replay.specs.Items.{IsAskedAt, StandsAt, dividend_at, dividend_in, stand_of, stand_in}
 use Rattle.replay.specs.States.{ActsNext, HasKernel, IsAt, IsPlayed}
 use Rattle.replay.specs.declared.player.Player.{Player}
