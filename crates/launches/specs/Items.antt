@@ -4,17 +4,23 @@ use Rattle.clmodel.specs.Launch.{Launch}
 use Rattle.clmodel.specs.declared.action.Action.{Action}
 use Rattle.clmodel.specs.declared.action.Action.TheVariants as action
 use Rattle.clmodel.specs.declared.action.Answer.{Answer}
+use Rattle.item_step.specs.Launches.{code_of, given_to}
 use Rattle.item_step.specs.Listing.{Listing}
 use Rattle.item_step.specs.Machine.{ItemContext}
 use Rattle.item_step.specs.Running.{Makes, action_of}
+use Rattle.item_step.specs.declared.launch.Launch as item_step
 use Rattle.launches.specs.declared.slot.Slot.{Slot}
 use Rattle.launches.specs.declared.slot.Slot.TheVariants as slot
 
--- what the items of a launch run: its kernel's code, and what each is given by its number, as its ids and the arguments
--- (OpenCL 1.2, 3.2, 6.12.1; own in the code)
+-- what the items of a launch run: its kernel's code, and what each is given by its number, such as its ids and the
+-- arguments (OpenCL 1.2, 3.2, 6.12.1; own in the code)
 pub record Kernel : Type 0 where
   pub code : Listing
   pub given : ℕ → ItemContext
+
+-- that of a launch
+abbrev pub kernel_in : item_step.Launch → Kernel
+kernel_in launch = record { code = code_of launch; given = given_to launch }
 
 -- the action that an item makes after further answers: before it is asked what its launch says, and at its end the end
 abbrev pub acts_of : Launch → ℕ → Slot → List Answer → Action

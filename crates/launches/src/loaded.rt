@@ -2,7 +2,8 @@
 
 ghost use Rattle.std.specs.Prelude.{◌≡◌, [], IfOk, slice_index_or};
 ghost use Rattle.clmodel.specs.Next.{launch_of};
-ghost use Rattle.item_step.specs.Launches.{code_of, given_to, setup_of};
+ghost use Rattle.item_step.specs.Launches.{setup_of};
+ghost use Rattle.launches.specs.Items.{kernel_in};
 ghost use Rattle.spaces_base.specs.Buffers.{bytes_in};
 
 use crate::described::Described;
@@ -69,7 +70,7 @@ impl Described for LoadedLaunch<'_> {
 }
 
 impl Runnable for LoadedLaunch<'_> {
-    ghost kernel = { λ loaded. record { code = code_of loaded.launch.now; given = given_to loaded.launch.now } };
+    ghost kernel = { λ loaded. kernel_in loaded.launch.now };
 
     fn group_size(&self) -> u32 {
         self.launch.group_size()

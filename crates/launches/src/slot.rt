@@ -2,6 +2,7 @@
 
 ghost use Rattle.std.specs.Prelude.{◌≡◌, ℕ, [], ◌∷◌, List, replicate, IfOk, OnOk};
 ghost use Rattle.clmodel.specs.Launch.{Launch};
+ghost use Rattle.clmodel.specs.declared.action.Action.TheVariants as action;
 ghost use Rattle.clmodel.specs.declared.action.Answer.{Answer};
 ghost use Rattle.launches.specs.Items.{acts_of, IsAsked, Kernel, Runs, Stands};
 ghost use Rattle.launches.specs.declared.slot.Slot.TheVariants as slot;
@@ -94,6 +95,7 @@ impl<'a> Slot<'a> {
         ensures action { (launch : Launch) (item : ℕ) → result ≡ acts_of launch item self.old [] }
         ensures same { (launch : Launch) (item : ℕ) (answers : List Answer) → acts_of launch item self.new answers ≡ acts_of launch item self.old answers }
         ensures asked { IsAsked self.new }
+        ensures ended { result ≡ action.End → self.new ≡ slot.Ended }
         ensures stands { Stands self.new result }
         ensures runs { (kernel : Kernel) (item : ℕ) → Runs kernel item self.old → Runs kernel item self.new }
     {
@@ -118,6 +120,7 @@ impl<'a> Slot<'a> {
         ensures action { IfOk result (λ action. action ≡ acts_of (D.launch launch.now) item self.old []) }
         ensures same { (answers : List Answer) → acts_of (D.launch launch.now) item self.new answers ≡ acts_of (D.launch launch.now) item self.old answers }
         ensures asked { OnOk result (IsAsked self.new) }
+        ensures ended { IfOk result (λ made. made ≡ action.End → self.new ≡ slot.Ended) }
         ensures stands { IfOk result (Stands self.new) }
         ensures runs { Runs (D.kernel launch.now) item self.old → Runs (D.kernel launch.now) item self.new }
     {
