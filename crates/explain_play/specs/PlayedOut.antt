@@ -10,8 +10,6 @@ use Rattle.clmodel.specs.declared.fault.Fault.{Fault}
 use Rattle.clmodel.specs.declared.fault.Fault.TheVariants as fault
 use Rattle.clmodel.specs.declared.schedule.Event.{Event}
 use Rattle.clmodel.specs.declared.schedule.Event.TheVariants as event
-use Rattle.item_step.specs.Launches.{code_of, given_to}
-use Rattle.item_step.specs.declared.launch.Launch as item_step
 use Rattle.launches.specs.Items.{Kernel}
 use Rattle.marked_play.specs.Marks.{ActsFrom, Divides, Lead, events_in}
 use Rattle.marked_play.specs.Pairs.{IsFoundPair}
@@ -70,10 +68,6 @@ acts_at marks item number = option_map_or (λ mark. is_event_of item mark.event)
 abbrev pub IsLast : (ℕ → Bool) → ℕ → Option ℕ → Type 0
 IsLast p n None = (k : ℕ) → k < n → p k ≡ false
 IsLast p n (Some last) = (last < n) × (p last ≡ true) × ((k : ℕ) → last < k → k < n → p k ≡ false)
-
--- what the items of a launch run: its code, each with the ids and arguments of its number (own)
-abbrev pub kernel_of : item_step.Launch → Kernel
-kernel_of launch = record { code = code_of launch; given = given_to launch }
 
 -- The events were played from the start to a state, each with where its item stands that acts by it, and with the
 -- numbers that its access finds and leaves. The first accesses of the log there are told. If two accesses are found,

@@ -11,14 +11,14 @@ ghost use Rattle.clmodel.specs.Setup.{group_items};
 ghost use Rattle.clmodel.specs.declared.fault.Fault.{Fault};
 ghost use Rattle.item_step.specs.Launches.{setup_of};
 ghost use Rattle.launches.specs.Groups.{HasGroups};
-ghost use Rattle.launches.specs.Items.{Kernel};
+ghost use Rattle.launches.specs.Items.{Kernel, kernel_in};
 ghost use Rattle.marked_play.specs.Marks.{ActsFrom, Divides};
 ghost use Rattle.marked_play.specs.Pairs.{IsFoundPair};
 ghost use Rattle.marked_play.specs.Replicas.{Mirrors};
 ghost use Rattle.marked_play.specs.declared.pairs.Told.{Told};
 ghost use Rattle.replay.specs.States.{HasKernel, IsAt};
 ghost use Rattle.spaces_base.specs.Buffers.{bytes_in};
-ghost use Rattle.explain_play.specs.PlayedOut.{IsEventOf, IsLast, IsPlayedOut, MadeAccess, Tells, acts_at, is_access, kernel_of, touch_of};
+ghost use Rattle.explain_play.specs.PlayedOut.{IsEventOf, IsLast, IsPlayedOut, MadeAccess, Tells, acts_at, is_access, touch_of};
 
 use clmodel::access::{Access, AccessKind};
 use clmodel::action::Action;
@@ -207,7 +207,7 @@ pub fn play(
     requires { HasGroups (setup_of launch.now) }
     ensures none { IfOk result (λ found. IfNone found ((other : Fault) → Reaches (launch_of (setup_of launch.now) (bytes_in buffers.now)) (events_of schedule.now) other → ⊥)) }
     ensures played { IfOk result (λ found. IfSome found
-        (IsPlayedOut (launch_of (setup_of launch.now) (bytes_in buffers.now)) (kernel_of launch.now) (group_items (setup_of launch.now).range) (events_of schedule.now) fault.now items.0 items.1 most)) }
+        (IsPlayedOut (launch_of (setup_of launch.now) (bytes_in buffers.now)) (kernel_in launch.now) (group_items (setup_of launch.now).range) (events_of schedule.now) fault.now items.0 items.1 most)) }
 {
     setups_are_runnable();
     let loaded = LoadedLaunch::new(alloc, launch, buffers);

@@ -13,7 +13,7 @@ use Rattle.clmodel.specs.declared.schedule.EventRun.{EventRun}
 use Rattle.clmodel.specs.declared.setup.Range.{Range}
 use Rattle.device.specs.Machine.{Machine, opening, kernel_of, setup_of}
 use Rattle.device.specs.Prepared.{IsPrepared}
-use Rattle.explain_play.specs.PlayedOut as played_out
+use Rattle.explain_play.specs.PlayedOut.{IsPlayedOut}
 use Rattle.explain_play.specs.declared.played.Played.{Played}
 use Rattle.explain_items.specs.Named.{AreTold, told_items}
 use Rattle.explain_items.specs.declared.context.Context.{Context}
@@ -25,6 +25,7 @@ use Rattle.host_commands.specs.declared.command.Refusal.TheVariants as refusal
 use Rattle.host_commands.specs.declared.command.Reply.TheVariants as reply
 use Rattle.item_step.specs.Launches as launches
 use Rattle.fault_lines.specs.ScheduleFile.{IsScheduleFile}
+use Rattle.launches.specs.Items.{kernel_in}
 use Rattle.simfile.specs.Script.{IsScript}
 use Rattle.spaces_base.specs.Buffers.{bytes_in}
 use Rattle.spaces_base.specs.Tables.{Table}
@@ -46,7 +47,7 @@ pub explained :
     {E : Type 0} (r : Result Explanation E) (launch : Launch) (context : Context) (ticket : ℕ) (range : Range) (f : Fault) (runs : List EventRun) (facts : ScheduleFacts) (first second most : ℕ)
     (played : Played) → IfOk r (λ e. TellsLaunch ticket range e.launch) → IfOk r (λ e. TellsFault f e.fault) → IfOk r (λ e. e.schedule ≡ facts)
     → IfOk r (λ e. AreTold context played.marks.items (told_items f played) e.items.items) → string_bytes facts.short ≡ schedule_words runs → AreNamed f first second
-    → played_out.IsPlayedOut launch (played_out.kernel_of context.launch.now) (group_items (launches.setup_of context.launch.now).range) (events_of runs) f first second most played → IfOk r (IsExplained launch context ticket range f runs)
+    → IsPlayedOut launch (kernel_in context.launch.now) (group_items (launches.setup_of context.launch.now).range) (events_of runs) f first second most played → IfOk r (IsExplained launch context ticket range f runs)
 explained (Ok e) launch context ticket range f runs facts first second most played l g s i words named plays = record {
   launched = l;
   faulted = g;

@@ -11,7 +11,7 @@ use Rattle.clmodel.specs.declared.schedule.EventRun.{EventRun}
 use Rattle.clmodel.specs.declared.setup.Range.{Range}
 use Rattle.device.specs.Machine.{Machine, opening, kernel_of, setup_of, bytes_of}
 use Rattle.explain_json.specs.Members.{explanation_data}
-use Rattle.explain_play.specs.PlayedOut as played_out
+use Rattle.explain_play.specs.PlayedOut.{IsPlayedOut}
 use Rattle.explain_play.specs.declared.played.Played.{Played}
 use Rattle.explain_items.specs.Named.{AreTold, told_items}
 use Rattle.explain_items.specs.declared.context.Context.{Context}
@@ -27,6 +27,7 @@ use Rattle.host_commands.specs.declared.command.Refusal.TheVariants as refusal
 use Rattle.host_commands.specs.declared.command.Reply.TheVariants as reply
 use Rattle.item_step.specs.Launches as launches
 use Rattle.launch_facts.specs.Commands.{HasNoSource, IsSource}
+use Rattle.launches.specs.Items.{kernel_in}
 use Rattle.launch_facts.specs.declared.commands.ProgramSource.{ProgramSource}
 use Rattle.fault_lines.specs.ScheduleFile.{IsScheduleFile}
 use Rattle.fault_lines.specs.Text.{fault_text, schedule_text}
@@ -67,7 +68,7 @@ pub record TellsItems (launch : Launch) (context : Context) (f : Fault) (runs : 
   pub named : AreNamed f first second
   pub most : ℕ
   pub played : Played
-  pub plays : played_out.IsPlayedOut launch (played_out.kernel_of context.launch.now) (group_items (launches.setup_of context.launch.now).range) (events_of runs) f first second most played
+  pub plays : IsPlayedOut launch (kernel_in context.launch.now) (group_items (launches.setup_of context.launch.now).range) (events_of runs) f first second most played
   pub told : AreTold context played.marks.items (told_items f played) e.items.items
 
 -- an explanation of a launch and its fault by a schedule

@@ -9,7 +9,7 @@ use Rattle.clmodel.specs.Setup.{buffer_names}
 use Rattle.clmodel.specs.declared.fault.Fault.{Fault}
 use Rattle.item_step.specs.Launches.{setup_of}
 use Rattle.launches.specs.Groups.{IsRunnable, filled}
-use Rattle.launches.specs.Items.{Kernel}
+use Rattle.launches.specs.Items.{Kernel, kernel_in}
 use Rattle.launches.specs.declared.loaded.LoadedLaunch.{LoadedLaunch}
 use Rattle.replay.proofs.Reaching.{map_map, never_reaches}
 use Rattle.spaces_base.specs.Buffers.{bytes_in}
@@ -19,7 +19,7 @@ use Rattle.marked_play.specs.Replicas.{Mirrors}
 use Rattle.marked_play.specs.declared.pairs.Told.{Told}
 use Rattle.marked_play.specs.declared.replica.Replica.{Replica}
 use Rattle.marked_play.proofs.Marking.{marked, unmarked}
-use Rattle.explain_play.specs.PlayedOut.{IsPlayedOut, Tells, kernel_of, touch_of}
+use Rattle.explain_play.specs.PlayedOut.{IsPlayedOut, Tells, touch_of}
 use Rattle.explain_play.specs.declared.played.Played.{Played}
 use Rattle.explain_play.proofs.played.play.Goals as goal
 
@@ -28,7 +28,7 @@ abbrev of_loaded : LoadedLaunch → Launch
 of_loaded loaded = launch_of (setup_of loaded.launch.now) (bytes_in loaded.buffers.now)
 
 abbrev of_kernel : LoadedLaunch → Kernel
-of_kernel loaded = kernel_of loaded.launch.now
+of_kernel loaded = kernel_in loaded.launch.now
 
 mirrored : (k l : Launch) (replica : Replica) → k ≡ l → Mirrors k replica (initial k) → Mirrors l replica (initial l)
 mirrored k l replica same h = subst (λ (z : Launch). Mirrors z replica (initial z)) same h
@@ -81,7 +81,7 @@ returns-clause-played c =
     let here = m.5.0 in
     let runs = m.5.1 in
     let made : c.mark_schedule.new.marks.items ≡ m.0 = m.2 ∙ ap (λ marks. marks ++ m.0) c.new-marks.ensures.items in
-    moved l _ k _ c.group_size-size.result _ (events_of c.args.schedule.now) c.args.fault.now c.args.items.0 c.args.items.1 c.args.most _ same (ap kernel_of c.new-loaded.ensures.launch)
+    moved l _ k _ c.group_size-size.result _ (events_of c.args.schedule.now) c.args.fault.now c.args.items.0 c.args.items.1 c.args.most _ same (ap kernel_in c.new-loaded.ensures.launch)
     c.group_size-size.ensures.value
     (record {
       end = m.1;

@@ -6,10 +6,17 @@ use Rattle.std.proofs.lemmas.Result.{IfOk-weaker}
 use Rattle.clmodel.specs.Launch.{location_of, region_of}
 use Rattle.clmodel.specs.Run.{byte_at}
 use Rattle.replay.specs.Nexts.{access_of, TellsNext}
-use Rattle.replay.proofs.Showing.{never, never_bounds, bounds}
+use Rattle.replay.proofs.Playing.{is_none}
+use Rattle.replay.proofs.Showing.{never, no_bounds, never_bounds, bounds}
 use Rattle.replay.proofs.Telling.{tells}
 use Rattle.shadow_list.proofs.Hits.{none_if}
 use Rattle.replay.proofs.faults.shows_bounds.Goals as goal
+
+pub returns-in_default : goal.returns-in_default
+returns-in_default g c = λ s at.
+    let l = g.D.Described.launch c.args.launch.now in
+    never (no_bounds l s c.args.item c.args.kind c.args.location.now c.args.element
+    (subst (TellsNext access_of l s c.args.item) (is_none c.and_then.result c.in_default.not-Some) (tells access_of l s c.args.item _ _ c.and_then.ensures (c.in_ok-action.ensures.value l s at))))
 
 pub returns-then-next-element : goal.returns-then-next-element
 returns-then-next-element g c = λ s at.
