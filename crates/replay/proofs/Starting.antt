@@ -16,7 +16,6 @@ use Rattle.launches.specs.Items.{acts_of}
 use Rattle.launches.specs.Groups.{filled}
 use Rattle.replay.specs.States.{IsGroupIn, IsNew, Tells}
 use Rattle.replay.specs.declared.group.Group.{Group}
-use Rattle.launches.specs.declared.slot.Slot.{Slot}
 use Rattle.launches.specs.declared.slot.Slot.TheVariants as slot
 
 -- ---- the buffers

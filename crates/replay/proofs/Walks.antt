@@ -10,7 +10,7 @@ use Rattle.clmodel.specs.declared.action.Stop.{Stop}
 use Rattle.clmodel.proofs.Steps.{some_inj}
 use Rattle.launches.proofs.Lists.{get_set}
 use Rattle.launches.specs.Items.{acts_of, IsAsked}
-use Rattle.replay.specs.Items.{is_at, AreAlike, AreAsked, AreAt, AreAnswered, IsAskedAt}
+use Rattle.replay.specs.Items.{is_at, AreAlike, AreAsked, AreAt, AreAnswered}
 use Rattle.launches.specs.declared.slot.Slot.{Slot}
 
 -- what holds anyhow holds on an error

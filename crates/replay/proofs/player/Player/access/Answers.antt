@@ -2,10 +2,8 @@ use Rattle.std.proofs.Common.{rules, to_z, of_z, w64, ◌≡◌, ◌<◌, ◌/�
 use Rattle.std.proofs.lemmas.Option.{slice_get_read}
 use Rattle.clmodel.specs.Launch.{group_of}
 use Rattle.clmodel.specs.declared.access.Access.{Access}
-use Rattle.clmodel.specs.declared.action.Answer.{Answer}
 use Rattle.clmodel.specs.declared.schedule.Event.TheVariants.{Item}
 use Rattle.launches.specs.Objects.{ObjectsHold}
-use Rattle.launches.specs.Items.{acts_of}
 use Rattle.replay.specs.States.{IsPerformed, IsPlayed, Tells}
 use Rattle.replay.proofs.Playing.{refused_in, done_in, group_kept, is_none, group_there}
 use Rattle.replay.proofs.Running.{run_set}
