@@ -69,8 +69,8 @@ abbrev pub site_of : Stop → Option Stand → Site
 site_of stop.Ended stand = AtEnd
 site_of (stop.At instance) stand = AtStand stand
 
--- the items that are told: of a conflict its two, each at its access, or with no place where the accesses weren't found;
--- else those that stand somewhere
+-- the items that are told: of a conflict its two, each at its access, or with no place where these weren't found; else
+-- those that stand somewhere
 abbrev pub told_items : Fault → Played → List (ℕ × Site)
 told_items (fault.Conflict clash item kind other_item other_kind location byte) played =
     option_map_or (λ pair. in_order pair (item, AtAccess pair.first) (other_item, AtAccess pair.second)) played.pair
