@@ -1,5 +1,5 @@
 -- The items that an explanation tells of a fault, each where it stands (own).
-use Rattle.std.specs.Prelude.{◌≡◌, ℕ, Option, Some, List, [], ◌∷◌, length, nat_lt, slice_get, if◌then◌else◌}
+use Rattle.std.specs.Prelude.{◌≡◌, ℕ, Option, None, Some, List, [], ◌∷◌, length, nat_lt, slice_get, if◌then◌else◌}
 use Rattle.std.specs.List.{AllZip}
 use Rattle.std.specs.Option.{option_and_then, option_map_or}
 use Rattle.clmodel.specs.declared.action.Stop.{Stop}
@@ -69,11 +69,12 @@ abbrev pub site_of : Stop → Option Stand → Site
 site_of stop.Ended stand = AtEnd
 site_of (stop.At instance) stand = AtStand stand
 
--- the items that are told: of a conflict its two, or none where its accesses weren't found; else those that stand
--- somewhere
+-- the items that are told: of a conflict its two, each at its access, or with no place where these weren't found; else
+-- those that stand somewhere
 abbrev pub told_items : Fault → Played → List (ℕ × Site)
 told_items (fault.Conflict clash item kind other_item other_kind location byte) played =
-    option_map_or (λ pair. in_order pair (item, AtAccess pair.first) (other_item, AtAccess pair.second)) played.pair []
+    option_map_or (λ pair. in_order pair (item, AtAccess pair.first) (other_item, AtAccess pair.second)) played.pair
+    ((item, AtStand None) ∷ (other_item, AtStand None) ∷ [])
 told_items (fault.Divergence item one other_item other) played =
     (played.first.item, site_of one played.first.stand) ∷ (played.second.item, site_of other played.second.stand) ∷ []
 told_items (fault.Bounds item kind location element) played = (played.first.item, AtStand played.first.stand) ∷ []

@@ -1,12 +1,12 @@
 //! What is known of a launch: its source, its tree, its commands.
 #![tactic(auto)]
 
-ghost use Rattle.std.specs.Prelude.{◌≡◌, None, Some, IfOk, IfSome, option_copied};
+ghost use Rattle.std.specs.Prelude.{◌≡◌, None, Some, IfNone, IfOk, IfSome, option_copied};
 ghost use Rattle.clmodel.specs.Setup.{kernel_in};
 ghost use Rattle.item_step.specs.Launches.{setup_of};
 ghost use Rattle.origins.specs.Finding.{IsOriginIn};
 ghost use Rattle.source_spots.specs.Spots.{HaveTurns};
-ghost use Rattle.explain_items.specs.Spotted.{BeginsAt, HasSpot, IsSpotted};
+ghost use Rattle.explain_items.specs.Spotted.{BeginsAt, HasNoSpot, HasSpot, IsSpottable, IsSpotted, IsTellable};
 
 use clmodel::text::Name;
 use clmodel::tree::{Expression, Statement, Target};
@@ -96,6 +96,7 @@ impl<'a> Context<'a> {
     fn source(&self) -> Option<Source<'a>>
         ensures text { IfSome result (λ source. source.text.now ≡ self.now.program.text.now) }
         ensures first { IfSome result (λ source. source.first_line ≡ self.now.program.first_line) }
+        ensures none { IfNone result (IsTellable self.now.program.text.now self.now.program.first_line → ⊥) }
     {
         let text = self.program.text;
         let first_line = self.program.first_line;
@@ -119,7 +120,8 @@ impl<'a> Context<'a> {
 
     /// Where an item stands in the source. An error is out of memory.
     fn spot_at(&self, stand: &Stand) -> Result<Option<Spot>, AllocError>
-        ensures { IfOk result (λ found. IfSome found (IsSpotted (setup_of self.now.launch.now) stand.now self.now.program.text.now self.now.program.first_line)) }
+        ensures none { IfOk result (λ found. IfNone found (IsSpottable (setup_of self.now.launch.now) stand.now.place self.now.program.text.now self.now.program.first_line → ⊥)) }
+        ensures spotted { IfOk result (λ found. IfSome found (IsSpotted (setup_of self.now.launch.now) stand.now self.now.program.text.now self.now.program.first_line)) }
     {
         let Some(source) = self.source() else {
             return Ok(None);
@@ -135,7 +137,8 @@ impl<'a> Context<'a> {
 
     /// The same, if the item stands anywhere. An error is out of memory.
     pub fn spot(&self, stand: Option<&Stand>) -> Result<Option<Spot>, AllocError>
-        ensures { IfOk result (λ found. IfSome found (HasSpot (setup_of self.now.launch.now) self.now.program.text.now self.now.program.first_line (λ s. option_copied stand.entry ≡ Some s))) }
+        ensures none { IfOk result (λ found. IfNone found (HasNoSpot (setup_of self.now.launch.now) self.now.program.text.now self.now.program.first_line (λ s. option_copied stand.entry ≡ Some s))) }
+        ensures spotted { IfOk result (λ found. IfSome found (HasSpot (setup_of self.now.launch.now) self.now.program.text.now self.now.program.first_line (λ s. option_copied stand.entry ≡ Some s))) }
     {
         match stand {
             Some(stand) => self.spot_at(stand),

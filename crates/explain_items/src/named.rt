@@ -1,7 +1,7 @@
 //! The items that a fault names.
 #![tactic(auto)]
 
-ghost use Rattle.std.specs.Prelude.{◌≡◌, [], ◌∷◌, Some, IfOk, option_copied};
+ghost use Rattle.std.specs.Prelude.{◌≡◌, [], ◌∷◌, None, Some, IfOk, option_copied};
 ghost use Rattle.std.specs.Option.{option_map_or};
 ghost use Rattle.item_ids.specs.Ids.{AreIds};
 ghost use Rattle.item_step.specs.Launches.{setup_of};
@@ -174,18 +174,34 @@ fn conflicting(
     ordered(context.alloc, pair, item, other)
 }
 
-/// Both items of a conflict, the earlier access first; none where the accesses weren't found.
+/// An item of a conflict whose accesses weren't found: no place is told of it.
+fn placeless(
+    context: &Context<'_>,
+    item: u32,
+    kind: AccessKind,
+) -> Result<NamedItem, AllocError>
+    ensures { IfOk result (IsNamed (setup_of context.now.launch.now) context.now.program.text.now context.now.program.first_line (λ s. None ≡ Some s) (λ _. ⊥) item) }
+{
+    named(context, item, Does::Access(kind), None, None)
+}
+
+/// Both items of a conflict, the earlier access first.
 fn clashing(
     context: &Context<'_>,
     played: &Played,
     first: (u32, AccessKind),
     second: (u32, AccessKind),
 ) -> Result<Vec<NamedItem>, AllocError>
-    ensures { IfOk result (λ items. AreTold context.now played.now.marks.items (option_map_or (λ pair. in_order pair (first.0, AtAccess pair.first) (second.0, AtAccess pair.second)) played.now.pair []) items.items) }
+    ensures { IfOk result (λ items. AreTold context.now played.now.marks.items (option_map_or (λ pair. in_order pair (first.0, AtAccess pair.first) (second.0, AtAccess pair.second)) played.now.pair
+        ((first.0, AtStand None) ∷ (second.0, AtStand None) ∷ [])) items.items) }
 {
     match played.pair {
         Some(pair) => conflicting(context, played, pair, first, second),
-        None => Ok(Vec::new(context.alloc)),
+        None => {
+            let item = placeless(context, first.0, first.1)?;
+            let other = placeless(context, second.0, second.1)?;
+            both(context.alloc, item, other)
+        }
     }
 }
 

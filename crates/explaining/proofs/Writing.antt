@@ -32,7 +32,7 @@ use Rattle.spaces_base.specs.Tables.{Table}
 use Rattle.explaining.proofs.Faulting.{faults, told_yes}
 use Rattle.explaining.specs.Explaining.{IsShort, Tells}
 use Rattle.explaining.specs.Leading.{IsFirst, Leads, WalkedTo}
-use Rattle.explaining.specs.Whole.{AnswersTo, AreNamed, HasWhole, IsExplained, IsSourceOf, IsTextOf, IsToldOf, IsToldThere, SaysOf, SaysScript, TellsFault, TellsFirst, TellsLaunch, schedule_words}
+use Rattle.explaining.specs.Whole.{AnswersTo, AreNamed, HasWhole, IsAsWanted, IsExplained, IsSourceOf, IsTextOf, IsToldOf, IsToldThere, SaysOf, SaysScript, TellsFault, TellsFirst, TellsLaunch, schedule_words}
 use Rattle.explaining.specs.declared.answers.Answer.{Answer}
 use Rattle.explaining.specs.declared.facts.Format.{Format}
 use Rattle.explaining.specs.declared.faults.ExplainFault.{ExplainFault}
@@ -58,17 +58,18 @@ explained (Err why) launch context ticket range f runs facts first second most p
 
 -- what is told of a prepared launch
 pub whole :
-    (m : Machine) (commands : List Command) (ticket : ℕ) (kernel : List ℕ) (range : Range) (context : Context) (buffers : Table (List ℕ)) (f : Fault) (given runs : List EventRun) (e : Explanation)
-    → slice_get commands ticket ≡ Some (command.Launch kernel range) → IsPrepared m kernel range context.launch.now → buffers ≡ m.buffers → IsSourceOf commands kernel context.program
-    → IsShort (launch_of (launches.setup_of context.launch.now) (bytes_in buffers)) f given runs → string_bytes e.schedule.given ≡ schedule_words given
-    → IsExplained (launch_of (launches.setup_of context.launch.now) (bytes_in buffers)) context ticket range f runs e → HasWhole m commands ticket f given runs e
-whole m commands ticket kernel range context buffers f given runs e at p same source short words explained = record {
+    (m : Machine) (as_given : Bool) (commands : List Command) (ticket : ℕ) (kernel : List ℕ) (range : Range) (context : Context) (buffers : Table (List ℕ)) (f : Fault) (given runs : List EventRun) (e : Explanation)
+    → slice_get commands ticket ≡ Some (command.Launch kernel range) → IsPrepared m kernel range context.launch.now → buffers ≡ m.buffers → IsSourceOf commands context.done.now kernel context.program
+    → IsShort (launch_of (launches.setup_of context.launch.now) (bytes_in buffers)) f given runs → IsAsWanted as_given given runs → string_bytes e.schedule.given ≡ schedule_words given
+    → IsExplained (launch_of (launches.setup_of context.launch.now) (bytes_in buffers)) context ticket range f runs e → HasWhole m as_given commands ticket f given runs e
+whole m as_given commands ticket kernel range context buffers f given runs e at p same source short wanted words explained = record {
   kernel = kernel;
   range = range;
   at = at;
   is_short =
       subst (λ (b : Table (List ℕ)). IsShort (launch_of (setup_of m (kernel_of m kernel) range) (bytes_in b)) f given runs) same
       (subst (λ (s : Setup). IsShort (launch_of s (bytes_in buffers)) f given runs) p.setup short);
+  wanted = wanted;
   context = context;
   same = p.setup;
   source = source;
@@ -82,49 +83,49 @@ whole m commands ticket kernel range context buffers f given runs e at p same so
 pub if_some : {A : Type 0} (P : A → Type 0) (o : Option A) (x : A) → o ≡ Some x → IfSome o P → P x
 if_some P o x e h = subst (λ p. IfSome p P) e h
 
--- three facts of what was found
-pub some_both :
-    {A : Type 0} (o : Option A) (P Q R S : A → Type 0) → IfSome o P → IfSome o Q → IfSome o R → ((x : A) → P x → Q x → R x → S x) → IfSome o S
-some_both (Some x) P Q R S p q r h = h x p q r
-some_both None P Q R S p q r h = tt
+-- four facts of what was found
+pub some_all :
+    {A : Type 0} (o : Option A) (P Q R S T : A → Type 0) → IfSome o P → IfSome o Q → IfSome o R → IfSome o S → ((x : A) → P x → Q x → R x → S x → T x) → IfSome o T
+some_all (Some x) P Q R S T p q r s h = h x p q r s
+some_all None P Q R S T p q r s h = tt
 
 pub whole_there :
-    (budget : ℕ) (commands : List Command) (ticket : ℕ) (f : Fault) (runs : List EventRun) (m : Machine) (r : Result (Option ExplainedCase) ExplainFault) → Leads (opening budget) (take ticket commands) m
-    → IfOk r (λ found. IfSome found (λ told. HasWhole m commands ticket f runs told.schedule told.whole)) → IfOk r (λ found. IfSome found (IsToldThere budget commands ticket f runs))
-whole_there budget commands ticket f runs m (Ok (Some told)) led h = record { machine = m; led = led; whole = h }
-whole_there budget commands ticket f runs m (Ok None) led h = tt
-whole_there budget commands ticket f runs m (Err why) led h = tt
+    (budget : ℕ) (as_given : Bool) (commands : List Command) (ticket : ℕ) (f : Fault) (runs : List EventRun) (m : Machine) (r : Result (Option ExplainedCase) ExplainFault) → Leads (opening budget) (take ticket commands) m
+    → IfOk r (λ found. IfSome found (λ told. HasWhole m as_given commands ticket f runs told.schedule told.whole)) → IfOk r (λ found. IfSome found (IsToldThere budget as_given commands ticket f runs))
+whole_there budget as_given commands ticket f runs m (Ok (Some told)) led h = record { machine = m; led = led; whole = h }
+whole_there budget as_given commands ticket f runs m (Ok None) led h = tt
+whole_there budget as_given commands ticket f runs m (Err why) led h = tt
 
 pub whole_of :
-    (budget : ℕ) (script schedule : List ℕ) (commands : List Command) (ticket : ℕ) (f : Fault) (runs : List EventRun) (r : Result (Option ExplainedCase) ExplainFault) → IsScript script commands
-    → IsScheduleFile schedule ticket f runs → IfOk r (λ found. IfSome found (IsToldThere budget commands ticket f runs)) → IfOk r (λ found. IfSome found (IsToldOf budget script schedule))
-whole_of budget script schedule commands ticket f runs (Ok (Some told)) is file h =
+    (budget : ℕ) (as_given : Bool) (script schedule : List ℕ) (commands : List Command) (ticket : ℕ) (f : Fault) (runs : List EventRun) (r : Result (Option ExplainedCase) ExplainFault) → IsScript script commands
+    → IsScheduleFile schedule ticket f runs → IfOk r (λ found. IfSome found (IsToldThere budget as_given commands ticket f runs)) → IfOk r (λ found. IfSome found (IsToldOf budget as_given script schedule))
+whole_of budget as_given script schedule commands ticket f runs (Ok (Some told)) is file h =
     record { commands = commands; ticket = ticket; f = f; runs = runs; is = is; file = file; there = h }
-whole_of budget script schedule commands ticket f runs (Ok None) is file h = tt
-whole_of budget script schedule commands ticket f runs (Err why) is file h = tt
+whole_of budget as_given script schedule commands ticket f runs (Ok None) is file h = tt
+whole_of budget as_given script schedule commands ticket f runs (Err why) is file h = tt
 
 pub says_of :
-    (budget : ℕ) (f : Format) (script schedule : List ℕ) (o : Option ExplainedCase) (answer : Answer) → IfSome o (IsToldOf budget script schedule) → answer.yes ≡ is_some o
-    → AnswersTo f (codes "no\n") o answer → SaysOf budget f script schedule answer.yes (string_bytes answer.text)
-says_of budget f script schedule (Some told) answer is agrees h = subst (λ y. SaysOf budget f script schedule y (string_bytes answer.text)) (sym agrees) (told, is, h)
-says_of budget f script schedule None answer is agrees h = subst (λ y. SaysOf budget f script schedule y (string_bytes answer.text)) (sym agrees) h
+    (budget : ℕ) (as_given : Bool) (f : Format) (script schedule : List ℕ) (o : Option ExplainedCase) (answer : Answer) → IfSome o (IsToldOf budget as_given script schedule) → answer.yes ≡ is_some o
+    → AnswersTo f (codes "no\n") o answer → SaysOf budget as_given f script schedule answer.yes (string_bytes answer.text)
+says_of budget as_given f script schedule (Some told) answer is agrees h = subst (λ y. SaysOf budget as_given f script schedule y (string_bytes answer.text)) (sym agrees) (told, is, h)
+says_of budget as_given f script schedule None answer is agrees h = subst (λ y. SaysOf budget as_given f script schedule y (string_bytes answer.text)) (sym agrees) h
 
 pub says_unbuilt :
-    (budget : ℕ) (f : Format) (script : List ℕ) (commands : List Command) (m : Machine) (w : Walked) (u : Unbuilt) (answer : Answer) → IsScript script commands
-    → WalkedTo (opening budget) commands m w → w ≡ walked.Unbuilt u → answer.yes ≡ true → SaysScript budget f script answer.yes (string_bytes answer.text)
-says_unbuilt budget f script commands m w u answer is h e agrees =
+    (budget : ℕ) (as_given : Bool) (f : Format) (script : List ℕ) (commands : List Command) (m : Machine) (w : Walked) (u : Unbuilt) (answer : Answer) → IsScript script commands
+    → WalkedTo (opening budget) commands m w → w ≡ walked.Unbuilt u → answer.yes ≡ true → SaysScript budget as_given f script answer.yes (string_bytes answer.text)
+says_unbuilt budget as_given f script commands m w u answer is h e agrees =
     let first : IsFirst (opening budget) commands m u.ticket (reply.Refused (refusal.BuildFailed u.fault)) = subst (λ (v : Walked). WalkedTo (opening budget) commands m v) e h in
-    subst (λ y. SaysScript budget f script y (string_bytes answer.text)) (sym agrees)
+    subst (λ y. SaysScript budget as_given f script y (string_bytes answer.text)) (sym agrees)
     (record { commands = commands; ticket = u.ticket; machine = m; is = is; found = inr (u.fault, first) })
 
 told_first :
-    (budget : ℕ) (f : Format) (script : List ℕ) (commands : List Command) (m : Machine) (ticket : ℕ) (fault : Fault) (runs : List EventRun) (o : Option ExplainedCase) (answer : Answer)
+    (budget : ℕ) (as_given : Bool) (f : Format) (script : List ℕ) (commands : List Command) (m : Machine) (ticket : ℕ) (fault : Fault) (runs : List EventRun) (o : Option ExplainedCase) (answer : Answer)
     → IsScript script commands → IsFirst (opening budget) commands m ticket (reply.Fault fault runs) → is_some o ≡ true
-    → IfSome o (λ told. HasWhole m commands ticket fault runs told.schedule told.whole) → answer.yes ≡ is_some o → AnswersTo f (codes "no\n") o answer
-    → SaysScript budget f script answer.yes (string_bytes answer.text)
-told_first budget f script commands m ticket fault runs None answer is first agrees has same text = absurd (false≢true agrees)
-told_first budget f script commands m ticket fault runs (Some told) answer is first agrees has same text =
-    subst (λ y. SaysScript budget f script y (string_bytes answer.text)) (sym same)
+    → IfSome o (λ told. HasWhole m as_given commands ticket fault runs told.schedule told.whole) → answer.yes ≡ is_some o → AnswersTo f (codes "no\n") o answer
+    → SaysScript budget as_given f script answer.yes (string_bytes answer.text)
+told_first budget as_given f script commands m ticket fault runs None answer is first agrees has same text = absurd (false≢true agrees)
+told_first budget as_given f script commands m ticket fault runs (Some told) answer is first agrees has same text =
+    subst (λ y. SaysScript budget as_given f script y (string_bytes answer.text)) (sym same)
     (record {
       commands = commands;
       ticket = ticket;
@@ -134,11 +135,11 @@ told_first budget f script commands m ticket fault runs (Some told) answer is fi
     })
 
 pub says_faulted :
-    (budget : ℕ) (f : Format) (script : List ℕ) (commands : List Command) (m : Machine) (w : Walked) (case : Case) (o : Option ExplainedCase) (answer : Answer) → IsScript script commands
+    (budget : ℕ) (as_given : Bool) (f : Format) (script : List ℕ) (commands : List Command) (m : Machine) (w : Walked) (case : Case) (o : Option ExplainedCase) (answer : Answer) → IsScript script commands
     → WalkedTo (opening budget) commands m w → w ≡ walked.Faulted case → Tells m commands case.ticket case.fault case.schedule (is_some o)
-    → IfSome o (λ told. HasWhole m commands case.ticket case.fault case.schedule told.schedule told.whole) → answer.yes ≡ is_some o → AnswersTo f (codes "no\n") o answer
-    → SaysScript budget f script answer.yes (string_bytes answer.text)
-says_faulted budget f script commands m w case o answer is h e tells has same text =
+    → IfSome o (λ told. HasWhole m as_given commands case.ticket case.fault case.schedule told.schedule told.whole) → answer.yes ≡ is_some o → AnswersTo f (codes "no\n") o answer
+    → SaysScript budget as_given f script answer.yes (string_bytes answer.text)
+says_faulted budget as_given f script commands m w case o answer is h e tells has same text =
     let first : IsFirst (opening budget) commands m case.ticket (reply.Fault case.fault case.schedule) = subst (λ (v : Walked). WalkedTo (opening budget) commands m v) e h in
     let agrees = told_yes m commands case.ticket first.command case.fault case.schedule (is_some o) first.at (faults first.before m first.command case.fault case.schedule first.replied) tells in
-    told_first budget f script commands m case.ticket case.fault case.schedule o answer is first agrees has same text
+    told_first budget as_given f script commands m case.ticket case.fault case.schedule o answer is first agrees has same text

@@ -26,7 +26,7 @@ use Rattle.host_commands.specs.declared.command.Command.TheVariants as command
 use Rattle.host_commands.specs.declared.command.Refusal.TheVariants as refusal
 use Rattle.host_commands.specs.declared.command.Reply.TheVariants as reply
 use Rattle.item_step.specs.Launches as launches
-use Rattle.launch_facts.specs.Commands.{IsSource}
+use Rattle.launch_facts.specs.Commands.{HasNoSource, IsSource}
 use Rattle.launches.specs.Items.{kernel_in}
 use Rattle.launch_facts.specs.declared.commands.ProgramSource.{ProgramSource}
 use Rattle.fault_lines.specs.ScheduleFile.{IsScheduleFile}
@@ -78,23 +78,28 @@ pub record IsExplained (launch : Launch) (context : Context) (ticket : ℕ) (ran
   pub schedule : string_bytes e.schedule.short ≡ schedule_words runs
   pub items : TellsItems launch context f runs e
 
--- the source of a kernel's program: that of a command of a script; an empty one, where none of those that were done
--- made it
-abbrev pub IsSourceOf : List Command → List ℕ → ProgramSource → Type 0
-IsSourceOf commands kernel source =
-    (source.text.now ≡ [])
-    ⊎ ((done : List Bool) × (at : ℕ) × IsSource commands done kernel source.kernel_command source.program.now source.function.now source.text.now at)
+-- the source of a kernel's program, where these commands were done: that of one of them; an empty one, where none of
+-- them made the kernel, or before it its program
+abbrev pub IsSourceOf : List Command → List Bool → List ℕ → ProgramSource → Type 0
+IsSourceOf commands done kernel source =
+    ((source.text.now ≡ []) × HasNoSource commands done kernel)
+    ⊎ ((at : ℕ) × IsSource commands done kernel source.kernel_command source.program.now source.function.now source.text.now at)
+
+-- the schedule that is told: where it is wanted as it is given, the given one
+abbrev pub IsAsWanted : Bool → List EventRun → List EventRun → Type 0
+IsAsWanted as_given given runs = MatchBool as_given (runs ≡ given) ⊤
 
 -- An explanation of the launch of a ticket, whose schedule leads the launch to the fault and isn't longer than the
--- given one; its places are those in the source of the kernel's program.
-pub record HasWhole (m : Machine) (commands : List Command) (ticket : ℕ) (f : Fault) (given runs : List EventRun) (e : Explanation) : Type 0 where
+-- given one, or is that very one; its places are those in the source of the kernel's program.
+pub record HasWhole (m : Machine) (as_given : Bool) (commands : List Command) (ticket : ℕ) (f : Fault) (given runs : List EventRun) (e : Explanation) : Type 0 where
   pub kernel : List ℕ
   pub range : Range
   pub at : slice_get commands ticket ≡ Some (command.Launch kernel range)
   pub is_short : IsShort (launch_of (setup_of m (kernel_of m kernel) range) (bytes_of m)) f given runs
+  pub wanted : IsAsWanted as_given given runs
   pub context : Context
   pub same : launches.setup_of context.launch.now ≡ setup_of m (kernel_of m kernel) range
-  pub source : IsSourceOf commands kernel context.program
+  pub source : IsSourceOf commands context.done.now kernel context.program
   pub explained : IsExplained (launch_of (setup_of m (kernel_of m kernel) range) (bytes_of m)) context ticket range f runs e
   pub schedule : string_bytes e.schedule.given ≡ schedule_words given
 
@@ -109,47 +114,47 @@ AnswersTo f word None answer = string_bytes answer.text ≡ word
 AnswersTo f word (Some told) answer = IsTextOf f told.whole (string_bytes answer.text)
 
 -- what is told of a case on a new device, to which the commands before its ticket led
-pub record IsToldThere (budget : ℕ) (commands : List Command) (ticket : ℕ) (f : Fault) (given : List EventRun) (told : ExplainedCase) : Type 0 where
+pub record IsToldThere (budget : ℕ) (as_given : Bool) (commands : List Command) (ticket : ℕ) (f : Fault) (given : List EventRun) (told : ExplainedCase) : Type 0 where
   pub machine : Machine
   pub led : Leads (opening budget) (take ticket commands) machine
-  pub whole : HasWhole machine commands ticket f given told.schedule told.whole
+  pub whole : HasWhole machine as_given commands ticket f given told.schedule told.whole
 
 -- what is told of the case of a schedule file
-pub record IsToldOf (budget : ℕ) (script schedule : List ℕ) (told : ExplainedCase) : Type 0 where
+pub record IsToldOf (budget : ℕ) (as_given : Bool) (script schedule : List ℕ) (told : ExplainedCase) : Type 0 where
   pub commands : List Command
   pub ticket : ℕ
   pub f : Fault
   pub runs : List EventRun
   pub is : IsScript script commands
   pub file : IsScheduleFile schedule ticket f runs
-  pub there : IsToldThere budget commands ticket f runs told
+  pub there : IsToldThere budget as_given commands ticket f runs told
 
 -- the text for a schedule file
-abbrev pub SaysOf : ℕ → Format → List ℕ → List ℕ → Bool → List ℕ → Type 0
-SaysOf budget f script schedule true text = (told : ExplainedCase) × IsToldOf budget script schedule told × IsTextOf f told.whole text
-SaysOf budget f script schedule false text = text ≡ codes "no\n"
+abbrev pub SaysOf : ℕ → Bool → Format → List ℕ → List ℕ → Bool → List ℕ → Type 0
+SaysOf budget as_given f script schedule true text = (told : ExplainedCase) × IsToldOf budget as_given script schedule told × IsTextOf f told.whole text
+SaysOf budget as_given f script schedule false text = text ≡ codes "no\n"
 
 -- what is told of the first fault of a script, and its text
-pub record TellsFirst (budget : ℕ) (f : Format) (commands : List Command) (machine : Machine) (ticket : ℕ) (text : List ℕ) : Type 0 where
+pub record TellsFirst (budget : ℕ) (as_given : Bool) (f : Format) (commands : List Command) (machine : Machine) (ticket : ℕ) (text : List ℕ) : Type 0 where
   pub fault : Fault
   pub runs : List EventRun
   pub first : IsFirst (opening budget) commands machine ticket (reply.Fault fault runs)
   pub told : ExplainedCase
-  pub whole : HasWhole machine commands ticket fault runs told.schedule told.whole
+  pub whole : HasWhole machine as_given commands ticket fault runs told.schedule told.whole
   pub written : IsTextOf f told.whole text
 
 -- the text for a script: an explanation of its first fault, or any text where its first such reply is a refused build
-pub record SaysFirst (budget : ℕ) (f : Format) (script text : List ℕ) : Type 0 where
+pub record SaysFirst (budget : ℕ) (as_given : Bool) (f : Format) (script text : List ℕ) : Type 0 where
   pub commands : List Command
   pub ticket : ℕ
   pub machine : Machine
   pub is : IsScript script commands
-  pub found : TellsFirst budget f commands machine ticket text
+  pub found : TellsFirst budget as_given f commands machine ticket text
       ⊎ ((why : BuildFault) × IsFirst (opening budget) commands machine ticket (reply.Refused (refusal.BuildFailed why)))
 
-abbrev pub SaysScript : ℕ → Format → List ℕ → Bool → List ℕ → Type 0
-SaysScript budget f script true text = SaysFirst budget f script text
-SaysScript budget f script false text = text ≡ codes "clean\n"
+abbrev pub SaysScript : ℕ → Bool → Format → List ℕ → Bool → List ℕ → Type 0
+SaysScript budget as_given f script true text = SaysFirst budget as_given f script text
+SaysScript budget as_given f script false text = text ≡ codes "clean\n"
 
 -- the text for a source: any text where it isn't built
 abbrev pub SaysSource : Bool → List ℕ → Type 0
@@ -157,7 +162,7 @@ SaysSource true text = ⊤
 SaysSource false text = text ≡ codes "ok\n"
 
 -- the text for what is given, by the answer
-abbrev pub Says : ℕ → Format → Given → Bool → List ℕ → Type 0
-Says budget f given answer text =
+abbrev pub Says : ℕ → Bool → Format → Given → Bool → List ℕ → Type 0
+Says budget as_given f given answer text =
     MatchBool (is_source given.name.now) (SaysSource answer text)
-    (MatchOption given.schedule (SaysScript budget f given.script.now answer text) (λ schedule. SaysOf budget f given.script.now schedule.now answer text))
+    (MatchOption given.schedule (SaysScript budget as_given f given.script.now answer text) (λ schedule. SaysOf budget as_given f given.script.now schedule.now answer text))

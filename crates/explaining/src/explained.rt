@@ -47,7 +47,7 @@ fn told_at(
 ) -> Result<Option<ExplainedCase>, ExplainFault>
     requires { IsScript given.script.now commands.now }
     ensures told { IfOk result (λ found. IsTold options.budget commands.now ticket fault.now schedule (is_some found)) }
-    ensures whole { IfOk result (λ found. IfSome found (IsToldThere options.budget commands.now ticket fault.now schedule)) }
+    ensures whole { IfOk result (λ found. IfSome found (IsToldThere options.budget options.as_given commands.now ticket fault.now schedule)) }
     ensures failed { IfErr result (Unled options.budget given.entry.script.now commands.now ticket) }
 {
     let before = read_first(alloc, given.script, ticket)?;
@@ -72,7 +72,7 @@ fn told_in(
 ) -> Result<Option<ExplainedCase>, ExplainFault>
     requires { IsScript given.script.now commands.now }
     ensures explained { IfOk result (λ found. Explained options.budget given.entry.script.now schedule.now (is_some found)) }
-    ensures whole { IfOk result (λ found. IfSome found (IsToldOf options.budget given.entry.script.now schedule.now)) }
+    ensures whole { IfOk result (λ found. IfSome found (IsToldOf options.budget options.as_given given.entry.script.now schedule.now)) }
     ensures failed { IfErr result (Unexplained options.budget given.entry.script.now schedule.now) }
 {
     let (number, fault, runs) = read(alloc, schedule)?;
@@ -98,7 +98,7 @@ fn explain_schedule(
     options: ExplainOptions,
 ) -> Result<Answer, ExplainFault>
     ensures explained { IfOk result (λ answer. Explained options.budget given.entry.script.now schedule.now answer.yes) }
-    ensures says { IfOk result (λ answer. SaysOf options.budget options.format given.entry.script.now schedule.now answer.yes (string_bytes answer.text)) }
+    ensures says { IfOk result (λ answer. SaysOf options.budget options.as_given options.format given.entry.script.now schedule.now answer.yes (string_bytes answer.text)) }
     ensures failed { IfErr result (Unexplained options.budget given.entry.script.now schedule.now) }
 {
     let commands = read_script(alloc, given.script)?;
@@ -131,7 +131,7 @@ fn answer_at(
     requires script { IsScript asked.now.given.script.now asked.now.commands.now }
     requires walked { WalkedTo (opening asked.now.options.budget) asked.now.commands.now (machine_of device.now) end }
     ensures found { IfOk result (λ answer. Found asked.now.options.budget asked.now.given.script.now answer.yes) }
-    ensures says { IfOk result (λ answer. SaysScript asked.now.options.budget asked.now.options.format asked.now.given.script.now answer.yes (string_bytes answer.text)) }
+    ensures says { IfOk result (λ answer. SaysScript asked.now.options.budget asked.now.options.as_given asked.now.options.format asked.now.given.script.now answer.yes (string_bytes answer.text)) }
     ensures failed { IfErr result (Unread asked.now.given.script.now) }
 {
     match end {
@@ -162,7 +162,7 @@ fn explain_commands(
 ) -> Result<Answer, ExplainFault>
     requires { IsScript given.script.now commands.now }
     ensures found { IfOk result (λ answer. Found options.budget given.entry.script.now answer.yes) }
-    ensures says { IfOk result (λ answer. SaysScript options.budget options.format given.entry.script.now answer.yes (string_bytes answer.text)) }
+    ensures says { IfOk result (λ answer. SaysScript options.budget options.as_given options.format given.entry.script.now answer.yes (string_bytes answer.text)) }
     ensures failed { IfErr result (Unread given.entry.script.now) }
 {
     let same = read_script(alloc, given.script)?;
@@ -183,7 +183,7 @@ fn explain_script(
     options: ExplainOptions,
 ) -> Result<Answer, ExplainFault>
     ensures found { IfOk result (λ answer. Found options.budget given.entry.script.now answer.yes) }
-    ensures says { IfOk result (λ answer. SaysScript options.budget options.format given.entry.script.now answer.yes (string_bytes answer.text)) }
+    ensures says { IfOk result (λ answer. SaysScript options.budget options.as_given options.format given.entry.script.now answer.yes (string_bytes answer.text)) }
     ensures failed { IfErr result (Unread given.entry.script.now) }
 {
     let commands = read_script(alloc, given.script)?;
@@ -197,7 +197,7 @@ fn answer_to(
     options: ExplainOptions,
 ) -> Result<Answer, ExplainFault>
     ensures explains { IfOk result (λ answer. Explains options.budget given.entry answer.yes) }
-    ensures says { IfOk result (λ answer. Says options.budget options.format given.entry answer.yes (string_bytes answer.text)) }
+    ensures says { IfOk result (λ answer. Says options.budget options.as_given options.format given.entry answer.yes (string_bytes answer.text)) }
     ensures failed { IfErr result (Unanswered options.budget given.entry) }
 {
     if given.name.ends_with(b".cl") {
@@ -224,7 +224,7 @@ pub fn explain<W: Write>(
 ) -> Result<bool, ExplainFault>
     ensures explains { IfOk result (Explains options.budget given.entry) }
     ensures wrote { OnOk result ((text : List ℕ) × Wrote (W.sink writer.old) (W.sink writer.new) text) }
-    ensures says { IfOk result (λ answer. (text : List ℕ) × Wrote (W.sink writer.old) (W.sink writer.new) text × Says options.budget options.format given.entry answer text) }
+    ensures says { IfOk result (λ answer. (text : List ℕ) × Wrote (W.sink writer.old) (W.sink writer.new) text × Says options.budget options.as_given options.format given.entry answer text) }
     ensures released { OnOk result ((W.sink writer.new).held ≡ []) }
     ensures failed { IfErr result (Unwritten options.budget given.entry (W.sink writer.old) (W.sink writer.new)) }
 {

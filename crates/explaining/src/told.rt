@@ -10,7 +10,7 @@ ghost use Rattle.item_step.specs.Launches.{setup_of};
 ghost use Rattle.launches.specs.Groups.{HasGroups};
 ghost use Rattle.spaces_base.specs.Buffers.{bytes_in};
 ghost use Rattle.explaining.specs.Explaining.{HasShort, IsShort, NoLaunch, Tells, Untold};
-ghost use Rattle.explaining.specs.Whole.{HasWhole, IsExplained, IsSourceOf, schedule_words};
+ghost use Rattle.explaining.specs.Whole.{HasWhole, IsAsWanted, IsExplained, IsSourceOf, schedule_words};
 
 use crate::facts::{
     ExplainOptions, Given, Place, explanation_of, items_of, lines_before, named_of, schedule_facts,
@@ -49,7 +49,8 @@ fn chosen(
 ) -> Result<Shortened, AllocError>
     requires groups { HasGroups (setup_of context.now.launch.now) }
     requires leads { Reaches (launch_of (setup_of context.now.launch.now) (bytes_in buffers.now)) (events_of given) fault.now }
-    ensures { IfOk result (λ short. IsShort (launch_of (setup_of context.now.launch.now) (bytes_in buffers.now)) fault.now given short.schedule) }
+    ensures short { IfOk result (λ short. IsShort (launch_of (setup_of context.now.launch.now) (bytes_in buffers.now)) fault.now given short.schedule) }
+    ensures wanted { IfOk result (λ short. IsAsWanted as_given given short.schedule) }
 {
     if as_given {
         return Ok(Shortened {
@@ -153,6 +154,7 @@ fn told_of(
     requires groups { HasGroups (setup_of context.now.launch.now) }
     requires leads { Reaches (launch_of (setup_of context.now.launch.now) (bytes_in buffers.now)) (events_of schedule) fault.now }
     ensures short { IfOk result (λ told. IsShort (launch_of (setup_of context.now.launch.now) (bytes_in buffers.now)) fault.now schedule told.schedule) }
+    ensures wanted { IfOk result (λ told. IsAsWanted as_given schedule told.schedule) }
     ensures given { IfOk result (λ told. string_bytes told.whole.schedule.given ≡ schedule_words schedule) }
     ensures whole { IfOk result (λ told. IsExplained (launch_of (setup_of context.now.launch.now) (bytes_in buffers.now)) context.now
         place.now.ticket place.now.range.now fault.now told.schedule told.whole) }
@@ -179,6 +181,7 @@ fn explain_launch(
     ensures none { IfOk result (λ found. IfNone found (Reaches (launch_of (setup_of context.now.launch.now) (bytes_in buffers.now)) (events_of schedule) fault.now → ⊥)) }
     ensures leads { IfOk result (λ found. IfSome found (λ _. Reaches (launch_of (setup_of context.now.launch.now) (bytes_in buffers.now)) (events_of schedule) fault.now)) }
     ensures told { IfOk result (λ found. IfSome found (λ told. IsShort (launch_of (setup_of context.now.launch.now) (bytes_in buffers.now)) fault.now schedule told.schedule)) }
+    ensures wanted { IfOk result (λ found. IfSome found (λ told. IsAsWanted as_given schedule told.schedule)) }
     ensures given { IfOk result (λ found. IfSome found (λ told. string_bytes told.whole.schedule.given ≡ schedule_words schedule)) }
     ensures whole { IfOk result (λ found. IfSome found (λ told. IsExplained (launch_of (setup_of context.now.launch.now) (bytes_in buffers.now)) context.now
         place.now.ticket place.now.range.now fault.now told.schedule told.whole)) }
@@ -198,7 +201,7 @@ fn program_of<'a>(
     kernel: &'a Name,
     before: usize,
 ) -> ProgramSource<'a>
-    ensures { IsSourceOf commands.now kernel.entry.now result }
+    ensures { IsSourceOf commands.now done.now kernel.entry.now result }
 {
     match source_of(commands, done, kernel, before) {
         Some(program) => program,
@@ -243,7 +246,7 @@ pub(crate) fn explain_case(
 ) -> Result<Option<ExplainedCase>, ExplainFault>
     ensures told { IfOk result (λ found. Tells (machine_of device.now) asked.now.commands.now ticket fault.now schedule (is_some found)) }
     ensures short { IfOk result (λ found. IfSome found (λ told. HasShort (machine_of device.now) asked.now.commands.now ticket fault.now schedule told.schedule)) }
-    ensures whole { IfOk result (λ found. IfSome found (λ told. HasWhole (machine_of device.now) asked.now.commands.now ticket fault.now schedule told.schedule told.whole)) }
+    ensures whole { IfOk result (λ found. IfSome found (λ told. HasWhole (machine_of device.now) asked.now.options.as_given asked.now.commands.now ticket fault.now schedule told.schedule told.whole)) }
     ensures failed { IfErr result (Untold (machine_of device.now) asked.now.commands.now ticket) }
 {
     let Some((kernel, range)) = launch_in(asked.commands, ticket) else {

@@ -1,10 +1,10 @@
-use Rattle.std.proofs.Common.{◌≡◌, Some, ap, option_copied, subst, ◌∙◌}
-use Rattle.std.specs.Option.{IfSome}
+use Rattle.std.proofs.Common.{◌≡◌, ◌≤◌, Some, ap, count_by, option_copied, subst, ◌∙◌}
+use Rattle.std.specs.Option.{IfNone, IfSome}
 use Rattle.std.proofs.lemmas.Result.{IfOk-weaker}
-use Rattle.explain_play.specs.PlayedOut.{MadeAccess}
+use Rattle.explain_play.specs.PlayedOut.{MadeAccess, is_access}
 use Rattle.item_step.specs.Launches.{setup_of}
 use Rattle.explain_items.specs.Named.{AtAccess, IsHere, IsBefore, stand_of}
-use Rattle.explain_items.proofs.Spotting.{access_stand, named_at}
+use Rattle.explain_items.proofs.Spotting.{access_stand, access_stand_back, named_at}
 use Rattle.explain_items.proofs.named.accessing.Goals as goal
 
 pub returns : goal.returns
@@ -12,10 +12,12 @@ returns c =
     let marks = c.args.played.now.marks.items in
     let same = c.as_slice-marks.ensures.value in
     let made = subst (λ xs. IfSome c.event_of-event.result (MadeAccess xs c.args.access)) same c.event_of-event.ensures.made in
+    let few = subst (λ xs. IfNone c.event_of-event.result (count_by (λ mark. is_access mark.event) xs ≤ c.args.access)) same c.event_of-event.ensures.none in
     let stand = c.stand_at-stand.ensures ∙ ap (λ xs. stand_of xs c.event_of-event.result) same in
     IfOk-weaker c.named.result _ _
     (λ n h.
     named_at (setup_of c.args.context.now.launch.now) c.args.context.now.program.text.now c.args.context.now.program.first_line (λ p. option_copied c.stand_at-stand.result ≡ Some p) (λ _. ⊥)
     (λ p. IsHere marks (AtAccess c.args.access) p) (λ p. IsBefore marks c.args.item (AtAccess c.args.access) p) c.args.item n
-    (access_stand marks c.args.access c.event_of-event.result (option_copied c.stand_at-stand.result) made stand) (λ p no. no) h)
+    (access_stand marks c.args.access c.event_of-event.result (option_copied c.stand_at-stand.result) made stand)
+    (access_stand_back marks c.args.access c.event_of-event.result (option_copied c.stand_at-stand.result) made few stand) (λ p no. no) (λ p no. no) h)
     c.named.ensures

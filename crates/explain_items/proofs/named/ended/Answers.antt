@@ -1,9 +1,10 @@
-use Rattle.std.proofs.Common.{length, refl, ap, option_copied, subst, ◌∙◌}
+use Rattle.std.proofs.Common.{◌≡◌, Some, length, refl, ap, option_copied, subst, ◌∙◌}
 use Rattle.std.specs.Option.{IfSome}
 use Rattle.std.proofs.lemmas.Option.{IfSome_then}
 use Rattle.explain_play.specs.PlayedOut.{IsEventOf, IsLast, acts_at}
-use Rattle.explain_items.specs.Named.{stand_of}
-use Rattle.explain_items.proofs.Spotting.{item_stand}
+use Rattle.item_step.specs.Launches.{setup_of}
+use Rattle.explain_items.specs.Named.{IsItemStand, stand_of}
+use Rattle.explain_items.proofs.Spotting.{item_stand, item_stand_back, none_at}
 use Rattle.explain_items.proofs.named.ended.Goals as goal
 
 pub returns : goal.returns
@@ -16,7 +17,12 @@ returns c =
       number = refl;
       ids = c.in_ok-ids.ensures;
       spotted = tt;
+      unspotted = λ p no h. no;
       last_spotted =
-          IfSome_then c.in_ok-spot.field-0 c.in_ok-spot.ensures
+          IfSome_then c.in_ok-spot.field-0 c.in_ok-spot.ensures.spotted
           (λ spot s. (s.0, item_stand c.args.played.now.marks.items c.args.item c.last_of.result (option_copied c.stand_at-stand.result) made last stand s.0 s.1, s.2));
+      last_unspotted =
+          none_at c.in_ok-spot.field-0 (setup_of c.args.context.now.launch.now) c.args.context.now.program.text.now c.args.context.now.program.first_line
+          (λ p. option_copied c.stand_at-stand.result ≡ Some p) (IsItemStand c.args.played.now.marks.items c.args.item)
+          (λ p h. item_stand_back c.args.played.now.marks.items c.args.item c.last_of.result (option_copied c.stand_at-stand.result) last stand p h) c.in_ok-spot.ensures.none;
     }

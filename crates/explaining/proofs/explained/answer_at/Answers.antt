@@ -17,11 +17,11 @@ returns-in_ok-answer_of-in-Faulted-clause-found c =
 
 pub returns-in_ok-unbuilt_answer-in-Unbuilt-clause-says : goal.returns-in_ok-unbuilt_answer-in-Unbuilt-clause-says
 returns-in_ok-unbuilt_answer-in-Unbuilt-clause-says c =
-    says_unbuilt c.args.asked.now.options.budget c.args.asked.now.options.format c.args.asked.now.given.script.now c.args.asked.now.commands.now (machine_of c.args.device.now) c.args.end
+    says_unbuilt c.args.asked.now.options.budget c.args.asked.now.options.as_given c.args.asked.now.options.format c.args.asked.now.given.script.now c.args.asked.now.commands.now (machine_of c.args.device.now) c.args.end
     c.in-Unbuilt.unbuilt c.in_ok-unbuilt_answer-in-Unbuilt.field-0 c.requires.script c.requires.walked c.in-Unbuilt.is c.in_ok-unbuilt_answer-in-Unbuilt.ensures
 
 pub returns-in_ok-answer_of-in-Faulted-clause-says : goal.returns-in_ok-answer_of-in-Faulted-clause-says
 returns-in_ok-answer_of-in-Faulted-clause-says c =
-    says_faulted c.args.asked.now.options.budget c.args.asked.now.options.format c.args.asked.now.given.script.now c.args.asked.now.commands.now (machine_of c.args.device.now) c.args.end
+    says_faulted c.args.asked.now.options.budget c.args.asked.now.options.as_given c.args.asked.now.options.format c.args.asked.now.given.script.now c.args.asked.now.commands.now (machine_of c.args.device.now) c.args.end
     c.in-Faulted.case c.in_ok-told-in-Faulted.told c.in_ok-answer_of-in-Faulted.field-0 c.requires.script c.requires.walked c.in-Faulted.is c.in_ok-told-in-Faulted.ensures.told
     c.in_ok-told-in-Faulted.ensures.whole c.in_ok-answer_of-in-Faulted.ensures.yes c.in_ok-answer_of-in-Faulted.ensures.text

@@ -1,7 +1,7 @@
 use Rattle.std.proofs.lemmas.Option.{IfSome_then}
 use Rattle.device.specs.Machine.{machine_of}
 use Rattle.explaining.proofs.Telling.{short, tells}
-use Rattle.explaining.proofs.Writing.{some_both, whole}
+use Rattle.explaining.proofs.Writing.{some_all, whole}
 use Rattle.explaining.proofs.told.explain_case.Goals as goal
 
 pub returns-clause-told : goal.returns-clause-told
@@ -18,7 +18,8 @@ returns-clause-short c =
 
 pub returns-clause-whole : goal.returns-clause-whole
 returns-clause-whole c =
-    some_both c.in_ok-explain_launch.field-0 _ _ _ _ c.in_ok-explain_launch.ensures.told c.in_ok-explain_launch.ensures.given c.in_ok-explain_launch.ensures.whole
-    (λ told short given explained.
-    whole (machine_of c.args.device.now) c.args.asked.now.commands.now c.args.ticket c.in-Some.kernel.now c.in-Some.range.now _ c.buffers.result.now c.args.fault.now
-    c.args.schedule told.schedule told.whole c.in-Some.ensures.launch c.in-Ok.ensures.prepared c.buffers.ensures c.program_of.ensures short given explained)
+    some_all c.in_ok-explain_launch.field-0 _ _ _ _ _ c.in_ok-explain_launch.ensures.told c.in_ok-explain_launch.ensures.wanted c.in_ok-explain_launch.ensures.given
+    c.in_ok-explain_launch.ensures.whole
+    (λ told short wanted given explained.
+    whole (machine_of c.args.device.now) c.args.asked.now.options.as_given c.args.asked.now.commands.now c.args.ticket c.in-Some.kernel.now c.in-Some.range.now _ c.buffers.result.now c.args.fault.now
+    c.args.schedule told.schedule told.whole c.in-Some.ensures.launch c.in-Ok.ensures.prepared c.buffers.ensures c.program_of.ensures short wanted given explained)
