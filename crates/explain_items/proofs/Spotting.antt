@@ -1,5 +1,5 @@
 -- From the origin of an instruction to its place in the source, and from an event to where its item stands.
-use Rattle.std.proofs.Common.{◌≡◌, ◌≤◌, ◌⊎◌, ℕ, Option, None, Some, List, length, count_by, arith, refl, inl, inr, sym, ap, ◌∙◌}
+use Rattle.std.proofs.Common.{◌≡◌, ◌≤◌, ℕ, Option, None, Some, List, length, count_by, arith, refl, inl, inr, sym, ap, ◌∙◌}
 use Rattle.std.specs.Option.{IfNone, IfSome, option_and_then}
 use Rattle.std.proofs.lemmas.Option.{IfSome_then}
 use Rattle.clmodel.specs.Setup.{Setup, functions_before, kernel_in}
