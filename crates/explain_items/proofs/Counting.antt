@@ -1,5 +1,5 @@
 -- The number of an element that passes is known by how many pass before it, and the last one is known.
-use Rattle.std.proofs.Common.{◌≡◌, ℕ, ◌+◌, ◌<◌, ◌≤◌, ◌⊎◌, Bool, cond, true, false, Option, None, Some, List, [], ◌∷◌, length, take, count_by, arith, refl, inl, inr, sym, ap, ◌∙◌, subst}
+use Rattle.std.proofs.Common.{◌≡◌, ℕ, ◌+◌, ◌<◌, ◌≤◌, ◌⊎◌, Bool, cond, true, Option, None, Some, List, length, take, count_by, arith, inl, inr, sym, ◌∙◌, subst}
 use Rattle.std.specs.Prelude.{get_or, slice_get}
 use Rattle.std.proofs.lemmas.Grind.{common_steps}
 use Rattle.std.proofs.lemmas.Bool.{false≢true}

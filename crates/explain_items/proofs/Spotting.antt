@@ -1,5 +1,5 @@
 -- From the origin of an instruction to its place in the source, and from an event to where its item stands.
-use Rattle.std.proofs.Common.{◌≡◌, ◌≤◌, ◌⊎◌, ℕ, Option, None, Some, List, length, count_by, arith, refl, inl, inr, sym, ap, ◌∙◌}
+use Rattle.std.proofs.Common.{◌≡◌, ◌≤◌, ℕ, Option, None, Some, List, length, count_by, arith, refl, inl, inr, sym, ap, ◌∙◌}
 use Rattle.std.specs.Option.{IfNone, IfSome, option_and_then}
 use Rattle.std.proofs.lemmas.Option.{IfSome_then}
 use Rattle.clmodel.specs.Setup.{Setup, functions_before, kernel_in}
@@ -49,7 +49,7 @@ access_stand_back marks access None stand made few e p h =
     absurd (omega (arith, few, h.made.counted, passes_within (λ mark. is_access mark.event) marks h.number h.made.mark h.made.at h.made.makes))
 access_stand_back marks access (Some number) stand made few e p h =
     let same : number ≡ h.number =
-        passes_once (λ mark. is_access mark.event) marks number h.number made.mark h.made.mark made.at made.makes h.made.at h.made.makes (made.counted ∙ sym h.made.counted) in
+    passes_once (λ mark. is_access mark.event) marks number h.number made.mark h.made.mark made.at made.makes h.made.at h.made.makes (made.counted ∙ sym h.made.counted) in
     e ∙ ap (λ n. stand_of marks (Some n)) same ∙ ap (option_and_then (λ mark. mark.stand)) h.made.at ∙ h.at
 
 pub item_stand :

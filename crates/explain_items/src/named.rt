@@ -175,11 +175,7 @@ fn conflicting(
 }
 
 /// An item of a conflict whose accesses weren't found: no place is told of it.
-fn placeless(
-    context: &Context<'_>,
-    item: u32,
-    kind: AccessKind,
-) -> Result<NamedItem, AllocError>
+fn placeless(context: &Context<'_>, item: u32, kind: AccessKind) -> Result<NamedItem, AllocError>
     ensures { IfOk result (IsNamed (setup_of context.now.launch.now) context.now.program.text.now context.now.program.first_line (λ s. None ≡ Some s) (λ _. ⊥) item) }
 {
     named(context, item, Does::Access(kind), None, None)

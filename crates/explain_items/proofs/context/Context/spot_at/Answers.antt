@@ -6,8 +6,8 @@ use Rattle.explain_items.specs.Spotted.{BeginsAt}
 use Rattle.explain_items.proofs.Spotting.{spotted}
 use Rattle.explain_items.proofs.context.Context.spot_at.Goals as goal
 
-pub returns-in_ok-spot_in-in-Some-2 : goal.returns-in_ok-spot_in-in-Some-2
-returns-in_ok-spot_in-in-Some-2 c =
+pub returns-in_ok-spot_in-in-Some-2-clause-spotted : goal.returns-in_ok-spot_in-in-Some-2-clause-spotted
+returns-in_ok-spot_in-in-Some-2-clause-spotted c =
     let setup = setup_of c.args.self.now.launch.now in
     let origin = c.in-Some-2.origin in
     let spot = c.in_ok-spot_in-in-Some-2.field-0 in
