@@ -100,10 +100,7 @@ pub fn site_behind_all(helpers: Helpers<'_>, site: u32, statements: &[Statement]
     requires { site + next.all_sites (inside helpers.functions.now) (all_of statements.now) < 2 ^ 32 }
     ensures { result ≡ site + next.all_sites (inside helpers.entry.functions.now) (all_of statements.now) }
 {
-    match sites_in_all(helpers, statements) {
-        Some(count) => site + count,
-        None => unreachable!(),
-    }
+    site + sites_in_all(helpers, statements).unwrap()
 }
 
 /// The number of the first barrier of a statement, by that of the first one behind it.
@@ -111,10 +108,7 @@ pub fn site_before(helpers: Helpers<'_>, behind: u32, statement: &Statement) -> 
     requires { next.sites (inside helpers.functions.now) (stmt statement.now) ≤ behind }
     ensures { result + next.sites (inside helpers.entry.functions.now) (stmt statement.now) ≡ behind }
 {
-    match sites(helpers, statement) {
-        Some(count) => behind - count,
-        None => unreachable!(),
-    }
+    behind - sites(helpers, statement).unwrap()
 }
 
 /// The number of the first barrier in what is called, by that of the first one behind it.
@@ -122,8 +116,5 @@ pub fn site_before_call(helpers: Helpers<'_>, behind: u32, callee: Callee) -> u3
     requires { callee_sites (inside helpers.functions.now) callee ≤ behind }
     ensures { result + callee_sites (inside helpers.entry.functions.now) callee ≡ behind }
 {
-    match sites_in_call(helpers, callee) {
-        Some(count) => behind - count,
-        None => unreachable!(),
-    }
+    behind - sites_in_call(helpers, callee).unwrap()
 }

@@ -9,7 +9,6 @@
 #![tactic(auto, using(lower_code::proofs::Growth::unchanged, lower_code::proofs::Growth::before, lower_code::proofs::Growth::one_before, lower_code::proofs::Growth::same_scope, lower_code::proofs::Growth::inner_scope))]
 
 ghost use Rattle.std.specs.Prelude.{◌≡◌, ◌+◌, ◌<◌, ◌≤◌, ◌^◌, ◌++◌, max, true, length, IfOk, OnOk, OnErr};
-ghost use Rattle.std.specs.Option.{option_map};
 ghost use Rattle.clmodel.specs.Next.{sites, part_sites, all_sites};
 ghost use Rattle.clmodel.specs.Tree as tree;
 ghost use Rattle.clmodel.specs.Tree.{stmt, term};
@@ -31,7 +30,8 @@ use lower_code::assignments::put_step;
 use lower_code::draft::Draft;
 use lower_code::holes::{Helpers, StatementContext};
 use lower_code::loops::{
-    end_do, end_while, put_condition, put_no_value, put_return, put_return_value, put_test,
+    condition_of, end_do, end_while, put_condition, put_no_value, put_return, put_return_value,
+    put_test, statement_of,
 };
 use lower_code::positions::{BodyPosition, Exits};
 use lower_code::variables::{
@@ -47,26 +47,6 @@ pub struct Ending {
     pub depth: u32,
     pub behind: u32,
     pub exits: Exits,
-}
-
-/// The condition of a `for`.
-fn condition_of(condition: &Option<Box<Expression>>) -> Option<&Expression>
-    ensures { test_of result ≡ tree.maybe_term condition.now }
-{
-    match condition {
-        Some(condition) => Some(condition),
-        None => None,
-    }
-}
-
-/// The first or the third part of a `for`.
-fn statement_of(part: &Option<Box<Statement>>) -> Option<&Statement>
-    ensures { option_map (λ s. s.now) result ≡ option_map (λ s. s.value) part.now }
-{
-    match part {
-        Some(part) => Some(part),
-        None => None,
-    }
 }
 
 /// Puts a statement before the code, and gives the number of the first barrier in it, or behind it if it has none.

@@ -2,7 +2,8 @@
 #![tactic(auto, using(crate::proofs::Growth::unchanged, crate::proofs::Growth::before, crate::proofs::Growth::one_before))]
 
 ghost use Rattle.std.specs.Prelude.{◌≡◌, ◌+◌, ◌<◌, ◌^◌, [], ◌∷◌, ◌++◌, List, length, OnOk, OnErr};
-ghost use Rattle.clmodel.specs.Tree.{term};
+ghost use Rattle.std.specs.Option.{option_map};
+ghost use Rattle.clmodel.specs.Tree.{term, maybe_term};
 ghost use Rattle.clmodel.specs.Typing.Sizes.{term_size, condition_size};
 ghost use Rattle.regcode.specs.declared.instruction.Instruction.{Instruction};
 ghost use Rattle.regcode.specs.declared.instruction.Instruction.TheVariants as instruction;
@@ -14,13 +15,33 @@ ghost use Rattle.lower_code.specs.Emission.{test_of};
 ghost use Rattle.lower_code.specs.Growth.{GrowsBefore};
 
 use crate::draft::Draft;
-use clmodel::tree::{Expression, VariableType};
+use clmodel::tree::{Expression, Statement, VariableType};
 use clnum::IntType;
 use lower_expr::emission::emit_expression;
 use lower_expr::instructions::add;
 use lower_expr::scope::{Level, Register, Scope, register_at};
 use regcode::Instruction;
 use std::alloc::AllocError;
+
+/// The condition of a `for`.
+pub fn condition_of(condition: &Option<Box<Expression>>) -> Option<&Expression>
+    ensures { test_of result ≡ maybe_term condition.now }
+{
+    match condition {
+        Some(condition) => Some(condition),
+        None => None,
+    }
+}
+
+/// The first or the third part of a `for`.
+pub fn statement_of(part: &Option<Box<Statement>>) -> Option<&Statement>
+    ensures { option_map (λ s. s.now) result ≡ option_map (λ s. s.value) part.now }
+{
+    match part {
+        Some(part) => Some(part),
+        None => None,
+    }
+}
 
 /// Puts a test before the code, and a jump past `by` instructions where it doesn't hold.
 pub fn put_test(

@@ -11,7 +11,7 @@ ghost use Rattle.lower_expr.specs.Targets as spec;
 ghost use Rattle.lower_expr.specs.Targets.{target_name, destination_of};
 
 use crate::emission::{TargetKind, emit_target};
-use crate::instructions::{add, fetch_variable, private_load, private_store};
+use crate::instructions::{add, arithmetic, fetch_variable, private_load, private_store};
 use crate::scope::{Level, Register, Scope, level_at, register_at};
 use clmodel::tree::{InfixOperator, Target, VariableType};
 use clnum::BinaryOperator;
@@ -168,14 +168,6 @@ pub fn combine(
         above,
         infix_type(InfixOperator::Arithmetic(operator), first, kind),
     );
-    add(
-        code,
-        Instruction::Binary {
-            to: to.0,
-            operator,
-            left: old.0,
-            right: right.0,
-        },
-    )?;
+    arithmetic(operator, to, old, right, code)?;
     put(scope, level, destination, to, code)
 }

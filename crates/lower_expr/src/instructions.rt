@@ -19,7 +19,7 @@ ghost use Rattle.lower_expr.specs.Registers.{numbers};
 use crate::scope::{Level, Register, Scope, level_at, register_at};
 use clmodel::setup::{AtomicFunction, BuiltIn, WorkItemFunction};
 use clmodel::tree::{InfixOperator, VariableType};
-use clnum::{Builtin, IntType, UnaryOperator, Value, unary_kind};
+use clnum::{BinaryOperator, Builtin, IntType, UnaryOperator, Value, unary_kind};
 use folding::{Known, base_type, call_type, constants};
 use regcode::{FetchOperands, Instruction};
 use smallvec::SmallVec;
@@ -31,21 +31,6 @@ pub fn add(code: &mut Vec<Instruction>, instruction: Instruction) -> Result<(), 
     ensures longer { OnErr result (IsLonger code.old.items code.new.items) }
 {
     code.push(instruction)?;
-    Ok(())
-}
-
-/// Adds the code of a number.
-pub(crate) fn number(
-    level: Level,
-    value: Value,
-    code: &mut Vec<Instruction>,
-) -> Result<(), AllocError>
-    requires { level.0 < 2 ^ 28 }
-    ensures code { OnOk result (code.new.items ≡ code.old.items ++ instruction.Constant (register_at level.0 (kinds.Integer value.kind)) value ∷ []) }
-    ensures same { OnErr result (code.new.items ≡ code.old.items) }
-{
-    let to = register_at(level, VariableType::Integer(value.kind()));
-    code.push(Instruction::Constant { to: to.0, value })?;
     Ok(())
 }
 
@@ -65,7 +50,8 @@ pub(crate) fn settle(
 {
     if let Some(value) = constant {
         code.truncate(start);
-        number(level, value, code)?;
+        let to = register_at(level, VariableType::Integer(value.kind())).0;
+        code.push(Instruction::Constant { to, value })?;
     }
     Ok(Known { kind, constant })
 }
@@ -108,8 +94,7 @@ pub(crate) fn variable(
     let kind = scope.kind(name);
     let to = register_at(level, kind);
     fetch_variable(scope, name, to, code)?;
-    let constant = None;
-    Ok(Known { kind, constant })
+    Ok(Known::varying(kind))
 }
 
 /// Adds the move of a pointer of this type at a level by an index of that type at the level above.
@@ -152,8 +137,7 @@ pub(crate) fn load(
     let to = register_at(level, kind).0;
     let pointer = register_at(level, pointer).0;
     add(code, Instruction::Load { to, pointer })?;
-    let constant = None;
-    Ok(Known { kind, constant })
+    Ok(Known::varying(kind))
 }
 
 /// Adds the load of an element of the private array of a name, by the index that a register holds.
@@ -202,8 +186,7 @@ pub(crate) fn array_element(
     let to = register_at(level, kind);
     let index = register_at(level, index);
     private_load(scope, to, name, index, code)?;
-    let constant = None;
-    Ok(Known { kind, constant })
+    Ok(Known::varying(kind))
 }
 
 /// Adds the store of what a register holds in an element of the private array of a name, by the index that another
@@ -246,6 +229,28 @@ pub(crate) fn point(
 {
     let from = register_at(level, pointer).0;
     add(code, Instruction::MovePointer { to: from, from })
+}
+
+/// Adds an operator on integers or pointers.
+pub(crate) fn arithmetic(
+    operator: BinaryOperator,
+    to: Register,
+    left: Register,
+    right: Register,
+    code: &mut Vec<Instruction>,
+) -> Result<(), AllocError>
+    ensures code { OnOk result (code.new.items ≡ code.old.items ++ instruction.Binary to.0 operator left.0 right.0 ∷ []) }
+    ensures longer { OnErr result (IsLonger code.old.items code.new.items) }
+{
+    add(
+        code,
+        Instruction::Binary {
+            to: to.0,
+            operator,
+            left: left.0,
+            right: right.0,
+        },
+    )
 }
 
 /// Adds the instruction of an operator behind its operand, and gives what is known of the whole.
@@ -343,10 +348,7 @@ pub fn call_only(
 {
     let instruction = match function {
         BuiltIn::Atomic(function) if function.is_update() => update(function, arguments),
-        BuiltIn::Atomic(function) => fetch(to, function, arguments),
-        BuiltIn::WorkDim => dimensions(to, arguments),
-        BuiltIn::WorkItem(function) => query(to, function, arguments),
-        BuiltIn::Integer(function) => builtin(to, function, arguments),
+        function => value_call(Some(function), to, arguments),
     };
     add(code, instruction)
 }

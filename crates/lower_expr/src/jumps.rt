@@ -13,10 +13,10 @@ ghost use Rattle.lower_expr.specs.Scope.{register_at};
 ghost use Rattle.lower_expr.specs.Expressions.{truth_code, infix_begun, infix_code, branch_code, choice_code};
 ghost use Rattle.lower_expr.specs.Growth.{IsLonger};
 
-use crate::instructions::add;
+use crate::instructions::{add, arithmetic};
 use crate::scope::{Level, Register, level_at, register_at};
 use clmodel::tree::{InfixOperator, VariableType};
-use clnum::{BinaryOperator, IntType, Value};
+use clnum::{IntType, Value};
 use folding::{Known, base_type, constants, infix_type};
 use regcode::Instruction;
 use std::alloc::AllocError;
@@ -45,118 +45,34 @@ pub fn begin_infix(
     Ok(code.len())
 }
 
-/// Adds the int 1, or the int 0 where it is jumped to the last instruction.
-fn truth(to: Register, code: &mut Vec<Instruction>) -> Result<(), AllocError>
-    ensures code { OnOk result (code.new.items ≡ code.old.items ++ truth_code to.0) }
+/// Ends a logical operator behind its right operand, whose code begins at a place: sets the jump before that place, and
+/// adds the int 1, or the int 0 where the right operand is 0, or where it is jumped to the last instruction.
+fn logical(
+    to: Register,
+    second: Register,
+    place: usize,
+    jump: Instruction,
+    code: &mut Vec<Instruction>,
+) -> Result<(), AllocError>
+    requires begun { 0 < place }
+    requires inside { place ≤ length code.old.items }
+    ensures code { OnOk result ((before right : List Instruction) (unset : Instruction) → code.old.items ≡ before ++ (unset ∷ right) → place ≡ length before + 1
+        → code.new.items ≡ before ++ (jump ∷ (right ++ instruction.JumpIfZero second.0 2 ∷ truth_code to.0))) }
     ensures longer { OnErr result (IsLonger code.old.items code.new.items) }
 {
     let to = to.0;
+    let test = second.0;
+    add(code, Instruction::JumpIfZero { test, by: 2 })?;
     let value = Value::new(IntType::Int, 1);
     add(code, Instruction::Constant { to, value })?;
     add(code, Instruction::Jump { by: 1 })?;
     let value = Value::new(IntType::Int, 0);
-    add(code, Instruction::Constant { to, value })
-}
-
-/// Adds an operator on integers or pointers.
-fn arithmetic(
-    operator: BinaryOperator,
-    to: Register,
-    left: Register,
-    right: Register,
-    code: &mut Vec<Instruction>,
-) -> Result<(), AllocError>
-    ensures code { OnOk result (code.new.items ≡ code.old.items ++ instruction.Binary to.0 operator left.0 right.0 ∷ []) }
-    ensures longer { OnErr result (IsLonger code.old.items code.new.items) }
-{
-    add(
-        code,
-        Instruction::Binary {
-            to: to.0,
-            operator,
-            left: left.0,
-            right: right.0,
-        },
-    )
-}
-
-/// Ends `&&` behind its right operand, whose code begins at a place.
-fn logical_and(
-    to: Register,
-    first: Register,
-    second: Register,
-    place: usize,
-    code: &mut Vec<Instruction>,
-) -> Result<(), AllocError>
-    requires begun { 0 < place }
-    requires inside { place ≤ length code.old.items }
-    requires near { length code.old.items - place + 3 < 2 ^ 32 }
-    ensures code { OnOk result ((before right : List Instruction) → code.old.items ≡ before ++ (instruction.JumpIfZero first.0 0 ∷ right) → place ≡ length before + 1
-        → code.new.items ≡ before ++ (instruction.JumpIfZero first.0 (length right + 3) ∷ (right ++ instruction.JumpIfZero second.0 2 ∷ truth_code to.0))) }
-    ensures longer { OnErr result (IsLonger code.old.items code.new.items) }
-{
-    let by = (code.len() - place + 3) as u32;
-    let test = second.0;
-    add(code, Instruction::JumpIfZero { test, by: 2 })?;
-    truth(to, code)?;
-    code[place - 1] = Instruction::JumpIfZero { test: first.0, by };
+    add(code, Instruction::Constant { to, value })?;
+    code[place - 1] = jump;
     Ok(())
 }
 
-/// Ends `||` behind its right operand, whose code begins at a place.
-fn logical_or(
-    to: Register,
-    second: Register,
-    place: usize,
-    code: &mut Vec<Instruction>,
-) -> Result<(), AllocError>
-    requires begun { 0 < place }
-    requires inside { place ≤ length code.old.items }
-    requires near { length code.old.items - place + 1 < 2 ^ 32 }
-    ensures code { OnOk result ((before right : List Instruction) → code.old.items ≡ before ++ (instruction.Jump 0 ∷ right) → place ≡ length before + 1
-        → code.new.items ≡ before ++ (instruction.Jump (length right + 1) ∷ (right ++ instruction.JumpIfZero second.0 2 ∷ truth_code to.0))) }
-    ensures longer { OnErr result (IsLonger code.old.items code.new.items) }
-{
-    let by = (code.len() - place + 1) as u32;
-    let test = second.0;
-    add(code, Instruction::JumpIfZero { test, by: 2 })?;
-    truth(to, code)?;
-    code[place - 1] = Instruction::Jump { by };
-    Ok(())
-}
-
-/// Ends an operator behind its right operand, whose code begins at a place, and gives its type.
-fn infix_instructions(
-    level: Level,
-    operator: InfixOperator,
-    first: VariableType,
-    second: VariableType,
-    place: usize,
-    code: &mut Vec<Instruction>,
-) -> Result<VariableType, AllocError>
-    requires low { level.0 + 1 < 2 ^ 28 }
-    requires begun { length (infix_begun operator 0) ≤ place }
-    requires inside { place ≤ length code.old.items }
-    requires near { length code.old.items - place + 3 < 2 ^ 32 }
-    ensures code { OnOk result ((before right : List Instruction) → code.old.items ≡ before ++ (infix_begun operator (register_at level.0 first) ++ right)
-        → place ≡ length before + length (infix_begun operator 0)
-        → code.new.items ≡ before ++ infix_code operator (register_at level.0 (infix_type operator first second)) (register_at level.0 first) (register_at (level.0 + 1) second) right) }
-    ensures kind { IfOk result (λ kind. kind ≡ infix_type operator first second) }
-    ensures longer { OnErr result (IsLonger code.old.items code.new.items) }
-{
-    let kind = infix_type(operator, first, second);
-    let to = register_at(level, kind);
-    let left = register_at(level, first);
-    let right = register_at(level_at(level, 1), second);
-    match operator {
-        InfixOperator::Arithmetic(operator) => arithmetic(operator, to, left, right, code)?,
-        InfixOperator::LogicalAnd => logical_and(to, left, right, place, code)?,
-        InfixOperator::LogicalOr => logical_or(to, right, place, code)?,
-    }
-    Ok(kind)
-}
-
-/// The same, which gives what is known of the whole.
+/// Ends an operator behind its right operand, whose code begins at a place, and gives what is known of the whole.
 pub(crate) fn end_infix(
     level: Level,
     operator: InfixOperator,
@@ -176,8 +92,24 @@ pub(crate) fn end_infix(
         ≡ record { kind = infix_type operator first.kind second.kind; constant = infix_constant operator first.constant second.constant }) }
     ensures longer { OnErr result (IsLonger code.old.items code.new.items) }
 {
-    let kind = infix_instructions(level, operator, first.kind, second.kind, place, code)?;
+    let kind = infix_type(operator, first.kind, second.kind);
     let constant = constants::infix(operator, first.constant, second.constant);
+    let to = register_at(level, kind);
+    let left = register_at(level, first.kind);
+    let right = register_at(level_at(level, 1), second.kind);
+    let count = code.len() - place;
+    match operator {
+        InfixOperator::Arithmetic(operator) => arithmetic(operator, to, left, right, code)?,
+        InfixOperator::LogicalAnd => {
+            let by = (count + 3) as u32;
+            let jump = Instruction::JumpIfZero { test: left.0, by };
+            logical(to, right, place, jump, code)?;
+        }
+        InfixOperator::LogicalOr => {
+            let by = (count + 1) as u32;
+            logical(to, right, place, Instruction::Jump { by }, code)?;
+        }
+    }
     Ok(Known { kind, constant })
 }
 

@@ -2,8 +2,7 @@
 #![tactic(auto)]
 
 ghost use Rattle.std.specs.Prelude.{◌≡◌, ◌++◌, ℕ, List, OnErr, OnOk};
-ghost use Rattle.std.specs.Option.{option_map};
-ghost use Rattle.clmodel.specs.Tree.{term, stmt, maybe_term};
+ghost use Rattle.clmodel.specs.Tree.{term, stmt};
 ghost use Rattle.lower_code.specs.Emission.{test_of};
 ghost use Rattle.lower_code.specs.Trees.{all_of, part_of};
 ghost use Rattle.origins.specs.Names.{names_after_part};
@@ -19,6 +18,7 @@ use crate::node::{Halt, Node, pass_own};
 use crate::setting::Setting;
 use clmodel::tree::{Expression, Statement};
 use clnum::IntType;
+use lower_code::loops::{condition_of, statement_of};
 use std::alloc::AllocError;
 
 /// What stands in the parentheses of a `for`, and its body.
@@ -28,26 +28,6 @@ struct ForParts<'a> {
     condition: Option<&'a Expression>,
     third: Option<&'a Statement>,
     body: &'a Statement,
-}
-
-/// The condition of a `for`.
-fn condition_of(condition: &Option<Box<Expression>>) -> Option<&Expression>
-    ensures { test_of result ≡ maybe_term condition.now }
-{
-    match condition {
-        Some(condition) => Some(condition),
-        None => None,
-    }
-}
-
-/// The first or the third part of a `for`.
-fn statement_of(part: &Option<Box<Statement>>) -> Option<&Statement>
-    ensures { option_map (λ s. s.now) result ≡ option_map (λ s. s.value) part.now }
-{
-    match part {
-        Some(part) => Some(part),
-        None => None,
-    }
 }
 
 /// How many instructions end the item where a value of this type is to be returned and none is.
@@ -168,38 +148,26 @@ fn pass_statement<'a>(
             condition,
             chosen,
             ..
-        } => {
-            let tested = then_own(pass_expression(names.as_slice(), condition, left), node, 1);
-            then_statement(tested, setting, names, chosen)
-        }
+        } => pass_branch(setting, names, node, condition, chosen, left),
         Statement::IfElse {
             condition,
             chosen,
             otherwise,
             ..
         } => {
-            let tested = then_own(pass_expression(names.as_slice(), condition, left), node, 1);
-            let first = then_statement(tested, setting, names, chosen);
+            let first = pass_branch(setting, names, node, condition, chosen, left);
             then_statement(then_own(first, node, 1), setting, names, otherwise)
         }
         Statement::While {
             condition,
             body,
             ..
-        } => {
-            let inner = then_statement(pass_own(node, 3, left), setting, names, body);
-            let tested = then_expression(inner, names.as_slice(), condition);
-            then_own(then_own(tested, node, 1), node, 1)
-        }
+        } => pass_loop(setting, names, node, 3, body, condition, left),
         Statement::DoWhile {
             body,
             condition,
             ..
-        } => {
-            let inner = then_statement(pass_own(node, 2, left), setting, names, body);
-            let tested = then_expression(inner, names.as_slice(), condition);
-            then_own(then_own(tested, node, 1), node, 1)
-        }
+        } => pass_loop(setting, names, node, 2, body, condition, left),
         Statement::For {
             first,
             condition,
@@ -255,6 +223,45 @@ fn then_part<'a>(
         None => passed,
         Some(part) => then_statement(passed, setting, names, part),
     }
+}
+
+/// Passes the test of a choice, and the branch behind it.
+#[cycle(walk)]
+fn pass_branch<'a>(
+    setting: Setting<'_>,
+    names: &mut Vec<Named>,
+    node: Node<'a>,
+    condition: &'a Expression,
+    chosen: &'a Statement,
+    left: usize,
+) -> Result<usize, Halt<'a>>
+    ensures walks { Walks (inside_in setting.entry)
+        ((origins.expr_origins names.old.items (term condition.now) ++ origins.times 1 (node_of node.entry)) ++ stmt_in setting.entry names.old.items (stmt chosen.now)) left result }
+    ensures names { names.new.items ≡ names.old.items }
+{
+    let tested = then_own(pass_expression(names.as_slice(), condition, left), node, 1);
+    then_statement(tested, setting, names, chosen)
+}
+
+/// Passes a loop whose condition stands behind its body, with `count` instructions before the body.
+#[cycle(walk)]
+fn pass_loop<'a>(
+    setting: Setting<'_>,
+    names: &mut Vec<Named>,
+    node: Node<'a>,
+    count: usize,
+    body: &'a Statement,
+    condition: &'a Expression,
+    left: usize,
+) -> Result<usize, Halt<'a>>
+    ensures walks { Walks (inside_in setting.entry)
+        ((((origins.times count (node_of node.entry) ++ stmt_in setting.entry names.old.items (stmt body.now)) ++ origins.expr_origins names.old.items (term condition.now))
+        ++ origins.times 1 (node_of node.entry)) ++ origins.times 1 (node_of node.entry)) left result }
+    ensures names { names.new.items ≡ names.old.items }
+{
+    let inner = then_statement(pass_own(node, count, left), setting, names, body);
+    let tested = then_expression(inner, names.as_slice(), condition);
+    then_own(then_own(tested, node, 1), node, 1)
 }
 
 /// Passes a `for`. Its third part stands behind the body.

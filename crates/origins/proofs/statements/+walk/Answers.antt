@@ -1,14 +1,14 @@
 use Rattle.std.proofs.Common.{◌≡◌, Option, Bor, List, [], ◌++◌, length, take, refl, sym, ap, subst, ◌∙◌, arith}
 use Rattle.std.proofs.lemmas.List.{append-nil}
 use Rattle.std.proofs.Math.Seq.{take-length}
-use Rattle.clmodel.specs.Tree.{stmt}
+use Rattle.clmodel.specs.Tree.{term, stmt}
 use Rattle.clmodel.specs.declared.tree.Statement as rust_statement
 use Rattle.clmodel.specs.declared.tree.Statement.{Statement, size-Statement, the_lemmas}
 use Rattle.lower_code.specs.Emission.{test_of}
 use Rattle.lower_code.specs.Trees.{all_of, part_of}
 use Rattle.origins.specs.Names.{names_after_part}
-use Rattle.origins.specs.Origins.{node_of}
-use Rattle.origins.specs.Settings.{inside_in, part_in, row_in}
+use Rattle.origins.specs.Origins.{node_of, times, expr_origins}
+use Rattle.origins.specs.Settings.{inside_in, stmt_in, part_in, row_in}
 use Rattle.origins.specs.Walks.{Walks}
 use Rattle.origins.specs.declared.names.Named.{Named}
 use Rattle.origins.proofs.Walking.{stops, goes_on, nothing}
@@ -71,36 +71,56 @@ pass_statement-returns-in-Call-clause-walks t c =
 
 pub pass_statement-returns-in-If-clause-walks : goal.pass_statement-returns-in-If-clause-walks
 pass_statement-returns-in-If-clause-walks t c =
-    let inside = inside_in c.args.setting in
+    let names = c.args.names.now.items in
     settle _ _ _ _ _
-    (if_whole c.args.setting c.args.names.now.items (stmt c.args.statement.now) c.in-If.at c.as_slice-in-If.result.now _ c.deref-in-If.result.now c.in-If.condition.value c.deref-in-If-2.result.now c.in-If.chosen.value
-    c.as_slice-in-If.ensures.value c.deref-in-If.ensures refl c.deref-in-If-2.ensures (ap stmt c.in-If.is))
-    (c.then_statement.ensures.walks _ _ (c.then_own-tested.ensures inside _ _ (c.pass_expression.ensures inside)))
+    (if_whole c.args.setting names (stmt c.args.statement.now) c.in-If.at names names c.deref-in-If.result.now c.in-If.condition.value c.deref-in-If-2.result.now c.in-If.chosen.value
+    refl c.deref-in-If.ensures refl c.deref-in-If-2.ensures (ap stmt c.in-If.is))
+    c.pass_branch.ensures.walks
 
 pub pass_statement-returns-in-IfElse-clause-walks : goal.pass_statement-returns-in-IfElse-clause-walks
 pass_statement-returns-in-IfElse-clause-walks t c =
     let inside = inside_in c.args.setting in
+    let names = c.args.names.now.items in
     settle _ _ _ _ _
-    (if_else_whole c.args.setting c.args.names.now.items (stmt c.args.statement.now) c.in-IfElse.at c.as_slice-in-IfElse.result.now _ _ c.deref-in-IfElse.result.now c.in-IfElse.condition.value
+    (if_else_whole c.args.setting names (stmt c.args.statement.now) c.in-IfElse.at names names _ c.deref-in-IfElse.result.now c.in-IfElse.condition.value
     c.deref-in-IfElse-2.result.now c.in-IfElse.chosen.value c.deref-in-IfElse-3.result.now c.in-IfElse.otherwise.value
-    c.as_slice-in-IfElse.ensures.value c.deref-in-IfElse.ensures refl c.deref-in-IfElse-2.ensures c.then_statement-first.ensures.names c.deref-in-IfElse-3.ensures (ap stmt c.in-IfElse.is))
-    (c.then_statement-in-IfElse.ensures.walks _ _ (c.then_own.ensures inside _ _ (c.then_statement-first.ensures.walks _ _ (c.then_own-tested-in-IfElse.ensures inside _ _ (c.pass_expression-in-IfElse.ensures inside)))))
+    refl c.deref-in-IfElse.ensures refl c.deref-in-IfElse-2.ensures c.pass_branch-first.ensures.names c.deref-in-IfElse-3.ensures (ap stmt c.in-IfElse.is))
+    (c.then_statement.ensures.walks _ _ (c.then_own.ensures inside _ _ c.pass_branch-first.ensures.walks))
 
 pub pass_statement-returns-in-While-clause-walks : goal.pass_statement-returns-in-While-clause-walks
 pass_statement-returns-in-While-clause-walks t c =
-    let inside = inside_in c.args.setting in
+    let names = c.args.names.now.items in
     settle _ _ _ _ _
-    (while_whole c.args.setting c.args.names.now.items (stmt c.args.statement.now) c.in-While.at _ c.as_slice-in-While.result.now c.deref-in-While.result.now c.in-While.body.value c.deref-in-While-2.result.now c.in-While.condition.value
-    refl c.deref-in-While.ensures (c.as_slice-in-While.ensures.value ∙ c.then_statement-inner.ensures.names) c.deref-in-While-2.ensures (ap stmt c.in-While.is))
-    (c.then_own-in-While-2.ensures inside _ _ (c.then_own-in-While.ensures inside _ _ (c.then_expression-tested.ensures inside _ _ (c.then_statement-inner.ensures.walks _ _ (c.pass_own-in-While.ensures inside)))))
+    (while_whole c.args.setting names (stmt c.args.statement.now) c.in-While.at names names c.deref-in-While.result.now c.in-While.body.value c.deref-in-While-2.result.now c.in-While.condition.value
+    refl c.deref-in-While.ensures refl c.deref-in-While-2.ensures (ap stmt c.in-While.is))
+    c.pass_loop.ensures.walks
 
 pub pass_statement-returns-in-DoWhile-clause-walks : goal.pass_statement-returns-in-DoWhile-clause-walks
 pass_statement-returns-in-DoWhile-clause-walks t c =
-    let inside = inside_in c.args.setting in
+    let names = c.args.names.now.items in
     settle _ _ _ _ _
-    (do_whole c.args.setting c.args.names.now.items (stmt c.args.statement.now) c.in-DoWhile.at _ c.as_slice-in-DoWhile.result.now c.deref-in-DoWhile.result.now c.in-DoWhile.body.value c.deref-in-DoWhile-2.result.now c.in-DoWhile.condition.value
-    refl c.deref-in-DoWhile.ensures (c.as_slice-in-DoWhile.ensures.value ∙ c.then_statement-inner-in-DoWhile.ensures.names) c.deref-in-DoWhile-2.ensures (ap stmt c.in-DoWhile.is))
-    (c.then_own-in-DoWhile-2.ensures inside _ _ (c.then_own-in-DoWhile.ensures inside _ _ (c.then_expression-tested-in-DoWhile.ensures inside _ _ (c.then_statement-inner-in-DoWhile.ensures.walks _ _ (c.pass_own-in-DoWhile.ensures inside)))))
+    (do_whole c.args.setting names (stmt c.args.statement.now) c.in-DoWhile.at names names c.deref-in-DoWhile.result.now c.in-DoWhile.body.value c.deref-in-DoWhile-2.result.now c.in-DoWhile.condition.value
+    refl c.deref-in-DoWhile.ensures refl c.deref-in-DoWhile-2.ensures (ap stmt c.in-DoWhile.is))
+    c.pass_loop-in-DoWhile.ensures.walks
+
+pub pass_branch-returns-clause-walks : goal.pass_branch-returns-clause-walks
+pass_branch-returns-clause-walks t c =
+    let inside = inside_in c.args.setting in
+    let s = c.args.setting in
+    let names = c.args.names.now.items in
+    settle _ _ _ _ _
+    (ap (λ (ns : List Named). (expr_origins ns (term c.args.condition.now) ++ times 1 (node_of c.args.node)) ++ stmt_in s names (stmt c.args.chosen.now)) c.as_slice.ensures.value)
+    (c.then_statement.ensures.walks _ _ (c.then_own-tested.ensures inside _ _ (c.pass_expression.ensures inside)))
+
+pub pass_loop-returns-clause-walks : goal.pass_loop-returns-clause-walks
+pass_loop-returns-clause-walks t c =
+    let inside = inside_in c.args.setting in
+    let s = c.args.setting in
+    let names = c.args.names.now.items in
+    let n = node_of c.args.node in
+    settle _ _ _ _ _
+    (ap (λ (ns : List Named). (((times c.args.count n ++ stmt_in s names (stmt c.args.body.now)) ++ expr_origins ns (term c.args.condition.now)) ++ times 1 n) ++ times 1 n) (c.as_slice.ensures.value ∙ c.then_statement-inner.ensures.names))
+    (c.then_own-2.ensures inside _ _ (c.then_own.ensures inside _ _ (c.then_expression-tested.ensures inside _ _ (c.then_statement-inner.ensures.walks _ _ (c.pass_own.ensures inside)))))
 
 pub pass_statement-returns-in-For-clause-walks : goal.pass_statement-returns-in-For-clause-walks
 pass_statement-returns-in-For-clause-walks t c =

@@ -17,6 +17,12 @@ decreases-then_statement l = 8 * (size-Statement l.statement.now) + 1
 abbrev pub decreases-then_part : goal.decreases-then_part
 decreases-then_part l = 8 * (part_depth l.part) + 2
 
+abbrev pub decreases-pass_branch : goal.decreases-pass_branch
+decreases-pass_branch l = 8 * (size-Statement l.chosen.now) + 2
+
+abbrev pub decreases-pass_loop : goal.decreases-pass_loop
+decreases-pass_loop l = 8 * (size-Statement l.body.now) + 2
+
 abbrev pub decreases-pass_for : goal.decreases-pass_for
 decreases-pass_for l = 8 * (max (part_depth l.parts.first) (max (part_depth l.parts.third) (size-Statement l.parts.body.now))) + 3
 
