@@ -4,3 +4,4 @@ pub mod Declarations
 pub mod AnswerLaws
 pub mod AskingLaws
 pub mod AccessLaws
+pub use Rattle.item_state.proofs.Going

@@ -7,6 +7,7 @@ ghost use Rattle.clmodel.specs.Next.{next};
 ghost use Rattle.clmodel.specs.Setup as model;
 ghost use Rattle.clmodel.specs.Setup.{names_among, same_text, group_items};
 ghost use Rattle.clmodel.specs.declared.action.Answer.{Answer};
+ghost use Rattle.item_value.specs.Arguments.{buffer_place};
 ghost use Rattle.item_step.specs.Setups.{plain, ActsAsNext};
 ghost use Rattle.item_step.specs.Objects.{Lists, are_too_large};
 ghost use Rattle.item_step.specs.Running.{action_of};
@@ -19,6 +20,7 @@ use clmodel::setup::{Argument, Range};
 use clmodel::text::Name;
 use clmodel::tree::Tree;
 use item_value::item_context::ItemContext;
+use item_value::parameters::buffer_places;
 use item_value::position::{ItemPosition, group_counts};
 use regcode::Code;
 use std::alloc::{AllocError, Global};
@@ -33,12 +35,14 @@ pub struct Launch<'a> {
     steps: Vec<Step>,
     group_size: u32,
     buffers: Vec<Name>,
+    places: Vec<u32>,
     group_counts: Vec<u64>,
     local_objects: LocalObjects,
     ghost prepared: { Prepared code.now.instructions steps.items } by { Prepared-prop code.now.instructions steps.items },
     ghost faithful: { ActsAsNext code.now (plain setup) },
     ghost named: { buffers.items ≡ names_among [] setup.arguments.now },
     ghost few: { length buffers.items < 2 ^ 32 },
+    ghost placed: { places.items ≡ map (buffer_place buffers.items) setup.arguments.now },
     ghost counted: { group_counts.items ≡ model.group_counts setup.range.now },
     ghost grouped: { group_size ≡ group_items setup.range.now },
     ghost some: { 0 < group_size },
@@ -70,7 +74,7 @@ fn contains(names: &[Name], name: &Name) -> bool
 impl<'a> Launch<'a> {
     ghost use Rattle.clmodel.specs.Setup.{buffer_names};
     ghost use Rattle.clmodel.specs.Tree.{program};
-    ghost use Rattle.item_step.specs.Launches.{code_of, given_to, setup_of};
+    ghost use Rattle.item_step.specs.Launches.{code_of, setup_of, started};
 
     /// A launch of code that acts as the setup's program. The group's size is that of the range, and no local size is
     /// 0. The buffers have numbers of 32 bits, and the local objects are no more than a group may have. Err if out of
@@ -87,10 +91,12 @@ impl<'a> Launch<'a> {
         requires sized { All (λ size. 0 < size) setup.range.now.local }
         requires few { length (buffer_names (plain setup)) < 2 ^ 32 }
         requires fits { are_too_large (model.local_objects (plain setup)) ≡ false }
-        ensures { IfOk result (λ launch. setup_of launch ≡ plain setup.entry) }
+        ensures setup { IfOk result (λ launch. setup_of launch ≡ plain setup.entry) }
+        ensures code { IfOk result (λ launch. code_of launch ≡ code.entry.now) }
     {
         let steps = prepare(alloc, code)?;
         let buffers = buffers_of(alloc, setup.arguments)?;
+        let places = buffer_places(alloc, &buffers, setup.arguments)?;
         let group_counts = group_counts(alloc, setup.range)?;
         let local_objects = local_objects(alloc, setup.tree, setup.kernel, setup.arguments)?;
         Ok(Launch {
@@ -99,6 +105,7 @@ impl<'a> Launch<'a> {
             steps,
             group_size,
             buffers,
+            places,
             group_counts,
             local_objects,
         })
@@ -164,8 +171,7 @@ impl<'a> Launch<'a> {
     /// An item before its first action.
     pub fn start(&self, alloc: Global, item: u32) -> Result<Item<'_>, AllocError>
         ensures acts { IfOk result (λ started. (answers : List Answer) → action_of started answers ≡ next (setup_of self.now) item answers) }
-        ensures code { IfOk result (λ started. started.code ≡ code_of self.now) }
-        ensures given { IfOk result (λ started. started.given ≡ given_to self.now item) }
+        ensures starts { IfOk result (λ machine. machine ≡ started self.now item) }
     {
         let position = ItemPosition {
             alloc,
@@ -178,6 +184,7 @@ impl<'a> Launch<'a> {
             position,
             buffers: self.buffers.as_slice(),
             arguments: self.setup.arguments,
+            places: self.places.as_slice(),
             registers: self.code.tables().registers.as_slice(),
         };
         let code = PreparedCode {

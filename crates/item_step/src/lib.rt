@@ -1,12 +1,12 @@
 //! A kernel that is ready to run, as verified code with its steps, and its work-items.
 //!
-//! For every list of answers an item that a launch starts does what the tree says. `Item::next` gives the item's action
-//! and changes none of its later ones. After `answer` the item makes, for each list of answers, the action of the old
-//! item for that answer followed by the list. The code, the ids and the arguments of an item are those of its launch
-//! and its number, and stay. It goes by prepared steps. The crate knows no memory: an item hands out an access as an
-//! action, and takes its answer. Sizes and names of local objects are those defined, and so is whether they pass 32,768
-//! bytes together. A launch asks for fewer than 2^32 buffers, and tests no count.
-#![tactic(auto)]
+//! For every list of answers an item that a launch starts does what the tree says. `Item::next` gives the item's
+//! action and changes none of its later ones. After `answer` the item makes, for each list of answers, the action of
+//! the old item for that answer followed by the list. It begins at its launch's code with the ids and arguments of
+//! its number, and comes where it stands by instructions and answers alone. It goes by prepared steps. The crate
+//! knows no memory: an item hands out an access as an action, and takes its answer. Sizes and names of local objects
+//! are those defined, and so is whether they pass 32,768 bytes together. A launch asks for fewer than 2^32 buffers,
+//! and tests no count.
 
 mod accessing;
 mod asking;

@@ -87,7 +87,7 @@ pub fn value_of(
             ..
         } => query_work_item(registers, &context.position, *function, *dimension),
         Instruction::Argument { number, kind, .. } => {
-            let value = parameter(context.buffers, context.arguments, *number, *kind);
+            let value = parameter(context, *number, *kind);
             Ok(RegisterValue::new(value))
         }
         Instruction::Local {

@@ -3,9 +3,9 @@
 //!
 //! `Described` is what a launch says of itself in reports, `Runnable` adds its items. `location_of` names a place as
 //! defined: a buffer by its own name, a local object by its group and its name. A `LoadedLaunch` is the launch of its
-//! setup on the bytes of its buffers. A `Slot` is a work-item that is started when it is first asked, and then runs the
-//! launch's code with the ids and arguments of its number. `group_count` counts the work-groups. The runner of groups
-//! and the replayer stand on this crate side by side; it knows no group that runs.
+//! setup on the bytes of its buffers. A `Slot` is a work-item that is started when it is first asked, and then comes
+//! where it stands by its code and its answers alone. `group_count` counts the work-groups. The runner of groups and
+//! the replayer stand on this crate side by side; it knows no group that runs.
 #![tactic(auto)]
 
 mod described;

@@ -2,8 +2,7 @@
 
 ghost use Rattle.std.specs.Prelude.{◌≡◌, [], IfOk, slice_index_or};
 ghost use Rattle.clmodel.specs.Next.{launch_of};
-ghost use Rattle.item_step.specs.Launches.{setup_of};
-ghost use Rattle.launches.specs.Items.{kernel_in};
+ghost use Rattle.item_step.specs.Launches.{setup_of, started};
 ghost use Rattle.spaces_base.specs.Buffers.{bytes_in};
 
 use crate::described::Described;
@@ -70,7 +69,7 @@ impl Described for LoadedLaunch<'_> {
 }
 
 impl Runnable for LoadedLaunch<'_> {
-    ghost kernel = { λ loaded. kernel_in loaded.launch.now };
+    ghost started = { λ loaded. started loaded.launch.now };
 
     fn group_size(&self) -> u32 {
         self.launch.group_size()

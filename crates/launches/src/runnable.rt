@@ -1,9 +1,8 @@
 //! What running or replaying a launch asks of it.
 
-ghost use Rattle.std.specs.Prelude.{◌≡◌, ◌<◌, IfOk, List};
+ghost use Rattle.std.specs.Prelude.{◌≡◌, ◌<◌, ℕ, IfOk, List};
 ghost use Rattle.clmodel.specs.declared.action.Answer.{Answer};
-ghost use Rattle.item_step.specs.Running.{action_of};
-ghost use Rattle.launches.specs.Items.{Kernel};
+ghost use Rattle.item_step.specs.Running.{Running, action_of};
 
 use crate::described::Described;
 use item_step::Item;
@@ -11,7 +10,7 @@ use std::alloc::{AllocError, Global};
 
 /// A launch whose items can be started (OpenCL 1.2, section 3.2).
 pub trait Runnable: Described {
-    ghost kernel: { Self → Kernel };
+    ghost started: { Self → ℕ → Running };
 
     /// How many items a group has.
     fn group_size(&self) -> u32
@@ -25,6 +24,5 @@ pub trait Runnable: Described {
     /// An item before its first action. An error is out of memory.
     fn start(&self, alloc: Global, item: u32) -> Result<Item<'_>, AllocError>
         ensures acts { IfOk result (λ started. (answers : List Answer) → action_of started answers ≡ (Self.launch self.now).next item answers) }
-        ensures code { IfOk result (λ started. started.code ≡ (Self.kernel self.now).code) }
-        ensures given { IfOk result (λ started. started.given ≡ (Self.kernel self.now).given item) };
+        ensures starts { IfOk result (λ machine. machine ≡ Self.started self.now item) };
 }

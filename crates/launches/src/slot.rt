@@ -1,10 +1,11 @@
 //! A work-item of a launch as it runs, where its launch and its number are given to each call.
 
-ghost use Rattle.std.specs.Prelude.{◌≡◌, ℕ, [], ◌∷◌, List, replicate, IfOk, OnOk};
+ghost use Rattle.std.specs.Prelude.{◌≡◌, ℕ, [], ◌∷◌, ◌++◌, List, replicate, IfOk, OnOk};
 ghost use Rattle.clmodel.specs.Launch.{Launch};
 ghost use Rattle.clmodel.specs.declared.action.Action.TheVariants as action;
 ghost use Rattle.clmodel.specs.declared.action.Answer.{Answer};
-ghost use Rattle.launches.specs.Items.{acts_of, IsAsked, Kernel, Runs, Stands};
+ghost use Rattle.item_step.specs.Running.{Running};
+ghost use Rattle.launches.specs.Items.{acts_of, IsAsked, Runs, Stands};
 ghost use Rattle.launches.specs.declared.slot.Slot.TheVariants as slot;
 
 use crate::runnable::Runnable;
@@ -48,7 +49,7 @@ impl<'a> Slot<'a> {
     ) -> Result<(), AllocError>
         ensures same { (answers : List Answer) → acts_of (D.launch launch.now) item self.new answers ≡ acts_of (D.launch launch.now) item self.old answers }
         ensures asked { OnOk result (IsAsked self.new) }
-        ensures runs { Runs (D.kernel launch.now) item self.old → Runs (D.kernel launch.now) item self.new }
+        ensures runs { (answers : List Answer) → Runs (D.started launch.now item) answers self.old → Runs (D.started launch.now item) answers self.new }
     {
         if let Slot::Waiting = *self {
             // No `?`: it would move an item once more.
@@ -71,7 +72,7 @@ impl<'a> Slot<'a> {
     ) -> Result<(), AllocError>
         ensures same { (answers : List Answer) → acts_of (D.launch launch.now) item self.new answers ≡ acts_of (D.launch launch.now) item self.old answers }
         ensures asked { OnOk result (IsAsked self.new) }
-        ensures runs { Runs (D.kernel launch.now) item self.old → Runs (D.kernel launch.now) item self.new }
+        ensures runs { (answers : List Answer) → Runs (D.started launch.now item) answers self.old → Runs (D.started launch.now item) answers self.new }
     {
         match *self {
             Slot::Waiting => self.begin(alloc, launch, item),
@@ -97,7 +98,7 @@ impl<'a> Slot<'a> {
         ensures asked { IsAsked self.new }
         ensures ended { result ≡ action.End → self.new ≡ slot.Ended }
         ensures stands { Stands self.new result }
-        ensures runs { (kernel : Kernel) (item : ℕ) → Runs kernel item self.old → Runs kernel item self.new }
+        ensures runs { (start : Running) (answers : List Answer) → Runs start answers self.old → Runs start answers self.new }
     {
         let Slot::Running(running) = self else {
             return Action::End;
@@ -122,7 +123,7 @@ impl<'a> Slot<'a> {
         ensures asked { OnOk result (IsAsked self.new) }
         ensures ended { IfOk result (λ made. made ≡ action.End → self.new ≡ slot.Ended) }
         ensures stands { IfOk result (Stands self.new) }
-        ensures runs { Runs (D.kernel launch.now) item self.old → Runs (D.kernel launch.now) item self.new }
+        ensures runs { (answers : List Answer) → Runs (D.started launch.now item) answers self.old → Runs (D.started launch.now item) answers self.new }
     {
         self.start(alloc, launch, item)?;
         Ok(self.goes_on())
@@ -134,7 +135,7 @@ impl<'a> Slot<'a> {
         requires { IsAsked self.old }
         ensures answered { (launch : Launch) (item : ℕ) (answers : List Answer) → acts_of launch item self.new answers ≡ acts_of launch item self.old (answer ∷ answers) }
         ensures asked { IsAsked self.new }
-        ensures runs { (kernel : Kernel) (item : ℕ) → Runs kernel item self.old → Runs kernel item self.new }
+        ensures runs { (start : Running) (answers : List Answer) → Runs start answers self.old → Runs start (answers ++ answer ∷ []) self.new }
     {
         if let Slot::Running(running) = self {
             running.answer(answer);

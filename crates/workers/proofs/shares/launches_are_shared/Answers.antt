@@ -17,4 +17,4 @@ returns c ℓ =
     let code : IsSync Code.the_row = record { shared = c.is_shared-3.ensures.shared } in
     let setup = declared_sync (Setup.the_type ℓ) (search (sendable, tree), (search sendable, (search (sendable, range), (search (sendable, argument), (search sendable, tt))))) in
     let objects = declared_sync LocalObjects.the_type (record { shared = c.is_shared-6.ensures.shared }, (record { shared = c.is_shared-5.ensures.shared }, tt)) in
-    declared_sync (Launch.the_type ℓ) (setup, (search (sendable, code), (record { shared = c.is_shared-7.ensures.shared }, (search sendable, (record { shared = c.is_shared-4.ensures.shared }, (record { shared = c.is_shared-5.ensures.shared }, (objects, tt)))))))
+    declared_sync (Launch.the_type ℓ) (setup, (search (sendable, code), (record { shared = c.is_shared-7.ensures.shared }, (search sendable, (record { shared = c.is_shared-4.ensures.shared }, (record { shared = c.is_shared-6.ensures.shared }, (record { shared = c.is_shared-5.ensures.shared }, (objects, tt))))))))
