@@ -10,17 +10,17 @@ use Rattle.clmodel.specs.declared.fault.Fault.{Fault}
 use Rattle.clmodel.specs.declared.fault.Fault.TheVariants as fault
 use Rattle.clmodel.specs.declared.schedule.Event.{Event}
 use Rattle.clmodel.specs.declared.schedule.Event.TheVariants as event
-use Rattle.launches.specs.Items.{Kernel}
+use Rattle.item_step.specs.Running.{Running}
 use Rattle.marked_play.specs.Marks.{ActsFrom, Divides, Lead, events_in}
 use Rattle.marked_play.specs.Pairs.{IsFoundPair}
 use Rattle.marked_play.specs.declared.marks.Mark.{Mark}
-use Rattle.marked_play.specs.declared.pairs.Told.{Told}
+use Rattle.marked_play.specs.declared.pairs.WantedPair.{WantedPair}
 use Rattle.explain_play.specs.declared.played.Played.{Played}
 use Rattle.explain_play.specs.declared.played.Touch.{Touch}
 
 -- a fault is a conflict of these two partners, at this location and byte; barriers can order the two where they are of
 -- one group, and they have to leave different bytes where both store in a uniform launch (own)
-pub record Tells (launch : Launch) (f : Fault) (told : Told) : Type 0 where
+pub record Tells (launch : Launch) (f : Fault) (told : WantedPair) : Type 0 where
   pub clash : Clash
   pub is : f ≡ fault.Conflict clash told.first.item told.first.kind told.second.item told.second.kind told.location.now told.byte
   pub grouped : told.one_group ≡ (group_of launch told.first.item == group_of launch told.second.item)
@@ -64,23 +64,23 @@ is_event_of item (event.Release group) = false
 abbrev pub acts_at : List Mark → ℕ → ℕ → Bool
 acts_at marks item number = option_map_or (λ mark. is_event_of item mark.event) (slice_get marks number) false
 
--- the last number below n of which p holds, if it holds of any (own)
-abbrev pub IsLast : (ℕ → Bool) → ℕ → Option ℕ → Type 0
-IsLast p n None = (k : ℕ) → k < n → p k ≡ false
-IsLast p n (Some last) = (last < n) × (p last ≡ true) × ((k : ℕ) → last < k → k < n → p k ≡ false)
+-- the last number below n of which p holds, if it holds of any: that of the last event of an item (own)
+abbrev pub IsLastEvent : (ℕ → Bool) → ℕ → Option ℕ → Type 0
+IsLastEvent p n None = (k : ℕ) → k < n → p k ≡ false
+IsLastEvent p n (Some last) = (last < n) × (p last ≡ true) × ((k : ℕ) → last < k → k < n → p k ≡ false)
 
 -- The events were played from the start to a state, each with where its item stands that acts by it, and with the
 -- numbers that its access finds and leaves. The first accesses of the log there are told. If two accesses are found,
 -- they are in the log, and are those of the fault; each of the two named items acts from where it is told to stand, and
 -- the first has the left operand that is told, if it stands at a division (own).
-pub record IsPlayedOut (launch : Launch) (kernel : Kernel) (size : ℕ) (events : Events) (f : Fault) (first second most : ℕ) (played : Played) : Type 0 where
+pub record IsPlayedOut (launch : Launch) (started : ℕ → Running) (size : ℕ) (events : Events) (f : Fault) (first second most : ℕ) (played : Played) : Type 0 where
   pub end : State
   pub marked : events_in played.marks.items ≡ events
-  pub led : Lead launch kernel size (start launch) played.marks.items end
+  pub led : Lead launch started size (start launch) played.marks.items end
   pub touched : played.touches.items ≡ map (touch_of launch) (take most (reverse end.log))
-  pub paired : IfSome played.pair (λ pair. (told : Told) × Tells launch f told × IsFoundPair launch told (reverse end.log) pair)
+  pub paired : IfSome played.pair (λ pair. (told : WantedPair) × Tells launch f told × IsFoundPair launch told (reverse end.log) pair)
   pub first_named : played.first.item ≡ first
   pub second_named : played.second.item ≡ second
-  pub first_acts : ActsFrom launch kernel end first played.first.stand
-  pub second_acts : ActsFrom launch kernel end second played.second.stand
-  pub first_divides : Divides launch kernel end first played.first.dividend
+  pub first_acts : ActsFrom launch started end first played.first.stand
+  pub second_acts : ActsFrom launch started end second played.second.stand
+  pub first_divides : Divides launch started end first played.first.dividend

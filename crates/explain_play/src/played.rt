@@ -1,7 +1,7 @@
 //! A schedule played with where its items stand.
 #![tactic(auto)]
 
-ghost use Rattle.std.specs.Prelude.{◌≡◌, ◌≤◌, map, count_by, length, take, Some, IfOk, IfNone, IfSome, if◌then◌else◌};
+ghost use Rattle.std.specs.Prelude.{◌≡◌, ◌≤◌, ℕ, map, count_by, length, take, Some, IfOk, IfNone, IfSome, if◌then◌else◌};
 ghost use Rattle.clmodel.specs.Launch.{Launch as TheLaunch};
 ghost use Rattle.clmodel.specs.Law.{Reaches};
 ghost use Rattle.clmodel.specs.Next.{launch_of};
@@ -9,16 +9,16 @@ ghost use Rattle.clmodel.specs.Outcome.{events_of};
 ghost use Rattle.clmodel.specs.Run.{State, initial};
 ghost use Rattle.clmodel.specs.Setup.{group_items};
 ghost use Rattle.clmodel.specs.declared.fault.Fault.{Fault};
-ghost use Rattle.item_step.specs.Launches.{setup_of};
+ghost use Rattle.item_step.specs.Launches.{setup_of, started};
+ghost use Rattle.item_step.specs.Running.{Running};
 ghost use Rattle.launches.specs.Groups.{HasGroups};
-ghost use Rattle.launches.specs.Items.{Kernel, kernel_in};
 ghost use Rattle.marked_play.specs.Marks.{ActsFrom, Divides};
 ghost use Rattle.marked_play.specs.Pairs.{IsFoundPair};
 ghost use Rattle.marked_play.specs.Replicas.{Mirrors};
-ghost use Rattle.marked_play.specs.declared.pairs.Told.{Told};
-ghost use Rattle.replay.specs.States.{HasKernel, IsAt};
+ghost use Rattle.marked_play.specs.declared.pairs.WantedPair.{WantedPair};
+ghost use Rattle.replay.specs.States.{IsAt};
 ghost use Rattle.spaces_base.specs.Buffers.{bytes_in};
-ghost use Rattle.explain_play.specs.PlayedOut.{IsEventOf, IsLast, IsPlayedOut, MadeAccess, Tells, acts_at, is_access, touch_of};
+ghost use Rattle.explain_play.specs.PlayedOut.{IsEventOf, IsLastEvent, IsPlayedOut, MadeAccess, Tells, acts_at, is_access, touch_of};
 
 use clmodel::access::{Access, AccessKind};
 use clmodel::action::Action;
@@ -30,7 +30,8 @@ use item_step::Launch;
 use launches::laws::setups_are_runnable;
 use launches::{Described, LoadedLaunch, Runnable, group_count};
 use marked_play::{
-    Mark, Pair, Partner, Replica, Stand, Told, dividend_of, find_pair, mark_schedule, stand_of,
+    Mark, Pair, Partner, Replica, Stand, WantedPair, dividend_of, find_pair, mark_schedule,
+    stand_of,
 };
 use replay::Player;
 use shadow_list::both_store;
@@ -81,7 +82,7 @@ fn copies(alloc: Global, names: &[Name], buffers: &Buffers) -> Result<Vec<Plain>
 }
 
 /// The conflict that a fault tells, if it tells one.
-fn told_of<'a, D: Runnable>(launch: &D, fault: &'a Fault) -> Option<Told<'a>>
+fn told_of<'a, D: Runnable>(launch: &D, fault: &'a Fault) -> Option<WantedPair<'a>>
     ensures { IfSome result (Tells (D.launch launch.now) fault.now) }
 {
     let Fault::Conflict {
@@ -97,7 +98,7 @@ fn told_of<'a, D: Runnable>(launch: &D, fault: &'a Fault) -> Option<Told<'a>>
         return None;
     };
     let size = launch.group_size();
-    Some(Told {
+    Some(WantedPair {
         first: Partner {
             item: *item,
             kind: *kind,
@@ -120,7 +121,7 @@ fn pair_of<D: Runnable>(
     fault: &Fault,
     log: &[Access],
 ) -> Result<Option<Pair>, AllocError>
-    ensures { IfOk result (λ found. IfSome found (λ pair. (told : Told) × Tells (D.launch launch.now) fault.now told × IsFoundPair (D.launch launch.now) told log.now pair)) }
+    ensures { IfOk result (λ found. IfSome found (λ pair. (told : WantedPair) × Tells (D.launch launch.now) fault.now told × IsFoundPair (D.launch launch.now) told log.now pair)) }
 {
     match told_of(launch, fault) {
         Some(told) => find_pair(alloc, launch, &told, log),
@@ -159,11 +160,10 @@ fn touches_of<D: Described>(
 
 /// Where an item stands, and what is told of what it does next.
 fn standing_of<D: Runnable>(player: &mut Player<'_, D>, item: u32) -> Result<Standing, AllocError>
-    ensures same { (launch : TheLaunch) (state : State) → IsAt D.launch launch player.old state → IsAt D.launch launch player.new state }
-    ensures runs { (kernel : Kernel) → HasKernel D.kernel kernel player.old → HasKernel D.kernel kernel player.new }
+    ensures same { (launch : TheLaunch) (started : ℕ → Running) (state : State) → IsAt D.launch D.started launch started player.old state → IsAt D.launch D.started launch started player.new state }
     ensures item { IfOk result (λ standing. standing.item ≡ item) }
-    ensures divides { IfOk result (λ standing. (launch : TheLaunch) (kernel : Kernel) (state : State) → IsAt D.launch launch player.old state → HasKernel D.kernel kernel player.old → Divides launch kernel state item standing.dividend) }
-    ensures acts { IfOk result (λ standing. (launch : TheLaunch) (kernel : Kernel) (state : State) → IsAt D.launch launch player.old state → HasKernel D.kernel kernel player.old → ActsFrom launch kernel state item standing.stand) }
+    ensures divides { IfOk result (λ standing. (launch : TheLaunch) (started : ℕ → Running) (state : State) → IsAt D.launch D.started launch started player.old state → Divides launch started state item standing.dividend) }
+    ensures acts { IfOk result (λ standing. (launch : TheLaunch) (started : ℕ → Running) (state : State) → IsAt D.launch D.started launch started player.old state → ActsFrom launch started state item standing.stand) }
 {
     let stand = stand_of(player, item)?;
     let width = match player.action(item)? {
@@ -207,7 +207,7 @@ pub fn play(
     requires { HasGroups (setup_of launch.now) }
     ensures none { IfOk result (λ found. IfNone found ((other : Fault) → Reaches (launch_of (setup_of launch.now) (bytes_in buffers.now)) (events_of schedule.now) other → ⊥)) }
     ensures played { IfOk result (λ found. IfSome found
-        (IsPlayedOut (launch_of (setup_of launch.now) (bytes_in buffers.now)) (kernel_in launch.now) (group_items (setup_of launch.now).range) (events_of schedule.now) fault.now items.0 items.1 most)) }
+        (IsPlayedOut (launch_of (setup_of launch.now) (bytes_in buffers.now)) (started launch.now) (group_items (setup_of launch.now).range) (events_of schedule.now) fault.now items.0 items.1 most)) }
 {
     setups_are_runnable();
     let loaded = LoadedLaunch::new(alloc, launch, buffers);
@@ -284,7 +284,7 @@ fn this_or_earlier(is_such: bool, number: usize, earlier: Option<usize>) -> Opti
 /// The number of the last event of an item, if it made one.
 pub fn last_of(marks: &[Mark], item: u32) -> Option<usize>
     ensures event { IfSome result (IsEventOf marks.now item) }
-    ensures last { IsLast (acts_at marks.now item) (length marks.now) result }
+    ensures last { IsLastEvent (acts_at marks.now item) (length marks.now) result }
 {
     let mut last = None;
     for number in 0..marks.len() {

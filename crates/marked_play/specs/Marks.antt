@@ -12,49 +12,47 @@ use Rattle.clmodel.specs.declared.action.Answer.{Answer}
 use Rattle.clmodel.specs.declared.schedule.Event.{Event}
 use Rattle.clmodel.specs.declared.schedule.Event.TheVariants as event
 use Rattle.item_state.specs.Dividing.{dividend_of}
-use Rattle.item_step.specs.Running.{Running, Makes, action_of}
-use Rattle.launches.specs.Items.{Kernel}
-use Rattle.replay.specs.States.{HasKernel, IsAt}
+use Rattle.item_step.specs.Running.{Running, Arrives, Makes, action_of}
+use Rattle.replay.specs.States.{IsAt}
 use Rattle.replay.specs.declared.player.Player.{Player}
 use Rattle.replay.specs.declared.slot.Stand.{Stand}
 use Rattle.marked_play.specs.Replicas.{Mirrors}
 use Rattle.marked_play.specs.declared.marks.Mark.{Mark}
 use Rattle.marked_play.specs.declared.replica.Replica.{Replica}
 
--- a player and a replica of the memory are at a state, and the player's items run this kernel
-abbrev pub Follows : {D : Type 0} → (D → Launch) → (D → Kernel) → Launch → Kernel → Player D → Replica → State → Type 0
-Follows launch_of kernel_of launch kernel player replica state =
-    IsAt launch_of launch player state × HasKernel kernel_of kernel player × Mirrors launch replica state.memory
+-- a player and a replica of the memory are at a state
+abbrev pub Follows : {D : Type 0} → (D → Launch) → (D → ℕ → Running) → Launch → (ℕ → Running) → Player D → Replica → State → Type 0
+Follows launch_of started_of launch started player replica state =
+    IsAt launch_of started_of launch started player state × Mirrors launch replica state.memory
 
 -- the item of which an event tells where it stands: of a release, the first of the group (own)
 abbrev pub item_of : ℕ → Event → ℕ
 item_of size (event.Item item) = item
 item_of size (event.Release group) = group * size
 
--- A machine stands for an item in a state: it runs the launch's code with the item's own ids and arguments, the
--- instruction where it stands makes the item's next action, whatever follows it, and from there on it acts as the item
--- does, whatever it is answered. What its registers have isn't said, nor that it came there from the code's start (own,
--- on OpenCL 1.2, 3.2).
-pub record IsMachineOf (launch : Launch) (kernel : Kernel) (state : State) (item : ℕ) (running : Running) : Type 0 where
-  pub code : running.code ≡ kernel.code
-  pub given : running.given ≡ kernel.given item
+-- A machine is that of an item in a state. It is the one that the code's instructions come to, one after the other,
+-- from the item's start with the answers that the state has, and the instruction where it stands makes the item's next
+-- action, whatever follows it. By reading there is only one, where the code is verified: instructions leave no choice.
+-- From there on it acts as the item does, whatever it is answered (own, on OpenCL 1.2, 3.2). `started` has the machine
+-- of each item at its start.
+pub record IsMachineOf (launch : Launch) (started : ℕ → Running) (state : State) (item : ℕ) (running : Running) : Type 0 where
+  pub arrives : Arrives (started item) (state.answers item) running
   pub makes : Makes running (next_action launch state item)
   pub acts : (answers : List Answer) → action_of running answers ≡ launch.next item (state.answers item ++ answers)
 
--- such a machine stands at a place after these turns of loops; no place is told of an item that is at its end, and
+-- the item's machine stands at a place after these turns of loops; no place is told of an item that is at its end, and
 -- where there is no such item (own)
-abbrev pub ActsFrom : Launch → Kernel → State → ℕ → Option Stand → Type 0
-ActsFrom launch kernel state item None = (next_action launch state item ≡ action.End) ⊎ (launch.items ≤ item)
-ActsFrom launch kernel state item (Some stand) =
-    (running : Running) × (running.state.place ≡ stand.place) × (running.state.counters ≡ stand.turns) × IsMachineOf launch kernel state item running
+abbrev pub ActsFrom : Launch → (ℕ → Running) → State → ℕ → Option Stand → Type 0
+ActsFrom launch started state item None = (next_action launch state item ≡ action.End) ⊎ (launch.items ≤ item)
+ActsFrom launch started state item (Some stand) =
+    (running : Running) × (running.state.place ≡ stand.place) × (running.state.counters ≡ stand.turns) × IsMachineOf launch started state item running
 
--- the left operand of the division where such a machine stands, if its instruction there is one; none is told of an
--- item that is at its end, and where there is no such item (own, on C99 6.5.5). A division by zero fails with each left
--- operand alike.
-abbrev pub Divides : Launch → Kernel → State → ℕ → Option Integer → Type 0
-Divides launch kernel state item dividend =
+-- the left operand of the division where the item's machine stands, if its instruction there is one; none is told of
+-- an item that is at its end, and where there is no such item (own, on C99 6.5.5)
+abbrev pub Divides : Launch → (ℕ → Running) → State → ℕ → Option Integer → Type 0
+Divides launch started state item dividend =
     ((dividend ≡ None) × ((next_action launch state item ≡ action.End) ⊎ (launch.items ≤ item)))
-    ⊎ ((running : Running) × IsMachineOf launch kernel state item running × (dividend_of running ≡ dividend))
+    ⊎ ((running : Running) × IsMachineOf launch started state item running × (dividend_of running ≡ dividend))
 
 -- the events of marks (own)
 abbrev pub events_in : List Mark → List Event
@@ -72,24 +70,24 @@ pub record IsCounted (state next : State) (mark : Mark) : Type 0 where
 
 -- marks lead from a state to another: each event is possible in its turn, its item acts from where it stands, and its
 -- numbers are those of its access (own)
-abbrev pub Lead : Launch → Kernel → ℕ → State → List Mark → State → Type 0
-Lead launch kernel size state [] end = state ≡ end
-Lead launch kernel size state (mark ∷ marks) end =
-    ActsFrom launch kernel state (item_of size mark.event) mark.stand × (next : State) × (step launch state mark.event ≡ Some next) × IsCounted state next mark
-    × Lead launch kernel size next marks end
+abbrev pub Lead : Launch → (ℕ → Running) → ℕ → State → List Mark → State → Type 0
+Lead launch started size state [] end = state ≡ end
+Lead launch started size state (mark ∷ marks) end =
+    ActsFrom launch started state (item_of size mark.event) mark.stand × (next : State) × (step launch state mark.event ≡ Some next) × IsCounted state next mark
+    × Lead launch started size next marks end
 
 -- the marks of the events before the first that isn't possible in its turn (own)
-pub record LeadUpTo (launch : Launch) (kernel : Kernel) (size : ℕ) (state : State) (events : Events) (made : List Mark) : Type 0 where
+pub record LeadUpTo (launch : Launch) (started : ℕ → Running) (size : ℕ) (state : State) (events : Events) (made : List Mark) : Type 0 where
   pub end : State
   pub next : Event
   pub rest : Events
   pub split : events ≡ events_in made ++ next ∷ rest
-  pub led : Lead launch kernel size state made end
+  pub led : Lead launch started size state made end
   pub never : step launch end next ≡ None
 
 -- events were played one after another, their marks were added, and what is kept tells of the state that they lead to;
 -- or one of them isn't possible in its turn, and the marks of those before it were added (own)
-abbrev pub AreMarked : Launch → Kernel → ℕ → State → Events → List Mark → List Mark → (State → Type 0) → Bool → Type 0
-AreMarked launch kernel size state events old new at true =
-    (made : List Mark) × (end : State) × (new ≡ old ++ made) × (events_in made ≡ events) × Lead launch kernel size state made end × at end
-AreMarked launch kernel size state events old new at false = (made : List Mark) × (new ≡ old ++ made) × LeadUpTo launch kernel size state events made
+abbrev pub AreMarked : Launch → (ℕ → Running) → ℕ → State → Events → List Mark → List Mark → (State → Type 0) → Bool → Type 0
+AreMarked launch started size state events old new at true =
+    (made : List Mark) × (end : State) × (new ≡ old ++ made) × (events_in made ≡ events) × Lead launch started size state made end × at end
+AreMarked launch started size state events old new at false = (made : List Mark) × (new ≡ old ++ made) × LeadUpTo launch started size state events made

@@ -7,7 +7,7 @@ use Rattle.clmodel.specs.declared.access.AccessKind.{AccessKind}
 use Rattle.clmodel.specs.declared.fault.Location.{Location}
 use Rattle.marked_play.specs.declared.pairs.Pair.{Pair}
 use Rattle.marked_play.specs.declared.pairs.Partner.{Partner}
-use Rattle.marked_play.specs.declared.pairs.Told.{Told}
+use Rattle.marked_play.specs.declared.pairs.WantedPair.{WantedPair}
 
 -- an access of this item and kind, at this byte of this location
 pub record IsTold (launch : Launch) (item : ℕ) (kind : AccessKind) (location : Location) (byte : ℕ) (access : Access) : Type 0 where
@@ -27,7 +27,7 @@ pub record IsPair (launch : Launch) (first second : Partner) (location : Locatio
   pub clash : Clashes one_group by_byte byte one other
 
 -- the places of two such accesses in a log
-pub record IsFoundPair (launch : Launch) (told : Told) (log : List Access) (pair : Pair) : Type 0 where
+pub record IsFoundPair (launch : Launch) (told : WantedPair) (log : List Access) (pair : Pair) : Type 0 where
   pub one : Access
   pub other : Access
   pub at_first : slice_get log pair.first ≡ Some one

@@ -1,8 +1,8 @@
 //! A schedule that is played with where the item of each event stands, which is an instruction and the turns of the
 //! loops round it, and with the numbers that its access finds and leaves. And the two accesses of a log that a fault
-//! tells as a conflict. From where an item is told to stand, a machine that runs the launch's code with the item's own
-//! ids and arguments acts as the item does. It knows a launch by what `launches` says of it, and neither a tree nor a
-//! source.
+//! tells as a conflict. The place that is told of an item is that of its machine: the one to which the launch's code
+//! comes from the item's start, with the answers that it had. It knows a launch by what `launches` says of it, and
+//! neither a tree nor a source.
 #![tactic(auto)]
 
 mod marks;
@@ -10,6 +10,6 @@ mod pairs;
 mod replica;
 
 pub use marks::{Mark, dividend_of, mark_schedule, stand_of};
-pub use pairs::{Pair, Partner, Told, find_pair};
+pub use pairs::{Pair, Partner, WantedPair, find_pair};
 pub use replay::Stand;
 pub use replica::Replica;

@@ -1,13 +1,13 @@
 //! The events of a schedule, each with where its item stands.
 #![tactic(auto)]
 
-ghost use Rattle.std.specs.Prelude.{◌≡◌, true, [], ◌∷◌, replicate, IfOk, IfSome};
+ghost use Rattle.std.specs.Prelude.{◌≡◌, ℕ, true, [], ◌∷◌, replicate, IfOk, IfSome};
 ghost use Rattle.clmodel.specs.Launch.{Launch};
 ghost use Rattle.clmodel.specs.Outcome.{events_of};
 ghost use Rattle.clmodel.specs.Run.{State};
 ghost use Rattle.clmodel.specs.declared.schedule.Event.TheVariants as event;
-ghost use Rattle.launches.specs.Items.{Kernel};
-ghost use Rattle.replay.specs.States.{HasKernel, IsAt};
+ghost use Rattle.item_step.specs.Running.{Running};
+ghost use Rattle.replay.specs.States.{IsAt};
 ghost use Rattle.marked_play.specs.Marks.{ActsFrom, AreMarked, Divides, Follows, item_of};
 ghost use Rattle.marked_play.specs.Replicas.{IsAbout, IsNext};
 
@@ -36,9 +36,8 @@ pub fn stand_of<D: Runnable>(
     player: &mut Player<'_, D>,
     item: u32,
 ) -> Result<Option<Stand>, AllocError>
-    ensures same { (launch : Launch) (state : State) → IsAt D.launch launch player.old state → IsAt D.launch launch player.new state }
-    ensures runs { (kernel : Kernel) → HasKernel D.kernel kernel player.old → HasKernel D.kernel kernel player.new }
-    ensures acts { IfOk result (λ stand. (launch : Launch) (kernel : Kernel) (state : State) → IsAt D.launch launch player.old state → HasKernel D.kernel kernel player.old → ActsFrom launch kernel state item stand) }
+    ensures same { (launch : Launch) (started : ℕ → Running) (state : State) → IsAt D.launch D.started launch started player.old state → IsAt D.launch D.started launch started player.new state }
+    ensures acts { IfOk result (λ stand. (launch : Launch) (started : ℕ → Running) (state : State) → IsAt D.launch D.started launch started player.old state → ActsFrom launch started state item stand) }
 {
     player.action(item)?;
     Ok(player.stand(item))
@@ -49,9 +48,8 @@ pub fn dividend_of<D: Runnable>(
     player: &mut Player<'_, D>,
     item: u32,
 ) -> Result<Option<Value>, AllocError>
-    ensures same { (launch : Launch) (state : State) → IsAt D.launch launch player.old state → IsAt D.launch launch player.new state }
-    ensures runs { (kernel : Kernel) → HasKernel D.kernel kernel player.old → HasKernel D.kernel kernel player.new }
-    ensures divides { IfOk result (λ dividend. (launch : Launch) (kernel : Kernel) (state : State) → IsAt D.launch launch player.old state → HasKernel D.kernel kernel player.old → Divides launch kernel state item dividend) }
+    ensures same { (launch : Launch) (started : ℕ → Running) (state : State) → IsAt D.launch D.started launch started player.old state → IsAt D.launch D.started launch started player.new state }
+    ensures divides { IfOk result (λ dividend. (launch : Launch) (started : ℕ → Running) (state : State) → IsAt D.launch D.started launch started player.old state → Divides launch started state item dividend) }
 {
     player.action(item)?;
     Ok(player.dividend(item))
@@ -63,9 +61,8 @@ fn stand_before<D: Runnable>(
     group_size: u32,
     event: Event,
 ) -> Result<Option<Stand>, AllocError>
-    ensures same { (launch : Launch) (state : State) → IsAt D.launch launch player.old state → IsAt D.launch launch player.new state }
-    ensures runs { (kernel : Kernel) → HasKernel D.kernel kernel player.old → HasKernel D.kernel kernel player.new }
-    ensures acts { IfOk result (λ stand. (launch : Launch) (kernel : Kernel) (state : State) → IsAt D.launch launch player.old state → HasKernel D.kernel kernel player.old → ActsFrom launch kernel state (item_of group_size event) stand) }
+    ensures same { (launch : Launch) (started : ℕ → Running) (state : State) → IsAt D.launch D.started launch started player.old state → IsAt D.launch D.started launch started player.new state }
+    ensures acts { IfOk result (λ stand. (launch : Launch) (started : ℕ → Running) (state : State) → IsAt D.launch D.started launch started player.old state → ActsFrom launch started state (item_of group_size event) stand) }
 {
     match event {
         Event::Item(item) => stand_of(player, item),
@@ -78,9 +75,8 @@ fn stand_before<D: Runnable>(
 
 /// What an item is about to do, if it is an access of bytes that are there. An error is out of memory.
 fn deed_of<D: Runnable>(player: &mut Player<'_, D>, item: u32) -> Result<Option<Deed>, AllocError>
-    ensures same { (launch : Launch) (state : State) → IsAt D.launch launch player.old state → IsAt D.launch launch player.new state }
-    ensures runs { (kernel : Kernel) → HasKernel D.kernel kernel player.old → HasKernel D.kernel kernel player.new }
-    ensures next { IfOk result (λ deed. (launch : Launch) (state : State) → IsAt D.launch launch player.old state → IfSome deed (IsNext launch state item)) }
+    ensures same { (launch : Launch) (started : ℕ → Running) (state : State) → IsAt D.launch D.started launch started player.old state → IsAt D.launch D.started launch started player.new state }
+    ensures next { IfOk result (λ deed. (launch : Launch) (started : ℕ → Running) (state : State) → IsAt D.launch D.started launch started player.old state → IfSome deed (IsNext launch state item)) }
 {
     let Some(
         Action::Access {
@@ -108,9 +104,8 @@ fn deed_before<D: Runnable>(
     player: &mut Player<'_, D>,
     event: Event,
 ) -> Result<Option<Deed>, AllocError>
-    ensures same { (launch : Launch) (state : State) → IsAt D.launch launch player.old state → IsAt D.launch launch player.new state }
-    ensures runs { (kernel : Kernel) → HasKernel D.kernel kernel player.old → HasKernel D.kernel kernel player.new }
-    ensures about { IfOk result (λ deed. (launch : Launch) (state : State) → IsAt D.launch launch player.old state → IsAbout launch state event deed) }
+    ensures same { (launch : Launch) (started : ℕ → Running) (state : State) → IsAt D.launch D.started launch started player.old state → IsAt D.launch D.started launch started player.new state }
+    ensures about { IfOk result (λ deed. (launch : Launch) (started : ℕ → Running) (state : State) → IsAt D.launch D.started launch started player.old state → IsAbout launch state event deed) }
 {
     match event {
         Event::Item(item) => deed_of(player, item),
@@ -126,9 +121,9 @@ fn mark_event<D: Runnable>(
     event: Event,
     marks: &mut Vec<Mark>,
 ) -> Result<bool, AllocError>
-    requires { (launch : Launch) × (kernel : Kernel) × (state : State) × Follows D.launch D.kernel launch kernel player.old replica.old state }
-    ensures { IfOk result (λ yes. (launch : Launch) (kernel : Kernel) (state : State) → Follows D.launch D.kernel launch kernel player.old replica.old state
-        → AreMarked launch kernel group_size state (event ∷ []) marks.old.items marks.new.items (Follows D.launch D.kernel launch kernel player.new replica.new) yes) }
+    requires { (launch : Launch) × (started : ℕ → Running) × (state : State) × Follows D.launch D.started launch started player.old replica.old state }
+    ensures { IfOk result (λ yes. (launch : Launch) (started : ℕ → Running) (state : State) → Follows D.launch D.started launch started player.old replica.old state
+        → AreMarked launch started group_size state (event ∷ []) marks.old.items marks.new.items (Follows D.launch D.started launch started player.new replica.new) yes) }
 {
     let stand = stand_before(player, group_size, event)?;
     let deed = deed_before(player, event)?;
@@ -157,9 +152,9 @@ fn mark_items<D: Runnable>(
     count: u64,
     marks: &mut Vec<Mark>,
 ) -> Result<bool, AllocError>
-    requires { (launch : Launch) × (kernel : Kernel) × (state : State) × Follows D.launch D.kernel launch kernel player.old replica.old state }
-    ensures { IfOk result (λ yes. (launch : Launch) (kernel : Kernel) (state : State) → Follows D.launch D.kernel launch kernel player.old replica.old state
-        → AreMarked launch kernel group_size state (replicate count (event.Item item)) marks.old.items marks.new.items (Follows D.launch D.kernel launch kernel player.new replica.new) yes) }
+    requires { (launch : Launch) × (started : ℕ → Running) × (state : State) × Follows D.launch D.started launch started player.old replica.old state }
+    ensures { IfOk result (λ yes. (launch : Launch) (started : ℕ → Running) (state : State) → Follows D.launch D.started launch started player.old replica.old state
+        → AreMarked launch started group_size state (replicate count (event.Item item)) marks.old.items marks.new.items (Follows D.launch D.started launch started player.new replica.new) yes) }
 {
     for _ in 0..count {
         if !mark_event(player, replica, group_size, Event::Item(item), marks)? {
@@ -178,9 +173,9 @@ fn mark_run<D: Runnable>(
     run: EventRun,
     marks: &mut Vec<Mark>,
 ) -> Result<bool, AllocError>
-    requires { (launch : Launch) × (kernel : Kernel) × (state : State) × Follows D.launch D.kernel launch kernel player.old replica.old state }
-    ensures { IfOk result (λ yes. (launch : Launch) (kernel : Kernel) (state : State) → Follows D.launch D.kernel launch kernel player.old replica.old state
-        → AreMarked launch kernel group_size state (events_of (run ∷ [])) marks.old.items marks.new.items (Follows D.launch D.kernel launch kernel player.new replica.new) yes) }
+    requires { (launch : Launch) × (started : ℕ → Running) × (state : State) × Follows D.launch D.started launch started player.old replica.old state }
+    ensures { IfOk result (λ yes. (launch : Launch) (started : ℕ → Running) (state : State) → Follows D.launch D.started launch started player.old replica.old state
+        → AreMarked launch started group_size state (events_of (run ∷ [])) marks.old.items marks.new.items (Follows D.launch D.started launch started player.new replica.new) yes) }
 {
     match run {
         EventRun::Item { item, count } => mark_items(
@@ -201,9 +196,9 @@ pub fn mark_schedule<D: Runnable>(
     runs: &[EventRun],
     marks: &mut Vec<Mark>,
 ) -> Result<bool, AllocError>
-    requires { (launch : Launch) × (kernel : Kernel) × (state : State) × Follows D.launch D.kernel launch kernel player.old replica.old state }
-    ensures { IfOk result (λ yes. (launch : Launch) (kernel : Kernel) (state : State) → Follows D.launch D.kernel launch kernel player.old replica.old state
-        → AreMarked launch kernel group_size state (events_of runs.now) marks.old.items marks.new.items (Follows D.launch D.kernel launch kernel player.new replica.new) yes) }
+    requires { (launch : Launch) × (started : ℕ → Running) × (state : State) × Follows D.launch D.started launch started player.old replica.old state }
+    ensures { IfOk result (λ yes. (launch : Launch) (started : ℕ → Running) (state : State) → Follows D.launch D.started launch started player.old replica.old state
+        → AreMarked launch started group_size state (events_of runs.now) marks.old.items marks.new.items (Follows D.launch D.started launch started player.new replica.new) yes) }
 {
     for run in runs {
         if !mark_run(player, replica, group_size, *run, marks)? {

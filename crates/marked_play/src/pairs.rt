@@ -24,7 +24,7 @@ pub struct Partner {
 /// A conflict, as a fault tells it; whether both items are of one group, whose barriers can order them; and whether the
 /// two have to leave different bytes.
 #[derive(Clone, Copy)]
-pub struct Told<'a> {
+pub struct WantedPair<'a> {
     pub first: Partner,
     pub second: Partner,
     pub location: &'a Location,
@@ -89,7 +89,7 @@ fn is_on(access: &Access, byte: u64) -> bool
 /// Whether an access is that of a partner. An error is out of memory.
 fn is_told<D: Described>(
     launch: &D,
-    told: &Told<'_>,
+    told: &WantedPair<'_>,
     partner: Partner,
     access: &Access,
 ) -> Result<bool, AllocError>
@@ -103,7 +103,7 @@ fn is_told<D: Described>(
 }
 
 /// Whether two accesses clash, where they are those of the partners.
-fn clashes(told: &Told<'_>, one: &Access, other: &Access) -> bool
+fn clashes(told: &WantedPair<'_>, one: &Access, other: &Access) -> bool
     ensures { result ≡ true → Clashes told.now.one_group told.now.by_byte told.now.byte one.now other.now }
 {
     if told.one_group && one.interval != other.interval {
@@ -115,7 +115,7 @@ fn clashes(told: &Told<'_>, one: &Access, other: &Access) -> bool
 /// Whether two accesses are those that a fault tells. An error is out of memory.
 fn is_pair<D: Described>(
     launch: &D,
-    told: &Told<'_>,
+    told: &WantedPair<'_>,
     one: &Access,
     other: &Access,
 ) -> Result<bool, AllocError>
@@ -139,7 +139,7 @@ fn number_of(region: Region) -> u32 {
 /// Where an access lies, if it is that of a partner. An error is out of memory.
 fn spot_of<D: Described>(
     launch: &D,
-    told: &Told<'_>,
+    told: &WantedPair<'_>,
     partner: Partner,
     access: &Access,
 ) -> Result<Option<Spot>, AllocError> {
@@ -176,7 +176,7 @@ fn with_more(known: Option<Firsts>, place: usize, byte: u8) -> Firsts {
 fn firsts_of<D: Described>(
     alloc: Global,
     launch: &D,
-    told: &Told<'_>,
+    told: &WantedPair<'_>,
     log: &[Access],
 ) -> Result<HashMap<Spot, Firsts>, AllocError> {
     let mut found = HashMap::new(alloc);
@@ -201,7 +201,7 @@ fn partner_of(firsts: Firsts, byte: u8, by_byte: bool) -> Option<usize> {
 fn candidate<D: Described>(
     alloc: Global,
     launch: &D,
-    told: &Told<'_>,
+    told: &WantedPair<'_>,
     log: &[Access],
 ) -> Result<Option<Pair>, AllocError> {
     let found = firsts_of(alloc, launch, told, log)?;
@@ -224,7 +224,7 @@ fn candidate<D: Described>(
 /// A pair, if its accesses are those that a fault tells.
 fn tested<D: Described>(
     launch: &D,
-    told: &Told<'_>,
+    told: &WantedPair<'_>,
     log: &[Access],
     pair: Pair,
 ) -> Result<Option<Pair>, AllocError>
@@ -244,7 +244,7 @@ fn tested<D: Described>(
 pub fn find_pair<D: Described>(
     alloc: Global,
     launch: &D,
-    told: &Told<'_>,
+    told: &WantedPair<'_>,
     log: &[Access],
 ) -> Result<Option<Pair>, AllocError>
     ensures { IfOk result (λ found. IfSome found (IsFoundPair (D.launch launch.now) told.now log.now)) }

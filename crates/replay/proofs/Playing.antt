@@ -25,11 +25,14 @@ use Rattle.spaces_base.specs.declared.space.SpaceFault.TheVariants as space_faul
 use Rattle.launches.specs.Objects.{SpacesHold, ObjectsHold, IsMoved, space_of}
 use Rattle.launches.proofs.Lists.{get_set}
 use Rattle.launches.proofs.Memory.{space_sized, local_at, local_past}
-use Rattle.launches.specs.Items.{acts_of}
+use Rattle.item_step.specs.Running.{Running}
+use Rattle.launches.specs.Items.{Runs, acts_of}
+use Rattle.replay.specs.Items.{IsAlike, IsAnswered}
 use Rattle.replay.specs.States.{LocalsHold, attempt, IsPerformed, IsGroupIn, Tells, IsPlayed}
 use Rattle.replay.specs.declared.group.Group.{Group}
 use Rattle.replay.specs.declared.group.Performed.{Performed}
 use Rattle.launches.specs.declared.slot.Slot.{Slot}
+use Rattle.replay.proofs.Running.{run_set}
 
 -- ---- local objects
 
@@ -104,13 +107,14 @@ is_done l g m new o element op d e h = (
 
 -- items of which one was asked, and acts as before
 pub asked :
-    (l : Launch) (items : List Slot) (bs : List (List (Option ℕ))) (groups : List Group) (log : List Access) (s : State) (k : ℕ) (i j : Slot)
-    → slice_get items k ≡ Some i → ((answers : List Answer) → acts_of l k j answers ≡ acts_of l k i answers) → Tells l items bs groups log s
-    → Tells l (set items k j) bs groups log s
-asked l items bs groups log s k i j there same t =
+    (l : Launch) (r : ℕ → Running) (items : List Slot) (bs : List (List (Option ℕ))) (groups : List Group) (log : List Access) (s : State) (k : ℕ) (i j : Slot)
+    → slice_get items k ≡ Some i → IsAlike l r k i j → Tells l r items bs groups log s
+    → Tells l r (set items k j) bs groups log s
+asked l r items bs groups log s k i j there same t =
     record {
       many = length-set items k j ∙ t.many;
       acting = λ q z e. acting q z (get_set items k j q z e);
+      runs = run_set r s.answers s.answers items k i j there (same.runs (s.answers k)) (λ q ne. refl) t.runs;
       buffers_hold = t.buffers_hold;
       grouped = t.grouped;
       each = t.each;
@@ -122,7 +126,7 @@ asked l items bs groups log s k i j there same t =
         (q : ℕ) (z : Slot) → ((q ≡ k) × (j ≡ z)) ⊎ ((q ≡ k → ⊥) × (slice_get items q ≡ Some z))
         → (answers : List Answer) → acts_of l q z answers ≡ l.next q (s.answers q ++ answers)
     acting q z (inl e) answers =
-        ap (λ w. acts_of l q w answers) (sym e.1) ∙ ap (λ n. acts_of l n j answers) e.0 ∙ same answers ∙ t.acting k i there answers
+        ap (λ w. acts_of l q w answers) (sym e.1) ∙ ap (λ n. acts_of l n j answers) e.0 ∙ same.acts answers ∙ t.acting k i there answers
         ∙ ap (λ n. l.next n (s.answers n ++ answers)) (sym e.0)
     acting q z (inr e) answers = t.acting q z e.1 answers
 
@@ -204,13 +208,14 @@ group_same l q x y s local global held h =
 
 -- a group whose local objects may be made now, and buffers that hold the same memory
 pub group_kept :
-    (l : Launch) (items : List Slot) (bs cs : List (List (Option ℕ))) (groups : List Group) (log : List Access) (s : State) (g : ℕ) (x y : Group) → Tells l items bs groups log s
+    (l : Launch) (r : ℕ → Running) (items : List Slot) (bs cs : List (List (Option ℕ))) (groups : List Group) (log : List Access) (s : State) (g : ℕ) (x y : Group) → Tells l r items bs groups log s
     → slice_get groups g ≡ Some x → y.local_interval ≡ x.local_interval → y.global_interval ≡ x.global_interval → SpacesHold (λ b. b) l (length l.buffers) region.Buffer cs s.memory
-    → LocalsHold l g y.locals.items s.memory → Tells l items cs (set groups g y) log s
-group_kept l items bs cs groups log s g x y t there local global buffers locals =
+    → LocalsHold l g y.locals.items s.memory → Tells l r items cs (set groups g y) log s
+group_kept l r items bs cs groups log s g x y t there local global buffers locals =
     record {
       many = t.many;
       acting = t.acting;
+      runs = t.runs;
       buffers_hold = buffers;
       grouped = ap (λ n. n * l.group_size) (length-set groups g y) ∙ t.grouped;
       each = λ q z e. each q z (get_set groups g y q z e);
@@ -224,14 +229,14 @@ group_kept l items bs cs groups log s g x y t there local global buffers locals 
 
 -- what is kept after an access that isn't possible, for which local objects may have been made
 access_refused :
-    (l : Launch) (items : List Slot) (bs cs : List (List (Option ℕ))) (groups : List Group) (log : List Access) (s : State) (k : ℕ) (x y : Group) (o : Object) (element : ℤ)
-    (op : Operation) → Tells l items bs groups log s → next_action l s k ≡ action.Access o element op → slice_get groups (group_of l k) ≡ Some x
+    (l : Launch) (r : ℕ → Running) (items : List Slot) (bs cs : List (List (Option ℕ))) (groups : List Group) (log : List Access) (s : State) (k : ℕ) (x y : Group) (o : Object) (element : ℤ)
+    (op : Operation) → Tells l r items bs groups log s → next_action l s k ≡ action.Access o element op → slice_get groups (group_of l k) ≡ Some x
     → y.local_interval ≡ x.local_interval → y.global_interval ≡ x.global_interval
     → IsPerformed l (group_of l k) (ObjectsHold (λ b. b) l (group_of l k) cs y.locals.items) s.memory o element op None
-    → IsPlayed l s (Item k) (Tells l items cs (set groups (group_of l k) y) log) false
-access_refused l items bs cs groups log s k x y o element op t acts there local global p = (
+    → IsPlayed l s (Item k) (Tells l r items cs (set groups (group_of l k) y) log) false
+access_refused l r items bs cs groups log s k x y o element op t acts there local global p = (
   stays l s k o element op acts p.0,
-  group_kept l items bs cs groups log s (group_of l k) x y t there local global p.1.0 (inl p.1.1),
+  group_kept l r items bs cs groups log s (group_of l k) x y t there local global p.1.0 (inl p.1.1),
 )
 
 longest : (a b c : ℕ) → a ≤ b → b ≤ c → a ≤ c
@@ -252,19 +257,20 @@ group_there l groups k g some whole below e =
 
 -- what is kept after an access that was done
 access_done :
-    (l : Launch) (items : List Slot) (bs cs : List (List (Option ℕ))) (groups : List Group) (log : List Access) (s : State) (k : ℕ) (i j : Slot) (x y : Group) (o : Object) (element : ℤ)
-    (op : Operation) (d : Performed) (a : Access) → Tells l items bs groups log s → k < l.items → next_action l s k ≡ action.Access o element op
-    → slice_get items k ≡ Some i → ((answers : List Answer) → acts_of l k j answers ≡ acts_of l k i (d.answer ∷ answers)) → slice_get groups (group_of l k) ≡ Some x
+    (l : Launch) (r : ℕ → Running) (items : List Slot) (bs cs : List (List (Option ℕ))) (groups : List Group) (log : List Access) (s : State) (k : ℕ) (i j : Slot) (x y : Group) (o : Object) (element : ℤ)
+    (op : Operation) (d : Performed) (a : Access) → Tells l r items bs groups log s → k < l.items → next_action l s k ≡ action.Access o element op
+    → slice_get items k ≡ Some i → IsAnswered l d.answer k i j → slice_get groups (group_of l k) ≡ Some x
     → y.local_interval ≡ x.local_interval → y.global_interval ≡ x.global_interval
     → a ≡ access_in k (region_of (group_of l k) o) d.first op (by_region (region_of (group_of l k) o) y.global_interval y.local_interval)
     → IsPerformed l (group_of l k) (ObjectsHold (λ b. b) l (group_of l k) cs y.locals.items) s.memory o element op (Some d)
-    → IsPlayed l s (Item k) (Tells l (set items k j) cs (set groups (group_of l k) y) (log ++ a ∷ [])) true
-access_done l items bs cs groups log s k i j x y o element op d a t below acts item answered there local global noted p = (
+    → IsPlayed l s (Item k) (Tells l r (set items k j) cs (set groups (group_of l k) y) (log ++ a ∷ [])) true
+access_done l r items bs cs groups log s k i j x y o element op d a t below acts item answered there local global noted p = (
   n,
   steps_to l s k o element op d.first outcome below acts p.1 p.2,
   record {
     many = length-set items k j ∙ t.many;
     acting = λ q z e. acting q z (get_set items k j q z e);
+    runs = run_set r s.answers n.answers items k i j item (λ h. subst (λ w. Runs (r k) w j) added (answered.runs (r k) (s.answers k) h)) others t.runs;
     buffers_hold = p.4.0;
     grouped = ap (λ w. w * l.group_size) (length-set groups g y) ∙ t.grouped;
     each = λ q z e. each q z (get_set groups g y q z e);
@@ -288,20 +294,23 @@ access_done l items bs cs groups log s k i j x y o element op d a t below acts i
     mine : IsGroupIn l (group_of l k) x s
     mine = t.each (group_of l k) x there
 
+    added : s.answers k ++ d.answer ∷ [] ≡ n.answers k
+    added = ap (λ w. s.answers k ++ w ∷ []) (sym p.3) ∙ sym (if_true (k == k) (s.answers k ++ outcome.answer ∷ []) (s.answers k) (eq-eqb k k refl))
+
+    others : (q : ℕ) → (q ≡ k → ⊥) → n.answers q ≡ s.answers q
+    others q ne = if_false (q == k) (s.answers k ++ outcome.answer ∷ []) (s.answers q) (ne_eqb q k ne)
+
     longer : (answers : List Answer) → (s.answers k ++ d.answer ∷ answers) ≡ n.answers k ++ answers
-    longer answers =
-        sym (append_assoc (s.answers k) (d.answer ∷ []) answers) ∙ ap (λ w. (s.answers k ++ w ∷ []) ++ answers) (sym p.3)
-        ∙ ap (λ w. w ++ answers) (sym (if_true (k == k) (s.answers k ++ outcome.answer ∷ []) (s.answers k) (eq-eqb k k refl)))
+    longer answers = sym (append_assoc (s.answers k) (d.answer ∷ []) answers) ∙ ap (λ w. w ++ answers) added
 
     acting :
         (q : ℕ) (z : Slot) → ((q ≡ k) × (j ≡ z)) ⊎ ((q ≡ k → ⊥) × (slice_get items q ≡ Some z))
         → (answers : List Answer) → acts_of l q z answers ≡ l.next q (n.answers q ++ answers)
     acting q z (inl e) answers =
-        ap (λ w. acts_of l q w answers) (sym e.1) ∙ ap (λ w. acts_of l w j answers) e.0 ∙ answered answers ∙ t.acting k i item (d.answer ∷ answers)
+        ap (λ w. acts_of l q w answers) (sym e.1) ∙ ap (λ w. acts_of l w j answers) e.0 ∙ answered.acts answers ∙ t.acting k i item (d.answer ∷ answers)
         ∙ ap (l.next k) (longer answers) ∙ ap (λ w. l.next w (n.answers w ++ answers)) (sym e.0)
     acting q z (inr e) answers =
-        t.acting q z e.1 answers
-        ∙ ap (λ w. l.next q (w ++ answers)) (sym (if_false (q == k) (s.answers k ++ outcome.answer ∷ []) (s.answers q) (ne_eqb q k e.0)))
+        t.acting q z e.1 answers ∙ ap (λ w. l.next q (w ++ answers)) (sym (others q e.0))
 
     each : (q : ℕ) (z : Group) → ((q ≡ group_of l k) × (y ≡ z)) ⊎ ((q ≡ group_of l k → ⊥) × (slice_get groups q ≡ Some z)) → IsGroupIn l q z n
     each q z (inl e) =
@@ -332,34 +341,34 @@ access_done l items bs cs groups log s k i j x y o element op d a t below acts i
 
 -- the same with the group's number as the program has it
 pub refused_in :
-    (l : Launch) (items : List Slot) (bs cs : List (List (Option ℕ))) (groups : List Group) (log : List Access) (s : State) (k g : ℕ) (x y : Group) (o : Object) (element : ℤ)
-    (op : Operation) → group_of l k ≡ g → Tells l items bs groups log s → next_action l s k ≡ action.Access o element op → slice_get groups g ≡ Some x
+    (l : Launch) (r : ℕ → Running) (items : List Slot) (bs cs : List (List (Option ℕ))) (groups : List Group) (log : List Access) (s : State) (k g : ℕ) (x y : Group) (o : Object) (element : ℤ)
+    (op : Operation) → group_of l k ≡ g → Tells l r items bs groups log s → next_action l s k ≡ action.Access o element op → slice_get groups g ≡ Some x
     → y.local_interval ≡ x.local_interval → y.global_interval ≡ x.global_interval
     → IsPerformed l g (ObjectsHold (λ b. b) l g cs y.locals.items) s.memory o element op None
-    → IsPlayed l s (Item k) (Tells l items cs (set groups g y) log) false
-refused_in l items bs cs groups log s k g x y o element op e t acts =
+    → IsPlayed l s (Item k) (Tells l r items cs (set groups g y) log) false
+refused_in l r items bs cs groups log s k g x y o element op e t acts =
     subst
     (λ w. slice_get groups w ≡ Some x → y.local_interval ≡ x.local_interval → y.global_interval ≡ x.global_interval
-    → IsPerformed l w (ObjectsHold (λ b. b) l w cs y.locals.items) s.memory o element op None → IsPlayed l s (Item k) (Tells l items cs (set groups w y) log) false)
+    → IsPerformed l w (ObjectsHold (λ b. b) l w cs y.locals.items) s.memory o element op None → IsPlayed l s (Item k) (Tells l r items cs (set groups w y) log) false)
     e
-    (access_refused l items bs cs groups log s k x y o element op t acts)
+    (access_refused l r items bs cs groups log s k x y o element op t acts)
 
 pub done_in :
-    (l : Launch) (items : List Slot) (bs cs : List (List (Option ℕ))) (groups : List Group) (log : List Access) (s : State) (k g : ℕ) (i j : Slot) (x y : Group) (o : Object) (element : ℤ)
-    (op : Operation) (d : Performed) (a : Access) → group_of l k ≡ g → Tells l items bs groups log s → k < l.items → next_action l s k ≡ action.Access o element op
-    → slice_get items k ≡ Some i → ((answers : List Answer) → acts_of l k j answers ≡ acts_of l k i (d.answer ∷ answers)) → slice_get groups g ≡ Some x
+    (l : Launch) (r : ℕ → Running) (items : List Slot) (bs cs : List (List (Option ℕ))) (groups : List Group) (log : List Access) (s : State) (k g : ℕ) (i j : Slot) (x y : Group) (o : Object) (element : ℤ)
+    (op : Operation) (d : Performed) (a : Access) → group_of l k ≡ g → Tells l r items bs groups log s → k < l.items → next_action l s k ≡ action.Access o element op
+    → slice_get items k ≡ Some i → IsAnswered l d.answer k i j → slice_get groups g ≡ Some x
     → y.local_interval ≡ x.local_interval → y.global_interval ≡ x.global_interval
     → a ≡ access_in k (region_of g o) d.first op (by_region (region_of g o) y.global_interval y.local_interval)
     → IsPerformed l g (ObjectsHold (λ b. b) l g cs y.locals.items) s.memory o element op (Some d)
-    → IsPlayed l s (Item k) (Tells l (set items k j) cs (set groups g y) (log ++ a ∷ [])) true
-done_in l items bs cs groups log s k g i j x y o element op d a e t below acts item answered =
+    → IsPlayed l s (Item k) (Tells l r (set items k j) cs (set groups g y) (log ++ a ∷ [])) true
+done_in l r items bs cs groups log s k g i j x y o element op d a e t below acts item answered =
     subst
     (λ w. slice_get groups w ≡ Some x → y.local_interval ≡ x.local_interval → y.global_interval ≡ x.global_interval
     → a ≡ access_in k (region_of w o) d.first op (by_region (region_of w o) y.global_interval y.local_interval)
     → IsPerformed l w (ObjectsHold (λ b. b) l w cs y.locals.items) s.memory o element op (Some d)
-    → IsPlayed l s (Item k) (Tells l (set items k j) cs (set groups w y) (log ++ a ∷ [])) true)
+    → IsPlayed l s (Item k) (Tells l r (set items k j) cs (set groups w y) (log ++ a ∷ [])) true)
     e
-    (access_done l items bs cs groups log s k i j x y o element op d a t below acts item answered)
+    (access_done l r items bs cs groups log s k i j x y o element op d a t below acts item answered)
 
 -- ---- what the program's calls say
 
@@ -421,9 +430,9 @@ wanting_kept old new at first op r f e q moved = subst (IsMoved old new at first
 
 -- an item's next action in a state
 pub action_as :
-    (l : Launch) (items : List Slot) (bs : List (List (Option ℕ))) (groups : List Group) (log : List Access) (s : State) (k : ℕ) (i : Slot) (a : Action)
-    → slice_get items k ≡ Some i → a ≡ acts_of l k i [] → Tells l items bs groups log s → next_action l s k ≡ a
-action_as l items bs groups log s k i a there e t = ap (l.next k) (sym (append-nil (s.answers k))) ∙ sym (t.acting k i there []) ∙ sym e
+    (l : Launch) (r : ℕ → Running) (items : List Slot) (bs : List (List (Option ℕ))) (groups : List Group) (log : List Access) (s : State) (k : ℕ) (i : Slot) (a : Action)
+    → slice_get items k ≡ Some i → a ≡ acts_of l k i [] → Tells l r items bs groups log s → next_action l s k ≡ a
+action_as l r items bs groups log s k i a there e t = ap (l.next k) (sym (append-nil (s.answers k))) ∙ sym (t.acting k i there []) ∙ sym e
 
 pub is_none : {A : Type 0} (o : Option A) → ((a : A) → o ≡ Some a → ⊥) → o ≡ None
 is_none None h = refl

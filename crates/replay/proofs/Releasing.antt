@@ -19,8 +19,9 @@ use Rattle.clmodel.specs.declared.action.Stop.{Stop}
 use Rattle.clmodel.specs.declared.schedule.Event.TheVariants.{Release}
 use Rattle.clmodel.proofs.Steps.{if_true, if_false, lowest_finds, lowest_is_none, found_first}
 use Rattle.launches.proofs.Lists.{get_set}
-use Rattle.launches.specs.Items.{acts_of}
-use Rattle.replay.specs.Items.{AreAlike, AreAt, AreAnswered}
+use Rattle.item_step.specs.Running.{Running}
+use Rattle.launches.specs.Items.{Runs, acts_of}
+use Rattle.replay.specs.Items.{AreAlike, AreAt, AreAnswered, IsAnswered}
 use Rattle.launches.specs.Groups.{IsRunnable}
 use Rattle.replay.specs.States.{ActsNext, IsGroupIn, IsPaced, Tells, Gathers, passed}
 use Rattle.replay.specs.declared.group.Group.{Group}
@@ -166,27 +167,28 @@ above a b c h e = omega (arith, h, e)
 
 -- the stops of the group's items in a state are those of the program's items
 pub gathers_as :
-    (l : Launch) (items : List Slot) (bs : List (List (Option ℕ))) (groups : List Group) (log : List Access) (s : State) (g : ℕ) (stop : Stop) (yes : Bool) → 0 < l.group_size
-    → Tells l items bs groups log s → g * l.group_size + l.group_size ≤ l.items → AreAt l items (g * l.group_size) (g * l.group_size + l.group_size) stop yes → Gathers l s g stop yes
-gathers_as l items bs groups log s g stop true some t inside h = λ k b e.
+    (l : Launch) (r : ℕ → Running) (items : List Slot) (bs : List (List (Option ℕ))) (groups : List Group) (log : List Access) (s : State) (g : ℕ) (stop : Stop) (yes : Bool) → 0 < l.group_size
+    → Tells l r items bs groups log s → g * l.group_size + l.group_size ≤ l.items → AreAt l items (g * l.group_size) (g * l.group_size + l.group_size) stop yes → Gathers l s g stop yes
+gathers_as l r items bs groups log s g stop true some t inside h = λ k b e.
     let o : (i : Slot) × (slice_get items k ≡ Some i) = item_there items k (subst (λ z. k < z) (sym t.many) b) in
     let m : (g * l.group_size ≤ k) × (k < g * l.group_size + l.group_size) = of_group l.group_size g k some e in
-    ap (λ a. both_stop (Some stop) (stop_of a)) (action_as l items bs groups log s k o.0 (acts_of l k o.0 []) o.1 refl t) ∙ h k o.0 m.0 m.1 o.1
-gathers_as l items bs groups log s g stop false some t inside h = (
+    ap (λ a. both_stop (Some stop) (stop_of a)) (action_as l r items bs groups log s k o.0 (acts_of l k o.0 []) o.1 refl t) ∙ h k o.0 m.0 m.1 o.1
+gathers_as l r items bs groups log s g stop false some t inside h = (
   h.0,
   above h.0 (g * l.group_size + l.group_size) l.items h.3 inside,
   in_group l.group_size g h.0 h.2 h.3,
-  ap (λ a. both_stop (Some stop) (stop_of a)) (action_as l items bs groups log s h.0 h.1 (acts_of l h.0 h.1 []) h.4 refl t) ∙ h.5,
+  ap (λ a. both_stop (Some stop) (stop_of a)) (action_as l r items bs groups log s h.0 h.1 (acts_of l h.0 h.1 []) h.4 refl t) ∙ h.5,
 )
 
 -- items that act as before tell of the same state
 pub alike_tells :
-    (l : Launch) (items news : List Slot) (bs : List (List (Option ℕ))) (groups : List Group) (log : List Access) (s : State) → AreAlike l items news
-    → Tells l items bs groups log s → Tells l news bs groups log s
-alike_tells l items news bs groups log s h t =
+    (l : Launch) (r : ℕ → Running) (items news : List Slot) (bs : List (List (Option ℕ))) (groups : List Group) (log : List Access) (s : State) → AreAlike l r items news
+    → Tells l r items bs groups log s → Tells l r news bs groups log s
+alike_tells l r items news bs groups log s h t =
     record {
       many = h.many ∙ t.many;
-      acting = λ k y e answers. (h.each k y e).2 answers ∙ t.acting k (h.each k y e).0 (h.each k y e).1 answers;
+      acting = λ k y e answers. (h.each k y e).2.acts answers ∙ t.acting k (h.each k y e).0 (h.each k y e).1 answers;
+      runs = λ k y e. (h.each k y e).2.runs (s.answers k) (t.runs k (h.each k y e).0 (h.each k y e).1);
       buffers_hold = t.buffers_hold;
       grouped = t.grouped;
       each = t.each;
@@ -242,13 +244,14 @@ keeps_pace l s g fences fenced f some q h = go (cases_eq q g)
 
 -- what is kept once a group is released
 pub released_tells :
-    (l : Launch) (items news : List Slot) (bs : List (List (Option ℕ))) (groups : List Group) (log : List Access) (s : State) (g : ℕ) (x : Group) (fences : Fences) → 0 < l.group_size
-    → Tells l items bs groups log s → slice_get groups g ≡ Some x → AreAnswered l (g * l.group_size) (g * l.group_size + l.group_size) Done items news
-    → Tells l news bs (set groups g (passed x fences)) log (released l s g fences)
-released_tells l items news bs groups log s g x fences some t there h =
+    (l : Launch) (r : ℕ → Running) (items news : List Slot) (bs : List (List (Option ℕ))) (groups : List Group) (log : List Access) (s : State) (g : ℕ) (x : Group) (fences : Fences) → 0 < l.group_size
+    → Tells l r items bs groups log s → slice_get groups g ≡ Some x → AreAnswered l (g * l.group_size) (g * l.group_size + l.group_size) Done items news
+    → Tells l r news bs (set groups g (passed x fences)) log (released l s g fences)
+released_tells l r items news bs groups log s g x fences some t there h =
     record {
       many = h.many ∙ t.many;
       acting = λ q z e. acting q z e (cases_eq (group_of l q) g);
+      runs = λ q z e. runs q z e (cases_eq (group_of l q) g);
       buffers_hold = t.buffers_hold;
       grouped = ap (λ w. w * l.group_size) (length-set groups g (passed x fences)) ∙ t.grouped;
       each = λ q z e. each q z (get_set groups g (passed x fences) q z e);
@@ -259,18 +262,31 @@ released_tells l items news bs groups log s g x fences some t there h =
     n : State
     n = released l s g fences
 
+    -- what an item of the group was, and one of another
+    mine_was : (q : ℕ) (z : Slot) → slice_get news q ≡ Some z → group_of l q ≡ g → (w : Slot) × (slice_get items q ≡ Some w) × IsAnswered l Done q w z
+    mine_was q z e mine = let m : (g * l.group_size ≤ q) × (q < g * l.group_size + l.group_size) = of_group l.group_size g q some mine in h.done q z m.0 m.1 e
+
+    other_was : (q : ℕ) (z : Slot) → slice_get news q ≡ Some z → (group_of l q ≡ g → ⊥) → slice_get items q ≡ Some z
+    other_was q z e ne = h.others q z (outside l.group_size g q ne) e
+
+    added : (q : ℕ) → group_of l q ≡ g → s.answers q ++ Done ∷ [] ≡ n.answers q
+    added q mine = sym (if_true (group_of l q == g) (s.answers q ++ Done ∷ []) (s.answers q) (eq-eqb (group_of l q) g mine))
+
+    kept : (q : ℕ) → (group_of l q ≡ g → ⊥) → s.answers q ≡ n.answers q
+    kept q ne = sym (if_false (group_of l q == g) (s.answers q ++ Done ∷ []) (s.answers q) (ne_eqb (group_of l q) g ne))
+
+    runs : (q : ℕ) (z : Slot) → slice_get news q ≡ Some z → (group_of l q ≡ g) ⊎ (group_of l q ≡ g → ⊥) → Runs (r q) (n.answers q) z
+    runs q z e (inl mine) =
+        let o = mine_was q z e mine in subst (λ w. Runs (r q) w z) (added q mine) (o.2.runs (r q) (s.answers q) (t.runs q o.0 o.1))
+    runs q z e (inr ne) = subst (λ w. Runs (r q) w z) (kept q ne) (t.runs q z (other_was q z e ne))
+
     acting :
         (q : ℕ) (z : Slot) → slice_get news q ≡ Some z → (group_of l q ≡ g) ⊎ (group_of l q ≡ g → ⊥) → (answers : List Answer) → acts_of l q z answers ≡ l.next q (n.answers q ++ answers)
     acting q z e (inl mine) answers =
-        let m : (g * l.group_size ≤ q) × (q < g * l.group_size + l.group_size) = of_group l.group_size g q some mine in
-        let o : (w : Slot) × (slice_get items q ≡ Some w) × ((answers : List Answer) → acts_of l q z answers ≡ acts_of l q w (Done ∷ answers)) = h.done q z m.0 m.1 e in
-        o.2 answers ∙ t.acting q o.0 o.1 (Done ∷ answers)
-        ∙ ap (l.next q)
-        (sym (append_assoc (s.answers q) (Done ∷ []) answers)
-        ∙ ap (λ w. w ++ answers) (sym (if_true (group_of l q == g) (s.answers q ++ Done ∷ []) (s.answers q) (eq-eqb (group_of l q) g mine))))
-    acting q z e (inr ne) answers =
-        t.acting q z (h.others q z (outside l.group_size g q ne) e) answers
-        ∙ ap (λ w. l.next q (w ++ answers)) (sym (if_false (group_of l q == g) (s.answers q ++ Done ∷ []) (s.answers q) (ne_eqb (group_of l q) g ne)))
+        let o = mine_was q z e mine in
+        o.2.acts answers ∙ t.acting q o.0 o.1 (Done ∷ answers)
+        ∙ ap (l.next q) (sym (append_assoc (s.answers q) (Done ∷ []) answers) ∙ ap (λ w. w ++ answers) (added q mine))
+    acting q z e (inr ne) answers = t.acting q z (other_was q z e ne) answers ∙ ap (λ w. l.next q (w ++ answers)) (kept q ne)
 
     mine : IsGroupIn l g (passed x fences) n
     mine =

@@ -12,11 +12,13 @@ use Rattle.clmodel.proofs.Steps.{none_some, some_inj}
 use Rattle.clmodel.proofs.CellLaws.{cells_some}
 use Rattle.launches.specs.Objects.{SpacesHold}
 use Rattle.launches.proofs.Items.{waiting_at}
+use Rattle.item_step.specs.Running.{Running}
 use Rattle.launches.specs.Items.{acts_of}
 use Rattle.launches.specs.Groups.{filled}
 use Rattle.replay.specs.States.{IsGroupIn, IsNew, Tells}
 use Rattle.replay.specs.declared.group.Group.{Group}
 use Rattle.launches.specs.declared.slot.Slot.TheVariants as slot
+use Rattle.replay.proofs.Running.{none_runs}
 
 -- ---- the buffers
 
@@ -53,12 +55,13 @@ new_tells l g x h =
     }
 
 pub starts :
-    (l : Launch) (count : ℕ) (groups : List Group) → count ≡ l.items → length groups * l.group_size ≡ l.items → All IsNew groups
-    → Tells l (replicate count slot.Waiting) (filled l) groups [] (start l)
-starts l count groups many counted fresh =
+    (l : Launch) (r : ℕ → Running) (count : ℕ) (groups : List Group) → count ≡ l.items → length groups * l.group_size ≡ l.items → All IsNew groups
+    → Tells l r (replicate count slot.Waiting) (filled l) groups [] (start l)
+starts l r count groups many counted fresh =
     record {
       many = length-replicate count slot.Waiting ∙ many;
       acting = λ k i e answers. ap (λ z. acts_of l k z answers) (waiting_at count k i e);
+      runs = none_runs r count;
       buffers_hold = buffers_hold l;
       grouped = counted;
       each = λ g x e. new_tells l g x (new_at groups g x fresh e);

@@ -1,5 +1,5 @@
 -- Items that are asked or answered one after another.
-use Rattle.std.proofs.Common.{◌≡◌, ℕ, ◌+◌, ◌<◌, ◌≤◌, ◌⊎◌, Bool, true, false, Some, List, [], ◌∷◌, set, get_or, length, refl, sym, ap, subst, ◌∙◌, inl, inr, arith}
+use Rattle.std.proofs.Common.{◌≡◌, ℕ, ◌+◌, ◌<◌, ◌≤◌, ◌⊎◌, Bool, true, false, Some, List, [], set, get_or, length, refl, sym, ap, subst, ◌∙◌, inl, inr, arith}
 use Rattle.std.specs.Prelude.{slice_get, Result, Ok, Err, OnErr}
 use Rattle.std.proofs.lemmas.List.{length-set}
 use Rattle.std.proofs.lemmas.Option.{slice_get_read}
@@ -9,8 +9,9 @@ use Rattle.clmodel.specs.declared.action.Answer.{Answer}
 use Rattle.clmodel.specs.declared.action.Stop.{Stop}
 use Rattle.clmodel.proofs.Steps.{some_inj}
 use Rattle.launches.proofs.Lists.{get_set}
-use Rattle.launches.specs.Items.{acts_of, IsAsked}
-use Rattle.replay.specs.Items.{is_at, AreAlike, AreAsked, AreAt, AreAnswered}
+use Rattle.item_step.specs.Running.{Running}
+use Rattle.launches.specs.Items.{IsAsked}
+use Rattle.replay.specs.Items.{is_at, IsAlike, IsAnswered, AreAlike, AreAsked, AreAt, AreAnswered}
 use Rattle.launches.specs.declared.slot.Slot.{Slot}
 
 -- what holds anyhow holds on an error
@@ -20,17 +21,28 @@ on_err (Err e) p = p
 
 -- ---- items that are asked
 
-pub alike_same : (l : Launch) (items : List Slot) → AreAlike l items items
-alike_same l items =
+pub alike_same : (l : Launch) (r : ℕ → Running) (items : List Slot) → AreAlike l r items items
+alike_same l r items =
     record {
       many = refl;
-      each = λ k y e. (y, e, λ answers. refl);
+      each = λ k y e. (y, e, record { acts = λ answers. refl; runs = λ answers h. h });
+    }
+
+-- the same of an item by another name for its number, and for itself
+alike_as : (l : Launch) (r : ℕ → Running) (j k : ℕ) (w y z : Slot) → j ≡ k → y ≡ z → IsAlike l r k w y → IsAlike l r j w z
+alike_as l r j k w y z number item h = subst (λ n. IsAlike l r n w z) (sym number) (subst (IsAlike l r k w) item h)
+
+alike_then : (l : Launch) (r : ℕ → Running) (k : ℕ) (w x y : Slot) → IsAlike l r k w x → IsAlike l r k x y → IsAlike l r k w y
+alike_then l r k w x y before same =
+    record {
+      acts = λ answers. same.acts answers ∙ before.acts answers;
+      runs = λ answers h. same.runs answers (before.runs answers h);
     }
 
 alike_more :
-    (l : Launch) (old new : List Slot) (k : ℕ) (x y : Slot) → slice_get new k ≡ Some x → ((answers : List Answer) → acts_of l k y answers ≡ acts_of l k x answers)
-    → AreAlike l old new → AreAlike l old (set new k y)
-alike_more l old new k x y there same h =
+    (l : Launch) (r : ℕ → Running) (old new : List Slot) (k : ℕ) (x y : Slot) → slice_get new k ≡ Some x → IsAlike l r k x y → AreAlike l r old new
+    → AreAlike l r old (set new k y)
+alike_more l r old new k x y there same h =
     record {
       many = length-set new k y ∙ h.many;
       each = λ j z e. each j z (get_set new k y j z e);
@@ -38,54 +50,52 @@ alike_more l old new k x y there same h =
   where
     each :
         (j : ℕ) (z : Slot) → ((j ≡ k) × (y ≡ z)) ⊎ ((j ≡ k → ⊥) × (slice_get new j ≡ Some z))
-        → (w : Slot) × (slice_get old j ≡ Some w) × ((answers : List Answer) → acts_of l j z answers ≡ acts_of l j w answers)
+        → (w : Slot) × (slice_get old j ≡ Some w) × IsAlike l r j w z
     each j z (inl e) =
-        let o : (w : Slot) × (slice_get old k ≡ Some w) × ((answers : List Answer) → acts_of l k x answers ≡ acts_of l k w answers) = h.each k x there in (
-          o.0,
-          ap (slice_get old) e.0 ∙ o.1,
-          λ answers. ap (λ n. acts_of l n z answers) e.0 ∙ ap (λ w. acts_of l k w answers) (sym e.1) ∙ same answers ∙ o.2 answers ∙ ap (λ n. acts_of l n o.0 answers) (sym e.0),
-        )
+        let o : (w : Slot) × (slice_get old k ≡ Some w) × IsAlike l r k w x = h.each k x there in
+        (o.0, ap (slice_get old) e.0 ∙ o.1, alike_as l r j k o.0 y z e.0 e.1 (alike_then l r k o.0 x y o.2 same))
     each j z (inr e) = h.each j z e.1
 
 -- an item below the end of a walk over items that act as before
 pub there_still :
-    (l : Launch) (old new : List Slot) (k end : ℕ) (x : Slot) → k < end → end ≤ length old → x ≡ get_or new k x → AreAlike l old new → slice_get new k ≡ Some x
-there_still l old new k end x below inside is h = let many = h.many in slice_get_read new (length new) k x refl (omega (arith, below, inside, many)) is
+    (l : Launch) (r : ℕ → Running) (old new : List Slot) (k end : ℕ) (x : Slot) → k < end → end ≤ length old → x ≡ get_or new k x → AreAlike l r old new
+    → slice_get new k ≡ Some x
+there_still l r old new k end x below inside is h = let many = h.many in slice_get_read new (length new) k x refl (omega (arith, below, inside, many)) is
 
 -- the walk's next item is asked
 pub alike_next :
-    (l : Launch) (old new : List Slot) (k end : ℕ) (x y : Slot) → k < end → end ≤ length old → x ≡ get_or new k x
-    → ((answers : List Answer) → acts_of l k y answers ≡ acts_of l k x answers) → AreAlike l old new → AreAlike l old (set new k y)
-alike_next l old new k end x y below inside is same h = alike_more l old new k x y (there_still l old new k end x below inside is h) same h
+    (l : Launch) (r : ℕ → Running) (old new : List Slot) (k end : ℕ) (x y : Slot) → k < end → end ≤ length old → x ≡ get_or new k x → IsAlike l r k x y
+    → AreAlike l r old new → AreAlike l r old (set new k y)
+alike_next l r old new k end x y below inside is same h = alike_more l r old new k x y (there_still l r old new k end x below inside is h) same h
 
 -- an item among others that act as before is at a stop if it was
 at_alike :
-    (l : Launch) (stop : Stop) (k : ℕ) (x w : Slot) → ((answers : List Answer) → acts_of l k x answers ≡ acts_of l k w answers) → is_at l stop k x ≡ is_at l stop k w
-at_alike l stop k x w same = ap (λ a. both_stop (Some stop) (stop_of a)) (same [])
+    (l : Launch) (r : ℕ → Running) (stop : Stop) (k : ℕ) (w x : Slot) → IsAlike l r k w x → is_at l stop k x ≡ is_at l stop k w
+at_alike l r stop k w x same = ap (λ a. both_stop (Some stop) (stop_of a)) (same.acts [])
 
 pub below_next : (j k : ℕ) → j < k + 1 → (j < k) ⊎ (j ≡ k)
 below_next j k h = grind arith
 
 pub at_more :
-    (l : Launch) (old new : List Slot) (first k : ℕ) (stop : Stop) (x : Slot) (found : Bool) → slice_get new k ≡ Some x → found ≡ is_at l stop k x → found ≡ true → AreAlike l old new
+    (l : Launch) (r : ℕ → Running) (old new : List Slot) (first k : ℕ) (stop : Stop) (x : Slot) (found : Bool) → slice_get new k ≡ Some x → found ≡ is_at l stop k x → found ≡ true → AreAlike l r old new
     → AreAt l old first k stop true → AreAt l old first (k + 1) stop true
-at_more l old new first k stop x found there told here h before = λ j i from below e. go j i from e (below_next j k below)
+at_more l r old new first k stop x found there told here h before = λ j i from below e. go j i from e (below_next j k below)
   where
-    o : (w : Slot) × (slice_get old k ≡ Some w) × ((answers : List Answer) → acts_of l k x answers ≡ acts_of l k w answers)
+    o : (w : Slot) × (slice_get old k ≡ Some w) × IsAlike l r k w x
     o = h.each k x there
 
     go : (j : ℕ) (i : Slot) → first ≤ j → slice_get old j ≡ Some i → (j < k) ⊎ (j ≡ k) → is_at l stop j i ≡ true
     go j i from e (inl b) = before j i from b e
     go j i from e (inr q) =
         let same : i ≡ o.0 = some_inj i o.0 (sym e ∙ ap (slice_get old) q ∙ o.1) in
-        ap (λ n. is_at l stop n i) q ∙ ap (is_at l stop k) same ∙ sym (at_alike l stop k x o.0 o.2) ∙ sym told ∙ here
+        ap (λ n. is_at l stop n i) q ∙ ap (is_at l stop k) same ∙ sym (at_alike l r stop k o.0 x o.2) ∙ sym told ∙ here
 
 pub at_not :
-    (l : Launch) (old new : List Slot) (first end k : ℕ) (stop : Stop) (x : Slot) (found : Bool) → first ≤ k → k < end → slice_get new k ≡ Some x → found ≡ is_at l stop k x → found ≡ false
-    → AreAlike l old new → AreAt l old first end stop false
-at_not l old new first end k stop x found from below there told here h =
-    let o : (w : Slot) × (slice_get old k ≡ Some w) × ((answers : List Answer) → acts_of l k x answers ≡ acts_of l k w answers) = h.each k x there in
-    (k, o.0, from, below, o.1, sym (at_alike l stop k x o.0 o.2) ∙ sym told ∙ here)
+    (l : Launch) (r : ℕ → Running) (old new : List Slot) (first end k : ℕ) (stop : Stop) (x : Slot) (found : Bool) → first ≤ k → k < end → slice_get new k ≡ Some x → found ≡ is_at l stop k x → found ≡ false
+    → AreAlike l r old new → AreAt l old first end stop false
+at_not l r old new first end k stop x found from below there told here h =
+    let o : (w : Slot) × (slice_get old k ≡ Some w) × IsAlike l r k w x = h.each k x there in
+    (k, o.0, from, below, o.1, sym (at_alike l r stop k o.0 x o.2) ∙ sym told ∙ here)
 
 -- what is true of an item is true of that of its number once it is put there
 pub at_set : (P : Slot → Type 0) (items : List Slot) (k : ℕ) (y : Slot) → P y → (i : Slot) → slice_get (set items k y) k ≡ Some i → P i
@@ -127,8 +137,7 @@ asked_still l first end answer old new k x from below there asked h = asked k fr
 
 pub answered_more :
     (l : Launch) (first : ℕ) (answer : Answer) (old new : List Slot) (k : ℕ) (x y : Slot) → first ≤ k → slice_get new k ≡ Some x
-    → ((answers : List Answer) → acts_of l k y answers ≡ acts_of l k x (answer ∷ answers)) → AreAnswered l first k answer old new
-    → AreAnswered l first (k + 1) answer old (set new k y)
+    → IsAnswered l answer k x y → AreAnswered l first k answer old new → AreAnswered l first (k + 1) answer old (set new k y)
 answered_more l first answer old new k x y from there answered h =
     record {
       many = length-set new k y ∙ h.many;
@@ -146,11 +155,11 @@ answered_more l first answer old new k x y from there answered h =
 
     done :
         (j : ℕ) (z : Slot) → first ≤ j → j < k + 1 → ((j ≡ k) × (y ≡ z)) ⊎ ((j ≡ k → ⊥) × (slice_get new j ≡ Some z))
-        → (w : Slot) × (slice_get old j ≡ Some w) × ((answers : List Answer) → acts_of l j z answers ≡ acts_of l j w (answer ∷ answers))
+        → (w : Slot) × (slice_get old j ≡ Some w) × IsAnswered l answer j w z
     done j z f b (inl e) = (
       x,
       ap (slice_get old) e.0 ∙ h.others k x (inr (omega arith)) there,
-      λ answers. ap (λ n. acts_of l n z answers) e.0 ∙ ap (λ w. acts_of l k w answers) (sym e.1) ∙ answered answers ∙ ap (λ n. acts_of l n x (answer ∷ answers)) (sym e.0),
+      subst (λ n. IsAnswered l answer n x z) (sym e.0) (subst (IsAnswered l answer k x) e.1 answered),
     )
     done j z f b (inr e) = h.done j z f (below (below_next j k b)) e.1
       where

@@ -1,5 +1,5 @@
 -- The items of a replayed launch: which were asked, and where each stands (own).
-use Rattle.std.specs.Prelude.{◌≡◌, ℕ, ◌<◌, ◌≤◌, ◌⊎◌, Bool, true, false, Option, None, Some, List, [], ◌∷◌, length, slice_get}
+use Rattle.std.specs.Prelude.{◌≡◌, ℕ, ◌<◌, ◌≤◌, ◌⊎◌, Bool, true, false, Option, None, Some, List, [], ◌∷◌, ◌++◌, length, slice_get}
 use Rattle.std.specs.Option.{option_and_then}
 use Rattle.clmodel.specs.Launch.{Launch}
 use Rattle.clmodel.specs.Run.{stop_of, both_stop}
@@ -8,7 +8,8 @@ use Rattle.clmodel.specs.declared.action.Answer.{Answer}
 use Rattle.clmodel.specs.declared.action.Stop.{Stop}
 use Rattle.clnum.specs.Integer.{Integer}
 use Rattle.item_state.specs.Dividing.{dividend_of}
-use Rattle.launches.specs.Items.{IsAsked, Kernel, Runs, Stands, acts_of}
+use Rattle.item_step.specs.Running.{Running}
+use Rattle.launches.specs.Items.{IsAsked, Runs, Stands, acts_of}
 use Rattle.launches.specs.declared.slot.Slot.{Slot}
 use Rattle.launches.specs.declared.slot.Slot.TheVariants as slot
 use Rattle.replay.specs.declared.slot.Stand.{Stand}
@@ -21,9 +22,10 @@ IsAskedAt items item = (i : Slot) → slice_get items item ≡ Some i → IsAske
 abbrev pub AreAsked : List Slot → ℕ → ℕ → Type 0
 AreAsked items first end = (k : ℕ) → first ≤ k → k < end → IsAskedAt items k
 
--- each item that is under way runs the code of this kernel, with what it gives to the item of that number
-abbrev pub AllRun : Kernel → List Slot → Type 0
-AllRun kernel items = (k : ℕ) (i : Slot) → slice_get items k ≡ Some i → Runs kernel k i
+-- the machine of each item that is under way is the one that its code's instructions come to from its start, with the
+-- answers that it had
+abbrev pub AllRun : (ℕ → Running) → (ℕ → List Answer) → List Slot → Type 0
+AllRun started answers items = (k : ℕ) (i : Slot) → slice_get items k ≡ Some i → Runs (started k) (answers k) i
 
 -- where an item stands that is under way: the place of its machine, and the turns that loops have made there
 abbrev pub stand_of : Slot → Option Stand
@@ -49,11 +51,15 @@ dividend_in items item = option_and_then dividend_at (slice_get items item)
 abbrev pub StandsAt : List Slot → ℕ → Action → Type 0
 StandsAt items item action = (i : Slot) → slice_get items item ≡ Some i → Stands i action
 
--- items that act as before
-pub record AreAlike (launch : Launch) (old new : List Slot) : Type 0 where
+-- the item of a number acts as before, and has come where it is with the answers that it had before
+pub record IsAlike (launch : Launch) (started : ℕ → Running) (item : ℕ) (old new : Slot) : Type 0 where
+  pub acts : (answers : List Answer) → acts_of launch item new answers ≡ acts_of launch item old answers
+  pub runs : (answers : List Answer) → Runs (started item) answers old → Runs (started item) answers new
+
+-- each item does
+pub record AreAlike (launch : Launch) (started : ℕ → Running) (old new : List Slot) : Type 0 where
   pub many : length new ≡ length old
-  pub each : (k : ℕ) (y : Slot) → slice_get new k ≡ Some y
-      → (x : Slot) × (slice_get old k ≡ Some x) × ((answers : List Answer) → acts_of launch k y answers ≡ acts_of launch k x answers)
+  pub each : (k : ℕ) (y : Slot) → slice_get new k ≡ Some y → (x : Slot) × (slice_get old k ≡ Some x) × IsAlike launch started k x y
 
 -- an item is at this stop (6.12.8)
 abbrev pub is_at : Launch → Stop → ℕ → Slot → Bool
@@ -65,9 +71,13 @@ AreAt launch items first end stop true = (k : ℕ) (i : Slot) → first ≤ k �
 AreAt launch items first end stop false =
     (k : ℕ) × (i : Slot) × (first ≤ k) × (k < end) × (slice_get items k ≡ Some i) × (is_at launch stop k i ≡ false)
 
+-- the item of a number was answered: it acts as it would on this answer, and has come where it is with one answer more
+pub record IsAnswered (launch : Launch) (answer : Answer) (item : ℕ) (old new : Slot) : Type 0 where
+  pub acts : (answers : List Answer) → acts_of launch item new answers ≡ acts_of launch item old (answer ∷ answers)
+  pub runs : (start : Running) (answers : List Answer) → Runs start answers old → Runs start (answers ++ answer ∷ []) new
+
 -- the items from `first` on, below `end`, were each answered alike, and the others are as before
 pub record AreAnswered (launch : Launch) (first end : ℕ) (answer : Answer) (old new : List Slot) : Type 0 where
   pub many : length new ≡ length old
-  pub done : (k : ℕ) (y : Slot) → first ≤ k → k < end → slice_get new k ≡ Some y
-      → (x : Slot) × (slice_get old k ≡ Some x) × ((answers : List Answer) → acts_of launch k y answers ≡ acts_of launch k x (answer ∷ answers))
+  pub done : (k : ℕ) (y : Slot) → first ≤ k → k < end → slice_get new k ≡ Some y → (x : Slot) × (slice_get old k ≡ Some x) × IsAnswered launch answer k x y
   pub others : (k : ℕ) (y : Slot) → (k < first) ⊎ (end ≤ k) → slice_get new k ≡ Some y → slice_get old k ≡ Some y

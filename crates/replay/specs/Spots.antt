@@ -7,11 +7,18 @@ use Rattle.clmodel.specs.declared.access.AccessKind.{AccessKind}
 use Rattle.clmodel.specs.declared.access.Region.{Region}
 use Rattle.clmodel.specs.declared.access.Region.TheVariants as region
 use Rattle.clmodel.specs.declared.access.Rule.{Rule}
+use Rattle.clmodel.specs.declared.fault.Fault.{Fault}
+use Rattle.clmodel.specs.declared.fault.Fault.TheVariants as fault
 use Rattle.clmodel.specs.declared.fault.Location.{Location}
 use Rattle.clmodel.specs.declared.fault.Location.TheVariants as location
 use Rattle.replay.specs.declared.conflicts.Spot.{Spot}
 use Rattle.replay.specs.declared.conflicts.Left.{Left}
 use Rattle.replay.specs.declared.conflicts.Left.TheVariants as left
+
+-- a fault tells of two accesses that conflict
+abbrev pub is_conflict : Fault → Bool
+is_conflict (fault.Conflict _ _ _ _ _ _ _) = true
+is_conflict _ = false
 
 -- two spots are one
 abbrev pub same_spot : Spot → Spot → Bool

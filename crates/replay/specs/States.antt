@@ -14,7 +14,8 @@ use Rattle.clmodel.specs.declared.action.Fences.{Fences}
 use Rattle.clmodel.specs.declared.action.Stop.{Stop}
 use Rattle.clmodel.specs.declared.schedule.Event.{Event}
 use Rattle.launches.specs.Objects.{SpacesHold}
-use Rattle.launches.specs.Items.{Kernel, acts_of}
+use Rattle.item_step.specs.Running.{Running}
+use Rattle.launches.specs.Items.{acts_of}
 use Rattle.launches.specs.Groups.{IsRunnable}
 use Rattle.replay.specs.Items.{AllRun}
 use Rattle.replay.specs.declared.group.Group.{Group}
@@ -64,25 +65,25 @@ IsPaced launch state =
     → (state.local_interval group ≤ length (state.answers (group * launch.group_size))) × (state.global_interval group ≤ length (state.answers (group * launch.group_size)))
 
 -- Items, buffers, groups and a log, the oldest access first, tell of a state: each item acts as the launch says after
--- the answers of the state, and the rest is what the state has.
-pub record Tells (launch : Launch) (items : List Slot) (buffers : List (List (Option ℕ))) (groups : List Group) (log : List Access) (state : State) : Type 0 where
+-- the answers of the state, each that is under way has come there from its start with these answers, and the rest is
+-- what the state has.
+pub record Tells (launch : Launch) (started : ℕ → Running) (items : List Slot) (buffers : List (List (Option ℕ))) (groups : List Group) (log : List Access) (state : State) : Type 0 where
   pub many : length items ≡ launch.items
   pub acting : (k : ℕ) (i : Slot) → slice_get items k ≡ Some i → (answers : List Answer) → acts_of launch k i answers ≡ launch.next k (state.answers k ++ answers)
+  pub runs : AllRun started state.answers items
   pub buffers_hold : SpacesHold (λ b. b) launch (length launch.buffers) region.Buffer buffers state.memory
   pub grouped : length groups * launch.group_size ≡ launch.items
   pub each : (g : ℕ) (x : Group) → slice_get groups g ≡ Some x → IsGroupIn launch g x state
   pub logged : state.log ≡ reverse log
   pub paced : IsPaced launch state
 
--- a player, which plays this launch, is at a state of it; `launch_of` says which launch its own one is
-pub record IsAt {D : Type 0} (launch_of : D → Launch) (launch : Launch) (player : Player D) (state : State) : Type 0 where
+-- A player of this launch is at a state of it; its items began as these machines. `launch_of` and `started_of` give the
+-- launch and those machines of what the player plays.
+pub record IsAt {D : Type 0} (launch_of : D → Launch) (started_of : D → ℕ → Running) (launch : Launch) (started : ℕ → Running) (player : Player D) (state : State) : Type 0 where
   pub plays : launch_of player.launch.now ≡ launch
+  pub begins : started_of player.launch.now ≡ started
   pub runnable : IsRunnable launch
-  pub tells : Tells launch player.items.items player.buffers.items player.groups.items player.log.items state
-
--- a player's launch has this kernel, and the player's items run it; `kernel_of` says which one a launch has
-abbrev pub HasKernel : {D : Type 0} → (D → Kernel) → Kernel → Player D → Type 0
-HasKernel kernel_of kernel player = (kernel_of player.launch.now ≡ kernel) × AllRun kernel player.items.items
+  pub tells : Tells launch started player.items.items player.buffers.items player.groups.items player.log.items state
 
 -- an item's next action in a state, or None where there is no such item (3.2)
 abbrev pub ActsNext : Launch → State → ℕ → Option Action → Type 0

@@ -1,6 +1,6 @@
 //! Whether a log has a conflict that a fault tells.
 
-ghost use Rattle.std.specs.Prelude.{◌≡◌, ◌==◌, ◌&&◌, ◌||◌, not, Some, ℕ, length, IfOk, MatchOption, reverse};
+ghost use Rattle.std.specs.Prelude.{◌≡◌, ◌==◌, ◌&&◌, ◌||◌, not, false, Some, ℕ, length, IfOk, MatchOption, reverse};
 ghost use Rattle.std.specs.Bool.{Decides};
 ghost use Rattle.std.specs.HashMap.{get};
 ghost use Rattle.clmodel.specs.Cells.{byte_count, covers};
@@ -8,11 +8,11 @@ ghost use Rattle.clmodel.specs.Launch.{both_store, clash, group_of};
 ghost use Rattle.clmodel.specs.Law.{Shows};
 ghost use Rattle.clmodel.specs.Run.{State};
 ghost use Rattle.clmodel.specs.declared.fault.Fault.TheVariants as faults;
-ghost use Rattle.replay.specs.Spots.{number_in, same_spot, differs, IsSpot, HasOther, Meets, AnyMeets};
+ghost use Rattle.replay.specs.Spots.{is_conflict, number_in, same_spot, differs, IsSpot, HasOther, Meets, AnyMeets};
 
 use crate::places::is_at;
 use clmodel::access::{Access, AccessKind, Clash, Region, Rule};
-use clmodel::fault::Location;
+use clmodel::fault::{Fault, Location};
 use launches::{Described, Runnable};
 use shadow_list::{both_store, clash, left_at};
 use std::alloc::{AllocError, Global};
@@ -179,6 +179,40 @@ pub struct ToldConflict<'a> {
     pub first: Partner,
     pub second: Partner,
     pub place: Place<'a>,
+}
+
+/// The conflict that a fault tells, if it tells one.
+pub fn told_conflict(fault: &Fault) -> Option<ToldConflict<'_>>
+    ensures { MatchOption result (is_conflict fault.now ≡ false)
+        (λ told. fault.now ≡ faults.Conflict told.clash told.first.item told.first.kind told.second.item told.second.kind told.place.location.now told.place.byte) }
+{
+    let Fault::Conflict {
+        clash,
+        item,
+        kind,
+        other_item,
+        other_kind,
+        location,
+        byte,
+    } = fault
+    else {
+        return None;
+    };
+    Some(ToldConflict {
+        clash: *clash,
+        first: Partner {
+            item: *item,
+            kind: *kind,
+        },
+        second: Partner {
+            item: *other_item,
+            kind: *other_kind,
+        },
+        place: Place {
+            location,
+            byte: *byte,
+        },
+    })
 }
 
 /// Whether two kinds of accesses conflict as a fault tells.

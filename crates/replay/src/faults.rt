@@ -1,16 +1,18 @@
 //! Whether the state of a player shows a fault.
 
-ghost use Rattle.std.specs.Prelude.{◌≡◌, ◌+◌, ◌<◌, ◌≤◌, ℕ, Some, true, IfOk};
+ghost use Rattle.std.specs.Prelude.{◌≡◌, ◌+◌, ◌<◌, ◌≤◌, ℕ, Some, true, false, IfOk};
 ghost use Rattle.std.specs.Bool.{Decides};
 ghost use Rattle.clmodel.specs.Cells.{reads, size_of, lowest_unset};
 ghost use Rattle.clmodel.specs.Launch.{Launch, group_of, kind_of};
 ghost use Rattle.clmodel.specs.Law.{Fails, Shows};
 ghost use Rattle.clmodel.specs.Run.{State, byte_at, next_action, stop_of};
 ghost use Rattle.clmodel.specs.declared.fault.Fault.TheVariants as faults;
+ghost use Rattle.item_step.specs.Running.{Running};
 ghost use Rattle.replay.specs.States.{IsAt};
 ghost use Rattle.replay.specs.Nexts.{StopsAt, ReadsUnset};
+ghost use Rattle.replay.specs.Spots.{is_conflict};
 
-use crate::conflicts::{Partner, Place, ToldConflict, shows_conflict};
+use crate::conflicts::{shows_conflict, told_conflict};
 use crate::nexts::{NextAccess, access_of, cause_of, stop_of};
 use crate::places::{is_at, is_fault_of};
 use crate::player::Player;
@@ -27,8 +29,8 @@ fn stops_at<D: Runnable>(
     item: u32,
     told: &Stop,
 ) -> Result<bool, AllocError>
-    ensures same { (launch : Launch) (state : State) → IsAt D.launch launch player.old state → IsAt D.launch launch player.new state }
-    ensures value { IfOk result (λ yes. (launch : Launch) (state : State) → IsAt D.launch launch player.old state → Decides yes (StopsAt launch state item told.now)) }
+    ensures same { (launch : Launch) (started : ℕ → Running) (state : State) → IsAt D.launch D.started launch started player.old state → IsAt D.launch D.started launch started player.new state }
+    ensures value { IfOk result (λ yes. (launch : Launch) (started : ℕ → Running) (state : State) → IsAt D.launch D.started launch started player.old state → Decides yes (StopsAt launch state item told.now)) }
 {
     match player.action(item)?.and_then(stop_of) {
         Some(stop) => Ok(same_stop(&stop, told)),
@@ -46,7 +48,7 @@ fn shows_divergence<D: Runnable>(
     other_item: u32,
     other_stop: &Stop,
 ) -> Result<bool, AllocError>
-    ensures { IfOk result (λ yes. (state : State) → IsAt D.launch (D.launch launch.now) player.old state → Decides yes (Shows (D.launch launch.now) state (faults.Divergence item stop.now other_item other_stop.now))) }
+    ensures { IfOk result (λ yes. (started : ℕ → Running) (state : State) → IsAt D.launch D.started (D.launch launch.now) started player.old state → Decides yes (Shows (D.launch launch.now) state (faults.Divergence item stop.now other_item other_stop.now))) }
 {
     let size = launch.group_size();
     if item / size != other_item / size {
@@ -78,7 +80,7 @@ fn shows_bounds<D: Runnable>(
     location: &Location,
     element: i64,
 ) -> Result<bool, AllocError>
-    ensures { IfOk result (λ yes. (state : State) → IsAt D.launch (D.launch launch.now) player.old state → Decides yes (Shows (D.launch launch.now) state (faults.Bounds item kind location.now element))) }
+    ensures { IfOk result (λ yes. (started : ℕ → Running) (state : State) → IsAt D.launch D.started (D.launch launch.now) started player.old state → Decides yes (Shows (D.launch launch.now) state (faults.Bounds item kind location.now element))) }
 {
     let Some(next) = player.action(item)?.and_then(access_of) else {
         return Ok(false);
@@ -109,8 +111,8 @@ fn reads(operation: Operation) -> bool
 
 /// Whether an access of an item is in range and reads unset bytes, of which this is the lowest.
 fn reads_unset<D: Runnable>(player: &Player<'_, D>, item: u32, next: NextAccess, byte: u64) -> bool
-    requires { (launch : Launch) × (state : State) × IsAt D.launch launch player.now state × (item < launch.items) }
-    ensures { (launch : Launch) (state : State) → IsAt D.launch launch player.now state → Decides result (ReadsUnset launch state item next byte) }
+    requires { (launch : Launch) × (started : ℕ → Running) × (state : State) × IsAt D.launch D.started launch started player.now state × (item < launch.items) }
+    ensures { (launch : Launch) (started : ℕ → Running) (state : State) → IsAt D.launch D.started launch started player.now state → Decides result (ReadsUnset launch state item next byte) }
 {
     if !reads(next.operation) {
         return false;
@@ -131,8 +133,8 @@ fn shows_unset<D: Runnable>(
     location: &Location,
     byte: u64,
 ) -> Result<bool, AllocError>
-    requires { (state : State) × IsAt D.launch (D.launch launch.now) player.old state }
-    ensures { IfOk result (λ yes. (state : State) → IsAt D.launch (D.launch launch.now) player.old state → Decides yes (Shows (D.launch launch.now) state (faults.Unset item kind location.now byte))) }
+    requires { (started : ℕ → Running) × (state : State) × IsAt D.launch D.started (D.launch launch.now) started player.old state }
+    ensures { IfOk result (λ yes. (started : ℕ → Running) (state : State) → IsAt D.launch D.started (D.launch launch.now) started player.old state → Decides yes (Shows (D.launch launch.now) state (faults.Unset item kind location.now byte))) }
 {
     let Some(next) = player.action(item)?.and_then(access_of) else {
         return Ok(false);
@@ -154,7 +156,7 @@ fn shows_failure<D: Runnable>(
     item: u32,
     fault: &Fault,
 ) -> Result<bool, AllocError>
-    ensures { IfOk result (λ yes. (state : State) → IsAt D.launch (D.launch launch.now) player.old state → Decides yes (Fails (D.launch launch.now) state item fault.now)) }
+    ensures { IfOk result (λ yes. (started : ℕ → Running) (state : State) → IsAt D.launch D.started (D.launch launch.now) started player.old state → Decides yes (Fails (D.launch launch.now) state item fault.now)) }
 {
     match player.action(item)?.and_then(cause_of) {
         Some(cause) => is_fault_of(launch, item, cause, fault),
@@ -162,43 +164,18 @@ fn shows_failure<D: Runnable>(
     }
 }
 
-/// Whether the state that a player is at shows a fault. An error is out of memory.
-pub fn shows<D: Runnable>(
-    alloc: Global,
+/// Whether the next actions of items show a fault, which is no conflict. An error is out of memory.
+fn shows_next<D: Runnable>(
     launch: &D,
     player: &mut Player<'_, D>,
     fault: &Fault,
 ) -> Result<bool, AllocError>
-    requires { (state : State) × IsAt D.launch (D.launch launch.now) player.old state }
-    ensures { IfOk result (λ yes. (state : State) → IsAt D.launch (D.launch launch.now) player.old state → Decides yes (Shows (D.launch launch.now) state fault.now)) }
+    requires at { (started : ℕ → Running) × (state : State) × IsAt D.launch D.started (D.launch launch.now) started player.old state }
+    requires next { is_conflict fault.now ≡ false }
+    ensures { IfOk result (λ yes. (started : ℕ → Running) (state : State) → IsAt D.launch D.started (D.launch launch.now) started player.old state → Decides yes (Shows (D.launch launch.now) state fault.now)) }
 {
     match fault {
-        Fault::Conflict {
-            clash,
-            item,
-            kind,
-            other_item,
-            other_kind,
-            location,
-            byte,
-        } => {
-            let told = ToldConflict {
-                clash: *clash,
-                first: Partner {
-                    item: *item,
-                    kind: *kind,
-                },
-                second: Partner {
-                    item: *other_item,
-                    kind: *other_kind,
-                },
-                place: Place {
-                    location,
-                    byte: *byte,
-                },
-            };
-            shows_conflict(alloc, launch, player.log(), &told)
-        }
+        Fault::Conflict { .. } => unreachable!(),
         Fault::Divergence {
             item,
             stop,
@@ -223,5 +200,21 @@ pub fn shows<D: Runnable>(
         | Fault::DivideByZero { item }
         | Fault::DivideOverflow { item }
         | Fault::Budget { item } => shows_failure(launch, player, *item, fault),
+    }
+}
+
+/// Whether the state that a player is at shows a fault. An error is out of memory.
+pub fn shows<D: Runnable>(
+    alloc: Global,
+    launch: &D,
+    player: &mut Player<'_, D>,
+    fault: &Fault,
+) -> Result<bool, AllocError>
+    requires { (started : ℕ → Running) × (state : State) × IsAt D.launch D.started (D.launch launch.now) started player.old state }
+    ensures { IfOk result (λ yes. (started : ℕ → Running) (state : State) → IsAt D.launch D.started (D.launch launch.now) started player.old state → Decides yes (Shows (D.launch launch.now) state fault.now)) }
+{
+    match told_conflict(fault) {
+        Some(told) => shows_conflict(alloc, launch, player.log(), &told),
+        None => shows_next(launch, player, fault),
     }
 }

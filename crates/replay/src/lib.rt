@@ -6,11 +6,12 @@
 //! and answers below 2^32.
 //!
 //! A `Player` plays single events: one item's access or one group's release at a time, over one memory that all items
-//! share. Each item runs the code of its launch, with its own ids and arguments. `play` answers true exactly where the
-//! event is possible in the state that the player is at, and then the player is at the state that the event leads to;
-//! else it stays. The other calls tell of that state: what an item does next, the accesses so far, where an element
-//! begins, the lowest byte that is unset. An event costs the same however many items there are, and no buffer is
-//! copied. The crate uses neither overlays nor the runner of groups.
+//! share. The machine of an item that is under way is the one that its launch's code comes to from the item's start,
+//! with the answers that the item had. `play` answers true exactly where the event is possible in the state that the
+//! player is at, and then the player is at the state that the event leads to; else it stays. The other calls tell of
+//! that state: what an item does next, the accesses so far, where an element begins, the lowest byte that is unset. An
+//! event costs the same however many items there are, and no buffer is copied. The crate uses neither overlays nor the
+//! runner of groups.
 #![tactic(auto)]
 
 ghost use Rattle.std.specs.Prelude.{IfOk};

@@ -3,8 +3,7 @@
 ghost use Rattle.std.specs.Prelude.{◌≡◌, ◌≤◌, length, true, IfOk};
 ghost use Rattle.clmodel.specs.Launch.{Launch};
 ghost use Rattle.clmodel.specs.declared.action.Answer.TheVariants.{Done};
-ghost use Rattle.launches.specs.Items.{Kernel};
-ghost use Rattle.replay.specs.Items.{AllRun, AreAlike, AreAsked, AreAt, AreAnswered};
+ghost use Rattle.replay.specs.Items.{AreAlike, AreAsked, AreAt, AreAnswered};
 
 use crate::slot::{answer, is_at};
 use clmodel::action::{Answer, Stop};
@@ -22,10 +21,9 @@ pub fn are_at<'a, D: Runnable>(
     stop: &Stop,
 ) -> Result<bool, AllocError>
     requires { end ≤ length items.old.items }
-    ensures same { AreAlike (D.launch launch.now) items.old.items items.new.items }
+    ensures same { AreAlike (D.launch launch.now) (D.started launch.now) items.old.items items.new.items }
     ensures value { IfOk result (AreAt (D.launch launch.now) items.old.items first end stop.now) }
     ensures asked { IfOk result (λ yes. yes ≡ true → AreAsked items.new.items first end) }
-    ensures runs { AllRun (D.kernel launch.now) items.old.items → AllRun (D.kernel launch.now) items.new.items }
 {
     for item in first..end {
         if !is_at(&mut items[item as usize], alloc, launch, item, stop)? {
@@ -40,8 +38,7 @@ pub fn answer_all(items: &mut Vec<Slot<'_>>, first: u32, end: u32)
     requires order { first ≤ end }
     requires inside { end ≤ length items.old.items }
     requires asked { AreAsked items.old.items first end }
-    ensures answered { (launch : Launch) → AreAnswered launch first end Done items.old.items items.new.items }
-    ensures runs { (kernel : Kernel) → AllRun kernel items.old.items → AllRun kernel items.new.items }
+    ensures { (launch : Launch) → AreAnswered launch first end Done items.old.items items.new.items }
 {
     for item in first..end {
         answer(&mut items[item as usize], Answer::Done);

@@ -7,10 +7,10 @@ ghost use Rattle.clmodel.specs.Run.{State, byte_at, next_action, released, start
 ghost use Rattle.clmodel.specs.declared.action.Action.TheVariants as action;
 ghost use Rattle.clmodel.specs.declared.action.Instance.{Instance};
 ghost use Rattle.clmodel.specs.declared.schedule.Event.TheVariants as event;
+ghost use Rattle.item_step.specs.Running.{Running};
 ghost use Rattle.launches.specs.Groups.{IsRunnable, filled};
-ghost use Rattle.launches.specs.Items.{Kernel};
 ghost use Rattle.replay.specs.Items.{AreAsked, IsAskedAt, StandsAt, dividend_in, stand_in};
-ghost use Rattle.replay.specs.States.{ActsNext, Gathers, HasKernel, IsAt, IsPlayed};
+ghost use Rattle.replay.specs.States.{ActsNext, Gathers, IsAt, IsPlayed};
 
 use crate::dividends::dividend_at;
 use crate::group::{Group, new_groups};
@@ -47,8 +47,7 @@ impl<'a, D: Runnable> Player<'a, D> {
         requires runnable { IsRunnable (D.launch launch.now) }
         requires counted { groups * (D.launch launch.now).group_size ≡ (D.launch launch.now).items }
         requires filled { buffers.items ≡ filled (D.launch launch.now) }
-        ensures at { IfOk result (λ player. IsAt D.launch (D.launch launch.now) player (start (D.launch launch.now))) }
-        ensures runs { IfOk result (λ player. HasKernel D.kernel (D.kernel launch.now) player) }
+        ensures { IfOk result (λ player. IsAt D.launch D.started (D.launch launch.now) (D.started launch.now) player (start (D.launch launch.now))) }
     {
         let items = waiting_items(alloc, groups * launch.group_size())?;
         let groups = new_groups(alloc, groups)?;
@@ -71,12 +70,11 @@ impl<'a, D: Runnable> Player<'a, D> {
         element: i64,
         operation: Operation,
     ) -> Result<bool, AllocError>
-        requires at { (launch : Launch) × (state : State) × IsAt D.launch launch self.old state × (item < launch.items) }
+        requires at { (launch : Launch) × (started : ℕ → Running) × (state : State) × IsAt D.launch D.started launch started self.old state × (item < launch.items) }
         requires asked { IsAskedAt self.old.items.items item }
-        ensures played { IfOk result (λ yes. (launch : Launch) (state : State) → IsAt D.launch launch self.old state → next_action launch state item ≡ action.Access object element operation
-            → IsPlayed launch state (event.Item item) (IsAt D.launch launch self.new) yes) }
-        ensures same { OnErr result ((launch : Launch) (state : State) → IsAt D.launch launch self.old state → IsAt D.launch launch self.new state) }
-        ensures runs { (kernel : Kernel) → HasKernel D.kernel kernel self.old → HasKernel D.kernel kernel self.new }
+        ensures played { IfOk result (λ yes. (launch : Launch) (started : ℕ → Running) (state : State) → IsAt D.launch D.started launch started self.old state → next_action launch state item ≡ action.Access object element operation
+            → IsPlayed launch state (event.Item item) (IsAt D.launch D.started launch started self.new) yes) }
+        ensures same { OnErr result ((launch : Launch) (started : ℕ → Running) (state : State) → IsAt D.launch D.started launch started self.old state → IsAt D.launch D.started launch started self.new state) }
     {
         self.log.reserve(1)?;
         let number = item / self.launch.group_size();
@@ -101,11 +99,10 @@ impl<'a, D: Runnable> Player<'a, D> {
     /// The next action of an item, `None` where there is no such item (OpenCL 1.2, section 3.2). It stays the next one.
     /// An error is out of memory.
     pub fn action(&mut self, item: u32) -> Result<Option<Action>, AllocError>
-        ensures same { (launch : Launch) (state : State) → IsAt D.launch launch self.old state → IsAt D.launch launch self.new state }
-        ensures value { IfOk result (λ action. (launch : Launch) (state : State) → IsAt D.launch launch self.old state → ActsNext launch state item action) }
+        ensures same { (launch : Launch) (started : ℕ → Running) (state : State) → IsAt D.launch D.started launch started self.old state → IsAt D.launch D.started launch started self.new state }
+        ensures value { IfOk result (λ action. (launch : Launch) (started : ℕ → Running) (state : State) → IsAt D.launch D.started launch started self.old state → ActsNext launch state item action) }
         ensures asked { IfOk result (λ action. IfSome action (λ _. IsAskedAt self.new.items.items item)) }
         ensures stands { IfOk result (λ action. IfSome action (StandsAt self.new.items.items item)) }
-        ensures runs { (kernel : Kernel) → HasKernel D.kernel kernel self.old → HasKernel D.kernel kernel self.new }
     {
         if item as usize >= self.items.len() {
             return Ok(None);
@@ -138,14 +135,14 @@ impl<'a, D: Runnable> Player<'a, D> {
 
     /// The accesses so far, the oldest first.
     pub fn log(&self) -> &[Access]
-        ensures { (launch : Launch) (state : State) → IsAt D.launch launch self.now state → result.now ≡ reverse state.log }
+        ensures { (launch : Launch) (started : ℕ → Running) (state : State) → IsAt D.launch D.started launch started self.now state → result.now ≡ reverse state.log }
     {
         self.log.as_slice()
     }
 
     /// How many bytes an object has, none where there is no such object.
     fn size_of(&self, object: Object) -> u64
-        ensures { (launch : Launch) (state : State) → IsAt D.launch launch self.now state → (group : ℕ) → result ≡ bytes_of launch (region_of group object) }
+        ensures { (launch : Launch) (started : ℕ → Running) (state : State) → IsAt D.launch D.started launch started self.now state → (group : ℕ) → result ≡ bytes_of launch (region_of group object) }
     {
         match object {
             Object::Buffer(number) => match self.buffers.get(number as usize) {
@@ -162,8 +159,8 @@ impl<'a, D: Runnable> Player<'a, D> {
     /// The first byte of an element of an object, for an item of any group, or `None` where the element is out of range
     /// (C99 6.5.2.1, 6.5.6).
     pub fn first_byte(&self, object: Object, element: i64, operation: Operation) -> Option<u64>
-        ensures value { (launch : Launch) (state : State) → IsAt D.launch launch self.now state → (item : ℕ) → result ≡ byte_at launch item object element operation }
-        ensures inside { IfSome result (λ first. (launch : Launch) (state : State) → IsAt D.launch launch self.now state
+        ensures value { (launch : Launch) (started : ℕ → Running) (state : State) → IsAt D.launch D.started launch started self.now state → (item : ℕ) → result ≡ byte_at launch item object element operation }
+        ensures inside { IfSome result (λ first. (launch : Launch) (started : ℕ → Running) (state : State) → IsAt D.launch D.started launch started self.now state
             → (item : ℕ) → first + size_of operation ≤ bytes_of launch (region_of (group_of launch item) object)) }
     {
         let count = operation.width().bytes();
@@ -180,9 +177,9 @@ impl<'a, D: Runnable> Player<'a, D> {
         first: u64,
         operation: Operation,
     ) -> Option<u64>
-        requires { (launch : Launch) × (state : State) × IsAt D.launch launch self.now state × (item < launch.items)
+        requires { (launch : Launch) × (started : ℕ → Running) × (state : State) × IsAt D.launch D.started launch started self.now state × (item < launch.items)
             × (first + size_of operation ≤ bytes_of launch (region_of (group_of launch item) object)) }
-        ensures { (launch : Launch) (state : State) → IsAt D.launch launch self.now state
+        ensures { (launch : Launch) (started : ℕ → Running) (state : State) → IsAt D.launch D.started launch started self.now state
             → result ≡ lowest_unset (state.memory (region_of (group_of launch item) object)) first (size_of operation) }
     {
         let number = item / self.launch.group_size();
@@ -193,10 +190,9 @@ impl<'a, D: Runnable> Player<'a, D> {
     /// An event of an item: its access, where that is what it does next and is possible. An error is out of memory, and
     /// leaves the state.
     pub fn play_item(&mut self, item: u32) -> Result<bool, AllocError>
-        requires { (launch : Launch) × (state : State) × IsAt D.launch launch self.old state }
-        ensures played { IfOk result (λ yes. (launch : Launch) (state : State) → IsAt D.launch launch self.old state → IsPlayed launch state (event.Item item) (IsAt D.launch launch self.new) yes) }
-        ensures same { OnErr result ((launch : Launch) (state : State) → IsAt D.launch launch self.old state → IsAt D.launch launch self.new state) }
-        ensures runs { (kernel : Kernel) → HasKernel D.kernel kernel self.old → HasKernel D.kernel kernel self.new }
+        requires { (launch : Launch) × (started : ℕ → Running) × (state : State) × IsAt D.launch D.started launch started self.old state }
+        ensures played { IfOk result (λ yes. (launch : Launch) (started : ℕ → Running) (state : State) → IsAt D.launch D.started launch started self.old state → IsPlayed launch state (event.Item item) (IsAt D.launch D.started launch started self.new) yes) }
+        ensures same { OnErr result ((launch : Launch) (started : ℕ → Running) (state : State) → IsAt D.launch D.started launch started self.old state → IsAt D.launch D.started launch started self.new state) }
     {
         let Some(action) = self.action(item)? else {
             return Ok(false);
@@ -214,12 +210,11 @@ impl<'a, D: Runnable> Player<'a, D> {
 
     /// Whether all items of a group are at a stop: a walk over them. An error is out of memory.
     fn gathers(&mut self, group: u32, stop: &Stop) -> Result<bool, AllocError>
-        requires { (launch : Launch) × (state : State) × IsAt D.launch launch self.old state × (group * launch.group_size < launch.items) }
-        ensures same { (launch : Launch) (state : State) → IsAt D.launch launch self.old state → IsAt D.launch launch self.new state }
-        ensures value { IfOk result (λ yes. (launch : Launch) (state : State) → IsAt D.launch launch self.old state → Gathers launch state group stop.now yes) }
-        ensures asked { IfOk result (λ yes. yes ≡ true → (launch : Launch) (state : State) → IsAt D.launch launch self.old state
+        requires { (launch : Launch) × (started : ℕ → Running) × (state : State) × IsAt D.launch D.started launch started self.old state × (group * launch.group_size < launch.items) }
+        ensures same { (launch : Launch) (started : ℕ → Running) (state : State) → IsAt D.launch D.started launch started self.old state → IsAt D.launch D.started launch started self.new state }
+        ensures value { IfOk result (λ yes. (launch : Launch) (started : ℕ → Running) (state : State) → IsAt D.launch D.started launch started self.old state → Gathers launch state group stop.now yes) }
+        ensures asked { IfOk result (λ yes. yes ≡ true → (launch : Launch) (started : ℕ → Running) (state : State) → IsAt D.launch D.started launch started self.old state
             → AreAsked self.new.items.items (group * launch.group_size) (group * launch.group_size + launch.group_size)) }
-        ensures runs { (kernel : Kernel) → HasKernel D.kernel kernel self.old → HasKernel D.kernel kernel self.new }
     {
         let size = self.launch.group_size();
         let first = group * size;
@@ -236,11 +231,10 @@ impl<'a, D: Runnable> Player<'a, D> {
     /// Releases a group, all of whose items were asked, from a barrier with these fences, at which its first item is: a
     /// walk over its items.
     fn release(&mut self, group: u32, fences: Fences)
-        requires { (launch : Launch) × (state : State) × (instance : Instance) × IsAt D.launch launch self.old state × (group * launch.group_size < launch.items)
+        requires { (launch : Launch) × (started : ℕ → Running) × (state : State) × (instance : Instance) × IsAt D.launch D.started launch started self.old state × (group * launch.group_size < launch.items)
             × (next_action launch state (group * launch.group_size) ≡ action.Barrier instance fences)
             × AreAsked self.old.items.items (group * launch.group_size) (group * launch.group_size + launch.group_size) }
-        ensures played { (launch : Launch) (state : State) → IsAt D.launch launch self.old state → IsAt D.launch launch self.new (released launch state group fences) }
-        ensures runs { (kernel : Kernel) → HasKernel D.kernel kernel self.old → HasKernel D.kernel kernel self.new }
+        ensures { (launch : Launch) (started : ℕ → Running) (state : State) → IsAt D.launch D.started launch started self.old state → IsAt D.launch D.started launch started self.new (released launch state group fences) }
     {
         self.groups[group as usize].pass(fences);
         let size = self.launch.group_size();
@@ -253,10 +247,9 @@ impl<'a, D: Runnable> Player<'a, D> {
     /// over the group's items to compare them with the first, and one to answer them. An error is out of memory, and
     /// leaves the state.
     pub fn play_release(&mut self, group: u32) -> Result<bool, AllocError>
-        requires { (launch : Launch) × (state : State) × IsAt D.launch launch self.old state }
-        ensures played { IfOk result (λ yes. (launch : Launch) (state : State) → IsAt D.launch launch self.old state → IsPlayed launch state (event.Release group) (IsAt D.launch launch self.new) yes) }
-        ensures same { OnErr result ((launch : Launch) (state : State) → IsAt D.launch launch self.old state → IsAt D.launch launch self.new state) }
-        ensures runs { (kernel : Kernel) → HasKernel D.kernel kernel self.old → HasKernel D.kernel kernel self.new }
+        requires { (launch : Launch) × (started : ℕ → Running) × (state : State) × IsAt D.launch D.started launch started self.old state }
+        ensures played { IfOk result (λ yes. (launch : Launch) (started : ℕ → Running) (state : State) → IsAt D.launch D.started launch started self.old state → IsPlayed launch state (event.Release group) (IsAt D.launch D.started launch started self.new) yes) }
+        ensures same { OnErr result ((launch : Launch) (started : ℕ → Running) (state : State) → IsAt D.launch D.started launch started self.old state → IsAt D.launch D.started launch started self.new state) }
     {
         if group as usize >= self.groups.len() {
             return Ok(false);
@@ -278,10 +271,9 @@ impl<'a, D: Runnable> Player<'a, D> {
     /// An event, where it is possible: an item's access or a group's release (OpenCL 1.2, sections 3.2 and 6.12.8). An
     /// error is out of memory, and leaves the state.
     pub fn play(&mut self, event: Event) -> Result<bool, AllocError>
-        requires { (launch : Launch) × (state : State) × IsAt D.launch launch self.old state }
-        ensures played { IfOk result (λ yes. (launch : Launch) (state : State) → IsAt D.launch launch self.old state → IsPlayed launch state event (IsAt D.launch launch self.new) yes) }
-        ensures same { OnErr result ((launch : Launch) (state : State) → IsAt D.launch launch self.old state → IsAt D.launch launch self.new state) }
-        ensures runs { (kernel : Kernel) → HasKernel D.kernel kernel self.old → HasKernel D.kernel kernel self.new }
+        requires { (launch : Launch) × (started : ℕ → Running) × (state : State) × IsAt D.launch D.started launch started self.old state }
+        ensures played { IfOk result (λ yes. (launch : Launch) (started : ℕ → Running) (state : State) → IsAt D.launch D.started launch started self.old state → IsPlayed launch state event (IsAt D.launch D.started launch started self.new) yes) }
+        ensures same { OnErr result ((launch : Launch) (started : ℕ → Running) (state : State) → IsAt D.launch D.started launch started self.old state → IsAt D.launch D.started launch started self.new state) }
     {
         match event {
             Event::Item(item) => self.play_item(item),

@@ -1,9 +1,10 @@
 //! A single item as it is played.
 
-ghost use Rattle.std.specs.Prelude.{◌≡◌, ℕ, ◌∷◌, List, IfOk, OnOk};
+ghost use Rattle.std.specs.Prelude.{◌≡◌, ℕ, [], ◌∷◌, ◌++◌, List, IfOk, OnOk};
 ghost use Rattle.clmodel.specs.Launch.{Launch};
 ghost use Rattle.clmodel.specs.declared.action.Answer.{Answer};
-ghost use Rattle.launches.specs.Items.{Kernel, Runs, acts_of, IsAsked};
+ghost use Rattle.item_step.specs.Running.{Running};
+ghost use Rattle.launches.specs.Items.{Runs, acts_of, IsAsked};
 ghost use Rattle.replay.specs.Items.{is_at, stand_of};
 
 use crate::nexts::stop_of;
@@ -46,7 +47,7 @@ pub fn is_at<'a, D: Runnable>(
     ensures same { (answers : List Answer) → acts_of (D.launch launch.now) item slot.new answers ≡ acts_of (D.launch launch.now) item slot.old answers }
     ensures value { IfOk result (λ yes. yes ≡ is_at (D.launch launch.now) stop.now item slot.old) }
     ensures asked { OnOk result (IsAsked slot.new) }
-    ensures runs { Runs (D.kernel launch.now) item slot.old → Runs (D.kernel launch.now) item slot.new }
+    ensures runs { (answers : List Answer) → Runs (D.started launch.now item) answers slot.old → Runs (D.started launch.now item) answers slot.new }
 {
     match stop_of(slot.next(alloc, launch, item)?) {
         Some(other) => Ok(same_stop(stop, &other)),
@@ -59,7 +60,7 @@ pub fn is_at<'a, D: Runnable>(
 pub fn answer(slot: &mut Slot<'_>, answer: Answer)
     requires { IsAsked slot.old }
     ensures answered { (launch : Launch) (item : ℕ) (answers : List Answer) → acts_of launch item slot.new answers ≡ acts_of launch item slot.old (answer ∷ answers) }
-    ensures runs { (kernel : Kernel) (item : ℕ) → Runs kernel item slot.old → Runs kernel item slot.new }
+    ensures runs { (start : Running) (answers : List Answer) → Runs start answers slot.old → Runs start (answers ++ answer ∷ []) slot.new }
 {
     slot.answer(answer);
     slot.goes_on();

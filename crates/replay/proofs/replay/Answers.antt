@@ -1,4 +1,4 @@
-use Rattle.std.proofs.Common.{◌∙◌, Some, map, ap, ap₂, sym, subst}
+use Rattle.std.proofs.Common.{◌∙◌, ℕ, Some, map, ap, ap₂, sym, subst}
 use Rattle.std.specs.Bool.{Decides}
 use Rattle.std.proofs.lemmas.Result.{IfOk-weaker}
 use Rattle.clmodel.specs.Launch.{Launch}
@@ -7,7 +7,8 @@ use Rattle.clmodel.specs.Next.{launch_of}
 use Rattle.clmodel.specs.Outcome.{events_of}
 use Rattle.clmodel.specs.Run.{start}
 use Rattle.clmodel.specs.Setup.{buffer_names}
-use Rattle.item_step.specs.Launches.{setup_of}
+use Rattle.item_step.specs.Launches.{setup_of, started}
+use Rattle.item_step.specs.Running.{Running}
 use Rattle.launches.specs.Groups.{IsRunnable, filled}
 use Rattle.spaces_base.specs.Buffers.{bytes_in}
 use Rattle.launches.specs.declared.loaded.LoadedLaunch.{LoadedLaunch}
@@ -31,36 +32,43 @@ new-requires-clause-filled c =
 abbrev of_loaded : LoadedLaunch → Launch
 of_loaded loaded = launch_of (setup_of loaded.launch.now) (bytes_in loaded.buffers.now)
 
+-- the machines as which its items begin
+abbrev of_starts : LoadedLaunch → ℕ → Running
+of_starts loaded = started loaded.launch.now
+
 pub returns-then-not-branch : goal.returns-then-not-branch
 returns-then-not-branch c =
     let same = ap₂ (λ x b. launch_of (setup_of x) (bytes_in b)) c.new-loaded.ensures.launch c.new-loaded.ensures.buffers in
     let l = of_loaded c.new-loaded.result in
+    let r = of_starts c.new-loaded.result in
     let events = events_of c.args.schedule.now in
     let f = c.args.fault.now in
     never
     (subst (λ z. Reaches z events f → ⊥) same
     (never_reaches l events f
-    (unplayed l (start l) events (IsAt {D = LoadedLaunch} of_loaded l c.play_schedule.new.player) c.in_ok-play_schedule.field-0
-    (c.in_ok-play_schedule.ensures l (start l) c.in_ok-player.ensures.at) c.if-not-branch.true)))
+    (unplayed l (start l) events (IsAt {D = LoadedLaunch} of_loaded of_starts l r c.play_schedule.new.player) c.in_ok-play_schedule.field-0
+    (c.in_ok-play_schedule.ensures l r (start l) c.in_ok-player.ensures) c.if-not-branch.true)))
 
 pub shows-requires : goal.shows-requires
 shows-requires c =
     let l = of_loaded c.new-loaded.result in
+    let r = of_starts c.new-loaded.result in
     let events = events_of c.args.schedule.now in
     let p =
-    played l (start l) events (IsAt {D = LoadedLaunch} of_loaded l c.play_schedule.new.player) c.in_ok-play_schedule.field-0
-    (c.in_ok-play_schedule.ensures l (start l) c.in_ok-player.ensures.at) c.if-not-branch.false in
-    (p.0, p.2)
+    played l (start l) events (IsAt {D = LoadedLaunch} of_loaded of_starts l r c.play_schedule.new.player) c.in_ok-play_schedule.field-0
+    (c.in_ok-play_schedule.ensures l r (start l) c.in_ok-player.ensures) c.if-not-branch.false in
+    (r, p.0, p.2)
 
 pub returns : goal.returns
 returns c =
     let same = ap₂ (λ x b. launch_of (setup_of x) (bytes_in b)) c.new-loaded.ensures.launch c.new-loaded.ensures.buffers in
     let l = of_loaded c.new-loaded.result in
+    let r = of_starts c.new-loaded.result in
     let events = events_of c.args.schedule.now in
     let f = c.args.fault.now in
     let p =
-    played l (start l) events (IsAt {D = LoadedLaunch} of_loaded l c.play_schedule.new.player) c.in_ok-play_schedule.field-0
-    (c.in_ok-play_schedule.ensures l (start l) c.in_ok-player.ensures.at) c.if-not-branch.false in
+    played l (start l) events (IsAt {D = LoadedLaunch} of_loaded of_starts l r c.play_schedule.new.player) c.in_ok-play_schedule.field-0
+    (c.in_ok-play_schedule.ensures l r (start l) c.in_ok-player.ensures) c.if-not-branch.false in
     IfOk-weaker c.shows.result _ _
-    (λ answer h. subst (λ z. Decides answer (Reaches z events f)) same (reaches l events f p.0 answer p.1 (h p.0 p.2)))
+    (λ answer h. subst (λ z. Decides answer (Reaches z events f)) same (reaches l events f p.0 answer p.1 (h r p.0 p.2)))
     c.shows.ensures

@@ -6,19 +6,19 @@ use Rattle.replay.proofs.Played.{item_never, item_more}
 use Rattle.replay.proofs.events.play_items.Goals as goal
 
 pub returns-then-not-branch : goal.returns-then-not-branch
-returns-then-not-branch g c = λ l s at.
-    let now = c.loop.invariant l s at in
-    item_never l s now.0 (event.Item c.args.item) c.loop.counter c.args.count (IsAt {D = g.row.D.Denot} g.D.Described.launch l c.play.new.self) c.in_ok-play.field-0 c.loop-test.true now.1
-    (c.in_ok-play.ensures.played l now.0 now.2) c.if-not-branch.true
+returns-then-not-branch g c = λ l r s at.
+    let now = c.loop.invariant l r s at in
+    item_never l s now.0 (event.Item c.args.item) c.loop.counter c.args.count (IsAt {D = g.row.D.Denot} g.D.Described.launch g.D.Runnable.started l r c.play.new.self) c.in_ok-play.field-0 c.loop-test.true now.1
+    (c.in_ok-play.ensures.played l r now.0 now.2) c.if-not-branch.true
 
 pub loop-preserved : goal.loop-preserved
-loop-preserved g c = λ l s at.
-    let now = c.loop.invariant l s at in
-    item_more l s now.0 (event.Item c.args.item) c.loop.counter (IsAt {D = g.row.D.Denot} g.D.Described.launch l c.play.new.self) c.in_ok-play.field-0 now.1
-    (c.in_ok-play.ensures.played l now.0 now.2) c.if-not-branch.false
+loop-preserved g c = λ l r s at.
+    let now = c.loop.invariant l r s at in
+    item_more l s now.0 (event.Item c.args.item) c.loop.counter (IsAt {D = g.row.D.Denot} g.D.Described.launch g.D.Runnable.started l r c.play.new.self) c.in_ok-play.field-0 now.1
+    (c.in_ok-play.ensures.played l r now.0 now.2) c.if-not-branch.false
 
 pub returns : goal.returns
-returns g c = λ l s at.
-    let now = c.loop.invariant l s at in
+returns g c = λ l r s at.
+    let now = c.loop.invariant l r s at in
     let ends : c.args.count ≡ c.loop.counter = omega (arith, c.loop-test.false, c.loop.auto.counter-end) in
     (now.0, ap (λ n. after l s (replicate n (event.Item c.args.item))) ends ∙ now.1, now.2)

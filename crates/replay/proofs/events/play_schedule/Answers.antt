@@ -7,23 +7,23 @@ use Rattle.replay.proofs.Played.{run_never, run_more}
 use Rattle.replay.proofs.events.play_schedule.Goals as goal
 
 pub returns-then-not-branch : goal.returns-then-not-branch
-returns-then-not-branch g c = λ l s at.
+returns-then-not-branch g c = λ l r s at.
     let runs = c.as_slice-run-items.result.now in
-    let now = c.loop-run.invariant l s at in
+    let now = c.loop-run.invariant l r s at in
     ap (λ xs. after l s (events_of xs)) (sym c.as_slice-run-items.ensures)
-    ∙ run_never l s now.0 runs c.loop-run.run-index _ (IsAt {D = g.row.D.Denot} g.D.Described.launch l c.play_run.new.player) c.in_ok-play_run.field-0
-    (omega (arith, c.loop-run-test.true)) now.1 (c.in_ok-play_run.ensures l now.0 now.2) c.if-not-branch.true
+    ∙ run_never l s now.0 runs c.loop-run.run-index _ (IsAt {D = g.row.D.Denot} g.D.Described.launch g.D.Runnable.started l r c.play_run.new.player) c.in_ok-play_run.field-0
+    (omega (arith, c.loop-run-test.true)) now.1 (c.in_ok-play_run.ensures l r now.0 now.2) c.if-not-branch.true
 
 pub loop-run-preserved : goal.loop-run-preserved
-loop-run-preserved g c = λ l s at.
+loop-run-preserved g c = λ l r s at.
     let runs = c.as_slice-run-items.result.now in
-    let now = c.loop-run.invariant l s at in
-    run_more l s now.0 runs c.loop-run.run-index _ (IsAt {D = g.row.D.Denot} g.D.Described.launch l c.play_run.new.player) c.in_ok-play_run.field-0 (omega (arith, c.loop-run-test.true))
-    now.1 (c.in_ok-play_run.ensures l now.0 now.2) c.if-not-branch.false
+    let now = c.loop-run.invariant l r s at in
+    run_more l s now.0 runs c.loop-run.run-index _ (IsAt {D = g.row.D.Denot} g.D.Described.launch g.D.Runnable.started l r c.play_run.new.player) c.in_ok-play_run.field-0 (omega (arith, c.loop-run-test.true))
+    now.1 (c.in_ok-play_run.ensures l r now.0 now.2) c.if-not-branch.false
 
 pub returns : goal.returns
-returns g c = λ l s at.
+returns g c = λ l r s at.
     let runs = c.as_slice-run-items.result.now in
-    let now = c.loop-run.invariant l s at in
+    let now = c.loop-run.invariant l r s at in
     let past : length runs ≤ c.loop-run.run-index = omega (arith, c.loop-run-test.false) in
     (now.0, ap (λ xs. after l s (events_of xs)) (sym c.as_slice-run-items.ensures ∙ sym (take_all c.loop-run.run-index runs past)) ∙ now.1, now.2)

@@ -1,47 +1,12 @@
-use Rattle.std.proofs.Common.{rules, to_z, of_z, w64, ◌≡◌, ◌∙◌, inl, inr, refl, ap, sym, subst}
+use Rattle.std.proofs.Common.{sym, subst}
 use Rattle.std.specs.Bool.{Decides}
 use Rattle.std.proofs.lemmas.Result.{IfOk-weaker}
 use Rattle.clmodel.specs.Law.{Shows}
-use Rattle.clmodel.specs.declared.fault.Fault.TheVariants as fault
-use Rattle.replay.proofs.Showing.{fails_shown}
 use Rattle.replay.proofs.faults.shows.Goals as goal
 
-pub returns-in-Conflict : goal.returns-in-Conflict
-returns-in-Conflict g c =
+pub returns-in-Some : goal.returns-in-Some
+returns-in-Some g c =
     let l = g.D.Described.launch c.args.launch.now in
     IfOk-weaker c.shows_conflict.result _ _
-    (λ answer h. λ s at. subst (λ f. Decides answer (Shows l s f)) (sym c.in-Conflict.is) (h s (c.log.ensures l s at)))
+    (λ answer h. λ r s at. subst (λ f. Decides answer (Shows l s f)) (sym c.in-Some.ensures) (h s (c.log.ensures l r s at)))
     c.shows_conflict.ensures
-
-pub returns-in-Unset : goal.returns-in-Unset
-returns-in-Unset g c =
-    let l = g.D.Described.launch c.args.launch.now in
-    IfOk-weaker c.shows_unset.result _ _
-    (λ answer h. λ s at. subst (λ f. Decides answer (Shows l s f)) (sym c.in-Unset.is) (h s at))
-    c.shows_unset.ensures
-
-pub returns-in-Bounds : goal.returns-in-Bounds
-returns-in-Bounds g c =
-    let l = g.D.Described.launch c.args.launch.now in
-    let told = c.in-Bounds in
-    let back : to_z w64 (of_z w64 told.element) ≡ told.element = search rules in
-    IfOk-weaker c.shows_bounds.result _ _
-    (λ answer h. λ s at.
-    subst (λ f. Decides answer (Shows l s f)) (ap (λ z. fault.Bounds told.item told.kind told.location z) back ∙ sym told.is) (h s at))
-    c.shows_bounds.ensures
-
-pub returns-in-PrivateBounds : goal.returns-in-PrivateBounds
-returns-in-PrivateBounds g c =
-    let l = g.D.Described.launch c.args.launch.now in
-    let f = c.args.fault.now in
-    IfOk-weaker c.shows_failure.result _ _
-    (λ answer h. λ s at.
-    elim c.in-PrivateBounds.is [
-      | inl w ↦ fails_shown l s f _ _ answer w.2 refl (h s at)
-      | inr (inl w) ↦ fails_shown l s f _ _ answer w.1 refl (h s at)
-      | inr (inr (inl w)) ↦ fails_shown l s f _ _ answer w.2 refl (h s at)
-      | inr (inr (inr (inl w))) ↦ fails_shown l s f _ _ answer w refl (h s at)
-      | inr (inr (inr (inr (inl w)))) ↦ fails_shown l s f _ _ answer w refl (h s at)
-      | inr (inr (inr (inr (inr w)))) ↦ fails_shown l s f _ _ answer w refl (h s at)
-    ])
-    c.shows_failure.ensures

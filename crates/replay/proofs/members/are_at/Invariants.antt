@@ -1,12 +1,11 @@
 use Rattle.std.proofs.Common.{true}
-use Rattle.replay.specs.Items.{AllRun, AreAlike, AreAsked, AreAt}
+use Rattle.replay.specs.Items.{AreAlike, AreAsked, AreAt}
 use Rattle.replay.proofs.members.are_at.Given as goal
 
 abbrev pub invariant-loop-item : goal.invariant-loop-item
 invariant-loop-item g l =
     record {
-      runs : AllRun (g.D.Runnable.kernel l.fn.launch) l.fn.items.items → AllRun (g.D.Runnable.kernel l.fn.launch) l.items.items;
-      alike : AreAlike (g.D.Described.launch l.fn.launch) l.fn.items.items l.items.items;
+      alike : AreAlike (g.D.Described.launch l.fn.launch) (g.D.Runnable.started l.fn.launch) l.fn.items.items l.items.items;
       asked : AreAsked l.items.items l.fn.first l.item;
       at : AreAt (g.D.Described.launch l.fn.launch) l.fn.items.items l.fn.first l.item l.fn.stop true;
     }

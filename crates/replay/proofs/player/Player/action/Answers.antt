@@ -1,49 +1,50 @@
-use Rattle.std.proofs.Common.{◌≡◌, ◌<◌, List, [], length, refl, ap, ◌∙◌, subst, arith}
+use Rattle.std.proofs.Common.{◌≡◌, ℕ, ◌<◌, [], length, get_or, refl, ap, ◌∙◌, subst, arith}
+use Rattle.std.specs.Vec.{with_item}
 use Rattle.std.proofs.lemmas.Option.{slice_get_read}
-use Rattle.clmodel.specs.declared.action.Answer.{Answer}
-use Rattle.launches.specs.Items.{acts_of, IsAsked, Runs, Stands}
-use Rattle.replay.proofs.Playing.{asked, action_as}
-use Rattle.replay.proofs.Running.{run_set}
-use Rattle.replay.proofs.Walks.{at_set}
+use Rattle.clmodel.specs.Launch.{Launch}
+use Rattle.clmodel.specs.Run.{State}
+use Rattle.item_step.specs.Running.{Running}
+use Rattle.launches.specs.Items.{acts_of, IsAsked, Stands}
 use Rattle.launches.specs.declared.slot.Slot.{Slot}
+use Rattle.replay.specs.Items.{IsAlike}
+use Rattle.replay.specs.States.{IsAt}
+use Rattle.replay.specs.declared.player.Player.{Player}
+use Rattle.replay.proofs.Playing.{asked, action_as}
+use Rattle.replay.proofs.Walks.{at_set}
 use Rattle.replay.proofs.player.Player.action.Goals as goal
 
-pub returns-in_err-action-clause-same : goal.returns-in_err-action-clause-same
-returns-in_err-action-clause-same g c = λ l s at.
-    let p = c.args.self.now in
-    let i = c.index_mut.result.now in
-    let k = c.args.item in
-    let inside : k < length p.items.items = omega (arith, c.if-item-len.false, c.len.ensures) in
-    let same = subst (λ z. (answers : List Answer) → acts_of z k c.next.new.self answers ≡ acts_of z k i answers) at.plays c.next.ensures.same in
+-- a player one of whose items was asked is at the same state
+still_at :
+    {D : Type 0} (launch_of : D → Launch) (started_of : D → ℕ → Running) (l : Launch) (r : ℕ → Running) (p : Player D) (s : State) (k : ℕ) (i j : Slot)
+    → k < length p.items.items → i ≡ get_or p.items.items k i → IsAlike (launch_of p.launch.now) (started_of p.launch.now) k i j → IsAt launch_of started_of l r p s
+    → IsAt launch_of started_of l r (record p { items = with_item p.items k j }) s
+still_at launch_of started_of l r p s k i j inside is same at =
     record {
       plays = at.plays;
+      begins = at.begins;
       runnable = at.runnable;
-      tells = asked l p.items.items p.buffers.items p.groups.items p.log.items s k i c.next.new.self
-          (slice_get_read p.items.items (length p.items.items) k i refl inside c.index_mut.ensures.value) same at.tells;
+      tells = asked l r p.items.items p.buffers.items p.groups.items p.log.items s k i j (slice_get_read p.items.items (length p.items.items) k i refl inside is)
+          (subst (λ z. IsAlike l z k i j) at.begins (subst (λ z. IsAlike z (started_of p.launch.now) k i j) at.plays same)) at.tells;
     }
+
+pub returns-in_err-action-clause-same : goal.returns-in_err-action-clause-same
+returns-in_err-action-clause-same g c = λ l r s at.
+    still_at {D = g.row.D.Denot} g.D.Described.launch g.D.Runnable.started l r c.args.self.now s c.args.item c.index_mut.result.now c.next.new.self
+    (omega (arith, c.if-item-len.false, c.len.ensures)) c.index_mut.ensures.value (record { acts = c.next.ensures.same; runs = c.next.ensures.runs }) at
 
 pub returns-clause-same : goal.returns-clause-same
-returns-clause-same g c = λ l s at.
-    let p = c.args.self.now in
-    let i = c.index_mut.result.now in
-    let k = c.args.item in
-    let inside : k < length p.items.items = omega (arith, c.if-item-len.false, c.len.ensures) in
-    let same = subst (λ z. (answers : List Answer) → acts_of z k c.next.new.self answers ≡ acts_of z k i answers) at.plays c.next.ensures.same in
-    record {
-      plays = at.plays;
-      runnable = at.runnable;
-      tells = asked l p.items.items p.buffers.items p.groups.items p.log.items s k i c.next.new.self
-          (slice_get_read p.items.items (length p.items.items) k i refl inside c.index_mut.ensures.value) same at.tells;
-    }
+returns-clause-same g c = λ l r s at.
+    still_at {D = g.row.D.Denot} g.D.Described.launch g.D.Runnable.started l r c.args.self.now s c.args.item c.index_mut.result.now c.next.new.self
+    (omega (arith, c.if-item-len.false, c.len.ensures)) c.index_mut.ensures.value (record { acts = c.next.ensures.same; runs = c.next.ensures.runs }) at
 
 pub returns-clause-value : goal.returns-clause-value
-returns-clause-value g c = λ l s at.
+returns-clause-value g c = λ l r s at.
     let p = c.args.self.now in
     let i = c.index_mut.result.now in
     let k = c.args.item in
     let inside : k < length p.items.items = omega (arith, c.if-item-len.false, c.len.ensures) in (
       subst (λ w. k < w) at.tells.many inside,
-      action_as l p.items.items p.buffers.items p.groups.items p.log.items s k i c.in_ok-action.action
+      action_as l r p.items.items p.buffers.items p.groups.items p.log.items s k i c.in_ok-action.action
           (slice_get_read p.items.items (length p.items.items) k i refl inside c.index_mut.ensures.value)
           (c.in_ok-action.ensures.action ∙ ap (λ z. acts_of z k i []) at.plays) at.tells,
     )
@@ -53,21 +54,3 @@ returns-clause-asked g c = at_set IsAsked c.args.self.now.items.items c.args.ite
 
 pub returns-clause-stands : goal.returns-clause-stands
 returns-clause-stands g c = at_set (λ (i : Slot). Stands i c.in_ok-action.action) c.args.self.now.items.items c.args.item c.next.new.self c.in_ok-action.ensures.stands
-
-pub returns-in_err-action-clause-runs : goal.returns-in_err-action-clause-runs
-returns-in_err-action-clause-runs g c = λ kernel h.
-    let xs = c.args.self.now.items.items in
-    let x = c.index_mut.result.now in
-    let k = c.args.item in
-    let inside : k < length xs = omega (arith, c.if-item-len.false, c.len.ensures) in
-    let goes = subst (λ z. Runs z k x → Runs z k c.next.new.self) h.0 c.next.ensures.runs in
-    (h.0, run_set kernel xs k x c.next.new.self (slice_get_read xs (length xs) k x refl inside c.index_mut.ensures.value) goes h.1)
-
-pub returns-clause-runs : goal.returns-clause-runs
-returns-clause-runs g c = λ kernel h.
-    let xs = c.args.self.now.items.items in
-    let x = c.index_mut.result.now in
-    let k = c.args.item in
-    let inside : k < length xs = omega (arith, c.if-item-len.false, c.len.ensures) in
-    let goes = subst (λ z. Runs z k x → Runs z k c.next.new.self) h.0 c.next.ensures.runs in
-    (h.0, run_set kernel xs k x c.next.new.self (slice_get_read xs (length xs) k x refl inside c.index_mut.ensures.value) goes h.1)

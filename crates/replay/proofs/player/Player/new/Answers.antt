@@ -3,29 +3,24 @@ use Rattle.std.specs.Prelude.{replicate}
 use Rattle.clmodel.specs.Run.{start}
 use Rattle.clmodel.specs.declared.access.Access.{Access}
 use Rattle.launches.specs.Groups.{filled}
-use Rattle.replay.specs.Items.{AllRun}
 use Rattle.replay.specs.States.{Tells}
 use Rattle.launches.specs.declared.slot.Slot.TheVariants as slot
-use Rattle.replay.proofs.Running.{none_runs}
 use Rattle.replay.proofs.Starting.{starts}
 use Rattle.replay.proofs.player.Player.new.Goals as goal
 
-pub returns-clause-at : goal.returns-clause-at
-returns-clause-at g c =
+pub returns : goal.returns
+returns g c =
     let l = g.D.Described.launch c.args.launch.now in
+    let r = g.D.Runnable.started c.args.launch.now in
     let counted : c.args.groups * c.group_size.result ≡ l.items = ap (λ z. c.args.groups * z) c.group_size.ensures.value ∙ c.requires.counted in
     let whole = ap (λ z. z * l.group_size) c.in_ok-groups.ensures.many ∙ c.requires.counted in
     record {
       plays = refl;
+      begins = refl;
       runnable = c.requires.runnable;
       tells =
-          subst (λ z. Tells l z c.args.buffers.items c.in_ok-groups.groups.items c.new.result.items (start l)) (sym c.in_ok-items.ensures)
-          (subst (λ z. Tells l (replicate (c.args.groups * c.group_size.result) slot.Waiting) z c.in_ok-groups.groups.items c.new.result.items (start l)) (sym c.requires.filled)
-          (subst (λ z. Tells l (replicate (c.args.groups * c.group_size.result) slot.Waiting) (filled l) c.in_ok-groups.groups.items z (start l)) (sym {A = List Access} c.new.ensures.items)
-          (starts l (c.args.groups * c.group_size.result) c.in_ok-groups.groups.items counted whole c.in_ok-groups.ensures.fresh)));
+          subst (λ z. Tells l r z c.args.buffers.items c.in_ok-groups.groups.items c.new.result.items (start l)) (sym c.in_ok-items.ensures)
+          (subst (λ z. Tells l r (replicate (c.args.groups * c.group_size.result) slot.Waiting) z c.in_ok-groups.groups.items c.new.result.items (start l)) (sym c.requires.filled)
+          (subst (λ z. Tells l r (replicate (c.args.groups * c.group_size.result) slot.Waiting) (filled l) c.in_ok-groups.groups.items z (start l)) (sym {A = List Access} c.new.ensures.items)
+          (starts l r (c.args.groups * c.group_size.result) c.in_ok-groups.groups.items counted whole c.in_ok-groups.ensures.fresh)));
     }
-
-pub returns-clause-runs : goal.returns-clause-runs
-returns-clause-runs g c =
-    let kernel = g.D.Runnable.kernel c.args.launch.now in
-    (refl, subst (AllRun kernel) (sym c.in_ok-items.ensures) (none_runs kernel (c.args.groups * c.group_size.result)))

@@ -11,34 +11,34 @@ pub unset_byte-requires : goal.unset_byte-requires
 unset_byte-requires g c =
     let p = c.args.self.now in
     let l = c.requires.0 in
-    let s = c.requires.1 in
-    let at = c.requires.2 in
+    let s = c.requires.2 in
+    let at = c.requires.3 in
     let k = c.args.item in
     let n = k / c.group_size.result in
     let x = c.index-group.result.now in
     let e : group_of l k ≡ n = ap (λ size. k / size) (sym (c.group_size.ensures.value ∙ ap (λ z. z.group_size) at.plays)) in
-    let below : n < length p.groups.items = group_there l p.groups.items k n at.runnable.grouped at.tells.grouped c.requires.3 e in
+    let below : n < length p.groups.items = group_there l p.groups.items k n at.runnable.grouped at.tells.grouped c.requires.4 e in
     let there = slice_get_read p.groups.items (length p.groups.items) n x refl below c.index-group.ensures in (
       l,
       n,
       s.memory,
       subst (λ z. SpacesHold (λ b. b) l (length l.buffers) region.Buffer z s.memory) (sym c.as_slice.ensures.value) at.tells.buffers_hold,
       (at.tells.each n x there).locals,
-      subst (λ z. c.args.first + size_of c.args.operation ≤ bytes_of l (region_of z c.args.object)) e c.requires.4,
+      subst (λ z. c.args.first + size_of c.args.operation ≤ bytes_of l (region_of z c.args.object)) e c.requires.5,
     )
 
 pub returns : goal.returns
-returns g c = λ l s at.
+returns g c = λ l r s at.
     let p = c.args.self.now in
     let k = c.args.item in
     let n = k / c.group_size.result in
     let x = c.index-group.result.now in
-    let same = sym c.requires.2.plays ∙ at.plays in
+    let same = sym c.requires.3.plays ∙ at.plays in
     let e : group_of l k ≡ n = ap (λ size. k / size) (sym (c.group_size.ensures.value ∙ ap (λ z. z.group_size) at.plays)) in
-    let under : k < l.items = subst (λ z. k < z.items) same c.requires.3 in
+    let under : k < l.items = subst (λ z. k < z.items) same c.requires.4 in
     let inside : c.args.first + size_of c.args.operation ≤ bytes_of l (region_of n c.args.object) =
     subst (λ z. c.args.first + size_of c.args.operation ≤ bytes_of l (region_of z c.args.object)) e
-    (subst (λ z. c.args.first + size_of c.args.operation ≤ bytes_of z (region_of (group_of z k) c.args.object)) same c.requires.4) in
+    (subst (λ z. c.args.first + size_of c.args.operation ≤ bytes_of z (region_of (group_of z k) c.args.object)) same c.requires.5) in
     let below : n < length p.groups.items = group_there l p.groups.items k n at.runnable.grouped at.tells.grouped under e in
     let there = slice_get_read p.groups.items (length p.groups.items) n x refl below c.index-group.ensures in
     c.unset_byte.ensures l n s.memory
