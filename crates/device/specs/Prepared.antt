@@ -9,6 +9,7 @@ use Rattle.host_commands.specs.declared.command.Command.TheVariants as command
 use Rattle.item_step.specs.Launches as launches
 use Rattle.item_step.specs.declared.launch.Launch.{Launch}
 use Rattle.launches.specs.Groups.{HasGroups}
+use Rattle.device.specs.Kept.{IsCodeOf}
 use Rattle.device.specs.Machine.{Machine, first, row, kernel_of, setup_of, bytes_of}
 use Rattle.device.specs.declared.prepared.Prepared.{Prepared}
 use Rattle.device.specs.declared.prepared.Launched.{Launched}
@@ -24,11 +25,13 @@ pub record Came (setup : Setup) (bytes : List ℕ → List ℕ) (launched : Laun
   pub names : launched.names.items ≡ buffer_names setup
   pub concludes : Concludes (launch_of setup bytes) launched.outcome
 
--- a launch that its row doesn't refuse: it runs the kernel of this name over this range, in whole groups
+-- a launch that its row doesn't refuse: it runs the kernel of this name over this range, in whole groups, and by this
+-- kernel's code
 pub record IsPrepared (m : Machine) (kernel : List ℕ) (range : Range) (launch : Launch) : Type 0 where
   pub admitted : first (row m (command.Launch kernel range)) ≡ None
   pub setup : launches.setup_of launch ≡ setup_of m (kernel_of m kernel) range
   pub groups : HasGroups (launches.setup_of launch)
+  pub code : IsCodeOf (launches.setup_of launch).program (launches.setup_of launch).kernel (launches.code_of launch)
 
 -- such a launch, with the names of its buffers, in the order of its global arguments (own)
 pub record IsStarted (m : Machine) (kernel : List ℕ) (range : Range) (started : Started) : Type 0 where

@@ -9,13 +9,14 @@ ghost use Rattle.cltypes.specs.Kernels.{IsKernel};
 ghost use Rattle.host_commands.specs.Kernels.{names_buffer};
 ghost use Rattle.spaces_base.specs.Tables.{is, find};
 ghost use Rattle.lower.specs.Lowers.{IsLowered};
-ghost use Rattle.device.specs.Kept.{with_argument_set};
+ghost use Rattle.device.specs.Kept.{IsCodeOf, with_argument_set};
 
 use clmodel::lookup::PlacedFunction;
 use clmodel::setup::Argument;
 use clmodel::text::Name;
 use cltypes::Checked;
 use host_commands::kernel::Kernel;
+use lower::kernel_laws::typed_kernels_fit;
 use lower::lower_kernel;
 use regcode::Code;
 use renumbering::renumber;
@@ -36,8 +37,10 @@ pub(crate) fn code_of(
     kernel: PlacedFunction<'_>,
 ) -> Result<Code, AllocError>
     requires { IsKernel checked.now.tree kernel.place kernel.function.now }
-    ensures { IfOk result (IsLowered (program checked.now.tree) kernel.entry.function.now.name) }
+    ensures lowered { IfOk result (IsLowered (program checked.now.tree) kernel.entry.function.now.name) }
+    ensures code { IfOk result (IsCodeOf (program checked.now.tree) kernel.entry.function.now.name) }
 {
+    typed_kernels_fit();
     let code = lower_kernel(alloc, checked, kernel)?;
     renumber(alloc, code)
 }

@@ -1,9 +1,14 @@
 //! Launches: their refusals, what they run, and what they leave (OpenCL 1.2, section 5.8).
 #![tactic(auto)]
 
-ghost use Rattle.std.specs.Prelude.{◌≡◌, ◌≤◌, ℕ, List, IfOk, IfErr, None, Some};
+ghost use Rattle.std.specs.Prelude.{◌≡◌, ℕ, List, IfOk, IfErr, None, Some};
+ghost use Rattle.clmodel.specs.Next.{launch_of};
+ghost use Rattle.clmodel.specs.Outcome.{Concludes};
 ghost use Rattle.clmodel.specs.declared.setup.Range.{Range as RangeOf};
 ghost use Rattle.host_commands.specs.Ranges.{IsLaunchable};
+ghost use Rattle.item_step.specs.Launches as launches;
+ghost use Rattle.launches.specs.Groups.{HasGroups};
+ghost use Rattle.spaces_base.specs.Buffers.{bytes_in};
 
 use crate::Device;
 use crate::prepared::{Launched, Prepared, Started};
@@ -15,11 +20,8 @@ use clmodel::text::Name;
 use host_commands::command::{Command, Refusal, Reply};
 use host_commands::ranges::{is_bad_dimension, is_bad_group, is_too_many};
 use item_step::{Launch, is_local_too_large};
-use snapshot_merge::run_launch;
-use std::marker::Sync;
-use std::sync::Wait;
-use std::thread::Threads;
-use workers::{Gate, run_parallel};
+use spaces_base::Buffers;
+use std::alloc::{AllocError, Global};
 
 impl Device {
     ghost use Rattle.device.specs.Machine.{Step, Answers, IsRefusal, machine_of, kernel_of, setup_of, first, row};
@@ -99,35 +101,21 @@ impl Device {
         }
     }
 
-    /// Runs a kernel over a range. Where it came out clean, the buffers hold what it left.
-    pub(crate) fn launch(&mut self, name: &Name, range: &Range) -> Result<Reply, Refusal>
-        ensures ok { IfOk result (λ reply. Answers (machine_of self.old) (Command.Launch name.now range.now) reply (machine_of self.new)) }
-        ensures err { IfErr result (λ refusal. Step (machine_of self.old) (Command.Launch name.now range.now) (Reply.Refused refusal) (machine_of self.new)) }
-    {
-        let launched = {
-            let Started { launch, names } = self.start(name, range)?;
-            let outcome = run_launch(self.alloc, &launch, &self.buffers)?;
-            Launched { names, outcome }
-        };
-        Ok(self.conclude(launched))
-    }
-
-    /// The same by 1 to 16 workers, which call the gate.
-    pub(crate) fn launch_with<G: Gate, T: Threads + Wait + Sync>(
+    /// Runs a kernel over a range by what runs its launch. Where it came out clean, the buffers hold what it left.
+    pub(crate) fn launch<R: FnOnce(Global, &Launch<'_>, &Buffers) -> Result<Outcome, AllocError>>(
         &mut self,
-        rt: &T,
         name: &Name,
         range: &Range,
-        workers: u32,
-        gate: &G,
+        run: R,
     ) -> Result<Reply, Refusal>
-        requires workers { (1 ≤ workers) × (workers ≤ 16) }
+        requires runs { (alloc : _) (launch : _) (buffers : _) → HasGroups (launches.setup_of launch.now) → R.pre run alloc launch buffers }
+        requires concludes { (alloc : _) (launch : _) (buffers : _) (outcome : _) → R.post run alloc launch buffers outcome → IfOk outcome (Concludes (launch_of (launches.setup_of launch.now) (bytes_in buffers.now))) }
         ensures ok { IfOk result (λ reply. Answers (machine_of self.old) (Command.Launch name.now range.now) reply (machine_of self.new)) }
         ensures err { IfErr result (λ refusal. Step (machine_of self.old) (Command.Launch name.now range.now) (Reply.Refused refusal) (machine_of self.new)) }
     {
         let launched = {
             let Started { launch, names } = self.start(name, range)?;
-            let outcome = run_parallel(rt, self.alloc, &launch, &self.buffers, workers, gate)?;
+            let outcome = run(self.alloc, &launch, &self.buffers)?;
             Launched { names, outcome }
         };
         Ok(self.conclude(launched))

@@ -12,8 +12,10 @@ ghost use Rattle.std.specs.Prelude.{◌≡◌, IfOk, IfErr, IfSome, Some, is_som
 ghost use Rattle.std.specs.Option.{option_map};
 ghost use Rattle.clmodel.specs.Tree.{program};
 ghost use Rattle.clmodel.specs.Typing.Sizes.{parameter_limit};
+ghost use Rattle.item_step.specs.Launches.{setup_of};
+ghost use Rattle.launches.specs.Groups.{HasGroups};
 ghost use Rattle.spaces_base.specs.Tables.{find};
-ghost use Rattle.device.specs.Kept.{ActsAs, AllCompiled};
+ghost use Rattle.device.specs.Kept.{ActsAs, AllCompiled, IsCodeOf};
 
 mod compiled;
 mod launching;
@@ -29,6 +31,7 @@ pub use host_commands::command::{BuildFault, Command, Refusal, Reply};
 use host_commands::fills::is_bad_fill;
 use host_commands::kernel::{Kernel, parameters_of, suits};
 pub use item_step::Launch;
+use snapshot_merge::run_launch;
 pub use spaces_base::Buffers;
 use spaces_base::Table;
 use std::alloc::Global;
@@ -36,6 +39,7 @@ use std::marker::Sync;
 use std::sync::Wait;
 use std::thread::Threads;
 pub use tickets::{Driver, close, open};
+use workers::run_parallel;
 pub use workers::{Gate, OpenGate};
 
 /// The most buffers that a device has.
@@ -123,6 +127,7 @@ impl Device {
         ensures kernel { IfSome result (λ found. found.1.now.kernel ≡ kernel_of (machine_of self.now) name.now) }
         ensures kept { IfSome result (λ found. find self.now.kernels name.now ≡ Some found.1.now) }
         ensures faithful { IfSome result (λ found. ActsAs (program found.0.now.tree) found.1.now.kernel.function found.1.now.code) }
+        ensures code { IfSome result (λ found. IsCodeOf (program found.0.now.tree) found.1.now.kernel.function found.1.now.code) }
         ensures few { IfSome result (λ found. length found.1.now.kernel.arguments ≤ parameter_limit) }
     {
         let Some(compiled) = self.compiled(name) else {
@@ -397,7 +402,11 @@ impl Device {
                 index,
                 argument,
             } => self.set_argument(&kernel, index, argument),
-            Command::Launch { kernel, range } => self.launch(&kernel, &range),
+            Command::Launch { kernel, range } => {
+                self.launch(&kernel, &range, |alloc, launch, buffers| {
+                    run_launch(alloc, launch, buffers)
+                })
+            }
         }
     }
 
@@ -428,7 +437,14 @@ impl Device {
         let Command::Launch { kernel, range } = command else {
             return self.apply(command);
         };
-        match self.launch_with(rt, &kernel, &range, workers, gate) {
+        let launched = self.launch(
+            &kernel,
+            &range,
+            |alloc, launch, buffers|
+                requires { HasGroups (setup_of launch.now) × (1 ≤ workers) × (workers ≤ 16) }
+            { run_parallel(rt, alloc, launch, buffers, workers, gate) },
+        );
+        match launched {
             Ok(reply) => reply,
             Err(refusal) => Reply::Refused(refusal),
         }

@@ -8,7 +8,7 @@ ghost use Rattle.clmodel.specs.Setup.{kernel_in, objects_of};
 ghost use Rattle.clmodel.specs.Tree.{program};
 ghost use Rattle.clmodel.specs.Typing.Sizes.{parameter_limit};
 ghost use Rattle.host_commands.specs.Ranges.{IsLaunchable};
-ghost use Rattle.device.specs.Kept.{ActsAs};
+ghost use Rattle.device.specs.Kept.{ActsAs, IsCodeOf};
 
 use clmodel::outcome::Outcome;
 use clmodel::setup::Range;
@@ -28,6 +28,7 @@ pub(crate) struct Prepared<'a> {
     pub(crate) code: &'a Code,
     pub(crate) budget: u32,
     pub(crate) ghost faithful: { ActsAs (program checked.now.tree) kernel.now.function code.now },
+    pub(crate) ghost listed: { IsCodeOf (program checked.now.tree) kernel.now.function code.now },
     pub(crate) ghost limited: { budget ≤ 1000000 },
     pub(crate) ghost few: { length kernel.now.arguments ≤ parameter_limit },
     pub(crate) ghost fits: { are_too_large (objects_of (kernel_in (program checked.now.tree).functions kernel.now.function) kernel.now.arguments) ≡ false },
@@ -49,7 +50,7 @@ pub(crate) struct Launched {
 
 impl<'a> Prepared<'a> {
     ghost use Rattle.device.specs.Prepared.{prepared_setup};
-    ghost use Rattle.item_step.specs.Launches.{setup_of};
+    ghost use Rattle.item_step.specs.Launches.{code_of, setup_of};
     ghost use Rattle.launches.specs.Groups.{HasGroups};
 
     /// What it runs over a range.
@@ -70,6 +71,7 @@ impl<'a> Prepared<'a> {
         requires { IsLaunchable range.now }
         ensures setup { IfOk result (λ launch. setup_of launch ≡ prepared_setup self.now range.now) }
         ensures groups { IfOk result (λ launch. HasGroups (setup_of launch)) }
+        ensures code { IfOk result (λ launch. IsCodeOf (setup_of launch).program (setup_of launch).kernel (code_of launch)) }
     {
         let group_size = group_items(range);
         Launch::new(alloc, self.setup(range), group_size, self.code)

@@ -5,7 +5,7 @@ use Rattle.std.proofs.lemmas.Grind.{common_steps}
 use Rattle.std.proofs.lemmas.Bool.{false≢true}
 use Rattle.std.proofs.lemmas.List.Sums.{count_by_more_yes, sum_by-take-le}
 use Rattle.std.proofs.lemmas.Option.{get_or_from_slice_get, slice_get_cases}
-use Rattle.explain_play.specs.PlayedOut.{IsLast}
+use Rattle.explain_play.specs.PlayedOut.{IsLastEvent}
 
 none_some : {A : Type 0} (x : A) → None ≡ Some x → ⊥
 none_some x e = cc
@@ -42,6 +42,6 @@ passes_within p xs m x at passes =
     let all : take (length xs) xs ≡ xs = grind (arith, common_steps) in
     subst (λ l. count_by p (take m xs) < count_by p l) all (fewer_before p xs m (length xs) x at passes (some_below xs m x at))
 
-pub one_last : (p : ℕ → Bool) (n : ℕ) (o : Option ℕ) (last : ℕ) → IsLast p n o → IsLast p n (Some last) → o ≡ Some last
+pub one_last : (p : ℕ → Bool) (n : ℕ) (o : Option ℕ) (last : ℕ) → IsLastEvent p n o → IsLastEvent p n (Some last) → o ≡ Some last
 one_last p n None last i j = absurd (false≢true (sym (i last j.0) ∙ j.1))
 one_last p n (Some other) last i j = grind (arith, i.0, i.1, i.2 last, j.0, j.1, j.2 other)

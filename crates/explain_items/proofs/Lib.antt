@@ -1,2 +1,3 @@
 mod Counting
-mod Spotting
+pub mod Renaming
+pub mod Spotting

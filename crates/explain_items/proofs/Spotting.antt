@@ -1,39 +1,60 @@
 -- From the origin of an instruction to its place in the source, and from an event to where its item stands.
-use Rattle.std.proofs.Common.{◌≡◌, ◌≤◌, ℕ, Option, None, Some, List, length, count_by, arith, refl, inl, inr, sym, ap, ◌∙◌}
+use Rattle.std.proofs.Common.{◌≡◌, ◌≤◌, ℕ, Option, None, Some, is_some, List, length, count_by, arith, refl, inl, inr, sym, ap, ◌∙◌}
 use Rattle.std.specs.Option.{IfNone, IfSome, option_and_then}
+use Rattle.std.proofs.lemmas.Bool.{false≢true}
 use Rattle.std.proofs.lemmas.Option.{IfSome_then}
-use Rattle.clmodel.specs.Setup.{Setup, functions_before, kernel_in}
-use Rattle.clmodel.specs.Tree.{Func}
-use Rattle.explain_play.specs.PlayedOut.{IsEventOf, IsLast, MadeAccess, acts_at, is_access}
+use Rattle.explain_play.specs.PlayedOut.{IsEventOf, IsLastEvent, MadeAccess, acts_at, is_access}
 use Rattle.explanation.specs.declared.places.Spot.{Spot}
 use Rattle.explanation.specs.declared.told.NamedItem.{NamedItem}
+use Rattle.clmodel.specs.Setup.{kernel_in}
+use Rattle.clmodel.specs.Tree.{Func}
+use Rattle.item_step.specs.Launches.{code_of, setup_of}
+use Rattle.item_step.specs.declared.launch.Launch.{Launch}
 use Rattle.marked_play.specs.declared.marks.Mark.{Mark}
-use Rattle.origins.specs.Finding.{IsFound, IsOriginIn}
-use Rattle.origins.specs.Origins.{kernel_origins}
+use Rattle.origins.specs.Finding.{IsFound, IsOriginIn, plain}
 use Rattle.origins.specs.declared.origin.Origin.{Origin}
 use Rattle.replay.specs.declared.slot.Stand.{Stand}
 use Rattle.source_spots.specs.Spots.{HaveTurns}
 use Rattle.explain_items.specs.Named.{IsAccessStand, IsItemStand, stand_of}
-use Rattle.explain_items.specs.Spotted.{BeginsAt, HasNoSpot, IsNamed, IsSpottable, IsSpotted}
+use Rattle.explain_items.specs.Marked.{CodeIsMarked, origins_of}
+use Rattle.explain_items.specs.Spotted.{BeginsAt, HasNoSpot, StandsInside, IsNamed, IsSpotted}
 use Rattle.explain_items.proofs.Counting.{one_last, passes_once, passes_within}
+use Rattle.explain_items.proofs.Renaming.{as_many, instruction_at}
 
 pub spotted :
-    (setup : Setup) (stand : Stand) (text : List ℕ) (first : ℕ) (origin : Origin) (spot : Spot) → IsOriginIn setup.program.functions setup.kernel stand.place (Some origin)
-    → (kernel_in setup.program.functions setup.kernel ≡ None → Some origin ≡ None) → BeginsAt text first origin spot → HaveTurns stand.turns spot.loops.items → IsSpotted setup stand text first spot
-spotted setup stand text first origin spot is none begins turns = at (kernel_in setup.program.functions setup.kernel) refl
+    (launch : Launch) (stand : Stand) (text : List ℕ) (first : ℕ) (origin : Origin) (spot : Spot) → CodeIsMarked launch
+    → IsOriginIn (setup_of launch).program.functions (setup_of launch).kernel stand.place (Some origin) → BeginsAt text first origin spot → HaveTurns stand.turns spot.loops.items
+    → IsSpotted launch stand text first spot
+spotted launch stand text first origin spot marked is begins turns = go (kernel_in (setup_of launch).program.functions (setup_of launch).kernel) refl
   where
-    at : (o : Option Func) → kernel_in setup.program.functions setup.kernel ≡ o → IsSpotted setup stand text first spot
-    at None e = let n : Some origin ≡ None = none e in cc
-    at (Some f) e = record { kernel = f; known = e; origin = origin; is = is f e; begins_at = begins; turned = turns }
+    go : (o : Option Func) → kernel_in (setup_of launch).program.functions (setup_of launch).kernel ≡ o → IsSpotted launch stand text first spot
+    go None e = absurd (false≢true (sym (ap is_some e) ∙ marked.there))
+    go (Some f) e =
+        let made = instruction_at (origins_of launch f) (code_of launch).instructions stand.place (plain origin) (marked.marks f e).each (is f e) in
+        record {
+          instruction = made.0;
+          stands = made.1;
+          kernel = f;
+          known = e;
+          origin = origin;
+          is = is f e;
+          suits = made.2;
+          begins_at = begins;
+          turned = turns;
+        }
 
--- no origin is found only of a place that isn't told
+-- no origin is found only of a place that is none of the code
 pub unspotted :
-    (setup : Setup) (place : ℕ) (text : List ℕ) (first : ℕ) → IsOriginIn setup.program.functions setup.kernel place None → IsSpottable setup place text first → ⊥
-unspotted setup place text first is h = go (is h.kernel h.known)
+    (launch : Launch) (stand : Stand) → CodeIsMarked launch → IsOriginIn (setup_of launch).program.functions (setup_of launch).kernel stand.place None → StandsInside launch stand → ⊥
+unspotted launch stand marked is inside = go (kernel_in (setup_of launch).program.functions (setup_of launch).kernel) refl
   where
-    go : IsFound (kernel_origins (functions_before setup.program.functions setup.kernel) h.kernel) place None → ⊥
-    go (inl past) = absurd (omega (arith, past, h.below))
-    go (inr many) = absurd (omega (arith, many, h.few))
+    found : (f : Func) → length (origins_of launch f) ≡ length (code_of launch).instructions → IsFound (origins_of launch f) stand.place None → ⊥
+    found f many (inl past) = absurd (omega (arith, past, many, inside))
+    found f many (inr huge) = let few = marked.few in absurd (omega (arith, huge, many, few))
+
+    go : (o : Option Func) → kernel_in (setup_of launch).program.functions (setup_of launch).kernel ≡ o → ⊥
+    go None e = absurd (false≢true (sym (ap is_some e) ∙ marked.there))
+    go (Some f) e = found f (as_many (origins_of launch f) (code_of launch).instructions (marked.marks f e).each) (is f e)
 
 pub access_stand :
     (marks : List Mark) (access : ℕ) (event : Option ℕ) (stand : Option Stand) → IfSome event (MadeAccess marks access) → stand ≡ stand_of marks event → (p : Stand) → stand ≡ Some p → IsAccessStand marks access p
@@ -53,7 +74,7 @@ access_stand_back marks access (Some number) stand made few e p h =
     e ∙ ap (λ n. stand_of marks (Some n)) same ∙ ap (option_and_then (λ mark. mark.stand)) h.made.at ∙ h.at
 
 pub item_stand :
-    (marks : List Mark) (item : ℕ) (event : Option ℕ) (stand : Option Stand) → IfSome event (IsEventOf marks item) → IsLast (acts_at marks item) (length marks) event → stand ≡ stand_of marks event
+    (marks : List Mark) (item : ℕ) (event : Option ℕ) (stand : Option Stand) → IfSome event (IsEventOf marks item) → IsLastEvent (acts_at marks item) (length marks) event → stand ≡ stand_of marks event
     → (p : Stand) → stand ≡ Some p → IsItemStand marks item p
 item_stand marks item None stand made last e p is = let n : None ≡ Some p = sym e ∙ is in cc
 item_stand marks item (Some number) stand made last e p is =
@@ -61,7 +82,7 @@ item_stand marks item (Some number) stand made last e p is =
 
 -- there is only one last event of an item
 pub item_stand_back :
-    (marks : List Mark) (item : ℕ) (event : Option ℕ) (stand : Option Stand) → IsLast (acts_at marks item) (length marks) event → stand ≡ stand_of marks event → (p : Stand)
+    (marks : List Mark) (item : ℕ) (event : Option ℕ) (stand : Option Stand) → IsLastEvent (acts_at marks item) (length marks) event → stand ≡ stand_of marks event → (p : Stand)
     → IsItemStand marks item p → stand ≡ Some p
 item_stand_back marks item event stand last e p h =
     let same : event ≡ Some h.number = one_last (acts_at marks item) (length marks) event h.number last h.last in
@@ -69,20 +90,20 @@ item_stand_back marks item event stand last e p h =
 
 -- what isn't told, where the places are the same
 pub none_at :
-    {A : Type 0} (found : Option A) (setup : Setup) (text : List ℕ) (first : ℕ) (here here' : Stand → Type 0) → ((p : Stand) → here' p → here p) → IfNone found (HasNoSpot setup text first here)
-    → IfNone found (HasNoSpot setup text first here')
-none_at None setup text first here here' f none = λ stand at h. none stand (f stand at) h
-none_at (Some x) setup text first here here' f none = tt
+    {A : Type 0} (found : Option A) (text : List ℕ) (first : ℕ) (here here' : Stand → Type 0) → ((p : Stand) → here' p → here p) → IfNone found (HasNoSpot text first here)
+    → IfNone found (HasNoSpot text first here')
+none_at None text first here here' f none = λ stand at h. none stand (f stand at) h
+none_at (Some x) text first here here' f none = tt
 
 -- the same item, where the places are told otherwise
 pub named_at :
-    (setup : Setup) (text : List ℕ) (first : ℕ) (here before here' before' : Stand → Type 0) (item : ℕ) (named : NamedItem) → ((p : Stand) → here p → here' p) → ((p : Stand) → here' p → here p)
-    → ((p : Stand) → before p → before' p) → ((p : Stand) → before' p → before p) → IsNamed setup text first here before item named → IsNamed setup text first here' before' item named
-named_at setup text first here before here' before' item named f f' g g' n = record {
+    (launch : Launch) (text : List ℕ) (first : ℕ) (here before here' before' : Stand → Type 0) (item : ℕ) (named : NamedItem) → ((p : Stand) → here p → here' p) → ((p : Stand) → here' p → here p)
+    → ((p : Stand) → before p → before' p) → ((p : Stand) → before' p → before p) → IsNamed launch text first here before item named → IsNamed launch text first here' before' item named
+named_at launch text first here before here' before' item named f f' g g' n = record {
   number = n.number;
   ids = n.ids;
   spotted = IfSome_then named.spot n.spotted (λ spot s. (s.0, f s.0 s.1, s.2));
-  unspotted = none_at named.spot setup text first here here' f' n.unspotted;
+  unspotted = none_at named.spot text first here here' f' n.unspotted;
   last_spotted = IfSome_then named.last n.last_spotted (λ spot s. (s.0, g s.0 s.1, s.2));
-  last_unspotted = none_at named.last setup text first before before' g' n.last_unspotted;
+  last_unspotted = none_at named.last text first before before' g' n.last_unspotted;
 }

@@ -1,2 +1,3 @@
+pub mod Marked
 pub mod Named
 pub mod Spotted

@@ -6,14 +6,13 @@ use Rattle.clmodel.specs.declared.action.Stop.{Stop}
 use Rattle.clmodel.specs.declared.action.Stop.TheVariants as stop
 use Rattle.clmodel.specs.declared.fault.Fault.{Fault}
 use Rattle.clmodel.specs.declared.fault.Fault.TheVariants as fault
-use Rattle.explain_play.specs.PlayedOut.{IsEventOf, IsLast, MadeAccess, acts_at}
+use Rattle.explain_play.specs.PlayedOut.{IsEventOf, IsLastEvent, MadeAccess, acts_at}
 use Rattle.explain_play.specs.declared.played.Played.{Played}
 use Rattle.explanation.specs.declared.told.NamedItem.{NamedItem}
-use Rattle.item_step.specs.Launches.{setup_of}
 use Rattle.marked_play.specs.declared.marks.Mark.{Mark}
 use Rattle.marked_play.specs.declared.pairs.Pair.{Pair}
 use Rattle.replay.specs.declared.slot.Stand.{Stand}
-use Rattle.explain_items.specs.Spotted.{IsNamed}
+use Rattle.explain_items.specs.Spotted.{IsNamed, IsNamedInside}
 use Rattle.explain_items.specs.declared.context.Context.{Context}
 
 -- where the item of the event of a number stands, if there is one
@@ -29,7 +28,7 @@ pub record IsAccessStand (marks : List Mark) (access : ℕ) (stand : Stand) : Ty
 -- where an item stood when it made its last access
 pub record IsItemStand (marks : List Mark) (item : ℕ) (stand : Stand) : Type 0 where
   pub number : ℕ
-  pub last : IsLast (acts_at marks item) (length marks) (Some number)
+  pub last : IsLastEvent (acts_at marks item) (length marks) (Some number)
   pub event : IsEventOf marks item number
   pub at : event.mark.stand ≡ Some stand
 
@@ -53,12 +52,21 @@ IsBefore marks item AtEnd stand = IsItemStand marks item stand
 -- the item of a number at a site, of this launch and with places in this source
 abbrev pub IsTold : Context → List Mark → ℕ × Site → NamedItem → Type 0
 IsTold context marks told named =
-    IsNamed (setup_of context.launch.now) context.program.text.now context.program.first_line (λ stand. IsHere marks told.1 stand) (λ stand. IsBefore marks told.0 told.1 stand)
+    IsNamed context.launch.now context.program.text.now context.program.first_line (λ stand. IsHere marks told.1 stand) (λ stand. IsBefore marks told.0 told.1 stand)
     told.0 named
 
 -- these items, in this order
 abbrev pub AreTold : Context → List Mark → List (ℕ × Site) → List NamedItem → Type 0
 AreTold context marks told items = AllZip (λ t named. IsTold context marks t named) told items
+
+-- the same, of those stands alone that are at an instruction of the launch
+abbrev pub IsToldInside : Context → List Mark → ℕ × Site → NamedItem → Type 0
+IsToldInside context marks told named =
+    IsNamedInside context.launch.now context.program.text.now context.program.first_line (λ stand. IsHere marks told.1 stand) (λ stand. IsBefore marks told.0 told.1 stand)
+    told.0 named
+
+abbrev pub AreToldInside : Context → List Mark → List (ℕ × Site) → List NamedItem → Type 0
+AreToldInside context marks told items = AllZip (λ t named. IsToldInside context marks t named) told items
 
 -- what belongs to the two accesses of a pair, in the order in which they were made
 abbrev pub in_order : {X : Type 0} → Pair → X → X → List X

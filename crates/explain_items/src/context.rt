@@ -6,7 +6,8 @@ ghost use Rattle.clmodel.specs.Setup.{kernel_in};
 ghost use Rattle.item_step.specs.Launches.{setup_of};
 ghost use Rattle.origins.specs.Finding.{IsOriginIn};
 ghost use Rattle.source_spots.specs.Spots.{HaveTurns};
-ghost use Rattle.explain_items.specs.Spotted.{BeginsAt, HasNoSpot, HasSpot, IsSpottable, IsSpotted, IsTellable};
+ghost use Rattle.explain_items.specs.Marked.{CodeIsMarked, CodeIsMarked-prop};
+ghost use Rattle.explain_items.specs.Spotted.{BeginsAt, HasNoSpot, HasSpot, StandsInside, IsSpotted, IsTellable};
 
 use clmodel::text::Name;
 use clmodel::tree::{Expression, Statement, Target};
@@ -19,7 +20,7 @@ use origins::{Node, Origin, origin_of};
 use source_spots::{Source, code_of, spot_of};
 use std::alloc::{AllocError, Global};
 
-/// A launch with its source, and what led to it.
+/// A launch with its source, and what led to it. The code that it runs is that of the tree whose nodes are told.
 #[derive(Clone, Copy)]
 pub struct Context<'a> {
     pub alloc: Global,
@@ -28,6 +29,7 @@ pub struct Context<'a> {
     pub commands: &'a [Command],
     pub done: &'a [bool],
     pub kernel: &'a Name,
+    pub ghost marked: { CodeIsMarked launch.now } by { CodeIsMarked-prop launch.now },
 }
 
 /// What kind of node an expression is.
@@ -120,8 +122,8 @@ impl<'a> Context<'a> {
 
     /// Where an item stands in the source. An error is out of memory.
     fn spot_at(&self, stand: &Stand) -> Result<Option<Spot>, AllocError>
-        ensures none { IfOk result (λ found. IfNone found (IsSpottable (setup_of self.now.launch.now) stand.now.place self.now.program.text.now self.now.program.first_line → ⊥)) }
-        ensures spotted { IfOk result (λ found. IfSome found (IsSpotted (setup_of self.now.launch.now) stand.now self.now.program.text.now self.now.program.first_line)) }
+        ensures none { IfOk result (λ found. IfNone found (StandsInside self.now.launch.now stand.now → IsTellable self.now.program.text.now self.now.program.first_line → ⊥)) }
+        ensures spotted { IfOk result (λ found. IfSome found (IsSpotted self.now.launch.now stand.now self.now.program.text.now self.now.program.first_line)) }
     {
         let Some(source) = self.source() else {
             return Ok(None);
@@ -137,8 +139,8 @@ impl<'a> Context<'a> {
 
     /// The same, if the item stands anywhere. An error is out of memory.
     pub fn spot(&self, stand: Option<&Stand>) -> Result<Option<Spot>, AllocError>
-        ensures none { IfOk result (λ found. IfNone found (HasNoSpot (setup_of self.now.launch.now) self.now.program.text.now self.now.program.first_line (λ s. option_copied stand.entry ≡ Some s))) }
-        ensures spotted { IfOk result (λ found. IfSome found (HasSpot (setup_of self.now.launch.now) self.now.program.text.now self.now.program.first_line (λ s. option_copied stand.entry ≡ Some s))) }
+        ensures none { IfOk result (λ found. IfNone found (HasNoSpot self.now.program.text.now self.now.program.first_line (λ s. (option_copied stand.entry ≡ Some s) × StandsInside self.now.launch.now s))) }
+        ensures spotted { IfOk result (λ found. IfSome found (HasSpot self.now.launch.now self.now.program.text.now self.now.program.first_line (λ s. (option_copied stand.entry ≡ Some s) × StandsInside self.now.launch.now s))) }
     {
         match stand {
             Some(stand) => self.spot_at(stand),

@@ -5,8 +5,8 @@ ghost use Rattle.std.specs.Prelude.{◌≡◌, [], ◌∷◌, None, Some, IfOk, 
 ghost use Rattle.std.specs.Option.{option_map_or};
 ghost use Rattle.item_ids.specs.Ids.{AreIds};
 ghost use Rattle.item_step.specs.Launches.{setup_of};
-ghost use Rattle.explain_items.specs.Named.{AreTold, AtAccess, AtEnd, AtStand, IsTold, in_order, site_of, told_items};
-ghost use Rattle.explain_items.specs.Spotted.{IsNamed};
+ghost use Rattle.explain_items.specs.Named.{AreToldInside, AtAccess, AtEnd, AtStand, IsToldInside, in_order, site_of, told_items};
+ghost use Rattle.explain_items.specs.Spotted.{IsNamedInside};
 
 use crate::context::Context;
 use crate::events::stand_at;
@@ -44,7 +44,7 @@ fn named(
     event: Option<usize>,
     stand: Option<&Stand>,
 ) -> Result<NamedItem, AllocError>
-    ensures { IfOk result (IsNamed (setup_of context.now.launch.now) context.now.program.text.now context.now.program.first_line (λ s. option_copied stand.entry ≡ Some s) (λ _. ⊥) item) }
+    ensures { IfOk result (IsNamedInside context.now.launch.now context.now.program.text.now context.now.program.first_line (λ s. option_copied stand.entry ≡ Some s) (λ _. ⊥) item) }
 {
     let ids = ids_of(context, item)?;
     Ok(NamedItem {
@@ -73,7 +73,7 @@ fn accessing(
     kind: AccessKind,
     access: usize,
 ) -> Result<NamedItem, AllocError>
-    ensures { IfOk result (IsTold context.now played.now.marks.items (item, AtAccess access)) }
+    ensures { IfOk result (IsToldInside context.now played.now.marks.items (item, AtAccess access)) }
 {
     let marks = played.marks.as_slice();
     let event = event_of(marks, access);
@@ -83,14 +83,14 @@ fn accessing(
 
 /// An item where it stands.
 fn standing(context: &Context<'_>, standing: &Standing, does: Does) -> Result<NamedItem, AllocError>
-    ensures { IfOk result (IsNamed (setup_of context.now.launch.now) context.now.program.text.now context.now.program.first_line (λ s. standing.now.stand ≡ Some s) (λ _. ⊥) standing.now.item) }
+    ensures { IfOk result (IsNamedInside context.now.launch.now context.now.program.text.now context.now.program.first_line (λ s. standing.now.stand ≡ Some s) (λ _. ⊥) standing.now.item) }
 {
     named(context, standing.item, does, None, standing.stand.as_ref())
 }
 
 /// An item that has ended, with its last access.
 fn ended(context: &Context<'_>, played: &Played, item: u32) -> Result<NamedItem, AllocError>
-    ensures { IfOk result (IsTold context.now played.now.marks.items (item, AtEnd)) }
+    ensures { IfOk result (IsToldInside context.now played.now.marks.items (item, AtEnd)) }
 {
     let marks = played.marks.as_slice();
     let stand = stand_at(marks, last_of(marks, item));
@@ -112,7 +112,7 @@ fn stopped(
     at: &Standing,
     stop: &Stop,
 ) -> Result<NamedItem, AllocError>
-    ensures { IfOk result (IsTold context.now played.now.marks.items (at.now.item, site_of stop.now at.now.stand)) }
+    ensures { IfOk result (IsToldInside context.now played.now.marks.items (at.now.item, site_of stop.now at.now.stand)) }
 {
     match stop {
         Stop::Ended => ended(context, played, at.item),
@@ -167,7 +167,7 @@ fn conflicting(
     first: (u32, AccessKind),
     second: (u32, AccessKind),
 ) -> Result<Vec<NamedItem>, AllocError>
-    ensures { IfOk result (λ items. AreTold context.now played.now.marks.items (in_order pair (first.0, AtAccess pair.first) (second.0, AtAccess pair.second)) items.items) }
+    ensures { IfOk result (λ items. AreToldInside context.now played.now.marks.items (in_order pair (first.0, AtAccess pair.first) (second.0, AtAccess pair.second)) items.items) }
 {
     let item = accessing(context, played, first.0, first.1, pair.first)?;
     let other = accessing(context, played, second.0, second.1, pair.second)?;
@@ -176,7 +176,7 @@ fn conflicting(
 
 /// An item of a conflict whose accesses weren't found: no place is told of it.
 fn placeless(context: &Context<'_>, item: u32, kind: AccessKind) -> Result<NamedItem, AllocError>
-    ensures { IfOk result (IsNamed (setup_of context.now.launch.now) context.now.program.text.now context.now.program.first_line (λ s. None ≡ Some s) (λ _. ⊥) item) }
+    ensures { IfOk result (IsNamedInside context.now.launch.now context.now.program.text.now context.now.program.first_line (λ s. None ≡ Some s) (λ _. ⊥) item) }
 {
     named(context, item, Does::Access(kind), None, None)
 }
@@ -188,7 +188,7 @@ fn clashing(
     first: (u32, AccessKind),
     second: (u32, AccessKind),
 ) -> Result<Vec<NamedItem>, AllocError>
-    ensures { IfOk result (λ items. AreTold context.now played.now.marks.items (option_map_or (λ pair. in_order pair (first.0, AtAccess pair.first) (second.0, AtAccess pair.second)) played.now.pair
+    ensures { IfOk result (λ items. AreToldInside context.now played.now.marks.items (option_map_or (λ pair. in_order pair (first.0, AtAccess pair.first) (second.0, AtAccess pair.second)) played.now.pair
         ((first.0, AtStand None) ∷ (second.0, AtStand None) ∷ [])) items.items) }
 {
     match played.pair {
@@ -208,7 +208,7 @@ fn diverging(
     stop: &Stop,
     other_stop: &Stop,
 ) -> Result<Vec<NamedItem>, AllocError>
-    ensures { IfOk result (λ items. AreTold context.now played.now.marks.items ((played.now.first.item, site_of stop.now played.now.first.stand) ∷ (played.now.second.item, site_of other_stop.now played.now.second.stand) ∷ []) items.items) }
+    ensures { IfOk result (λ items. AreToldInside context.now played.now.marks.items ((played.now.first.item, site_of stop.now played.now.first.stand) ∷ (played.now.second.item, site_of other_stop.now played.now.second.stand) ∷ []) items.items) }
 {
     let item = stopped(context, played, &played.first, stop)?;
     let other = stopped(context, played, &played.second, other_stop)?;
@@ -225,7 +225,7 @@ fn deed_of(fault: &Fault) -> Does {
 
 /// The one item of a fault.
 fn alone(context: &Context<'_>, played: &Played, does: Does) -> Result<Vec<NamedItem>, AllocError>
-    ensures { IfOk result (λ items. AreTold context.now played.now.marks.items ((played.now.first.item, AtStand played.now.first.stand) ∷ []) items.items) }
+    ensures { IfOk result (λ items. AreToldInside context.now played.now.marks.items ((played.now.first.item, AtStand played.now.first.stand) ∷ []) items.items) }
 {
     let item = standing(context, &played.first, does)?;
     one(context.alloc, item)
@@ -237,7 +237,7 @@ pub fn named_items(
     played: &Played,
     fault: &Fault,
 ) -> Result<Vec<NamedItem>, AllocError>
-    ensures { IfOk result (λ items. AreTold context.now played.now.marks.items (told_items fault.now played.now) items.items) }
+    ensures { IfOk result (λ items. AreToldInside context.now played.now.marks.items (told_items fault.now played.now) items.items) }
 {
     match fault {
         Fault::Conflict {

@@ -1,9 +1,9 @@
 -- What is given, explained by its kind: a source, a script with a schedule file, a script.
-use Rattle.std.proofs.Common.{◌≡◌, ℕ, Bool, true, false, Option, None, Some, List, refl, sym, subst}
+use Rattle.std.proofs.Common.{◌≡◌, ℕ, Bool, true, false, Option, None, Some, refl, sym, subst}
 use Rattle.std.specs.Prelude.{MatchBool, MatchOption}
 use Rattle.std.proofs.lemmas.Bool.{false≢true}
 use Rattle.counted_io.specs.Sink.{Sink}
-use Rattle.explaining.specs.Explaining.{Explained, Explains, Found, IsRefused, Unanswered, Unexplained, Unread, Unwritten, is_source}
+use Rattle.explaining.specs.Explaining.{Unanswered, Unexplained, Unread, Unwritten, is_source}
 use Rattle.explaining.specs.declared.facts.Given.{Given}
 use Rattle.explaining.specs.declared.faults.ExplainFault.{ExplainFault}
 use Rattle.explaining.specs.declared.faults.ExplainFault.TheVariants as fault

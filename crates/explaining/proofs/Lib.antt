@@ -1,5 +1,7 @@
 pub mod Answering
 pub mod Faulting
+pub mod Inside
+pub mod Marking
 pub mod Performing
 pub mod Schedules
 pub mod Telling

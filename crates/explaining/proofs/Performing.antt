@@ -1,5 +1,5 @@
 -- Commands performed one behind another.
-use Rattle.std.proofs.Common.{◌≡◌, ◌+◌, ℕ, suc, true, Some, List, [], ◌∷◌, ◌++◌, length, take, refl, sym, ap, ◌∙◌, subst, arith}
+use Rattle.std.proofs.Common.{◌≡◌, ℕ, suc, true, Some, List, [], ◌∷◌, ◌++◌, length, take, refl, sym, ap, ◌∙◌, subst, arith}
 use Rattle.std.specs.Prelude.{slice_get}
 use Rattle.std.proofs.lemmas.Grind.{common_steps}
 use Rattle.device.specs.Machine.{Machine, Step}

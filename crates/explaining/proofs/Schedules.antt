@@ -1,5 +1,5 @@
 -- Schedule files that are explained, on a device to which commands led.
-use Rattle.std.proofs.Common.{◌≡◌, ℕ, Bool, Option, Result, Ok, Err, List, inl, inr, refl, sym, ap, subst}
+use Rattle.std.proofs.Common.{◌≡◌, ℕ, Option, Result, Ok, Err, List, inl, inr, refl, ap, subst}
 use Rattle.std.specs.Prelude.{take}
 use Rattle.std.specs.Option.{is_some}
 use Rattle.std.specs.Result.{IfErr, IfOk}

@@ -1,5 +1,5 @@
 -- Launches that are explained.
-use Rattle.std.proofs.Common.{◌≡◌, ℕ, Bool, true, false, Option, None, Some, Result, Ok, Err, List, refl, inl, inr, sym, ◌∙◌, subst}
+use Rattle.std.proofs.Common.{◌≡◌, ℕ, Bool, false, Option, None, Some, Result, Ok, Err, List, refl, inl, inr, sym, ◌∙◌, subst}
 use Rattle.std.specs.Prelude.{Decides, slice_get}
 use Rattle.std.specs.Option.{IfNone, IfSome, is_some}
 use Rattle.std.specs.Result.{IfOk}
@@ -11,7 +11,7 @@ use Rattle.clmodel.specs.Setup.{Setup}
 use Rattle.clmodel.specs.declared.fault.Fault.{Fault}
 use Rattle.clmodel.specs.declared.schedule.EventRun.{EventRun}
 use Rattle.clmodel.specs.declared.setup.Range.{Range}
-use Rattle.device.specs.Machine.{Machine, IsRefusal, first, kernel_of, row, setup_of}
+use Rattle.device.specs.Machine.{Machine, IsRefusal, kernel_of, setup_of}
 use Rattle.device.specs.Prepared.{IsPrepared}
 use Rattle.host_commands.specs.declared.command.Command.{Command}
 use Rattle.host_commands.specs.declared.command.Command.TheVariants as command

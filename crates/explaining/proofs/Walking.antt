@@ -3,9 +3,7 @@ use Rattle.std.proofs.Common.{◌≡◌, ℕ, Bool, true, List, inl, inr, sym, s
 use Rattle.clmodel.specs.declared.fault.Fault.{Fault}
 use Rattle.clmodel.specs.declared.schedule.EventRun.{EventRun}
 use Rattle.device.specs.Machine.{Machine, opening}
-use Rattle.host_commands.specs.declared.command.BuildFault.{BuildFault}
 use Rattle.host_commands.specs.declared.command.Command.{Command}
-use Rattle.host_commands.specs.declared.command.Refusal.TheVariants as refusal
 use Rattle.host_commands.specs.declared.command.Reply.TheVariants as reply
 use Rattle.simfile.specs.Script.{IsScript}
 use Rattle.explaining.proofs.Faulting.{faults, told_unless, told_yes}

@@ -1,21 +1,23 @@
 -- What is told of launches, and the texts of it.
-use Rattle.std.proofs.Common.{◌≡◌, ℕ, Bool, true, false, Option, None, Some, Result, Ok, Err, List, [], codes, string_bytes, take, refl, inl, inr, sym, ap, ◌∙◌, subst}
+use Rattle.std.proofs.Common.{◌≡◌, ℕ, Bool, true, Option, None, Some, Result, Ok, Err, List, codes, string_bytes, take, inl, inr, sym, ap, ◌∙◌, subst}
 use Rattle.std.specs.Prelude.{slice_get}
 use Rattle.std.specs.Option.{IfSome, is_some}
 use Rattle.std.specs.Result.{IfOk}
 use Rattle.std.proofs.lemmas.Bool.{false≢true}
 use Rattle.clmodel.specs.Launch.{Launch}
+use Rattle.clmodel.specs.Law.{Reaches}
 use Rattle.clmodel.specs.Next.{launch_of}
 use Rattle.clmodel.specs.Outcome.{events_of}
 use Rattle.clmodel.specs.Setup.{Setup, group_items}
 use Rattle.clmodel.specs.declared.fault.Fault.{Fault}
 use Rattle.clmodel.specs.declared.schedule.EventRun.{EventRun}
 use Rattle.clmodel.specs.declared.setup.Range.{Range}
+use Rattle.device.specs.Kept.{IsCodeOf}
 use Rattle.device.specs.Machine.{Machine, opening, kernel_of, setup_of}
 use Rattle.device.specs.Prepared.{IsPrepared}
 use Rattle.explain_play.specs.PlayedOut.{IsPlayedOut}
 use Rattle.explain_play.specs.declared.played.Played.{Played}
-use Rattle.explain_items.specs.Named.{AreTold, told_items}
+use Rattle.explain_items.specs.Named.{AreToldInside, told_items}
 use Rattle.explain_items.specs.declared.context.Context.{Context}
 use Rattle.explanation.specs.declared.steps.ScheduleFacts.{ScheduleFacts}
 use Rattle.explanation.specs.declared.told.Explanation.{Explanation}
@@ -25,14 +27,14 @@ use Rattle.host_commands.specs.declared.command.Refusal.TheVariants as refusal
 use Rattle.host_commands.specs.declared.command.Reply.TheVariants as reply
 use Rattle.item_step.specs.Launches as launches
 use Rattle.fault_lines.specs.ScheduleFile.{IsScheduleFile}
-use Rattle.launches.specs.Items.{kernel_in}
 use Rattle.simfile.specs.Script.{IsScript}
 use Rattle.spaces_base.specs.Buffers.{bytes_in}
 use Rattle.spaces_base.specs.Tables.{Table}
 use Rattle.explaining.proofs.Faulting.{faults, told_yes}
+use Rattle.explaining.proofs.Inside.{each_inside, told_inside}
 use Rattle.explaining.specs.Explaining.{IsShort, Tells}
 use Rattle.explaining.specs.Leading.{IsFirst, Leads, WalkedTo}
-use Rattle.explaining.specs.Whole.{AnswersTo, AreNamed, HasWhole, IsAsWanted, IsExplained, IsSourceOf, IsTextOf, IsToldOf, IsToldThere, SaysOf, SaysScript, TellsFault, TellsFirst, TellsLaunch, schedule_words}
+use Rattle.explaining.specs.Whole.{AnswersTo, AreNamed, HasWhole, IsAsWanted, IsExplained, IsSourceOf, IsToldOf, IsToldThere, SaysOf, SaysScript, TellsFault, TellsLaunch, schedule_words}
 use Rattle.explaining.specs.declared.answers.Answer.{Answer}
 use Rattle.explaining.specs.declared.facts.Format.{Format}
 use Rattle.explaining.specs.declared.faults.ExplainFault.{ExplainFault}
@@ -44,17 +46,25 @@ use Rattle.explaining.specs.declared.walks.Walked.TheVariants as walked
 
 -- an explanation of what was played
 pub explained :
-    {E : Type 0} (r : Result Explanation E) (launch : Launch) (context : Context) (ticket : ℕ) (range : Range) (f : Fault) (runs : List EventRun) (facts : ScheduleFacts) (first second most : ℕ)
-    (played : Played) → IfOk r (λ e. TellsLaunch ticket range e.launch) → IfOk r (λ e. TellsFault f e.fault) → IfOk r (λ e. e.schedule ≡ facts)
-    → IfOk r (λ e. AreTold context played.marks.items (told_items f played) e.items.items) → string_bytes facts.short ≡ schedule_words runs → AreNamed f first second
-    → IsPlayedOut launch (kernel_in context.launch.now) (group_items (launches.setup_of context.launch.now).range) (events_of runs) f first second most played → IfOk r (IsExplained launch context ticket range f runs)
-explained (Ok e) launch context ticket range f runs facts first second most played l g s i words named plays = record {
-  launched = l;
-  faulted = g;
-  schedule = ap (λ z. string_bytes z.short) s ∙ words;
-  items = record { first = first; second = second; named = named; most = most; played = played; plays = plays; told = i };
+    (e : Explanation) (launch : Launch) (context : Context) (ticket : ℕ) (range : Range) (f : Fault) (runs : List EventRun) (facts : ScheduleFacts) (first second most : ℕ) (played : Played)
+    → TellsLaunch ticket range e.launch → TellsFault f e.fault → e.schedule ≡ facts → AreToldInside context played.marks.items (told_items f played) e.items.items
+    → string_bytes facts.short ≡ schedule_words runs → AreNamed f first second
+    → IsPlayedOut launch (launches.started context.launch.now) (group_items (launches.setup_of context.launch.now).range) (events_of runs) f first second most played
+    → Reaches launch (events_of runs) f → IsExplained launch context ticket range f runs e
+explained e launch context ticket range f runs facts first second most played launched faulted same items words named plays leads = record {
+  launched = launched;
+  faulted = faulted;
+  schedule = ap (λ z. string_bytes z.short) same ∙ words;
+  items = record {
+    first = first;
+    second = second;
+    named = named;
+    most = most;
+    played = played;
+    plays = plays;
+    told = told_inside context played.marks.items (told_items f played) e.items.items (each_inside context.launch.now launch (events_of runs) f first second most played named plays leads) items;
+  };
 }
-explained (Err why) launch context ticket range f runs facts first second most played l g s i words named plays = tt
 
 -- what is told of a prepared launch
 pub whole :
@@ -72,6 +82,8 @@ whole m as_given commands ticket kernel range context buffers f given runs e at 
   wanted = wanted;
   context = context;
   same = p.setup;
+  code =
+      subst (λ (s : Setup). IsCodeOf s.program s.kernel (launches.code_of context.launch.now)) p.setup p.code;
   source = source;
   explained =
       subst (λ (b : Table (List ℕ)). IsExplained (launch_of (setup_of m (kernel_of m kernel) range) (bytes_in b)) context ticket range f runs e) same

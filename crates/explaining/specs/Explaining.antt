@@ -1,5 +1,5 @@
 -- What an explanation says of a script and a schedule file (own).
-use Rattle.std.specs.Prelude.{◌≡◌, ◌≤◌, ◌⊎◌, ℕ, Bool, true, false, ⊤, Decides, Option, None, Some, Result, Ok, Err, List, codes, length, take, slice_get, nat_eq, MatchOption, MatchBool}
+use Rattle.std.specs.Prelude.{◌≡◌, ◌≤◌, ◌⊎◌, ℕ, Bool, true, false, ⊤, Decides, None, Some, Ok, Err, List, codes, length, take, slice_get, nat_eq, MatchOption, MatchBool}
 use Rattle.std.specs.List.{ends_with}
 use Rattle.clmodel.specs.Launch.{Launch}
 use Rattle.clmodel.specs.Law.{Reaches}

@@ -9,7 +9,8 @@ use Rattle.clmodel.specs.Setup.{group_items}
 use Rattle.clmodel.specs.declared.fault.Fault.{Fault}
 use Rattle.clmodel.specs.declared.schedule.EventRun.{EventRun}
 use Rattle.clmodel.specs.declared.setup.Range.{Range}
-use Rattle.device.specs.Machine.{Machine, opening, kernel_of, setup_of, bytes_of}
+use Rattle.device.specs.Kept.{IsCodeOf}
+use Rattle.device.specs.Machine.{Machine, opening, kernel_of, program_of, setup_of, bytes_of}
 use Rattle.explain_json.specs.Members.{explanation_data}
 use Rattle.explain_play.specs.PlayedOut.{IsPlayedOut}
 use Rattle.explain_play.specs.declared.played.Played.{Played}
@@ -27,7 +28,6 @@ use Rattle.host_commands.specs.declared.command.Refusal.TheVariants as refusal
 use Rattle.host_commands.specs.declared.command.Reply.TheVariants as reply
 use Rattle.item_step.specs.Launches as launches
 use Rattle.launch_facts.specs.Commands.{HasNoSource, IsSource}
-use Rattle.launches.specs.Items.{kernel_in}
 use Rattle.launch_facts.specs.declared.commands.ProgramSource.{ProgramSource}
 use Rattle.fault_lines.specs.ScheduleFile.{IsScheduleFile}
 use Rattle.fault_lines.specs.Text.{fault_text, schedule_text}
@@ -68,7 +68,7 @@ pub record TellsItems (launch : Launch) (context : Context) (f : Fault) (runs : 
   pub named : AreNamed f first second
   pub most : ℕ
   pub played : Played
-  pub plays : IsPlayedOut launch (kernel_in context.launch.now) (group_items (launches.setup_of context.launch.now).range) (events_of runs) f first second most played
+  pub plays : IsPlayedOut launch (launches.started context.launch.now) (group_items (launches.setup_of context.launch.now).range) (events_of runs) f first second most played
   pub told : AreTold context played.marks.items (told_items f played) e.items.items
 
 -- an explanation of a launch and its fault by a schedule
@@ -90,7 +90,8 @@ abbrev pub IsAsWanted : Bool → List EventRun → List EventRun → Type 0
 IsAsWanted as_given given runs = MatchBool as_given (runs ≡ given) ⊤
 
 -- An explanation of the launch of a ticket, whose schedule leads the launch to the fault and isn't longer than the
--- given one, or is that very one; its places are those in the source of the kernel's program.
+-- given one, or is that very one; its places are those in the source of the kernel's program. The launch runs this
+-- kernel's code.
 pub record HasWhole (m : Machine) (as_given : Bool) (commands : List Command) (ticket : ℕ) (f : Fault) (given runs : List EventRun) (e : Explanation) : Type 0 where
   pub kernel : List ℕ
   pub range : Range
@@ -99,6 +100,7 @@ pub record HasWhole (m : Machine) (as_given : Bool) (commands : List Command) (t
   pub wanted : IsAsWanted as_given given runs
   pub context : Context
   pub same : launches.setup_of context.launch.now ≡ setup_of m (kernel_of m kernel) range
+  pub code : IsCodeOf (program_of m (kernel_of m kernel).program) (kernel_of m kernel).function (launches.code_of context.launch.now)
   pub source : IsSourceOf commands context.done.now kernel context.program
   pub explained : IsExplained (launch_of (setup_of m (kernel_of m kernel) range) (bytes_of m)) context ticket range f runs e
   pub schedule : string_bytes e.schedule.given ≡ schedule_words given

@@ -14,7 +14,7 @@ use crate::answers::{Answer, answer_of, tell, word_answer};
 use crate::building::{explain_source, explain_unbuilt};
 use crate::facts::{ExplainOptions, Format, Given, lines_before};
 use crate::faults::ExplainFault;
-use crate::told::{Asked, ExplainedCase, explain_case};
+use crate::told::{ExplainedCase, PerformedScript, explain_case};
 use crate::walks::{Performed, Unbuilt, Walked, perform_all, walk_anew};
 use clmodel::fault::Fault;
 use clmodel::schedule::Schedule;
@@ -53,13 +53,13 @@ fn told_at(
     let before = read_first(alloc, given.script, ticket)?;
     let mut device = Device::new(alloc, options.budget);
     let done = perform_all(alloc, &mut device, before)?;
-    let asked = Asked {
+    let performed = PerformedScript {
         given,
         options,
         commands,
         done: done.as_slice(),
     };
-    explain_case(alloc, &device, &asked, ticket, fault, schedule)
+    explain_case(alloc, &device, &performed, ticket, fault, schedule)
 }
 
 /// Explains the case of a schedule file.
@@ -125,30 +125,30 @@ fn unbuilt_answer(
 fn answer_at(
     alloc: Global,
     device: &Device,
-    asked: &Asked<'_>,
+    performed: &PerformedScript<'_>,
     end: Walked,
 ) -> Result<Answer, ExplainFault>
-    requires script { IsScript asked.now.given.script.now asked.now.commands.now }
-    requires walked { WalkedTo (opening asked.now.options.budget) asked.now.commands.now (machine_of device.now) end }
-    ensures found { IfOk result (λ answer. Found asked.now.options.budget asked.now.given.script.now answer.yes) }
-    ensures says { IfOk result (λ answer. SaysScript asked.now.options.budget asked.now.options.as_given asked.now.options.format asked.now.given.script.now answer.yes (string_bytes answer.text)) }
-    ensures failed { IfErr result (Unread asked.now.given.script.now) }
+    requires script { IsScript performed.now.given.script.now performed.now.commands.now }
+    requires walked { WalkedTo (opening performed.now.options.budget) performed.now.commands.now (machine_of device.now) end }
+    ensures found { IfOk result (λ answer. Found performed.now.options.budget performed.now.given.script.now answer.yes) }
+    ensures says { IfOk result (λ answer. SaysScript performed.now.options.budget performed.now.options.as_given performed.now.options.format performed.now.given.script.now answer.yes (string_bytes answer.text)) }
+    ensures failed { IfErr result (Unread performed.now.given.script.now) }
 {
     match end {
         Walked::Clean => Ok(word_answer(alloc, "clean\n")?),
         Walked::Unbuilt(unbuilt) => {
             Ok(unbuilt_answer(
                 alloc,
-                asked.options.format,
-                asked.given,
-                asked.commands,
+                performed.options.format,
+                performed.given,
+                performed.commands,
                 unbuilt,
             )?)
         }
         Walked::Faulted(case) => {
             let (ticket, fault) = (case.ticket, case.fault);
-            let told = explain_case(alloc, device, asked, ticket, &fault, case.schedule)?;
-            Ok(answer_of(alloc, told, asked.options.format, "no\n")?)
+            let told = explain_case(alloc, device, performed, ticket, &fault, case.schedule)?;
+            Ok(answer_of(alloc, told, performed.options.format, "no\n")?)
         }
     }
 }
@@ -167,13 +167,13 @@ fn explain_commands(
 {
     let same = read_script(alloc, given.script)?;
     let Performed { device, end, done } = walk_anew(alloc, options, same)?;
-    let asked = Asked {
+    let performed = PerformedScript {
         given,
         options,
         commands,
         done: done.as_slice(),
     };
-    answer_at(alloc, &device, &asked, end)
+    answer_at(alloc, &device, &performed, end)
 }
 
 /// Explains the first fault of a script, or the first build that is refused.

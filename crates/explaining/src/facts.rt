@@ -2,7 +2,7 @@
 #![tactic(auto)]
 
 ghost use Rattle.std.specs.Prelude.{◌≡◌, ◌≤◌, IfOk, string_bytes};
-ghost use Rattle.explain_items.specs.Named.{AreTold, told_items};
+ghost use Rattle.explain_items.specs.Named.{AreToldInside, told_items};
 ghost use Rattle.explaining.specs.Whole.{AreNamed, TellsFault, TellsLaunch, schedule_words};
 
 use clmodel::fault::{Fault, Location};
@@ -357,7 +357,7 @@ fn body_of(
     fault: &Fault,
     played: &Played,
 ) -> Result<Body, AllocError>
-    ensures { IfOk result (λ body. AreTold context.now played.now.marks.items (told_items fault.now played.now) body.items.items) }
+    ensures { IfOk result (λ body. AreToldInside context.now played.now.marks.items (told_items fault.now played.now) body.items.items) }
 {
     let memory = whole_memory(context, buffers, fault, played)?;
     let why = reasons_of(context, played, fault, &memory, budget)?;
@@ -377,7 +377,7 @@ pub(crate) fn explanation_of(
     ensures launch { IfOk result (λ whole. TellsLaunch place.now.ticket place.now.range.now whole.launch) }
     ensures fault { IfOk result (λ whole. TellsFault fault.now whole.fault) }
     ensures schedule { IfOk result (λ whole. whole.schedule ≡ schedule) }
-    ensures items { IfOk result (λ whole. AreTold context.now played.now.marks.items (told_items fault.now played.now) whole.items.items) }
+    ensures items { IfOk result (λ whole. AreToldInside context.now played.now.marks.items (told_items fault.now played.now) whole.items.items) }
 {
     let head = head_of(context, place, fault)?;
     let body = body_of(context, buffers, place.budget, fault, played)?;

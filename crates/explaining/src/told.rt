@@ -5,8 +5,10 @@ ghost use Rattle.std.specs.Prelude.{◌≡◌, Some, IfOk, IfErr, IfSome, IfNone
 ghost use Rattle.clmodel.specs.Law.{Reaches};
 ghost use Rattle.clmodel.specs.Next.{launch_of};
 ghost use Rattle.clmodel.specs.Outcome.{events_of};
+ghost use Rattle.device.specs.Kept.{IsCodeOf};
 ghost use Rattle.device.specs.Machine.{machine_of};
-ghost use Rattle.item_step.specs.Launches.{setup_of};
+ghost use Rattle.explain_items.specs.Marked.{CodeIsMarked};
+ghost use Rattle.item_step.specs.Launches.{code_of, setup_of};
 ghost use Rattle.launches.specs.Groups.{HasGroups};
 ghost use Rattle.spaces_base.specs.Buffers.{bytes_in};
 ghost use Rattle.explaining.specs.Explaining.{HasShort, IsShort, NoLaunch, Tells, Untold};
@@ -27,6 +29,7 @@ use explain_reasons::MOST_STEPS;
 use explanation::Explanation;
 use fault_facts::fault_line;
 use launch_facts::{ProgramSource, source_of};
+use origins::code_is_marked;
 use replay::replay;
 use shortening::{Named, Shortened, event_count};
 use spaces_base::Buffers;
@@ -108,7 +111,7 @@ fn most_of(fault: &Fault) -> usize {
     }
 }
 
-/// An explanation of what is played of the schedule that is told.
+/// An explanation of what is played of the schedule that is told, if it can be played.
 fn whole_of(
     context: &Context<'_>,
     buffers: &Buffers,
@@ -116,12 +119,13 @@ fn whole_of(
     fault: &Fault,
     given: GivenSchedule,
     short: &Shortened,
-) -> Result<Explanation, AllocError>
+) -> Result<Option<Explanation>, AllocError>
     requires groups { HasGroups (setup_of context.now.launch.now) }
     requires leads { Reaches (launch_of (setup_of context.now.launch.now) (bytes_in buffers.now)) (events_of short.now.schedule) fault.now }
-    ensures given { IfOk result (λ whole. whole.schedule.given ≡ given.text) }
-    ensures whole { IfOk result (IsExplained (launch_of (setup_of context.now.launch.now) (bytes_in buffers.now)) context.now
-        place.now.ticket place.now.range.now fault.now short.now.schedule) }
+    ensures none { IfOk result (λ found. IfNone found (Reaches (launch_of (setup_of context.now.launch.now) (bytes_in buffers.now)) (events_of short.now.schedule) fault.now → ⊥)) }
+    ensures given { IfOk result (λ found. IfSome found (λ whole. whole.schedule.given ≡ given.text)) }
+    ensures whole { IfOk result (λ found. IfSome found (IsExplained (launch_of (setup_of context.now.launch.now) (bytes_in buffers.now)) context.now
+        place.now.ticket place.now.range.now fault.now short.now.schedule)) }
 {
     let (alloc, launch) = (context.alloc, context.launch);
     let (items, schedule) = (items_of(fault), &short.schedule);
@@ -135,14 +139,15 @@ fn whole_of(
         most_of(fault),
     )?
     else {
-        unreachable!();
+        return Ok(None);
     };
     let marks = played.marks.as_slice();
     let facts = schedule_facts(alloc, fault, given.text, given.events, short, marks)?;
-    explanation_of(context, buffers, place, fault, &played, facts)
+    let whole = explanation_of(context, buffers, place, fault, &played, facts)?;
+    Ok(Some(whole))
 }
 
-/// An explanation of a schedule that leads a launch to a fault.
+/// An explanation of a schedule that leads a launch to a fault; none only of one that doesn't.
 fn told_of(
     context: &Context<'_>,
     buffers: &Buffers,
@@ -150,22 +155,25 @@ fn told_of(
     fault: &Fault,
     schedule: Schedule,
     as_given: bool,
-) -> Result<ExplainedCase, AllocError>
+) -> Result<Option<ExplainedCase>, AllocError>
     requires groups { HasGroups (setup_of context.now.launch.now) }
     requires leads { Reaches (launch_of (setup_of context.now.launch.now) (bytes_in buffers.now)) (events_of schedule) fault.now }
-    ensures short { IfOk result (λ told. IsShort (launch_of (setup_of context.now.launch.now) (bytes_in buffers.now)) fault.now schedule told.schedule) }
-    ensures wanted { IfOk result (λ told. IsAsWanted as_given schedule told.schedule) }
-    ensures given { IfOk result (λ told. string_bytes told.whole.schedule.given ≡ schedule_words schedule) }
-    ensures whole { IfOk result (λ told. IsExplained (launch_of (setup_of context.now.launch.now) (bytes_in buffers.now)) context.now
-        place.now.ticket place.now.range.now fault.now told.schedule told.whole) }
+    ensures none { IfOk result (λ found. IfNone found (Reaches (launch_of (setup_of context.now.launch.now) (bytes_in buffers.now)) (events_of schedule) fault.now → ⊥)) }
+    ensures told { IfOk result (λ found. IfSome found (λ told. IsShort (launch_of (setup_of context.now.launch.now) (bytes_in buffers.now)) fault.now schedule told.schedule)) }
+    ensures wanted { IfOk result (λ found. IfSome found (λ told. IsAsWanted as_given schedule told.schedule)) }
+    ensures given { IfOk result (λ found. IfSome found (λ told. string_bytes told.whole.schedule.given ≡ schedule_words schedule)) }
+    ensures whole { IfOk result (λ found. IfSome found (λ told. IsExplained (launch_of (setup_of context.now.launch.now) (bytes_in buffers.now)) context.now
+        place.now.ticket place.now.range.now fault.now told.schedule told.whole)) }
 {
     let given = given_schedule(context.alloc, fault, &schedule)?;
     let short = chosen(context, buffers, fault, schedule, as_given)?;
-    let whole = whole_of(context, buffers, place, fault, given, &short)?;
-    Ok(ExplainedCase {
+    let Some(whole) = whole_of(context, buffers, place, fault, given, &short)? else {
+        return Ok(None);
+    };
+    Ok(Some(ExplainedCase {
         whole,
         schedule: short.schedule,
-    })
+    }))
 }
 
 /// An explanation of a schedule that leads a launch to a fault, if it leads there.
@@ -190,8 +198,7 @@ fn explain_launch(
     if !replay(alloc, launch, buffers, &schedule, fault)? {
         return Ok(None);
     }
-    let told = told_of(context, buffers, place, fault, schedule, as_given)?;
-    Ok(Some(told))
+    told_of(context, buffers, place, fault, schedule, as_given)
 }
 
 /// The source of a launch's program; an empty one, without a line, where none of the commands made it.
@@ -215,9 +222,10 @@ fn program_of<'a>(
     }
 }
 
-/// What was asked, with the commands of the script, and of those before the launch whether they were done.
+/// A script that was performed up to a launch: what is given of it, its commands, and of those before the launch
+/// whether they were done.
 #[derive(Clone, Copy)]
-pub(crate) struct Asked<'a> {
+pub(crate) struct PerformedScript<'a> {
     pub given: Given<'a>,
     pub options: ExplainOptions,
     pub commands: &'a [Command],
@@ -235,21 +243,29 @@ fn launch_in(commands: &[Command], ticket: usize) -> Option<(&Name, &Range)>
     }
 }
 
+/// That the origins of a launch's kernel are those of the code that it runs. It does nothing when it runs.
+fn launch_is_marked(launch: &Launch<'_>)
+    requires { IsCodeOf (setup_of launch.now).program (setup_of launch.now).kernel (code_of launch.now) }
+    ensures { CodeIsMarked launch.now }
+{
+    code_is_marked();
+}
+
 /// Explains a case on a device to which the commands before its ticket led.
 pub(crate) fn explain_case(
     alloc: Global,
     device: &Device,
-    asked: &Asked<'_>,
+    performed: &PerformedScript<'_>,
     ticket: usize,
     fault: &Fault,
     schedule: Schedule,
 ) -> Result<Option<ExplainedCase>, ExplainFault>
-    ensures told { IfOk result (λ found. Tells (machine_of device.now) asked.now.commands.now ticket fault.now schedule (is_some found)) }
-    ensures short { IfOk result (λ found. IfSome found (λ told. HasShort (machine_of device.now) asked.now.commands.now ticket fault.now schedule told.schedule)) }
-    ensures whole { IfOk result (λ found. IfSome found (λ told. HasWhole (machine_of device.now) asked.now.options.as_given asked.now.commands.now ticket fault.now schedule told.schedule told.whole)) }
-    ensures failed { IfErr result (Untold (machine_of device.now) asked.now.commands.now ticket) }
+    ensures told { IfOk result (λ found. Tells (machine_of device.now) performed.now.commands.now ticket fault.now schedule (is_some found)) }
+    ensures short { IfOk result (λ found. IfSome found (λ told. HasShort (machine_of device.now) performed.now.commands.now ticket fault.now schedule told.schedule)) }
+    ensures whole { IfOk result (λ found. IfSome found (λ told. HasWhole (machine_of device.now) performed.now.options.as_given performed.now.commands.now ticket fault.now schedule told.schedule told.whole)) }
+    ensures failed { IfErr result (Untold (machine_of device.now) performed.now.commands.now ticket) }
 {
-    let Some((kernel, range)) = launch_in(asked.commands, ticket) else {
+    let Some((kernel, range)) = launch_in(performed.commands, ticket) else {
         return Err(ExplainFault::NotALaunch(ticket as u64));
     };
     let launch = match device.prepare(kernel, range) {
@@ -257,22 +273,23 @@ pub(crate) fn explain_case(
         Err(Refusal::OutOfMemory) => return Err(ExplainFault::OutOfMemory),
         Err(_) => return Err(ExplainFault::CommandRefused(ticket as u64)),
     };
-    let before = lines_before(asked.given.script);
+    launch_is_marked(&launch);
+    let before = lines_before(performed.given.script);
     let context = Context {
         alloc,
         launch: &launch,
-        program: program_of(asked.commands, asked.done, kernel, before),
-        commands: asked.commands,
-        done: asked.done,
+        program: program_of(performed.commands, performed.done, kernel, before),
+        commands: performed.commands,
+        done: performed.done,
         kernel,
     };
     let place = Place {
-        given: asked.given,
+        given: performed.given,
         ticket,
         range,
-        budget: asked.options.budget,
+        budget: performed.options.budget,
     };
-    let as_given = asked.options.as_given;
+    let as_given = performed.options.as_given;
     Ok(explain_launch(
         &context,
         device.buffers(),

@@ -65,7 +65,7 @@ pub unchanged : (code : Listing) → (length code.registers < 2 ^ 32 → ⊥) �
 unchanged code long =
     record {
       acts = λ setup item answers. refl;
-      renamed = (λ r. r, sym (none_renamed code.instructions));
+      renamed = (λ r. r, sym (none_renamed code.instructions), λ r other inside same. same);
       registers = omega arith;
       all_used = λ few. absurd (long few);
       arrays = refl;
@@ -108,12 +108,15 @@ module _ (code : Listing) (old tables : Tables) (instructions : List Instruction
           subst (λ (rs : List ℕ). Among r rs) (sym (ap all_named is_renamed ∙ all_renamed (number_of numbers) code.instructions))
           (subst (λ (n : ℕ). Among n (map (number_of numbers) (all_named code.instructions))) (ap number_or_greatest from.1) (among_map (number_of numbers) from.0 (all_named code.instructions) a))
 
+  renaming : IsRenamed (number_of numbers) code same
+  renaming = renames code same numbers all is_renamed (arrays ∙ ap (λ c. c.arrays) is)
+
   -- Code with the new table and the renamed instructions.
   pub renumbered : IsVerified same → IsRenumbered code same
   renumbered ok =
       record {
-        acts = acts_same (number_of numbers) code same (renames code same numbers all is_renamed (arrays ∙ ap (λ c. c.arrays) is)) ok;
-        renamed = (number_of numbers, is_renamed);
+        acts = acts_same (number_of numbers) code same renaming ok;
+        renamed = (number_of numbers, is_renamed, renaming.distinct);
         registers = let count = all.count in let whole = all.whole in let most = at_most_all numbers in omega (arith, count, whole, most);
         all_used = λ few r inside. used r inside;
         arrays = arrays ∙ ap (λ c. c.arrays) is;

@@ -2,8 +2,8 @@ use Rattle.std.proofs.Common.{◌≡◌, ◌≤◌, Some, ap, count_by, option_c
 use Rattle.std.specs.Option.{IfNone, IfSome}
 use Rattle.std.proofs.lemmas.Result.{IfOk-weaker}
 use Rattle.explain_play.specs.PlayedOut.{MadeAccess, is_access}
-use Rattle.item_step.specs.Launches.{setup_of}
 use Rattle.explain_items.specs.Named.{AtAccess, IsHere, IsBefore, stand_of}
+use Rattle.explain_items.specs.Spotted.{StandsInside}
 use Rattle.explain_items.proofs.Spotting.{access_stand, access_stand_back, named_at}
 use Rattle.explain_items.proofs.named.accessing.Goals as goal
 
@@ -14,10 +14,12 @@ returns c =
     let made = subst (λ xs. IfSome c.event_of-event.result (MadeAccess xs c.args.access)) same c.event_of-event.ensures.made in
     let few = subst (λ xs. IfNone c.event_of-event.result (count_by (λ mark. is_access mark.event) xs ≤ c.args.access)) same c.event_of-event.ensures.none in
     let stand = c.stand_at-stand.ensures ∙ ap (λ xs. stand_of xs c.event_of-event.result) same in
+    let launch = c.args.context.now.launch.now in
+    let at = option_copied c.stand_at-stand.result in
     IfOk-weaker c.named.result _ _
     (λ n h.
-    named_at (setup_of c.args.context.now.launch.now) c.args.context.now.program.text.now c.args.context.now.program.first_line (λ p. option_copied c.stand_at-stand.result ≡ Some p) (λ _. ⊥)
-    (λ p. IsHere marks (AtAccess c.args.access) p) (λ p. IsBefore marks c.args.item (AtAccess c.args.access) p) c.args.item n
-    (access_stand marks c.args.access c.event_of-event.result (option_copied c.stand_at-stand.result) made stand)
-    (access_stand_back marks c.args.access c.event_of-event.result (option_copied c.stand_at-stand.result) made few stand) (λ p no. no) (λ p no. no) h)
+    named_at launch c.args.context.now.program.text.now c.args.context.now.program.first_line (λ p. (at ≡ Some p) × StandsInside launch p) (λ p. ⊥ × StandsInside launch p)
+    (λ p. IsHere marks (AtAccess c.args.access) p × StandsInside launch p) (λ p. IsBefore marks c.args.item (AtAccess c.args.access) p × StandsInside launch p) c.args.item n
+    (λ p h. (access_stand marks c.args.access c.event_of-event.result at made stand p h.0, h.1))
+    (λ p h. (access_stand_back marks c.args.access c.event_of-event.result at made few stand p h.0, h.1)) (λ p no. no) (λ p no. no) h)
     c.named.ensures

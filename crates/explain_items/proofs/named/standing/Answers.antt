@@ -1,11 +1,10 @@
 use Rattle.std.proofs.Common.{◌≡◌, IfOk, Some, subst}
-use Rattle.item_step.specs.Launches.{setup_of}
-use Rattle.explain_items.specs.Spotted.{IsNamed}
+use Rattle.explain_items.specs.Spotted.{IsNamedInside}
 use Rattle.explain_items.proofs.named.standing.Goals as goal
 
 pub returns : goal.returns
 returns c =
     subst
     (λ o. IfOk c.named.result
-    (IsNamed (setup_of c.args.context.now.launch.now) c.args.context.now.program.text.now c.args.context.now.program.first_line (λ s. o ≡ Some s) (λ _. ⊥) c.args.standing.now.item))
+    (IsNamedInside c.args.context.now.launch.now c.args.context.now.program.text.now c.args.context.now.program.first_line (λ s. o ≡ Some s) (λ _. ⊥) c.args.standing.now.item))
     c.as_ref.ensures.value c.named.ensures

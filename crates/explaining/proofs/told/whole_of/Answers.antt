@@ -7,14 +7,14 @@ use Rattle.explaining.proofs.Telling.{nowhere}
 use Rattle.explaining.proofs.Writing.{explained, if_some}
 use Rattle.explaining.proofs.told.whole_of.Goals as goal
 
-pub unreachable-requires : goal.unreachable-requires
-unreachable-requires c =
-    nowhere c.in_ok-played.field-0 (Reaches (launch_of (setup_of c.args.context.now.launch.now) (bytes_in c.args.buffers.now)) (events_of c.args.short.now.schedule)) c.args.fault.now
-    c.in_default.is c.in_ok-played.ensures.none c.requires.leads
-
 pub returns-clause-whole : goal.returns-clause-whole
 returns-clause-whole c =
-    explained c.explanation_of.result (launch_of (setup_of c.args.context.now.launch.now) (bytes_in c.args.buffers.now)) c.args.context.now c.args.place.now.ticket
+    explained c.in_ok-whole.whole (launch_of (setup_of c.args.context.now.launch.now) (bytes_in c.args.buffers.now)) c.args.context.now c.args.place.now.ticket
     c.args.place.now.range.now c.args.fault.now c.args.short.now.schedule c.in_ok-facts.facts c.items_of-items.result.0 c.items_of-items.result.1 _ c.in-Some.played
-    c.explanation_of.ensures.launch c.explanation_of.ensures.fault c.explanation_of.ensures.schedule c.explanation_of.ensures.items c.in_ok-facts.ensures.short c.items_of-items.ensures
-    (if_some _ c.in_ok-played.field-0 c.in-Some.played c.in-Some.is c.in_ok-played.ensures.played)
+    c.in_ok-whole.ensures.launch c.in_ok-whole.ensures.fault c.in_ok-whole.ensures.schedule c.in_ok-whole.ensures.items c.in_ok-facts.ensures.short c.items_of-items.ensures
+    (if_some _ c.in_ok-played.field-0 c.in-Some.played c.in-Some.is c.in_ok-played.ensures.played) c.requires.leads
+
+pub returns-in_default-clause-none : goal.returns-in_default-clause-none
+returns-in_default-clause-none c =
+    nowhere c.in_ok-played.field-0 (Reaches (launch_of (setup_of c.args.context.now.launch.now) (bytes_in c.args.buffers.now)) (events_of c.args.short.now.schedule)) c.args.fault.now
+    c.in_default.is c.in_ok-played.ensures.none

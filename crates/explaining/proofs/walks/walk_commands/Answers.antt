@@ -1,10 +1,9 @@
-use Rattle.std.proofs.Common.{◌≡◌, ◌+◌, [], ◌∷◌, ◌++◌, ℕ, Some, length, take, ap, sym, ◌∙◌, append_assoc, refl, rules, arith, List, subst}
-use Rattle.std.specs.Prelude.{slice_get}
+use Rattle.std.proofs.Common.{◌≡◌, ◌+◌, [], ◌∷◌, ◌++◌, length, ap, sym, ◌∙◌, append_assoc, refl, rules, arith, List, subst}
 use Rattle.std.specs.Vec.Iter.{into_iter_items}
 use Rattle.std.proofs.lemmas.List.{append-nil, nil_from_length, length_push}
 use Rattle.device.specs.Machine.{machine_of}
 use Rattle.host_commands.specs.declared.command.Command.{Command}
-use Rattle.explaining.specs.Leading.{IsFirst, LeadsCleanly}
+use Rattle.explaining.specs.Leading.{LeadsCleanly}
 use Rattle.explaining.proofs.Performing.{cleanly_more, walk_ends}
 use Rattle.explaining.proofs.Telling.{if_none}
 use Rattle.explaining.proofs.walks.walk_commands.Goals as goal
