@@ -1,6 +1,9 @@
 //! What an item asks where it rests.
 #![tactic(auto)]
 
+ghost use Rattle.std.specs.Prelude.{◌≡◌};
+ghost use Rattle.item_step.specs.Accessing.{access_of};
+
 use clmodel::access::Operation;
 use clmodel::action::{Action, Fences};
 use clmodel::operand::Pointer;
@@ -36,6 +39,20 @@ pub(crate) struct FoundAccess {
     pub(crate) pointer: Pointer,
     pub(crate) operation: Operation,
     pub(crate) pending: Pending,
+}
+
+impl FoundAccess {
+    /// The access as an action.
+    #[inline(always)]
+    pub(crate) fn action(self) -> Action
+        ensures { result ≡ access_of self }
+    {
+        Action::Access {
+            object: self.pointer.object,
+            element: self.pointer.offset,
+            operation: self.operation,
+        }
+    }
 }
 
 /// Why an item doesn't go on by steps: it makes an access, or it rests.
