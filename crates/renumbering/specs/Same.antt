@@ -11,9 +11,9 @@ use Rattle.renumbering.specs.Renamed.{renamed, all_named}
 abbrev pub ActsAlike : Listing → Listing → Type 0
 ActsAlike old new = (setup : Setup) (item : ℕ) (answers : List Answer) → acts new setup item answers ≡ acts old setup item answers
 
--- New code is the old code with other registers: it acts alike, no two registers get one number of its table, and it has
--- no more registers, and all other tables. Its instructions name each of its registers, unless the old code has more of
--- them than there are numbers of 32 bits (own).
+-- New code is the old code with other registers: it acts alike, no two registers get one number of its table, and it
+-- has no more registers, and all other tables. Its instructions name each of its registers, unless the old code has
+-- more of them than there are numbers of 32 bits (own).
 pub record IsRenumbered (old new : Listing) : Type 0 where
   pub acts : ActsAlike old new
   pub renamed : (name : ℕ → ℕ) × (new.instructions ≡ map (renamed name) old.instructions)
