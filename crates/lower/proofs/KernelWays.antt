@@ -6,7 +6,7 @@ use Rattle.clmodel.specs.Typing.Sizes.{size_in, row_size, sizes_of}
 use Rattle.clmodel.specs.declared.tree.Parameter.{Parameter}
 use Rattle.clmodel.specs.declared.tree.VariableType.{VariableType}
 use Rattle.regcode.specs.Listing.{Listing}
-use Rattle.regcode.specs.Rules.{loops_at, most_loops, Leads, Goes}
+use Rattle.regcode.specs.Rules.{loops_at, most_loops, Leads, LeadsInside}
 use Rattle.regcode.specs.declared.instruction.Instruction.{Instruction}
 use Rattle.regcode.specs.declared.instruction.Instruction.TheVariants as instruction
 use Rattle.lower_expr.specs.Scope.{Scope}
@@ -76,16 +76,16 @@ whole_stands parameters code =
     (λ k i is. let p : k ≡ 0 + k = omega arith in subst (λ n. slice_get code n ≡ Some i) p is)
     (λ k below. let p : k ≡ 0 + k = omega arith in subst (λ n. slice_index (loops_from 0 code) n ≡ slice_index (loops_from 0 code) k) p refl)
 
-going_there : (L : Listing) (code : List Instruction) (at place : ℕ) (i : Instruction) → Going L at code → slice_get code place ≡ Some i → Goes L (at + place) i × (loops_at L (at + place) ≤ most_loops)
+going_there : (L : Listing) (code : List Instruction) (at place : ℕ) (i : Instruction) → Going L at code → slice_get code place ≡ Some i → LeadsInside L (at + place) i × (loops_at L (at + place) ≤ most_loops)
 going_there L [] at place i h is = absurd (cc)
 going_there L (first ∷ code) at zero i h is =
     let start : at ≡ at + 0 = omega arith in
-    let rest = subst (λ o. elim o as (λ _. Type 0) [ None ↦ Unit {0} | Some j ↦ Goes L at j ]) is h.0 in
-    (subst (λ p. Goes L p i) start rest, subst (λ p. loops_at L p ≤ most_loops) start h.1)
+    let rest = subst (λ o. elim o as (λ _. Type 0) [ None ↦ Unit {0} | Some j ↦ LeadsInside L at j ]) is h.0 in
+    (subst (λ p. LeadsInside L p i) start rest, subst (λ p. loops_at L p ≤ most_loops) start h.1)
 going_there L (first ∷ code) at (suc place) i h is =
     let next : at + 1 + place ≡ at + suc place = omega arith in
     let rest = going_there L code (at + 1) place i h.2 is in
-    (subst (λ p. Goes L p i) next rest.0, subst (λ p. loops_at L p ≤ most_loops) next rest.1)
+    (subst (λ p. LeadsInside L p i) next rest.0, subst (λ p. loops_at L p ≤ most_loops) next rest.1)
 
 pub kernels_go : KernelsGo
 kernels_go parameters earlier f distinct few place i is =
@@ -117,4 +117,4 @@ kernels_go parameters earlier f distinct few place i is =
     (tt, omega (arith, same), tt)) in
     let r = going_there L code 0 place i going is in
     let p : 0 + place ≡ place = omega arith in
-    (subst (λ q. Goes L q i) p r.0, subst (λ q. loops_at L q ≤ most_loops) p r.1)
+    (subst (λ q. LeadsInside L q i) p r.0, subst (λ q. loops_at L q ≤ most_loops) p r.1)

@@ -4,7 +4,7 @@ use Rattle.std.proofs.lemmas.List.{length-append}
 use Rattle.std.proofs.lemmas.Option.{slice_get_within}
 use Rattle.clmodel.specs.declared.action.Fences.{Fences}
 use Rattle.regcode.specs.Listing.{Listing}
-use Rattle.regcode.specs.Rules.{loops_at, most_loops, Leads, Goes}
+use Rattle.regcode.specs.Rules.{loops_at, most_loops, Leads, LeadsInside}
 use Rattle.regcode.specs.declared.instruction.Instruction.{Instruction}
 use Rattle.regcode.specs.declared.instruction.Instruction.TheVariants as instruction
 use Rattle.lower_code.specs.Code.{Exits, past}
@@ -66,7 +66,7 @@ flat_leads L at d (i ∷ code) end flat h e leads (suc by) less =
     leads_at L d (at + 1 + by) (at + suc by) (omega arith)
     (flat_leads L (at + 1) d code end flat.1 (subst (λ n. Standing L (at + 1) n code) (stays_depth d i (length code) flat.0) h.2) (omega (arith, e)) leads by (omega (arith, less)))
 
-stays_goes : (L : Listing) (at d : ℕ) (i : Instruction) (n : ℕ) → Stays i n → loops_at L at ≡ d → ((by : ℕ) → by ≤ n → Leads L (at + 1 + by) d) → Leads L (at + 1) d → Goes L at i
+stays_goes : (L : Listing) (at d : ℕ) (i : Instruction) (n : ℕ) → Stays i n → loops_at L at ≡ d → ((by : ℕ) → by ≤ n → Leads L (at + 1 + by) d) → Leads L (at + 1) d → LeadsInside L at i
 stays_goes L at d (instruction.Jump by) n h e into next = subst (λ k. Leads L (at + 1 + by) k) (sym e) (into by h)
 stays_goes L at d (instruction.JumpIfZero register by) n h e into next = (subst (λ k. Leads L (at + 1) k) (sym e) next, subst (λ k. Leads L (at + 1 + by) k) (sym e) (into by h))
 stays_goes L at d (instruction.Barrier site depth fences) n h e into next = absurd h

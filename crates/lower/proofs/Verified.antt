@@ -28,5 +28,5 @@ kernels_verified parameters earlier f distinct few suit =
       listed = loops_counted 0 code;
       outside = outside code begins;
       named = names_there code (register_count code);
-      each = λ place i is. let r = kernels_go parameters earlier f distinct few place i is in record { fits = suit_fits parameters code suit place i is; goes = r.0; few = r.1 };
+      each = λ place i is. let r = kernels_go parameters earlier f distinct few place i is in record { fits = suit_fits parameters code suit place i is; leads = r.0; few = r.1 };
     }

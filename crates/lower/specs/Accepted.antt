@@ -7,7 +7,7 @@ use Rattle.clmodel.specs.declared.declaration.Declaration.TheVariants.{Single, L
 use Rattle.clmodel.specs.declared.tree.VariableType.{VariableType}
 use Rattle.clmodel.specs.declared.tree.VariableType.TheVariants.{Integer}
 use Rattle.regcode.specs.Listing.{Listing}
-use Rattle.regcode.specs.Rules.{kind_at, kind_of, HasRoom, Fits, loops_at, most_loops, Leads, Goes, IsVerified}
+use Rattle.regcode.specs.Rules.{kind_at, kind_of, HasRoom, Fits, loops_at, most_loops, Leads, LeadsInside, IsVerified}
 use Rattle.regcode.specs.declared.instruction.Instruction.{Instruction}
 use Rattle.clnum.specs.declared.int_type.IntType.{IntType}
 use Rattle.clmodel.specs.Setup.{kernel_in, functions_before}
@@ -123,7 +123,7 @@ ends depth (i ∷ is) = ends (depth_after depth i) is
 -- each of these instructions goes where it may, in few enough loops
 abbrev pub Going : Listing → ℕ → List Instruction → Type 0
 Going L at [] = Unit {0}
-Going L at (i ∷ is) = Goes L at i × (loops_at L at ≤ most_loops) × Going L (at + 1) is
+Going L at (i ∷ is) = LeadsInside L at i × (loops_at L at ≤ most_loops) × Going L (at + 1) is
 
 -- code may go on behind a statement's end, and at its other exits
 pub record Opens (L : Listing) (depth end : ℕ) (exits : Exits) : Type 0 where
@@ -159,7 +159,7 @@ abbrev pub KernelsGo : Type 0
 KernelsGo =
     (parameters : List VariableType) (earlier : Funcs) (f : Func) → Distinct earlier → (row_size (sizes_of earlier) f.body).loops ≤ most_loops →
     (place : ℕ) (i : Instruction) → slice_get (kernel_code earlier f) place ≡ Some i →
-    Goes (tabled (kernel_code earlier f) parameters) place i × (loops_at (tabled (kernel_code earlier f) parameters) place ≤ most_loops)
+    LeadsInside (tabled (kernel_code earlier f) parameters) place i × (loops_at (tabled (kernel_code earlier f) parameters) place ≤ most_loops)
 
 -- A kernel's code is verified with the tables that are made from it, if its instructions suit the types of the
 -- parameters.

@@ -30,7 +30,7 @@ use Rattle.clmodel.specs.declared.tree.VariableType.{VariableType}
 use Rattle.clmodel.specs.declared.tree.VariableType.TheVariants as variable_type
 use Rattle.regcode.specs.Listing.{Listing}
 use Rattle.regcode.specs.Machine.{State, ItemContext, Registers, reg, put, put_array, array_of, entry_at, act, name_of, with_put, with_array, with_turns, passed, onward, argument_at}
-use Rattle.regcode.specs.Rules.{IsVerified, Fits, Goes, Takes, HasRoom, Leads, kind_at, loops_at, kind_of, held_kind, number_kind, common_kind, changed_kind, combined_kind, of_one_kind, of_two_kind, offset_kind, loaded_kind, fetched_kind, is_integer, is_pointer, is_atomic, is_turn}
+use Rattle.regcode.specs.Rules.{IsVerified, Fits, LeadsInside, Takes, HasRoom, Leads, kind_at, loops_at, kind_of, held_kind, number_kind, common_kind, changed_kind, combined_kind, of_one_kind, of_two_kind, offset_kind, loaded_kind, fetched_kind, is_integer, is_pointer, is_atomic, is_turn}
 use Rattle.regcode.specs.Safety.{Suits, operand_kind, InTables, GoesOn, ended, failed, on_at, after_at, asked, ticked, IsNext, NeverSticks}
 use Rattle.regcode.specs.declared.instruction.FetchOperands.TheVariants as operands
 use Rattle.regcode.specs.declared.instruction.Instruction.{Instruction}
@@ -331,7 +331,7 @@ module _ (code : Listing) (s : State) (suits : Suits code s) where
 
   -- what an instruction does, where its operands are as it wants them
   module _ (given : ItemContext) (on after : State → Continuation) where
-    does : (i : Instruction) → Fits code i → InTables code i → Goes code s.place i → GoesOn (i ≡ instruction.End) (IsNext code s) on after (act given (Some i) on after s)
+    does : (i : Instruction) → Fits code i → InTables code i → LeadsInside code s.place i → GoesOn (i ≡ instruction.End) (IsNext code s) on after (act given (Some i) on after s)
     unfolding converted
     does (instruction.Constant to value) fits named goes = on_at _ (put_next to _ (takes_is _ _ fits) goes)
     does (instruction.Unset to) fits named goes = on_at _ (set_next to None fits (λ w e. absurd (none-some w e)) goes)
@@ -484,5 +484,5 @@ never_sticks code ok =
   where
     goes : (given : ItemContext) (s : State) → Suits code s → (on after : State → Continuation) → (o : Option Instruction) → slice_get code.instructions s.place ≡ o
         → (i : Instruction) × (o ≡ Some i) × InTables code i × GoesOn (i ≡ instruction.End) (IsNext code s) on after (act given o on after s)
-    goes given s suits on after (Some i) here = let fine = ok.each s.place i here in let named = in_tables code i fine.fits in (i, refl, named, does code s suits given on after i fine.fits named fine.goes)
+    goes given s suits on after (Some i) here = let fine = ok.each s.place i here in let named = in_tables code i fine.fits in (i, refl, named, does code s suits given on after i fine.fits named fine.leads)
     goes given s suits on after None here = absurd (none-some _ (sym here ∙ slice_get-get_or code.instructions s.place instruction.End suits.inside))

@@ -240,9 +240,9 @@ impl Judged<'_> {
     }
 
     /// Whether the places that an instruction leads to are in the code, and the loops that it names are entered.
-    fn goes(&self, place: usize, instruction: &Instruction) -> bool
+    fn leads_inside(&self, place: usize, instruction: &Instruction) -> bool
         requires { place < length self.now.instructions.now }
-        ensures { IsTrue result ↔ spec.Goes (listing self.now.instructions.now self.now.tables.now) place instruction.now }
+        ensures { IsTrue result ↔ spec.LeadsInside (listing self.now.instructions.now self.now.tables.now) place instruction.now }
     {
         let loops = self.loops(place);
         match instruction {
@@ -271,6 +271,6 @@ impl Judged<'_> {
         requires { place < length self.now.instructions.now }
         ensures { IsTrue result ↔ spec.IsFine (listing self.now.instructions.now self.now.tables.now) place instruction.now }
     {
-        self.fits(instruction) && self.goes(place, instruction) && self.loops(place) <= 8
+        self.fits(instruction) && self.leads_inside(place, instruction) && self.loops(place) <= 8
     }
 }
