@@ -30,10 +30,10 @@ use item_step::Launch;
 use launches::laws::setups_are_runnable;
 use launches::{Described, LoadedLaunch, Runnable, group_count};
 use marked_play::{
-    Mark, Pair, Partner, Replica, Stand, WantedPair, dividend_of, find_pair, mark_schedule,
+    Mark, Pair, Replica, Stand, WantedPair, dividend_of, find_pair, mark_schedule,
     stand_of,
 };
-use replay::Player;
+use replay::{Player, told_conflict};
 use shadow_list::both_store;
 use spaces_base::{Buffers, Plain};
 use std::alloc::{AllocError, Global};
@@ -85,33 +85,20 @@ fn copies(alloc: Global, names: &[Name], buffers: &Buffers) -> Result<Vec<Plain>
 fn told_of<'a, D: Runnable>(launch: &D, fault: &'a Fault) -> Option<WantedPair<'a>>
     ensures { IfSome result (Tells (D.launch launch.now) fault.now) }
 {
-    let Fault::Conflict {
-        item,
-        kind,
-        other_item,
-        other_kind,
-        location,
-        byte,
-        ..
-    } = fault
-    else {
-        return None;
-    };
-    let size = launch.group_size();
-    Some(WantedPair {
-        first: Partner {
-            item: *item,
-            kind: *kind,
-        },
-        second: Partner {
-            item: *other_item,
-            kind: *other_kind,
-        },
-        location,
-        byte: *byte,
-        one_group: *item / size == *other_item / size,
-        by_byte: both_store(*kind, *other_kind) && launch.uniform(),
-    })
+    match told_conflict(fault) {
+        Some(told) => {
+            let size = launch.group_size();
+            Some(WantedPair {
+                first: told.first,
+                second: told.second,
+                location: told.place.location,
+                byte: told.place.byte,
+                one_group: told.first.item / size == told.second.item / size,
+                by_byte: both_store(told.first.kind, told.second.kind) && launch.uniform(),
+            })
+        }
+        None => None,
+    }
 }
 
 /// The two accesses of a log that a fault tells as a conflict, if it tells one and they are found.

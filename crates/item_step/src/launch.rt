@@ -170,7 +170,7 @@ impl<'a> Launch<'a> {
 
     /// An item before its first action.
     pub fn start(&self, alloc: Global, item: u32) -> Result<Item<'_>, AllocError>
-        ensures acts { IfOk result (λ started. (answers : List Answer) → action_of started answers ≡ next (setup_of self.now) item answers) }
+        ensures acts { IfOk result (λ machine. (answers : List Answer) → action_of machine answers ≡ next (setup_of self.now) item answers) }
         ensures starts { IfOk result (λ machine. machine ≡ started self.now item) }
     {
         let position = ItemPosition {

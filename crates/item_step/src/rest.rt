@@ -55,10 +55,14 @@ impl FoundAccess {
     }
 }
 
-/// Why an item doesn't go on by steps: it makes an access, or it rests.
+/// Why an item doesn't go on by steps.
 #[derive(Clone, Copy)]
 pub(crate) enum Stop {
+    /// It makes the access of a load or a store
     Access(FoundAccess),
+    /// It stands at an atomic update, whose access is still to be found
+    Updates,
+    /// It rests
     Rests(Rest),
 }
 

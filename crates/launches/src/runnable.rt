@@ -23,6 +23,6 @@ pub trait Runnable: Described {
 
     /// An item before its first action. An error is out of memory.
     fn start(&self, alloc: Global, item: u32) -> Result<Item<'_>, AllocError>
-        ensures acts { IfOk result (λ started. (answers : List Answer) → action_of started answers ≡ (Self.launch self.now).next item answers) }
+        ensures acts { IfOk result (λ machine. (answers : List Answer) → action_of machine answers ≡ (Self.launch self.now).next item answers) }
         ensures starts { IfOk result (λ machine. machine ≡ Self.started self.now item) };
 }

@@ -28,6 +28,7 @@ use Rattle.lower_expr.specs.Expressions.{kind_named, type_of_elements, private_l
 use Rattle.lower_expr.specs.Agreement.{HasAt, Reached, Hold, HoldsPart, HoldsTarget}
 use Rattle.lower_expr.proofs.Places.{has_moved, reached_put, array_seen, elements_seen, type_seen}
 use Rattle.lower_code.specs.Code.{hold_code, type_of_target, fetch_code, put_code, wait_code}
+use Rattle.lower_expr.proofs.Lengths.{call_length}
 use Rattle.lower_expr.proofs.Expressions.{expr_runs, target_runs, private_load_run, call_runs}
 use Rattle.lower.proofs.Scopes.{Same, same_self, same_then, put_same, sees_same, slot_between, assigned_sees, unassigned_sees, level_from, stored_sees}
 use Rattle.lower.proofs.Stands.{Stands, put_stands, array_stands, passed_stands, stands_to, here_at}
@@ -52,24 +53,6 @@ arguments_placed scope level NoTerm = tt
 arguments_placed scope level (ThenTerm es e) =
     let is = count_is scope level es in
     placed_then level (registers_for scope level es) (register_for scope (level + count es) e) (arguments_placed scope level es) (omega arith)
-
--- a call of a built-in function is one instruction
-call_length : (function : Option BuiltIn) (to : ℕ) (numbers : List ℕ) → length (call_code function to numbers) ≡ 1
-call_length None to numbers = refl
-call_length (Some (built_in_function.Atomic function)) to [] = refl
-call_length (Some (built_in_function.Atomic function)) to (i ∷ []) = refl
-call_length (Some (built_in_function.Atomic function)) to (i ∷ j ∷ []) = refl
-call_length (Some (built_in_function.Atomic function)) to (i ∷ j ∷ k ∷ []) = refl
-call_length (Some (built_in_function.Atomic function)) to (i ∷ j ∷ k ∷ l ∷ numbers) = refl
-call_length (Some built_in_function.WorkDim) to [] = refl
-call_length (Some built_in_function.WorkDim) to (i ∷ numbers) = refl
-call_length (Some (built_in_function.WorkItem function)) to [] = refl
-call_length (Some (built_in_function.WorkItem function)) to (i ∷ []) = refl
-call_length (Some (built_in_function.WorkItem function)) to (i ∷ j ∷ numbers) = refl
-call_length (Some (built_in_function.Integer function)) to [] = refl
-call_length (Some (built_in_function.Integer function)) to (i ∷ []) = refl
-call_length (Some (built_in_function.Integer function)) to (i ∷ j ∷ []) = refl
-call_length (Some (built_in_function.Integer function)) to (i ∷ j ∷ k ∷ numbers) = refl
 
 -- what is done behind a store in a private array that has elements may be replaced by what acts alike where there are
 -- elements

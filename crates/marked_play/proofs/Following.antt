@@ -1,9 +1,7 @@
 -- A replica of the memory that follows events, and the numbers that it has there.
-use Rattle.std.proofs.Common.{◌≡◌, ℕ, zero, suc, ◌⊎◌, ◌==◌, ◌&&◌, Bool, true, false, nat_lt, Option, None, Some, List, [], ◌∷◌, length, map, set, refl, sym, ap, ◌∙◌, subst, inl, inr, ne_eqb}
-use Rattle.std.specs.Prelude.{slice_get, slice_index_or, if◌then◌else◌, All}
+use Rattle.std.proofs.Common.{◌≡◌, ℕ, ◌⊎◌, Bool, true, false, nat_lt, Option, None, Some, List, ◌∷◌, length, set, refl, sym, ap, ◌∙◌, subst, inl, inr}
+use Rattle.std.specs.Prelude.{slice_get, if◌then◌else◌, All}
 use Rattle.std.specs.Option.{IfSome, option_map}
-use Rattle.std.proofs.Math.Path.{fun_ext}
-use Rattle.std.proofs.lemmas.List.{length-map}
 use Rattle.std.proofs.lemmas.Option.{IfSome_then, get_or_from_slice_get, slice_get_within}
 use Rattle.clmodel.specs.Cells.{Cells, answer_to, cells_of, effect, found, number, size_of}
 use Rattle.clmodel.specs.Launch.{Launch, group_of, region_of}
@@ -17,12 +15,14 @@ use Rattle.clmodel.specs.declared.action.Action.{Action}
 use Rattle.clmodel.specs.declared.action.Action.TheVariants as action
 use Rattle.clmodel.specs.declared.schedule.Event.{Event}
 use Rattle.clmodel.specs.declared.schedule.Event.TheVariants as event
-use Rattle.clmodel.proofs.Steps.{if_false, none_some, some_inj}
-use Rattle.clmodel.proofs.CellLaws.{cells_some}
+use Rattle.clmodel.proofs.Steps.{none_some, some_inj}
 use Rattle.launches.specs.Groups.{filled}
 use Rattle.launches.specs.Objects.{ObjectsHold, SpacesHold}
 use Rattle.launches.proofs.Lists.{get_set}
 use Rattle.replay.specs.States.{LocalsHold}
+use Rattle.replay.proofs.Bytes.{not_there}
+use Rattle.replay.proofs.Playing.{locals_apart}
+use Rattle.replay.proofs.Starting.{buffers_hold}
 use Rattle.marked_play.specs.Marks.{HasThere, IsCounted}
 use Rattle.marked_play.specs.Replicas.{Holds, IsAbout, IsEmpty, IsNext, Mirrors, region_at}
 use Rattle.marked_play.specs.declared.marks.Mark.{Mark}
@@ -86,25 +86,6 @@ keeps l s t (event.Release group) none goes = release_keeps l s t group (first_i
 
 -- ---- the start
 
-filled_at : (bs : List (List ℕ)) (n : ℕ) (x : List (Option ℕ)) → slice_get (map (λ b. map Some b) bs) n ≡ Some x → x ≡ map Some (slice_index_or bs n [])
-filled_at [] n x e = absurd (none_some x e)
-filled_at (b ∷ bs) zero x e = sym (some_inj (map Some b) x e)
-filled_at (b ∷ bs) (suc n) x e = filled_at bs n x e
-
-past : (bs : List (List ℕ)) (n : ℕ) → ◌≡◌ {A = Option (List (Option ℕ))} (slice_get (map (λ b. map Some b) bs) n) None → slice_index_or bs n [] ≡ []
-past [] n e = refl
-past (b ∷ bs) zero e = absurd (none_some (map Some b) (sym e))
-past (b ∷ bs) (suc n) e = past bs n e
-
-buffers_hold : (l : Launch) → SpacesHold (λ b. b) l (length l.buffers) region.Buffer (filled l) (initial l)
-buffers_hold l =
-    record {
-      many = length-map l.buffers (λ b. map Some b);
-      sized = λ n x e. ap length (filled_at l.buffers n x e) ∙ length-map (slice_index_or l.buffers n []) Some;
-      none = λ n e. ap length (past l.buffers n e);
-      cells = λ n x e. fun_ext (λ byte. ap (λ z. cells_of z byte) (filled_at l.buffers n x e) ∙ cells_some (slice_index_or l.buffers n []) byte);
-    }
-
 pub starts :
     (l : Launch) (replica : Replica) → replica.group_size ≡ l.group_size → replica.sizes.items ≡ l.local_sizes → replica.buffers.items ≡ filled l → All IsEmpty replica.groups.items
     → Mirrors l replica (initial l)
@@ -118,22 +99,6 @@ starts l replica sized sizes buffers empty live = record {
 }
 
 -- ---- an access
-
-apart : (m : Memory) (g q n : ℕ) (o : Object) (c : Cells) → (q ≡ g → ⊥) → with_cells m (region_of g o) c (region.Local q n) ≡ m (region.Local q n)
-apart m g q n (object.Buffer b) c ne = refl
-apart m g q n (object.Local b) c ne = if_false ((q == g) && (n == b)) c (m (region.Local q n)) (ap (λ x. x && (n == b)) (ne_eqb q g ne))
-
-locals_apart :
-    (l : Launch) (g q : ℕ) (m : Memory) (o : Object) (c : Cells) (locals : List (List (Option ℕ))) → (q ≡ g → ⊥) → LocalsHold l q locals m
-    → LocalsHold l q locals (with_cells m (region_of g o) c)
-locals_apart l g q m o c locals ne (inl h) =
-    inl (record {
-      many = h.many;
-      sized = h.sized;
-      none = h.none;
-      cells = λ n x e. h.cells n x e ∙ sym (apart m g q n o c ne);
-    })
-locals_apart l g q m o c locals ne (inr h) = inr (h.0, λ n byte. ap (λ z. z byte) (apart m g q n o c ne) ∙ h.1 n byte)
 
 -- what is held behind a deed of an item of a group whose local objects were `x`, and are `y`
 pub held :
@@ -183,9 +148,6 @@ pub buffer_number :
     → SpacesHold (λ b. b) l (length l.buffers) region.Buffer bs m → number (cells_of b) first count ≡ Some x → number (m (region_of g o)) first count ≡ Some x
 buffer_number l g m bs b o n first count x is there h e =
     ap (λ z. number (m (region_of g z)) first count) is ∙ ap (λ c. number c first count) (sym (h.cells n b there)) ∙ e
-
-not_there : {A : Type 0} (xs : List A) (n : ℕ) (x : A) → xs ≡ [] → slice_get xs n ≡ Some x → ⊥
-not_there xs n x none e = none_some x (ap (λ z. slice_get z n) (sym none) ∙ e)
 
 pub local_number :
     (l : Launch) (g : ℕ) (m : Memory) (locals : List (List (Option ℕ))) (b : List (Option ℕ)) (o : Object) (n first count x : ℕ) → o ≡ object.Local n → slice_get locals n ≡ Some b

@@ -6,8 +6,8 @@ use Rattle.clmodel.specs.declared.access.Access.{Access}
 use Rattle.clmodel.specs.declared.access.AccessKind.{AccessKind}
 use Rattle.clmodel.specs.declared.fault.Location.{Location}
 use Rattle.marked_play.specs.declared.pairs.Pair.{Pair}
-use Rattle.marked_play.specs.declared.pairs.Partner.{Partner}
 use Rattle.marked_play.specs.declared.pairs.WantedPair.{WantedPair}
+use Rattle.replay.specs.declared.conflicts.Partner.{Partner}
 
 -- an access of this item and kind, at this byte of this location
 pub record IsTold (launch : Launch) (item : ℕ) (kind : AccessKind) (location : Location) (byte : ℕ) (access : Access) : Type 0 where
@@ -21,6 +21,7 @@ pub record Clashes (one_group by_byte : Bool) (byte : ℕ) (one other : Access) 
   pub unordered : one_group ≡ true → one.interval ≡ other.interval
   pub differ : by_byte ≡ true → left_at one byte ≢ left_at other byte
 
+-- one access is that of the first partner, the other that of the second, and they clash
 pub record IsPair (launch : Launch) (first second : Partner) (location : Location) (byte : ℕ) (one_group by_byte : Bool) (one other : Access) : Type 0 where
   pub one_told : IsTold launch first.item first.kind location byte one
   pub other_told : IsTold launch second.item second.kind location byte other

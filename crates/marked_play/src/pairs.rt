@@ -6,20 +6,14 @@ ghost use Rattle.std.specs.Bool.{Decides};
 ghost use Rattle.clmodel.specs.Cells.{byte_count, covers};
 ghost use Rattle.marked_play.specs.Pairs.{IsTold, Clashes, IsPair, IsFoundPair};
 
-use clmodel::access::{Access, AccessKind, Region};
+use clmodel::access::{Access, Region};
 use clmodel::fault::Location;
 use clmodel::text::Name;
 use launches::Described;
+use replay::Partner;
 use shadow_list::left_at;
 use std::alloc::{AllocError, Global};
 use std::collections::HashMap;
-
-/// One of the two accesses, as a fault tells it.
-#[derive(Clone, Copy)]
-pub struct Partner {
-    pub item: u32,
-    pub kind: AccessKind,
-}
 
 /// A conflict, as a fault tells it; whether both items are of one group, whose barriers can order them; and whether the
 /// two have to leave different bytes.

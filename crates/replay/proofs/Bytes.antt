@@ -54,7 +54,7 @@ pub buffer_unset :
     → SpacesHold (λ b. b) l (length l.buffers) region.Buffer bs m → lowest_unset (cells_of x) first (size_of op) ≡ lowest_unset (m (region_of g o)) first (size_of op)
 buffer_unset l g m bs x o n first op is e h = ap (λ c. lowest_unset c first (size_of op)) (h.cells n x e ∙ ap (λ z. m (region_of g z)) (sym is))
 
-not_there : {A : Type 0} (xs : List A) (n : ℕ) (x : A) → xs ≡ [] → slice_get xs n ≡ Some x → ⊥
+pub not_there : {A : Type 0} (xs : List A) (n : ℕ) (x : A) → xs ≡ [] → slice_get xs n ≡ Some x → ⊥
 not_there xs n x none e = none_some x (ap (λ z. slice_get z n) (sym none) ∙ e)
 
 pub local_inside :

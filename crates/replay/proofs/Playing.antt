@@ -135,7 +135,7 @@ apart : (m : Memory) (g q n : ℕ) (o : Object) (c : Cells) → (q ≡ g → ⊥
 apart m g q n (object.Buffer b) c ne = refl
 apart m g q n (object.Local b) c ne = if_false ((q == g) && (n == b)) c (m (region.Local q n)) (ap (λ x. x && (n == b)) (ne_eqb q g ne))
 
-locals_apart :
+pub locals_apart :
     (l : Launch) (g q : ℕ) (m : Memory) (o : Object) (c : Cells) (locals : List (List (Option ℕ))) → (q ≡ g → ⊥) → LocalsHold l q locals m
     → LocalsHold l q locals (with_cells m (region_of g o) c)
 locals_apart l g q m o c locals ne (inl h) =

@@ -32,7 +32,7 @@ past [] n e = refl
 past (b ∷ bs) zero e = absurd (none_some (map Some b) (sym e))
 past (b ∷ bs) (suc n) e = past bs n e
 
-buffers_hold : (l : Launch) → SpacesHold (λ b. b) l (length l.buffers) region.Buffer (filled l) (initial l)
+pub buffers_hold : (l : Launch) → SpacesHold (λ b. b) l (length l.buffers) region.Buffer (filled l) (initial l)
 buffers_hold l =
     record {
       many = length-map l.buffers (λ b. map Some b);
