@@ -7,7 +7,7 @@ use Rattle.std.specs.List.{All}
 use Rattle.std.specs.Option.{option_map}
 use Rattle.regcode.specs.Listing.{Listing}
 use Rattle.regcode.specs.Machine.{entry_at}
-use Rattle.regcode.specs.Rules.{IsVerified, IsFine, Fits, Goes, Leads, kind_at, is_turn}
+use Rattle.regcode.specs.Rules.{IsVerified, IsFine, Fits, LeadsInside, Leads, kind_at, is_turn}
 use Rattle.regcode.specs.Safety.{InTables, Below, sources, targets}
 use Rattle.regcode.specs.declared.instruction.FetchOperands.TheVariants as operands
 use Rattle.regcode.specs.declared.instruction.Instruction.{Instruction}
@@ -136,7 +136,7 @@ module _ (code : Listing) (news : List Register) (numbers : List (Option ℕ)) (
   turn_kept (Some (instruction.Turn depth)) h = h
   turn_kept _ h = absurd (false≢true h)
 
-  goes_kept : (place : ℕ) (i : Instruction) → Goes code place i → Goes new place (renamed (number_of numbers) i)
+  goes_kept : (place : ℕ) (i : Instruction) → LeadsInside code place i → LeadsInside new place (renamed (number_of numbers) i)
   goes_kept place (instruction.Barrier site depth fences) h = (h.0, leads _ _ h.1)
   goes_kept place (instruction.Enter depth) h = (h.0, h.1, leads _ _ h.2)
   goes_kept place (instruction.Turn depth) h = (h.0, leads _ _ h.1)
@@ -168,4 +168,4 @@ module _ (code : Listing) (news : List Register) (numbers : List (Option ℕ)) (
       each place j here (Some i) e =
           let fine = ok.each place i e in
           subst (IsFine new place) (same_Some (renamed (number_of numbers) i) j (sym (slice_get-map (renamed (number_of numbers)) code.instructions place ∙ ap (option_map (renamed (number_of numbers))) e) ∙ here))
-          (record { fits = fits_kept i (numbered place i e) fine.fits; goes = goes_kept place i fine.goes; few = fine.few })
+          (record { fits = fits_kept i (numbered place i e) fine.fits; leads = goes_kept place i fine.leads; few = fine.few })
