@@ -24,7 +24,7 @@ use Rattle.lower_expr.specs.Scope.{Scope, register_at, register_in, register_of,
 use Rattle.lower_expr.specs.Expressions.{count, kind_of, kind_named, type_of_elements, register_for, registers_for, folded, expr_code, terms_code, target_code, target_register, variable_code, element_code, infix_code, branch_code, choice_code, call_code, update_code, call_only_code}
 use Rattle.lower_code.specs.Code.{type_of_target, hold_code, fetch_code, put_code, combine_code}
 use Rattle.lower.specs.Tables.{registers_of, room, register_count}
-use Rattle.lower_expr.proofs.Short.{few_terms, some_node}
+use Rattle.lower_expr.proofs.Short.{some_node}
 
 -- these numbers are below n
 abbrev pub Few : ℕ → List ℕ → Type 0
@@ -129,6 +129,10 @@ some_place sizes (TargetVariable at name) = omega arith
 some_place sizes (TargetElement at name index) = omega arith
 some_place sizes (TargetDereference at pointer) = omega arith
 
+counted : (sizes : Sizes) (es : Terms) → count es ≤ (terms_size sizes es).nodes
+counted sizes NoTerm = omega arith
+counted sizes (ThenTerm es e) = omega (arith, counted sizes es, some_node sizes e)
+
 module _ (sizes : Sizes) (top : ℕ) (scope : Scope) (within : free_level scope ≤ top) where
   at : (level : ℕ) (kind : VariableType) → level + 1 ≤ top → register_at level kind < 16 * top
   at level kind h = at_low top level kind h
@@ -201,13 +205,13 @@ module _ (sizes : Sizes) (top : ℕ) (scope : Scope) (within : free_level scope 
     pub terms_low : (level : ℕ) (es : Terms) → level + (terms_size sizes es).nodes ≤ top → Low (16 * top) (terms_code scope level es)
     terms_low level NoTerm h = tt
     terms_low level (ThenTerm es e) h =
-        low_both (16 * top) (terms_code scope level es) _ (terms_low level es (omega (arith, h))) (expr_low (level + count es) e (let c = few_terms sizes es in omega (arith, h, c)))
+        low_both (16 * top) (terms_code scope level es) _ (terms_low level es (omega (arith, h))) (expr_low (level + count es) e (let c = counted sizes es in omega (arith, h, c)))
 
     pub registers_low : (level : ℕ) (es : Terms) → level + (terms_size sizes es).nodes ≤ top → Few (16 * top) (registers_for scope level es)
     registers_low level NoTerm h = tt
     registers_low level (ThenTerm es e) h =
         few_both (16 * top) (registers_for scope level es) _ (registers_low level es (omega (arith, h)))
-        (at (level + count es) (kind_of scope e) (let c = few_terms sizes es in let x = some_node sizes e in omega (arith, h, c, x)), tt)
+        (at (level + count es) (kind_of scope e) (let c = counted sizes es in let x = some_node sizes e in omega (arith, h, c, x)), tt)
 
   pub target_low : (level : ℕ) (to : Target) → level + (target_size sizes to).nodes ≤ top → Low (16 * top) (target_code scope level to)
   target_low level (TargetVariable a name) h = tt
