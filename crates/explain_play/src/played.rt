@@ -30,8 +30,7 @@ use item_step::Launch;
 use launches::laws::setups_are_runnable;
 use launches::{Described, LoadedLaunch, Runnable, group_count};
 use marked_play::{
-    Mark, Pair, Replica, Stand, WantedPair, dividend_of, find_pair, mark_schedule,
-    stand_of,
+    Mark, Pair, Replica, Stand, WantedPair, dividend_of, find_pair, mark_schedule, stand_of,
 };
 use replay::{Player, told_conflict};
 use shadow_list::both_store;
