@@ -15,7 +15,7 @@ use Rattle.cli.specs.declared.session.RunFault.{RunFault}
 use Rattle.cli.specs.declared.session.RunFault.TheVariants as fault
 
 -- the text of code of a program's kernel was written
-pub record Told (program : Program) (kernel : List ℕ) (old new : Sink) : Type 0 where
+pub record CodeWritten (program : Program) (kernel : List ℕ) (old new : Sink) : Type 0 where
   pub code : Listing
   pub lowered : LowersNamed program kernel code
   pub wrote : Wrote old new (text_of code.instructions)
@@ -33,19 +33,19 @@ pub record Lacks (program : Program) (kernel : List ℕ) (old new : Sink) : Type
   pub same : new ≡ old
 
 -- why a kernel's code wasn't told, and what was written
-abbrev pub Untold : Program → List ℕ → Sink → Sink → RunFault → Type 0
-Untold program kernel old new (fault.Read by) = ⊥
-Untold program kernel old new fault.OutOfMemory = new ≡ old
-Untold program kernel old new fault.Write = Broke program kernel old new
-Untold program kernel old new (fault.BadLine n) = ⊥
-Untold program kernel old new fault.NoSuchKernel = Lacks program kernel old new
-Untold program kernel old new fault.BadSchedule = ⊥
-Untold program kernel old new (fault.NotALaunch ticket) = ⊥
-Untold program kernel old new (fault.CommandRefused ticket) = ⊥
+abbrev pub CodeUnwritten : Program → List ℕ → Sink → Sink → RunFault → Type 0
+CodeUnwritten program kernel old new (fault.Read by) = ⊥
+CodeUnwritten program kernel old new fault.OutOfMemory = new ≡ old
+CodeUnwritten program kernel old new fault.Write = Broke program kernel old new
+CodeUnwritten program kernel old new (fault.BadLine n) = ⊥
+CodeUnwritten program kernel old new fault.NoSuchKernel = Lacks program kernel old new
+CodeUnwritten program kernel old new fault.BadSchedule = ⊥
+CodeUnwritten program kernel old new (fault.NotALaunch ticket) = ⊥
+CodeUnwritten program kernel old new (fault.CommandRefused ticket) = ⊥
 
 -- what is told of what a source builds to: the code of the kernel, or the line of the source's fault
 abbrev pub Tells : Result Program BuildFault → List ℕ → Sink → Sink → Bool → Type 0
-Tells (Ok program) kernel old new good = Told program kernel old new × (good ≡ true)
+Tells (Ok program) kernel old new good = CodeWritten program kernel old new × (good ≡ true)
 Tells (Err fault) kernel old new good = Wrote old new (check_line (Some fault)) × (new.held ≡ []) × (good ≡ false)
 
 -- what the source builds to was told, and nothing of it is held back

@@ -3,7 +3,7 @@
 
 ghost use Rattle.std.specs.Prelude.{IfOk, IfErr, OnOk};
 ghost use Rattle.clmodel.specs.Tree.{program};
-ghost use Rattle.cli.specs.Dumping.{Told, Untold, Dumped, Undumped};
+ghost use Rattle.cli.specs.Dumping.{CodeWritten, CodeUnwritten, Dumped, Undumped};
 
 use crate::checking::tell;
 use crate::reading::bytes_of;
@@ -22,8 +22,8 @@ fn tell_kernel<W: Write>(
     kernel: &str,
     writer: &mut W,
 ) -> Result<(), RunFault>
-    ensures told { OnOk result (Told (program checked.now.tree) kernel.now (W.sink writer.old) (W.sink writer.new)) }
-    ensures untold { IfErr result (Untold (program checked.now.tree) kernel.now (W.sink writer.old) (W.sink writer.new)) }
+    ensures told { OnOk result (CodeWritten (program checked.now.tree) kernel.now (W.sink writer.old) (W.sink writer.new)) }
+    ensures untold { IfErr result (CodeUnwritten (program checked.now.tree) kernel.now (W.sink writer.old) (W.sink writer.new)) }
 {
     let code = lower(alloc, checked, kernel)?;
     dump(&code, writer)?;

@@ -6,10 +6,10 @@ use Rattle.explaining.specs.Explaining.{Unwritten}
 use Rattle.explaining.specs.declared.facts.Given.{Given}
 use Rattle.explaining.specs.declared.faults.ExplainFault.{ExplainFault}
 use Rattle.explaining.specs.declared.faults.ExplainFault.TheVariants as explain
-use Rattle.clsim.specs.Files.{explain_fault, Untold}
+use Rattle.clsim.specs.Files.{explain_fault, AnswerUnwritten}
 
 pub untold_as : (budget : ℕ) (given : Given) (old new : Sink) (why : ExplainFault) (named : RunFault) → named ≡ explain_fault why
-    → Unwritten budget given old new why → Untold budget given old new named
+    → Unwritten budget given old new why → AnswerUnwritten budget given old new named
 untold_as budget given old new explain.Write named is h = rw is h
 untold_as budget given old new (explain.BadLine n) named is h = rw is h
 untold_as budget given old new explain.OutOfMemory named is h = rw is h

@@ -21,22 +21,22 @@ explain_fault (explain.NotALaunch ticket) = fault.NotALaunch ticket
 explain_fault (explain.CommandRefused ticket) = fault.CommandRefused ticket
 
 -- the answer to what is given, and a text that was written whole
-pub record Told (budget : ℕ) (given : Given) (old new : Sink) (answer : Bool) : Type 0 where
+pub record AnswerWritten (budget : ℕ) (given : Given) (old new : Sink) (answer : Bool) : Type 0 where
   pub explains : Explains budget given answer
   pub text : List ℕ
   pub wrote : Wrote old new text
   pub released : new.held ≡ []
 
 -- why there is none
-abbrev pub Untold : ℕ → Given → Sink → Sink → RunFault → Type 0
-Untold budget given old new (fault.Read by) = ⊥
-Untold budget given old new fault.Write = Unwritten budget given old new explain.Write
-Untold budget given old new (fault.BadLine n) = Unwritten budget given old new (explain.BadLine n)
-Untold budget given old new fault.OutOfMemory = Unwritten budget given old new explain.OutOfMemory
-Untold budget given old new fault.NoSuchKernel = ⊥
-Untold budget given old new fault.BadSchedule = Unwritten budget given old new explain.BadSchedule
-Untold budget given old new (fault.NotALaunch ticket) = Unwritten budget given old new (explain.NotALaunch ticket)
-Untold budget given old new (fault.CommandRefused ticket) = Unwritten budget given old new (explain.CommandRefused ticket)
+abbrev pub AnswerUnwritten : ℕ → Given → Sink → Sink → RunFault → Type 0
+AnswerUnwritten budget given old new (fault.Read by) = ⊥
+AnswerUnwritten budget given old new fault.Write = Unwritten budget given old new explain.Write
+AnswerUnwritten budget given old new (fault.BadLine n) = Unwritten budget given old new (explain.BadLine n)
+AnswerUnwritten budget given old new fault.OutOfMemory = Unwritten budget given old new explain.OutOfMemory
+AnswerUnwritten budget given old new fault.NoSuchKernel = ⊥
+AnswerUnwritten budget given old new fault.BadSchedule = Unwritten budget given old new explain.BadSchedule
+AnswerUnwritten budget given old new (fault.NotALaunch ticket) = Unwritten budget given old new (explain.NotALaunch ticket)
+AnswerUnwritten budget given old new (fault.CommandRefused ticket) = Unwritten budget given old new (explain.CommandRefused ticket)
 
 -- these texts are given
 pub record IsGiven (given : Given) (name script : List ℕ) (schedule : Option (List ℕ)) : Type 0 where
@@ -48,13 +48,13 @@ pub record IsGiven (given : Given) (name script : List ℕ) (schedule : Option (
 pub record Answered (budget : ℕ) (name script : List ℕ) (schedule : Option (List ℕ)) (old new : Sink) (answer : Bool) : Type 0 where
   pub given : Given
   pub is : IsGiven given name script schedule
-  pub told : Told budget given old new answer
+  pub told : AnswerWritten budget given old new answer
 
 -- why there is no answer to texts
 pub record Unanswered (budget : ℕ) (name script : List ℕ) (schedule : Option (List ℕ)) (old new : Sink) (why : RunFault) : Type 0 where
   pub given : Given
   pub is : IsGiven given name script schedule
-  pub untold : Untold budget given old new why
+  pub untold : AnswerUnwritten budget given old new why
 
 -- a script was read, and the answer to it was written
 pub record ScriptTold (budget : ℕ) (name : List ℕ) (rest : Option (List ℕ)) (old new : Sink) (answer : Bool) : Type 0 where

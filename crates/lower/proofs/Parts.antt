@@ -3,7 +3,7 @@ use Rattle.std.proofs.Common.{◌≡◌, ℕ, zero, suc, ℤ, pos, negsuc, ◌+�
 use Rattle.clnum.specs.Integer.{bits_of}
 use Rattle.clnum.specs.Integer as numbers
 use Rattle.clnum.specs.declared.int_type.IntType.{IntType}
-use Rattle.clmodel.specs.Next.{Continuation, finish, fail, ask, Variables, base_type, has_elements, is_private_array, with_elements, index_of, element_set, write_element, store_element, Helpers, assign, declared_type, held, known, look, load, store, combined, reach, fetch, infix_type, HelperCall, value_of, assigned, atomic_call, is_update, call, call_only, wait}
+use Rattle.clmodel.specs.Next.{Continuation, fail, ask, Variables, base_type, has_elements, is_private_array, with_elements, index_of, element_set, write_element, store_element, assign, declared_type, held, load, store, reach, fetch, atomic_call, is_update, call, call_only, wait}
 use Rattle.clmodel.specs.Next.Expressions.{Destination, Through}
 use Rattle.clmodel.specs.Next as next
 use Rattle.clmodel.specs.Tree.{Variable, Terms, NoTerm, ThenTerm, Target, TargetVariable, TargetElement, TargetDereference}

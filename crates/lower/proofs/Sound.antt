@@ -66,22 +66,22 @@ flat_leads L at d (i ∷ code) end flat h e leads (suc by) less =
     leads_at L d (at + 1 + by) (at + suc by) (omega arith)
     (flat_leads L (at + 1) d code end flat.1 (subst (λ n. Standing L (at + 1) n code) (stays_depth d i (length code) flat.0) h.2) (omega (arith, e)) leads by (omega (arith, less)))
 
-stays_goes : (L : Listing) (at d : ℕ) (i : Instruction) (n : ℕ) → Stays i n → loops_at L at ≡ d → ((by : ℕ) → by ≤ n → Leads L (at + 1 + by) d) → Leads L (at + 1) d → LeadsInside L at i
-stays_goes L at d (instruction.Jump by) n h e into next = subst (λ k. Leads L (at + 1 + by) k) (sym e) (into by h)
-stays_goes L at d (instruction.JumpIfZero register by) n h e into next = (subst (λ k. Leads L (at + 1) k) (sym e) next, subst (λ k. Leads L (at + 1 + by) k) (sym e) (into by h))
-stays_goes L at d (instruction.Barrier site depth fences) n h e into next = absurd h
-stays_goes L at d (instruction.Enter depth) n h e into next = absurd h
-stays_goes L at d (instruction.Turn depth) n h e into next = absurd h
-stays_goes L at d (instruction.Back by) n h e into next = absurd h
-stays_goes L at d instruction.End n h e into next = tt
-stays_goes L at d _ n h e into next = subst (λ k. Leads L (at + 1) k) (sym e) next
+stays_inside : (L : Listing) (at d : ℕ) (i : Instruction) (n : ℕ) → Stays i n → loops_at L at ≡ d → ((by : ℕ) → by ≤ n → Leads L (at + 1 + by) d) → Leads L (at + 1) d → LeadsInside L at i
+stays_inside L at d (instruction.Jump by) n h e into next = subst (λ k. Leads L (at + 1 + by) k) (sym e) (into by h)
+stays_inside L at d (instruction.JumpIfZero register by) n h e into next = (subst (λ k. Leads L (at + 1) k) (sym e) next, subst (λ k. Leads L (at + 1 + by) k) (sym e) (into by h))
+stays_inside L at d (instruction.Barrier site depth fences) n h e into next = absurd h
+stays_inside L at d (instruction.Enter depth) n h e into next = absurd h
+stays_inside L at d (instruction.Turn depth) n h e into next = absurd h
+stays_inside L at d (instruction.Back by) n h e into next = absurd h
+stays_inside L at d instruction.End n h e into next = tt
+stays_inside L at d _ n h e into next = subst (λ k. Leads L (at + 1) k) (sym e) next
 
 flat_goes : (L : Listing) (at d : ℕ) (code : List Instruction) (end : ℕ) → Flat code → Standing L at d code → at + length code ≡ end → Leads L end d → d ≤ most_loops → Going L at code
 flat_goes L at d [] end flat h e leads few = tt
 flat_goes L at d (i ∷ code) end flat h e leads few =
     let rest = subst (λ n. Standing L (at + 1) n code) (stays_depth d i (length code) flat.0) h.2 in
     let same = h.1 in (
-      stays_goes L at d i (length code) flat.0 h.1 (flat_leads L (at + 1) d code end flat.1 rest (omega (arith, e)) leads) (first_leads L (at + 1) d code end rest (omega (arith, e)) leads),
+      stays_inside L at d i (length code) flat.0 h.1 (flat_leads L (at + 1) d code end flat.1 rest (omega (arith, e)) leads) (first_leads L (at + 1) d code end rest (omega (arith, e)) leads),
       omega (arith, same, few),
       flat_goes L (at + 1) d code end flat.1 rest (omega (arith, e)) leads few,
     )

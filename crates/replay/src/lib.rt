@@ -40,7 +40,7 @@ use crate::events::play_schedule;
 use crate::faults::shows;
 use clmodel::fault::Fault;
 use clmodel::schedule::Schedule;
-pub use conflicts::{Partner, Place, ToldConflict, told_conflict};
+pub use conflicts::{Partner, told_conflict};
 pub use fault_lines::{ReadFault, read, write};
 use item_step::Launch;
 use launches::laws::setups_are_runnable;
