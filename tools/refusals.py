@@ -1,6 +1,7 @@
 """Each request for memory refused in turn, and each read and write, for tools/rows: what `clsim` and the programs of direct calls do then.
 
-refuse.c is built and preloaded. It runs a program once for each request that it makes, with that one refused, and tells what came of each run.
+refuse.c is built and preloaded. It runs a program once for each request that it makes, with that one refused, and tells what came of each run. Of
+a program that makes more than MOST requests, a sample is refused.
 
 A script gives each command twice, with the bytes of all buffers read behind it, so that the second has memory. What may come of a run with one
 request refused is one of these:
@@ -28,8 +29,9 @@ COMPILER = ["cc", "-std=c11", "-O2", "-Wall", "-Wextra", "-Werror", "-shared", "
 WORKERS = [1, 2]
 # seconds of one run, and of all runs of one command line
 LIMIT, LIMIT_OF_ALL = 60, 600
-# a program that makes more requests is left out: it would run as often
+# a program that makes more requests would run as often. Of these the first are refused, each so-many-th, and the last
 MOST = 5000
+FIRST, STEP, LAST = 300, 3000, 10
 # what is shown of a failure, at most
 SHOWN = 3
 
@@ -59,10 +61,6 @@ class NoCompiler(Exception):
 
 class BadReport(Exception):
     """A program that can't be tried, or of which the library told nothing that can be read."""
-
-
-class TooMany(Exception):
-    """A program makes too many requests."""
 
 
 def library(folder):
@@ -105,10 +103,11 @@ def runs_of(report):
 
 
 def each(library, command, folder, what="memory"):
-    """The runs of a command: none refused first, then each request in turn. The last refuses none, since it makes fewer. A command of `clsim serve`
-    reads FILE."""
+    """The runs of a command: none refused first, then each request in turn, or a sample of more than MOST. The last refuses none, since it makes
+    fewer. A command of `clsim serve` reads FILE."""
     report = os.path.join(folder, "REPORT")
-    environment = {**os.environ, "LD_PRELOAD": library, "WHAT": what, "REFUSE": "each", "REPORT": report, "MOST": str(MOST), "SECONDS": str(LIMIT)}
+    environment = {**os.environ, "LD_PRELOAD": library, "WHAT": what, "REFUSE": "each", "REPORT": report, "SECONDS": str(LIMIT),
+                   "MOST": str(MOST), "FIRST": str(FIRST), "STEP": str(STEP), "LAST": str(LAST)}
     try:
         with input_of(command, folder) as read:
             came = subprocess.run(command, cwd=folder, env=environment, stdin=read, capture_output=True, timeout=LIMIT_OF_ALL)
@@ -119,8 +118,6 @@ def each(library, command, folder, what="memory"):
     with open(report, "rb") as file:
         runs = runs_of(file.read())
     os.remove(report)
-    if len(runs) == 1 and runs[0].asked > MOST:
-        raise TooMany
     if len(runs) < 2 or runs[0].refused or runs[-1].refused or any(run.refused != 1 for run in runs[1:-1]):
         raise BadReport(f"{len(runs)} runs, of which not each but the first and the last refused one request")
     return runs
@@ -238,12 +235,12 @@ class Script:
         return run.came() in EARLY or self.command[1] == "serve" and is_told(run, whole, OUT_OF_MEMORY)
 
     def judged(self):
-        """What came of each run, counted, and what is wrong."""
+        """How many requests it makes, what came of each run, counted, and what is wrong."""
         self.written()
         whole, *runs = each(self.library, self.command, self.folder)
         counts, said = Counter(), [self.wrong_whole(whole)]
         if said[0]:
-            return counts, said
+            return whole.asked, counts, said
         said, in_commands = [], False
         for run in runs[:-1]:
             early = self.ends(run, whole)
@@ -255,7 +252,7 @@ class Script:
                 wrong = self.wrong(whole, run)
                 said += [f"request {run.number}: {wrong}"] if wrong else []
             said += left(whole, run, self.workers)
-        return counts, said
+        return whole.asked, counts, said
 
 
 def judged_line(command, row, library, folder):
@@ -263,14 +260,14 @@ def judged_line(command, row, library, folder):
     written(row, folder)
     whole, *runs = each(library, command, folder)
     if whole.came() != (row.output, row.error, row.status):
-        return Counter(), [f"with memory: {whole.came()!r}"]
+        return whole.asked, Counter(), [f"with memory: {whole.came()!r}"]
     counts, said = Counter(), []
     for run in runs[:-1]:
         counts["told" if run.came() in EARLY else "done without"] += 1
         if run.came() not in [*EARLY, whole.came()]:
             said.append(f"request {run.number}: {run.came()!r}")
         said += left(whole, run)
-    return counts, said
+    return whole.asked, counts, said
 
 
 # ---- reads and writes
@@ -293,7 +290,7 @@ def judged_reads(command, row, library, folder):
     wanted = [(b"", b"clsim: cannot read %b\n" % name, 2) for name in (b"FILE", b"SCHEDULE")]
     said = [] if whole.came() == (row.output, row.error, row.status) else [f"by pieces: {whole.came()!r}"]
     wrong = [run for run in runs[:-1] if run.came() not in wanted and not is_told(run, whole, UNREAD_INPUT)]
-    return Counter({"reads": len(runs) - 1}), said + [f"read {run.number}: {run.came()!r}" for run in wrong]
+    return whole.asked, Counter({"reads": len(runs) - 1}), said + [f"read {run.number}: {run.came()!r}" for run in wrong]
 
 
 def is_cut(run, whole):
@@ -308,7 +305,7 @@ def judged_writes(command, row, library, folder):
     whole, *runs = each(library, command, folder, "writes")
     said = [] if whole.came() == (row.output, row.error, row.status) else [f"by pieces: {whole.came()!r}"]
     said += [f"write {run.number}: {run.came()!r}" for run in runs[:-1] if not is_cut(run, whole)]
-    return Counter({"writes": len(runs) - 1}), said
+    return whole.asked, Counter({"writes": len(runs) - 1}), said
 
 
 # ---- direct calls
@@ -352,7 +349,7 @@ def judged_calls(command, calls, output, library, folder):
     whole, *runs = each(library, command, folder)
     wanted = output.replace(REFUSABLE + b": done\n", REFUSABLE + b": out of memory\n")
     if (whole.output, whole.status) != (wanted, 0):
-        return Counter(), [f"with memory: {whole.came()!r}"]
+        return whole.asked, Counter(), [f"with memory: {whole.came()!r}"]
     counts, said, met = Counter(), [], set()
     for run in runs[:-1]:
         met.update(line.removesuffix(b": out of memory") for line in run.output.splitlines() if line.endswith(b": out of memory"))
@@ -361,30 +358,30 @@ def judged_calls(command, calls, output, library, folder):
         said += [f"request {run.number}: {wrong}"] if wrong else []
         said += left(whole, run)
     missing = [call.decode() for call in calls if call not in met]
-    return counts, said + ([f"never met want of memory: {', '.join(missing)}"] if missing else [])
+    return whole.asked, counts, said + ([f"never met want of memory: {', '.join(missing)}"] if missing else [])
 
 
 # ---- all of them
 
 @dataclass
 class Task:
-    """What is tried: a title, and a function that gives what came of it in a folder."""
+    """What is tried: a title, and a function that gives how many requests it makes, what came of those that were refused, and what is wrong."""
     title: str
     judged: object
 
 
 @dataclass
 class Outcome:
-    """What came of all: how many tasks passed, what is to say of the others, how many make too many requests, and how many requests were refused."""
+    """What came of all: how many tasks passed, what is to say of the others, those of which a sample was refused, and how many requests were."""
     passed: int
     failed: list
-    left_out: int
+    sampled: list
     refused: Counter
 
     def line(self):
         parts = ", ".join(f"{count:,} {name}" for name, count in sorted(self.refused.items()))
-        return f"requests refused: {sum(self.refused.values()):,} ({parts}) of {self.passed + len(self.failed)} command lines; " \
-               f"{self.left_out} make more than {MOST:,}, and are left out"
+        return f"requests refused: {self.refused.total():,} ({parts}) of {self.passed + len(self.failed)} command lines; " \
+               f"a sample of those that make more than {MOST:,}: {'; '.join(self.sampled) or 'none'}"
 
 
 def tasks(rows, program, library):
@@ -427,14 +424,12 @@ def task_of_calls(crates, name, library):
 
 
 def done(task, place):
-    """What came of a task, in a folder of its own: no counts where it makes too many requests."""
+    """A task's title, and what came of it in a folder of its own."""
     folder = tempfile.mkdtemp(dir=place)
     try:
         return task.title, *task.judged(folder)
     except BadReport as fault:
-        return task.title, Counter(), [str(fault)]
-    except TooMany:
-        return task.title, None, []
+        return task.title, 0, Counter(), [str(fault)]
     finally:
         shutil.rmtree(folder)
 
@@ -446,15 +441,14 @@ def said_of(title, said):
 
 def tried(rows, program, crates):
     """Tries the rows and the direct calls. Raises NoCompiler where none can be tried."""
-    outcome = Outcome(0, [], 0, Counter())
+    outcome = Outcome(0, [], [], Counter())
     with tempfile.TemporaryDirectory() as place, ThreadPoolExecutor(os.cpu_count()) as pool:
         built = library(place)
         todo = [*(task_of_calls(crates, name, built) for name in CALLS), *tasks(rows, program, built)]
-        for title, counts, said in pool.map(lambda task: done(task, place), todo):
-            if counts is None:
-                outcome.left_out += 1
-                continue
+        for title, asked, counts, said in pool.map(lambda task: done(task, place), todo):
             outcome.refused += counts
+            if asked > MOST:
+                outcome.sampled.append(f"{title}: {counts.total():,} of {asked:,}")
             if said:
                 outcome.failed.append(said_of(title, said))
             else:

@@ -6,10 +6,13 @@
    WHAT=writes   writes to standard output, each of at most 4 bytes
    REFUSE=N      the program's Nth request is refused; with 0 none is
    REFUSE=each   the program runs once with no request refused, and then with the Nth refused, for N = 1, 2, .., until a run makes fewer
-                 requests. Each run is a process of its own, forked before `main`, and reads standard input from its beginning where
-                 that is a file
+                 requests, so that the last run refuses none. Each run is a process of its own, forked before `main`, and reads standard
+                 input from its beginning where that is a file
    REPORT=PATH   the file at the end of which each run is told (below)
-   MOST=N        with REFUSE=each, no request is refused of a program that makes more than N; without it, all are
+   MOST=N        with REFUSE=each, a sample is refused of the requests of a program that makes more than N; without it, all are
+   FIRST=N, STEP=N, LAST=N
+                 the sample: the first so many requests, each so-many-th, and the last so many of those that the run with none refused
+                 makes; without them, the first 1, each 1,000th and the last 1
    SECONDS=N     a run that takes longer is ended by a signal; without it, 60
 
    While a program is between a line `refuse: all` and a line `refuse: none`, each of them one write to standard error, every request is
@@ -294,18 +297,42 @@ static bool is_run(unsigned long number, unsigned seconds, int report, int outpu
     return atomic_load(&counts->refused) > 0;
 }
 
+/* Which requests are refused of a program that makes more than `most`. */
+struct sample {
+    unsigned long most, first, step, last;
+};
+
+/* The request that is refused after one, of so many that the run with none refused makes. Behind the last of a sample comes one that no run
+   makes: where there are threads, a run may make some more requests than another. */
+static unsigned long next(const struct sample *sample, unsigned long number, unsigned long asked) {
+    if (asked <= sample->most || number < sample->first)
+        return number + 1;
+    if (number >= asked)
+        return ULONG_MAX;
+    if (asked - number <= sample->last)
+        return number + 1;
+    unsigned long stepped = number - number % sample->step + sample->step, late = asked - sample->last + 1;
+    return stepped < late ? stepped : late;
+}
+
 static void run_each(unsigned seconds) {
-    unsigned long most = number_in("MOST", ULONG_MAX);
+    const struct sample sample = {number_in("MOST", ULONG_MAX), number_in("FIRST", 1), number_in("STEP", 1000), number_in("LAST", 1)};
+    if (sample.step == 0) {
+        errno = EINVAL;
+        fail("STEP");
+    }
     int report = opened_report(), output = made_file("output"), error = made_file("error");
     bool is_here = false;
     counts = mmap(NULL, sizeof *counts, PROT_READ | PROT_WRITE, MAP_SHARED | MAP_ANONYMOUS, -1, 0);
     if (counts == MAP_FAILED)
         fail("no memory for the counts");
-    for (unsigned long number = 0;; number++) {
+    for (unsigned long number = 0, asked = 0;; number = next(&sample, number, asked)) {
         bool is_met = is_run(number, seconds, report, output, error, &is_here);
         if (is_here)
             return;
-        if (number > 0 ? !is_met : atomic_load(&counts->asked) > most)
+        if (number == 0)
+            asked = atomic_load(&counts->asked);
+        else if (!is_met)
             _exit(0);
     }
 }
