@@ -44,7 +44,8 @@ GROWING = {b"buffer", b"copy", b"program", b"kernel", b"arg", b"launch", b"read"
 
 # the programs of direct calls: the crates of their names, and their calls that take memory
 CALLS = {
-    "refused_calls": [b"passes lex", b"passes parse", b"passes check", b"passes lower", b"store", b"update", b"fetch", b"list note", b"log note"],
+    "refused_calls": [b"passes lex", b"passes parse", b"passes check", b"passes lower", b"store", b"update", b"fetch", b"list note",
+                      b"list note of a conflict", b"log note", b"log note of a conflict", b"pages note", b"pages note of a conflict"],
     "refused_launches": [b"launches prepare", b"launches start", b"launches run_group by one_group", b"launches merge", b"launches run_launch",
                          b"launches replay", b"launches run_parallel"],
     "refused_queue": [b"queue open", b"queue drive_one with memory", b"answer open"],

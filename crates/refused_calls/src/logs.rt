@@ -3,35 +3,81 @@
 use crate::came::{Came, done_if, is_done};
 use clmodel::access::{Operation, Region, Width};
 use group_log::GroupLog;
-use shadow_list::{AccessLog, Accesses, Entry, ListLog};
+use page_log::PageLog;
+use shadow::GroupAccesses;
+use shadow_list::{AccessLog, Entry, ListLog};
 use std::alloc::Global;
 
-/// What comes of noting a store of an item at byte 4 of buffer 0, which meets the store of another item there, or is
-/// the first.
-fn noted<L: AccessLog>(log: &mut L, item: u32, is_first: bool) -> Came {
-    let operation = Operation::Store(Width::Four, 7);
-    match log.note(Entry::of(item, Region::Buffer(0), 4, operation, 0)) {
-        Ok(Some(hit)) => done_if(!is_first && hit.byte == 4),
-        Ok(None) => done_if(is_first),
-        Err(_) => Came::OutOfMemory,
+/// How many items store. With so many, a note of a conflict takes memory in each log.
+const ITEMS: u8 = 6;
+
+/// The item that stores where the store of one of those was refused.
+const OTHER: u8 = ITEMS;
+
+/// What comes of noting a store of an item from a word of buffer 0 on, which meets another at its first byte or meets
+/// none: the log has one access more, or, out of memory, as many as before.
+fn noted<L: AccessLog + GroupAccesses>(
+    log: &mut L,
+    item: u8,
+    word: u16,
+    width: Width,
+    is_met: bool,
+) -> Came {
+    let first = 4 * word as u64;
+    let operation = Operation::Store(width, 7);
+    let before = log.len();
+    let outcome = log.note(Entry::of(item as u32, Region::Buffer(0), first, operation, 0));
+    let after = log.len();
+    let is_kept = after == before.wrapping_add(1);
+    match outcome {
+        Ok(Some(hit)) => done_if(is_kept && is_met && hit.byte == first),
+        Ok(None) => done_if(is_kept && !is_met),
+        Err(_) if after == before => Came::OutOfMemory,
+        Err(_) => Came::Wrong,
     }
 }
 
-/// Notes stores of two items, each again where it is refused. Where the first is, the items change places: the other
-/// one's store meets nothing, since the log is as it was.
-fn try_notes<R: Print, L: AccessLog>(rt: &R, first: &str, second: &str, log: &mut L) {
-    let is_kept = is_done(rt, first, noted(log, 0, true));
-    let (earlier, later) = if is_kept { (0, 1) } else { (1, 0) };
-    let _ = is_kept || is_done(rt, first, noted(log, earlier, true));
-    let _ = is_done(rt, second, noted(log, later, false))
-        || is_done(rt, second, noted(log, later, false));
+/// Notes the store of item 0. Where it is refused, that of another item there meets nothing, since the log is as it
+/// was.
+fn try_first<R: Print, L: AccessLog + GroupAccesses>(rt: &R, call: &str, log: &mut L) {
+    let _ = is_done(rt, call, noted(log, 0, 0, Width::Eight, false))
+        || is_done(rt, call, noted(log, OTHER, 0, Width::Eight, false));
 }
 
-/// Tries the notes of both logs. That of a list is asked at the end how many accesses it keeps.
+/// What comes of noting the store of an item to the word of its number and the next one. It meets that of the item
+/// before.
+fn met<L: AccessLog + GroupAccesses>(log: &mut L, item: u8) -> Came {
+    noted(log, item, item as u16, Width::Eight, true)
+}
+
+/// The same again after it was refused. Before it another item stores to bytes at which the refused store alone was,
+/// and meets nothing, since the log is as it was.
+fn met_again<L: AccessLog + GroupAccesses>(log: &mut L, item: u8) -> Came {
+    match noted(log, OTHER, item as u16 + 1, Width::Two, false) {
+        Came::Done => met(log, item),
+        _ => Came::Wrong,
+    }
+}
+
+/// Notes stores of all items, each again where it is refused.
+fn try_notes<R: Print, L: AccessLog + GroupAccesses>(
+    rt: &R,
+    first: &str,
+    later: &str,
+    log: &mut L,
+) {
+    try_first(rt, first, log);
+    for item in 1..ITEMS {
+        let _ = is_done(rt, later, met(log, item)) || is_done(rt, later, met_again(log, item));
+    }
+}
+
+/// Tries the notes of the three logs.
 pub fn try_all<R: Print>(rt: &R, alloc: Global) {
     let mut list = ListLog::new(alloc, false);
     try_notes(rt, "list note", "list note of a conflict", &mut list);
-    is_done(rt, "list length", done_if(list.len() == 2));
     let mut log = GroupLog::new(alloc, false);
     try_notes(rt, "log note", "log note of a conflict", &mut log);
+    let mut pages = PageLog::new(alloc, false);
+    try_notes(rt, "pages note", "pages note of a conflict", &mut pages);
 }

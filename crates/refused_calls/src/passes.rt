@@ -7,8 +7,10 @@ use clsyntax_lex::token::SyntaxFault;
 use clsyntax_lex::{Tokens, lex};
 use cltypes::{Checked, TypeFault, check};
 use lower::{LowerFault, lower};
-use regcode::Code;
+use regcode::{Code, dump};
 use std::alloc::Global;
+use std::io::BufWriter;
+use streams::Output;
 
 /// A kernel with a helper, a loop, a local array and a private one.
 const SOURCE: &str = "int sum(int n) { int s = 0; for (int j = 1; j <= n; j++) s += j; return s; }
@@ -34,8 +36,23 @@ fn lexed(alloc: Global) -> Result<Tokens, Came> {
     lex(alloc, SOURCE.as_bytes()).map_err(of_syntax)
 }
 
+/// Whether tokens are those of the source, which is read anew.
+fn are_as_before(alloc: Global, tokens: &Tokens) -> bool {
+    let Ok(wanted) = lexed(alloc) else {
+        return false;
+    };
+    tokens.as_slice() == wanted.as_slice()
+        && tokens.names() == wanted.names()
+        && tokens.length() == wanted.length()
+}
+
+/// The tree of tokens, which are as before where memory is refused.
 fn parsed(alloc: Global, tokens: &Tokens) -> Result<Tree, Came> {
-    parse(alloc, tokens).map_err(of_syntax)
+    match parse(alloc, tokens) {
+        Ok(tree) => Ok(tree),
+        Err(SyntaxFault::OutOfMemory) if are_as_before(alloc, tokens) => Err(Came::OutOfMemory),
+        Err(_) => Err(Came::Wrong),
+    }
 }
 
 fn checked(alloc: Global, tree: Tree) -> Result<Checked, Came> {
@@ -46,11 +63,39 @@ fn checked(alloc: Global, tree: Tree) -> Result<Checked, Came> {
     }
 }
 
+/// The source anew, checked.
+fn checked_anew(alloc: Global) -> Option<Checked> {
+    let tokens = lexed(alloc).ok()?;
+    let tree = parsed(alloc, &tokens).ok()?;
+    checked(alloc, tree).ok()
+}
+
+/// The code of a program, as text. None where memory is refused.
+fn text_of(alloc: Global, checked: &Checked) -> Option<Vec<u8>> {
+    let code = lower(alloc, checked, "f").ok()?;
+    let text = BufWriter::with_capacity(alloc, 0, Vec::new(alloc)).ok()?;
+    let mut writer = Output::new(text);
+    dump(&code, &mut writer).ok()?;
+    Some(writer.into_inner())
+}
+
+/// Whether a program comes to the code of the source, which is read and checked anew.
+fn is_as_before(alloc: Global, checked: &Checked) -> bool {
+    let Some(wanted) = checked_anew(alloc) else {
+        return false;
+    };
+    match (text_of(alloc, checked), text_of(alloc, &wanted)) {
+        (Some(text), Some(wanted)) => text.as_slice() == wanted.as_slice(),
+        _ => false,
+    }
+}
+
+/// The code of a program, which is as before where memory is refused.
 fn lowered(alloc: Global, checked: &Checked) -> Result<Code, Came> {
     match lower(alloc, checked, "f") {
         Ok(code) => Ok(code),
-        Err(LowerFault::OutOfMemory) => Err(Came::OutOfMemory),
-        Err(LowerFault::NoSuchKernel) => Err(Came::Wrong),
+        Err(LowerFault::OutOfMemory) if is_as_before(alloc, checked) => Err(Came::OutOfMemory),
+        Err(_) => Err(Came::Wrong),
     }
 }
 

@@ -38,6 +38,42 @@ pub struct Counter {
     pub kept: Vec<u64>,
 }
 
+/// What a machine holds: its count, how many counts are kept, and the last of them. That is all where one is kept at
+/// most.
+#[derive(Clone, Copy, PartialEq, Eq)]
+pub struct Holding {
+    count: u64,
+    kept: usize,
+    last: Option<u64>,
+}
+
+impl Holding {
+    /// The same with the count kept.
+    pub fn with_kept(self) -> Self {
+        Holding {
+            kept: self.kept.wrapping_add(1),
+            last: Some(self.count),
+            ..self
+        }
+    }
+}
+
+/// A machine that can be read.
+pub trait Holds {
+    /// What it holds. It takes no memory.
+    fn holding(&self) -> Holding;
+}
+
+impl Holds for Counter {
+    fn holding(&self) -> Holding {
+        Holding {
+            count: self.count,
+            kept: self.kept.len(),
+            last: self.kept.last().copied(),
+        }
+    }
+}
+
 impl Machine<Command, Reply> for Counter {
     // Where memory is refused, the count and what is kept are as before.
     ghost step = { λ before command reply after. reply ≡ OutOfMemory → (after.count ≡ before.count) × (after.kept.items ≡ before.kept.items) };

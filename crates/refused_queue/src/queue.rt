@@ -3,6 +3,7 @@ ghost use Rattle.std.specs.Prelude.{◌≡◌, ◌≢◌};
 ghost use Rattle.host_queue.specs.Clients.{IsOnly};
 
 use crate::came::{Came, done_if, is_done, refuse_all, refuse_none};
+use crate::machine::{Holding, Holds};
 use crate::requests::{Requests, Tells};
 use crate::tickets::{known, open_one, open_two, polled};
 use host_queue::{Client, Driver, Machine, Queue};
@@ -48,6 +49,33 @@ fn asked_known<D: Machine<C, R>, C: Drop, R: Drop + Tells>(
     }
 }
 
+/// What came of a request to keep the count, by what the machine held before and holds after it: one count more, or,
+/// out of memory, what it held.
+fn came_of_keeping(came: Came, before: Holding, after: Holding) -> Came {
+    match came {
+        Came::Done => done_if(after == before.with_kept()),
+        Came::OutOfMemory if after == before => Came::OutOfMemory,
+        _ => Came::Wrong,
+    }
+}
+
+/// What comes of a client's next request, which is to keep the count. The machine is read before and after it.
+fn asked_to_keep<D: Machine<C, R> + Holds, C: Drop, R: Drop + Tells>(
+    queue: &Queue<D, C, R>,
+    client: &mut Client<D, C, R>,
+    driver: &mut Driver<D, C, R>,
+    requests: &mut Requests<C, R>,
+) -> Came
+    requires one { (client.old.seat.table_id ≡ queue.now.table.shared.table_id) × (driver.old.seat.table_id ≡ queue.now.table.shared.table_id) }
+    ensures one { (client.new.seat.table_id ≡ client.old.seat.table_id) × (driver.new.seat.table_id ≡ driver.old.seat.table_id) }
+    ensures name { client.new.seat.me.0.name ≡ client.old.seat.me.0.name }
+{
+    let before = driver.machine.holding();
+    let came = asked(queue, client, driver, requests);
+    let after = driver.machine.holding();
+    came_of_keeping(came, before, after)
+}
+
 /// What came of the calls of two clients, whose requests are all in one box.
 #[derive(Clone, Copy)]
 struct CallResults {
@@ -58,7 +86,7 @@ struct CallResults {
 }
 
 /// What comes of the calls for four requests of two clients: the third one may take memory.
-fn results_of_calls<D: Machine<C, R>, C: Drop, R: Drop + Tells>(
+fn results_of_calls<D: Machine<C, R> + Holds, C: Drop, R: Drop + Tells>(
     queue: &Queue<D, C, R>,
     first: &mut Client<D, C, R>,
     second: &mut Client<D, C, R>,
@@ -72,7 +100,7 @@ fn results_of_calls<D: Machine<C, R>, C: Drop, R: Drop + Tells>(
     let polled = asked(queue, first, driver, requests);
     let known = asked_known(queue, second, driver, requests);
     first.agree(queue, second);
-    let kept = asked(queue, second, driver, requests);
+    let kept = asked_to_keep(queue, second, driver, requests);
     let agreed = asked_known(queue, first, driver, requests);
     CallResults {
         polled,
@@ -99,7 +127,7 @@ fn tell_results<T: Print>(rt: &T, results: CallResults) {
 }
 
 /// What comes of the third request, which is given again where memory was refused.
-fn kept_again<D: Machine<C, R>, C: Drop, R: Drop + Tells>(
+fn kept_again<D: Machine<C, R> + Holds, C: Drop, R: Drop + Tells>(
     queue: &Queue<D, C, R>,
     client: &mut Client<D, C, R>,
     driver: &mut Driver<D, C, R>,
@@ -110,13 +138,13 @@ fn kept_again<D: Machine<C, R>, C: Drop, R: Drop + Tells>(
     ensures one { (client.new.seat.table_id ≡ client.old.seat.table_id) × (driver.new.seat.table_id ≡ driver.old.seat.table_id) }
 {
     match kept {
-        Came::OutOfMemory => asked(queue, client, driver, requests),
+        Came::OutOfMemory => asked_to_keep(queue, client, driver, requests),
         _ => kept,
     }
 }
 
 /// Tries that. False where memory is refused again.
-fn try_again<T: Print, D: Machine<C, R>, C: Drop, R: Drop + Tells>(
+fn try_again<T: Print, D: Machine<C, R> + Holds, C: Drop, R: Drop + Tells>(
     rt: &T,
     queue: &Queue<D, C, R>,
     client: &mut Client<D, C, R>,
@@ -132,7 +160,7 @@ fn try_again<T: Print, D: Machine<C, R>, C: Drop, R: Drop + Tells>(
 }
 
 /// Tries the calls of two clients with every request for memory refused, and then the one that takes memory.
-fn try_calls<T: Print + Eprint, D: Machine<C, R>, C: Drop, R: Drop + Tells>(
+fn try_calls<T: Print + Eprint, D: Machine<C, R> + Holds, C: Drop, R: Drop + Tells>(
     rt: &T,
     queue: &Queue<D, C, R>,
     first: &mut Client<D, C, R>,
@@ -152,7 +180,7 @@ fn try_calls<T: Print + Eprint, D: Machine<C, R>, C: Drop, R: Drop + Tells>(
 }
 
 /// Opens a queue over a machine, and tries the calls of two clients. False where the queue is refused.
-pub fn try_two<T: Print + Eprint, D: Machine<C, R>, C: Drop, R: Drop + Tells>(
+pub fn try_two<T: Print + Eprint, D: Machine<C, R> + Holds, C: Drop, R: Drop + Tells>(
     rt: &T,
     alloc: Global,
     machine: D,
