@@ -10,7 +10,7 @@ use Rattle.cli.specs.declared.session.RunEnd.{RunEnd}
 use Rattle.cli.specs.declared.session.RunFault.{RunFault}
 use Rattle.cli.specs.Faults.{serve_fault}
 use Rattle.cli.specs.Session.{Plays, one_end, end_of, Answered, Ran}
-use Rattle.cli.specs.Serving.{Served, Begun, Misheard, Untold, ServeFailed}
+use Rattle.cli.specs.Serving.{Served, Begun, Misheard, ReplyUnwritten, ServeFailed}
 use Rattle.cli.specs.Serves.{Serves}
 use Rattle.cli.proofs.Sessions.{plays_more, lines-more, fold-more}
 use Rattle.counted_io.specs.Pieces.{joined}

@@ -25,7 +25,7 @@ pub record Checked (rest : Option (List ℕ)) (old new : Sink) (good : Bool) : T
   pub answer : good ≡ is_ok built
 
 -- a write failed at the line of what the source builds to
-pub record Untold (rest : Option (List ℕ)) (old new : Sink) : Type 0 where
+pub record CheckUnwritten (rest : Option (List ℕ)) (old new : Sink) : Type 0 where
   pub source : List ℕ
   pub built : Result Program BuildFault
   pub read : Are rest source
@@ -37,7 +37,7 @@ abbrev pub Unchecked : Option (List ℕ) → ℕ → ℕ → Sink → Sink → R
 Unchecked rest failures failures' old new (fault.Read reader.First) = CountsUp failures failures' × (new ≡ old)
 Unchecked rest failures failures' old new (fault.Read reader.Second) = ⊥
 Unchecked rest failures failures' old new fault.OutOfMemory = new ≡ old
-Unchecked rest failures failures' old new fault.Write = Untold rest old new
+Unchecked rest failures failures' old new fault.Write = CheckUnwritten rest old new
 Unchecked rest failures failures' old new (fault.BadLine n) = ⊥
 Unchecked rest failures failures' old new fault.NoSuchKernel = ⊥
 Unchecked rest failures failures' old new fault.BadSchedule = ⊥

@@ -54,7 +54,7 @@ pub record Misheard (old new : Conversation) (budget n : ℕ) : Type 0 where
   pub failures : new.failures ≡ old.failures
 
 -- the last command's reply wasn't told, or only a beginning of its line
-pub record Untold (old new : Conversation) (budget : ℕ) : Type 0 where
+pub record ReplyUnwritten (old new : Conversation) (budget : ℕ) : Type 0 where
   pub version : Version
   pub commands : List Command
   pub replies : List Reply
@@ -79,7 +79,7 @@ ServeFailed old new budget (fault.Read reader.First) = Begun old new budget × C
 ServeFailed old new budget (fault.Read reader.Second) = ⊥
 ServeFailed old new budget (fault.BadLine n) = Misheard old new budget n
 ServeFailed old new budget fault.OutOfMemory = Begun old new budget × (new.failures ≡ old.failures)
-ServeFailed old new budget fault.Write = Untold old new budget
+ServeFailed old new budget fault.Write = ReplyUnwritten old new budget
 ServeFailed old new budget fault.NoSuchKernel = ⊥
 ServeFailed old new budget fault.BadSchedule = ⊥
 ServeFailed old new budget (fault.NotALaunch ticket) = ⊥

@@ -3,11 +3,11 @@ use Rattle.std.proofs.Common.{◌≡◌, ℕ, zero, suc, ◌+◌, ◌-◌, ◌*�
 use mathlib.Core.Path.{fun_ext}
 use Rattle.std.proofs.lemmas.Bool.{and_parts, and_from, false≢true, cases_eq}
 use Rattle.std.specs.Prelude.{slice_get}
-use Rattle.clmodel.specs.Cells.{Cells, byte_count, byte_of, joined, number, unset_or, lowest_unset, covers, written, combined, fetched, size_of, reads, found, answer_to, effect, cells_of}
+use Rattle.clmodel.specs.Cells.{Cells, byte_count, byte_of, joined, number, unset_or, lowest_unset, covers, written, updated_word, fetched, size_of, reads, found, answer_to, effect, cells_of}
 use Rattle.clmodel.specs.declared.access.Class.{Class}
 use Rattle.clmodel.specs.declared.access.Operation.{Operation}
 use Rattle.clmodel.specs.declared.access.Operation.TheVariants.{Load, Store, Update, Fetch}
-use Rattle.clmodel.proofs.Bytes.{combined_below, combined_swap, four_bytes_are}
+use Rattle.clmodel.proofs.Bytes.{updated_below, updated_swap, four_bytes_are}
 use Rattle.clmodel.proofs.Steps.{none_some, some_inj, if_true, if_false}
 use Rattle.clmodel.specs.declared.access.Width.{Width}
 use Rattle.clmodel.specs.declared.access.Width.TheVariants.{One, Two, Four, Eight}
@@ -51,7 +51,7 @@ unfolding written
 effect_out (Load width) x c first byte h = refl
 effect_out (Store width value) x c first byte h = if_false (covers first (byte_count width) byte) (Some (byte_of (byte - first) value)) (c byte) h
 effect_out (Update class operand) x c first byte h =
-    if_false (covers first 4 byte) (Some (byte_of (byte - first) (combined class x operand))) (c byte) h
+    if_false (covers first 4 byte) (Some (byte_of (byte - first) (updated_word class x operand))) (c byte) h
 effect_out (Fetch op operand) x c first byte h = if_false (covers first 4 byte) (Some (byte_of (byte - first) (fetched op x operand))) (c byte) h
 
 -- what it leaves at a byte depends on that byte of the cells alone
@@ -60,7 +60,7 @@ unfolding written
 effect_at (Load width) x c d first byte h = h
 effect_at (Store width value) x c d first byte h = ap (λ z. if covers first (byte_count width) byte then Some (byte_of (byte - first) value) else z) h
 effect_at (Update class operand) x c d first byte h =
-    ap (λ z. if covers first 4 byte then Some (byte_of (byte - first) (combined class x operand)) else z) h
+    ap (λ z. if covers first 4 byte then Some (byte_of (byte - first) (updated_word class x operand)) else z) h
 effect_at (Fetch op operand) x c d first byte h = ap (λ z. if covers first 4 byte then Some (byte_of (byte - first) (fetched op x operand)) else z) h
 
 pub written_in : (c : Cells) (first count value byte : ℕ) → covers first count byte ≡ true → written c first count value byte ≡ Some (byte_of (byte - first) value)
@@ -175,16 +175,16 @@ updates_swap :
     (class : Class) (a b : ℕ) (c : Cells) (first v : ℕ) → found (Update class a) c first ≡ Some v → Swapped (Update class a) (Update class b) c first first v v
 updates_swap class a b c first v finds =
     record {
-      later = combined class v a;
-      earlier = combined class v b;
-      finds_later = number_of_written c first (combined class v a) (combined_below class v a);
-      finds_earlier = number_of_written c first (combined class v b) (combined_below class v b);
+      later = updated_word class v a;
+      earlier = updated_word class v b;
+      finds_later = number_of_written c first (updated_word class v a) (updated_below class v a);
+      finds_earlier = number_of_written c first (updated_word class v b) (updated_below class v b);
       answers_later = refl;
       answers_earlier = refl;
       same_cells =
-          written_over c first 4 (combined class v a) (combined class (combined class v a) b)
-          ∙ ap (written c first 4) (combined_swap class v a b)
-          ∙ sym (written_over c first 4 (combined class v b) (combined class (combined class v b) a));
+          written_over c first 4 (updated_word class v a) (updated_word class (updated_word class v a) b)
+          ∙ ap (written c first 4) (updated_swap class v a b)
+          ∙ sym (written_over c first 4 (updated_word class v b) (updated_word class (updated_word class v b) a));
     }
 
 -- ---- any two that agree where they meet

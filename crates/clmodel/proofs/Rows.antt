@@ -1,6 +1,6 @@
 -- Small launches, whose canonical runs are computed by the definitions.
 use Rattle.std.proofs.Common.{◌≡◌, ℕ, zero, suc, ◌+◌, ◌-◌, ℤ, pos, negsuc, true, false, Option, None, Some, List, [], ◌∷◌, replicate, refl}
-use Rattle.clmodel.specs.Cells.{written, combined}
+use Rattle.clmodel.specs.Cells.{written, updated_word}
 use Rattle.clmodel.specs.Launch.{Launch, conflict_between, conflict}
 use Rattle.clmodel.specs.Run.{State, Events, start, step, left}
 use Rattle.clmodel.specs.Law.{Turn, Makes, Reports, Finishes, turn, RunsTo, RunsClean, RunsIntoFault}
@@ -172,7 +172,7 @@ add item [] = action.Access (object.Buffer 0) (pos 1) (Update class.Add (1 + ite
 add item (_ ∷ _) = action.End
 
 pub adds : Leaves (launch add) (Item 0 ∷ Item 1 ∷ []) (two 0 3)
-unfolding launch add two trace after_turn after_step turn step conflict conflict_between written combined
+unfolding launch add two trace after_turn after_step turn step conflict conflict_between written updated_word
 adds = leaves (launch add) 9 refl
 
 pub add_or : ℕ → List Answer → Action
@@ -183,7 +183,7 @@ add_or _ (_ ∷ _) = action.End
 pub add_or_order :
     Faults (launch add_or) (Item 0 ∷ Item 1 ∷ [])
     (fault.Conflict Order 0 (kind.Update class.Add) 1 (kind.Update class.Or) (location.Buffer (97 ∷ [])) 4)
-unfolding launch add_or trace after_turn after_step turn step conflict conflict_between written combined
+unfolding launch add_or trace after_turn after_step turn step conflict conflict_between written updated_word
 add_or_order = faults (launch add_or) 9 (fault.Conflict Order 0 (kind.Update class.Add) 1 (kind.Update class.Or) (location.Buffer (97 ∷ [])) 4) refl
 
 -- ---- after a barrier item 1 loads four bytes of local memory, of which item 0 has stored the first

@@ -62,19 +62,19 @@ abbrev pub signed_place : ℕ → ℕ
 signed_place x = (x + 2 ^ 31) % 2 ^ 32
 
 -- what an update leaves of a number x of 32 bits (6.12.11)
-unfoldable pub combined : Class → ℕ → ℕ → ℕ
-combined class.Add x v = (x + v) % 2 ^ 32
-combined class.And x v = bit_and x v % 2 ^ 32
-combined class.Or x v = bit_or x v % 2 ^ 32
-combined class.Xor x v = bit_xor x v % 2 ^ 32
-combined class.SignedMin x v = signed_place (min (signed_place x) (signed_place v))
-combined class.UnsignedMin x v = min (x % 2 ^ 32) (v % 2 ^ 32)
-combined class.SignedMax x v = signed_place (max (signed_place x) (signed_place v))
-combined class.UnsignedMax x v = max (x % 2 ^ 32) (v % 2 ^ 32)
+unfoldable pub updated_word : Class → ℕ → ℕ → ℕ
+updated_word class.Add x v = (x + v) % 2 ^ 32
+updated_word class.And x v = bit_and x v % 2 ^ 32
+updated_word class.Or x v = bit_or x v % 2 ^ 32
+updated_word class.Xor x v = bit_xor x v % 2 ^ 32
+updated_word class.SignedMin x v = signed_place (min (signed_place x) (signed_place v))
+updated_word class.UnsignedMin x v = min (x % 2 ^ 32) (v % 2 ^ 32)
+updated_word class.SignedMax x v = signed_place (max (signed_place x) (signed_place v))
+updated_word class.UnsignedMax x v = max (x % 2 ^ 32) (v % 2 ^ 32)
 
 -- what an atomic operation whose old number is used leaves of a number x of 32 bits (6.12.11)
 abbrev pub fetched : FetchOp → ℕ → ℕ → ℕ
-fetched (fetch.Class class) x v = combined class x v
+fetched (fetch.Class class) x v = updated_word class x v
 fetched fetch.Exchange x v = v
 fetched (fetch.CompareExchange expected) x v = if x == expected then v else x
 
@@ -118,7 +118,7 @@ answer_to (Fetch _ _) x = Value x
 abbrev pub effect : Operation → ℕ → Cells → ℕ → Cells
 effect (Load _) x cells first = cells
 effect (Store width value) x cells first = written cells first (byte_count width) value
-effect (Update class operand) x cells first = written cells first 4 (combined class x operand)
+effect (Update class operand) x cells first = written cells first 4 (updated_word class x operand)
 effect (Fetch op operand) x cells first = written cells first 4 (fetched op x operand)
 
 -- an operation at the bytes from `first` on, done whole (6.12.11), or None where it reads an unset one (own)

@@ -17,7 +17,7 @@ use Rattle.clmodel.specs.declared.operand.Operand.{Operand}
 use Rattle.clmodel.specs.declared.operand.Operand.TheVariants.{Integral, Pointed}
 pub mod Expressions
 pub mod Statements
-pub use Rattle.clmodel.specs.Next.Expressions.{Continuation, finish, fail, ask, tick, walk, Binding, variable, Destination, Variables, look, declared_type, held, assign, elements_of, has_elements, is_private_array, with_elements, leave, known, element_width, answered, at_offset, moved, moved_back, number, pointing, load, store, index_of, element_at, element_value, read_element, element_set, write_element, class_of, amount, update, atomic_call, fetch_op_of, fetch_number, fetch_call, is_update, arithmetic, combined, test, ItemPosition, dimension, given_value, integer_call, call, call_only, base_type, load_element, store_element, infix_type, call_type, type_of, argument_type, settle, join, chosen_value, eval, eval_all, reach, fetch, put, step_operator, one}
+pub use Rattle.clmodel.specs.Next.Expressions.{Continuation, finish, fail, ask, tick, walk, Binding, variable, Destination, Variables, look, declared_type, held, assign, elements_of, has_elements, is_private_array, with_elements, leave, known, element_width, answered, at_offset, moved, moved_back, number, pointing, load, store, index_of, element_at, element_value, read_element, element_set, write_element, class_of, amount, update, atomic_call, fetch_op_of, fetch_number, fetch_call, is_update, arithmetic, binary_operation, test, ItemPosition, dimension, given_value, integer_call, call, call_only, base_type, load_element, store_element, infix_type, call_type, type_of, argument_type, settle, join, chosen_value, eval, eval_all, reach, fetch, put, step_operator, one}
 pub use Rattle.clmodel.specs.Next.Statements.{Follows, Helpers, leaving, in_loop, turns, condition, HelperCall, helper_or, helper_call, value_of, call_sites, statement_sites, sites, part_sites, all_sites, wait, local_array, private_array, declared_array, assigned, call_statement, exec, exec_part, exec_all, passed, returned_by, as_body, sites_in, helper}
 
 -- what the parameter at a place holds: a pointer to the start of its buffer or of its local object, or its number

@@ -30,6 +30,7 @@ pub fn builtin(function: Builtin, arguments: &[Value]) -> Option<Value>
     }
 }
 
+/// What a function gives of one argument, or None where it takes more (6.12.3).
 fn of_one(function: Builtin, a: Value) -> Option<Value>
     ensures { result ≡ builtins.of_one function a }
 {
@@ -42,6 +43,7 @@ fn of_one(function: Builtin, a: Value) -> Option<Value>
     }
 }
 
+/// What a function gives of two arguments of one type, or None where it takes one (6.12.3).
 fn of_two(function: Builtin, a: Value, b: Value) -> Option<Value>
     requires { a.kind ≡ b.kind }
     ensures { result ≡ builtins.of_two function a b }

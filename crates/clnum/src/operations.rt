@@ -52,6 +52,7 @@ struct Pair {
     right: i128,
 }
 
+/// Brings two operands to their common type (C99 6.3.1.8).
 fn in_common(left: Value, right: Value) -> Pair
     ensures kind { result.kind ≡ common left.kind right.kind }
     ensures left { result.left ≡ wrap result.kind left.number }
@@ -161,6 +162,7 @@ fn is_in(kind: IntType, number: i128) -> bool
     }
 }
 
+/// Shifts to the left, by the count modulo the width of the value's type (6.3j).
 fn shift_left(value: Value, count: Value) -> Value
     ensures { result ≡ operations.shift (λ x power. x *ℤ pos power) value count }
 {
@@ -169,6 +171,7 @@ fn shift_left(value: Value, count: Value) -> Value
     Value::wrapped(kind, value.number() << count)
 }
 
+/// Shifts to the right, by the count modulo the width of the value's type; the sign fills a signed one (6.3j).
 fn shift_right(value: Value, count: Value) -> Value
     ensures { result ≡ operations.shift (λ x power. int_div_euclid x (pos power)) value count }
 {

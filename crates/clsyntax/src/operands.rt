@@ -55,6 +55,7 @@ pub(crate) fn on_opened(nesting: Nesting, at: u32, stack: Stack, token: Token) -
     }
 }
 
+/// Ends a call at its closing parenthesis, where one is open.
 fn close_call(stack: Stack) -> Moved
     ensures { Steps result (machine.close_call (opened stack)) }
 {

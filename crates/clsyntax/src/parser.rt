@@ -70,6 +70,7 @@ fn whole(functions: Vec<Function>, below: Frames, length: u32) -> Result<Vec<Fun
     }
 }
 
+/// The program of what stands open at the end of a source of that length: its functions, where nothing else does.
 fn program_of(frames: Frames, length: u32) -> Result<Vec<Function>, SyntaxFault>
     ensures { IsRead result (at_end (ended_in machine.Top (frames_of frames)) length) }
 {

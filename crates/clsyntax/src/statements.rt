@@ -57,6 +57,7 @@ fn end_function(nesting: Nesting, function: Function, stack: Stack) -> Moved
     }
 }
 
+/// A block with these statements, which begins at that token.
 fn block_of(at: u32, body: Vec<Statement>) -> Statement
     ensures { stmt result ≡ tree.Block at (stmts_of body.items) }
 {
@@ -94,6 +95,7 @@ fn end_items(nesting: Nesting, body: Vec<Statement>, stack: Stack) -> Moved
     }
 }
 
+/// Ends the innermost block at its closing brace, where one is open.
 fn on_close_brace(stack: Stack) -> Moved
     ensures { Steps result (machine.on_close_brace (opened stack)) }
 {

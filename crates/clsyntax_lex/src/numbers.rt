@@ -27,6 +27,7 @@ pub(crate) struct Suffix {
 }
 
 impl Base {
+    /// How many digits there are (C99 6.4.4.1).
     fn radix(self) -> u32
         ensures { result ≡ numbers.radix self }
     {
@@ -55,6 +56,7 @@ pub(crate) fn byte_at(bytes: &[u8], at: usize) -> u8
     bytes.get(at).copied().unwrap_or(0)
 }
 
+/// Whether a byte is a digit of a number in that base.
 fn is_digit(byte: u8, base: Base) -> bool
     ensures { result ≡ is_digit byte (numbers.radix base) }
 {

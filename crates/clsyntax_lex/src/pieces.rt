@@ -25,18 +25,21 @@ pub(crate) enum Piece {
     TooLarge,
 }
 
+/// Whether a byte is white space between tokens (C99 6.4).
 fn is_space(byte: u8) -> bool
     ensures { result ≡ pieces.is_space byte }
 {
     byte == b' ' || byte == b'\t' || byte == b'\n' || byte == b'\r'
 }
 
+/// Whether a byte may begin a name (C99 6.4.2.1).
 fn is_name_start(byte: u8) -> bool
     ensures { result ≡ pieces.is_name_start byte }
 {
     byte.is_ascii_alphabetic() || byte == b'_'
 }
 
+/// Whether a byte may stand in a name behind its first (C99 6.4.2.1).
 fn is_name_part(byte: u8) -> bool
     ensures { result ≡ pieces.is_name_part byte }
 {
@@ -121,6 +124,7 @@ fn block_comment_piece(bytes: &[u8]) -> Piece
     }
 }
 
+/// Whether a byte is still in the line: it isn't a line feed.
 fn is_in_line(byte: u8) -> bool
     ensures { result ≡ pieces.is_in_line byte }
 {

@@ -11,6 +11,7 @@ use clsyntax_lex::token::TokenKind;
 /// The level of an operand, above that of every operator between two.
 pub(crate) const TIGHT: u32 = 12;
 
+/// The token that an operator between two operands is written as.
 fn arithmetic_kind(operator: BinaryOperator) -> TokenKind
     ensures { result ≡ printing.arithmetic_kind operator }
 {

@@ -55,6 +55,7 @@ pub fn on_operand(nesting: Nesting, stack: Stack, token: Token) -> Moved
     }
 }
 
+/// A call of the named function with these arguments.
 fn call_of(called: Identifier, arguments: Vec<Expression>) -> Expression
     ensures { term result ≡ tree.Call called.at called.name (terms arguments.items) }
 {

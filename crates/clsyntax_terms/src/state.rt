@@ -437,6 +437,7 @@ pub enum HeadMode {
     HeadDone,
 }
 
+/// Where the parser stands between two tokens: what may come next, and what stands open.
 #[derive(Drop)]
 pub struct State {
     pub mode: Mode,

@@ -382,6 +382,7 @@ pub(crate) fn wanted(meaning: Meaning<'_>, index: usize) -> Option<Want>
     }
 }
 
+/// What a built-in integer function takes as this argument, counted from 0; None past its last (6.12.3).
 fn integer_wanted(function: Builtin, index: usize) -> Option<Want>
     ensures { option_map want_of result ≡ slice_get (integer_wants function) index }
 {
@@ -392,6 +393,7 @@ fn integer_wanted(function: Builtin, index: usize) -> Option<Want>
     }
 }
 
+/// What an atomic function takes as this argument, counted from 0; None past its last (6.12.11).
 fn atomic_wanted(function: AtomicFunction, index: usize) -> Option<Want>
     ensures { option_map want_of result ≡ slice_get (atomic_wants (operands function)) index }
 {

@@ -37,6 +37,7 @@ pub fn write_signed<W: Write>(value: i128, writer: &mut W) -> Result<(), WriteFa
     writer.write(Buffer::new().format(value).as_bytes())
 }
 
+/// Writes one piece of a text, and tells where the writer fails.
 fn write_piece<W: Write>(piece: &Piece<'_>, writer: &mut W) -> Result<(), WriteFailed>
     ensures { Puts (W.sink writer.old) result (W.sink writer.new) (piece_text piece.now) }
 {

@@ -29,45 +29,45 @@ use Rattle.clmodel.specs.declared.tree.VariableType.TheVariants.{Integer as OfIn
 use Rattle.folding.specs.Constants.{unary_constant, cast_constant, faultless, holds, truth_constant, infix_constant, common_constant, choice_constant, call_constant, constant_of, constants_of}
 
 -- what follows a value is reached with this one, if there is one
-abbrev Goes : ((Operand → Continuation) → Continuation) → Option Integer → Type 0
-Goes run None = Unit {0}
-Goes run (Some v) = (after : Operand → Continuation) → run after ≡ after (Integral v)
+abbrev GivesConstant : ((Operand → Continuation) → Continuation) → Option Integer → Type 0
+GivesConstant run None = Unit {0}
+GivesConstant run (Some v) = (after : Operand → Continuation) → run after ≡ after (Integral v)
 
-unary_goes : (run : (Operand → Continuation) → Continuation) (operator : UnaryOperator) (o : Option Integer) → Goes run o
-    → Goes (λ after. run (λ v. number v (λ n. after (Integral (unary_value operator n))))) (unary_constant operator o)
+unary_goes : (run : (Operand → Continuation) → Continuation) (operator : UnaryOperator) (o : Option Integer) → GivesConstant run o
+    → GivesConstant (λ after. run (λ v. number v (λ n. after (Integral (unary_value operator n))))) (unary_constant operator o)
 unary_goes run operator None h = tt
 unary_goes run operator (Some v) h = λ after. h _
 
-cast_goes : (run : (Operand → Continuation) → Continuation) (target : IntType) (o : Option Integer) → Goes run o
-    → Goes (λ after. run (λ v. number v (λ n. after (Integral (converted n target))))) (cast_constant target o)
+cast_goes : (run : (Operand → Continuation) → Continuation) (target : IntType) (o : Option Integer) → GivesConstant run o
+    → GivesConstant (λ after. run (λ v. number v (λ n. after (Integral (converted n target))))) (cast_constant target o)
 cast_goes run target None h = tt
 cast_goes run target (Some v) h = λ after. h _
 
 faultless_goes : (run : (Operand → Continuation) → Continuation) (r : Result Integer ArithFault) → ((after : Operand → Continuation) → run after ≡ arithmetic r after)
-    → Goes run (faultless r)
+    → GivesConstant run (faultless r)
 faultless_goes run (Ok v) h = h
 faultless_goes run (Err fault) h = tt
 
 -- the right operand where the left one doesn't settle the value
-more_goes : (run right : (Operand → Continuation) → Continuation) (p : Option Integer) → Goes right p
-    → ((after : Operand → Continuation) → run after ≡ right (λ w. test w (λ holds. after (Integral (truth holds))))) → Goes run (truth_constant p)
+more_goes : (run right : (Operand → Continuation) → Continuation) (p : Option Integer) → GivesConstant right p
+    → ((after : Operand → Continuation) → run after ≡ right (λ w. test w (λ holds. after (Integral (truth holds))))) → GivesConstant run (truth_constant p)
 more_goes run right None k h = tt
 more_goes run right (Some w) k h = λ after. h after ∙ k _
 
-and_goes : (run right : (Operand → Continuation) → Continuation) (b : Bool) (p : Option Integer) → Goes right p
+and_goes : (run right : (Operand → Continuation) → Continuation) (b : Bool) (p : Option Integer) → GivesConstant right p
     → ((after : Operand → Continuation) → run after ≡ (if b then right (λ w. test w (λ holds. after (Integral (truth holds)))) else after (Integral (truth false))))
-    → Goes run (if b then truth_constant p else Some (truth false))
+    → GivesConstant run (if b then truth_constant p else Some (truth false))
 and_goes run right true p k h = more_goes run right p k h
 and_goes run right false p k h = h
 
-or_goes : (run right : (Operand → Continuation) → Continuation) (b : Bool) (p : Option Integer) → Goes right p
+or_goes : (run right : (Operand → Continuation) → Continuation) (b : Bool) (p : Option Integer) → GivesConstant right p
     → ((after : Operand → Continuation) → run after ≡ (if b then after (Integral (truth true)) else right (λ w. test w (λ holds. after (Integral (truth holds))))))
-    → Goes run (if b then Some (truth true) else truth_constant p)
+    → GivesConstant run (if b then Some (truth true) else truth_constant p)
 or_goes run right true p k h = h
 or_goes run right false p k h = more_goes run right p k h
 
-infix_goes : (left right : (Operand → Continuation) → Continuation) (operator : InfixOperator) (o p : Option Integer) → Goes left o → Goes right p
-    → Goes (λ after. left (λ v. settle operator v after (right (λ w. join operator v w after)))) (infix_constant operator o p)
+infix_goes : (left right : (Operand → Continuation) → Continuation) (operator : InfixOperator) (o p : Option Integer) → GivesConstant left o → GivesConstant right p
+    → GivesConstant (λ after. left (λ v. settle operator v after (right (λ w. join operator v w after)))) (infix_constant operator o p)
 infix_goes left right (Arithmetic operator) (Some v) (Some w) h k = faultless_goes _ (binary_value operator v w) (λ after. h _ ∙ k _)
 infix_goes left right (Arithmetic operator) (Some v) None h k = tt
 infix_goes left right (Arithmetic operator) None p h k = tt
@@ -76,31 +76,31 @@ infix_goes left right LogicalAnd None p h k = tt
 infix_goes left right LogicalOr (Some v) p h k = or_goes _ right (holds v) p k (λ after. h _)
 infix_goes left right LogicalOr None p h k = tt
 
-common_goes : (run branch : (Operand → Continuation) → Continuation) (o : Option Integer) (other : VariableType) → Goes branch o
-    → ((after : Operand → Continuation) → run after ≡ branch (λ w. chosen_value w other after)) → Goes run (common_constant o (base_type other))
+common_goes : (run branch : (Operand → Continuation) → Continuation) (o : Option Integer) (other : VariableType) → GivesConstant branch o
+    → ((after : Operand → Continuation) → run after ≡ branch (λ w. chosen_value w other after)) → GivesConstant run (common_constant o (base_type other))
 common_goes run branch None other k h = tt
 common_goes run branch (Some w) other k h = λ after. h after ∙ k _
 
-branch_goes : (run chosen otherwise : (Operand → Continuation) → Continuation) (b : Bool) (p q : Option Integer) (t u : VariableType) → Goes chosen p → Goes otherwise q
+branch_goes : (run chosen otherwise : (Operand → Continuation) → Continuation) (b : Bool) (p q : Option Integer) (t u : VariableType) → GivesConstant chosen p → GivesConstant otherwise q
     → ((after : Operand → Continuation) → run after ≡ (if b then chosen (λ w. chosen_value w u after) else otherwise (λ w. chosen_value w t after)))
-    → Goes run (if b then common_constant p (base_type u) else common_constant q (base_type t))
+    → GivesConstant run (if b then common_constant p (base_type u) else common_constant q (base_type t))
 branch_goes run chosen otherwise true p q t u k l h = common_goes run chosen p u k h
 branch_goes run chosen otherwise false p q t u k l h = common_goes run otherwise q t l h
 
-choice_goes : (condition chosen otherwise : (Operand → Continuation) → Continuation) (o p q : Option Integer) (t u : VariableType) → Goes condition o → Goes chosen p → Goes otherwise q
-    → Goes (λ after. condition (λ v. test v (λ holds. if holds then chosen (λ w. chosen_value w u after) else otherwise (λ w. chosen_value w t after))))
+choice_goes : (condition chosen otherwise : (Operand → Continuation) → Continuation) (o p q : Option Integer) (t u : VariableType) → GivesConstant condition o → GivesConstant chosen p → GivesConstant otherwise q
+    → GivesConstant (λ after. condition (λ v. test v (λ holds. if holds then chosen (λ w. chosen_value w u after) else otherwise (λ w. chosen_value w t after))))
     (choice_constant o p (base_type t) q (base_type u))
 choice_goes condition chosen otherwise None p q t u h k l = tt
 choice_goes condition chosen otherwise (Some v) p q t u h k l = branch_goes _ chosen otherwise (holds v) p q t u k l (λ after. h _)
 
-given_goes : (run : (Operand → Continuation) → Continuation) (o : Option Integer) → ((after : Operand → Continuation) → run after ≡ given_value o after) → Goes run o
+given_goes : (run : (Operand → Continuation) → Continuation) (o : Option Integer) → ((after : Operand → Continuation) → run after ≡ given_value o after) → GivesConstant run o
 given_goes run None h = tt
 given_goes run (Some v) h = h
 
 -- a call of one argument, of two, and of more
 module _ (here : ItemPosition) where
-  one_goes : (run : (Operand → Continuation) → Continuation) (f : Option BuiltIn) (o : Option Integer) → Goes run o
-      → Goes (λ after. run (λ v. call here f (v ∷ []) after)) (call_constant f (o ∷ []))
+  one_goes : (run : (Operand → Continuation) → Continuation) (f : Option BuiltIn) (o : Option Integer) → GivesConstant run o
+      → GivesConstant (λ after. run (λ v. call here f (v ∷ []) after)) (call_constant f (o ∷ []))
   one_goes run (Some (built_in_function.Integer function)) (Some a) h = given_goes _ (builtin_value function (a ∷ [])) (λ after. h _)
   one_goes run (Some (built_in_function.Integer function)) None h = tt
   one_goes run (Some built_in_function.WorkDim) o h = tt
@@ -108,8 +108,8 @@ module _ (here : ItemPosition) where
   one_goes run (Some (built_in_function.Atomic function)) o h = tt
   one_goes run None o h = tt
 
-  two_go : (first second : (Operand → Continuation) → Continuation) (f : Option BuiltIn) (o p : Option Integer) → Goes first o → Goes second p
-      → Goes (λ after. first (λ v. second (λ w. call here f (v ∷ w ∷ []) after))) (call_constant f (o ∷ p ∷ []))
+  two_go : (first second : (Operand → Continuation) → Continuation) (f : Option BuiltIn) (o p : Option Integer) → GivesConstant first o → GivesConstant second p
+      → GivesConstant (λ after. first (λ v. second (λ w. call here f (v ∷ w ∷ []) after))) (call_constant f (o ∷ p ∷ []))
   two_go first second (Some (built_in_function.Integer function)) (Some a) (Some b) h k = given_goes _ (builtin_value function (a ∷ b ∷ [])) (λ after. h _ ∙ k _)
   two_go first second (Some (built_in_function.Integer function)) (Some a) None h k = tt
   two_go first second (Some (built_in_function.Integer function)) None p h k = tt
@@ -118,14 +118,14 @@ module _ (here : ItemPosition) where
   two_go first second (Some (built_in_function.Atomic function)) o p h k = tt
   two_go first second None o p h k = tt
 
-none_goes : (run : (Operand → Continuation) → Continuation) (f : Option BuiltIn) → Goes run (call_constant f [])
+none_goes : (run : (Operand → Continuation) → Continuation) (f : Option BuiltIn) → GivesConstant run (call_constant f [])
 none_goes run (Some (built_in_function.Integer function)) = tt
 none_goes run (Some built_in_function.WorkDim) = tt
 none_goes run (Some (built_in_function.WorkItem function)) = tt
 none_goes run (Some (built_in_function.Atomic function)) = tt
 none_goes run None = tt
 
-three_go : (run : (Operand → Continuation) → Continuation) (f : Option BuiltIn) (a b c : Option Integer) (xs : List (Option Integer)) → Goes run (call_constant f (a ∷ b ∷ c ∷ xs))
+three_go : (run : (Operand → Continuation) → Continuation) (f : Option BuiltIn) (a b c : Option Integer) (xs : List (Option Integer)) → GivesConstant run (call_constant f (a ∷ b ∷ c ∷ xs))
 three_go run (Some (built_in_function.Integer function)) None b c xs = tt
 three_go run (Some (built_in_function.Integer function)) (Some a) None c xs = tt
 three_go run (Some (built_in_function.Integer function)) (Some a) (Some b) c xs = tt
@@ -135,13 +135,13 @@ three_go run (Some (built_in_function.Atomic function)) a b c xs = tt
 three_go run None a b c xs = tt
 
 more_go : (run : (Operand → Continuation) → Continuation) (f : Option BuiltIn) (xs : List (Option Integer)) (a b c : Option Integer)
-    → Goes run (call_constant f (((xs ++ a ∷ []) ++ b ∷ []) ++ c ∷ []))
+    → GivesConstant run (call_constant f (((xs ++ a ∷ []) ++ b ∷ []) ++ c ∷ []))
 more_go run f [] a b c = three_go run f a b c []
 more_go run f (x ∷ []) a b c = three_go run f x a b (c ∷ [])
 more_go run f (x ∷ y ∷ []) a b c = three_go run f x y a (b ∷ c ∷ [])
 more_go run f (x ∷ y ∷ z ∷ xs) a b c = three_go run f x y z _
 
-evaluates : (here : ItemPosition) (variables : Variables) (e : Term) → Goes (λ after. eval here e variables after) (constant_of variables e)
+evaluates : (here : ItemPosition) (variables : Variables) (e : Term) → GivesConstant (λ after. eval here e variables after) (constant_of variables e)
 evaluates here vs (tree.Number at value) = λ after. refl
 evaluates here vs (tree.Variable at name) = tt
 evaluates here vs (tree.Element at name index) = tt
@@ -344,7 +344,7 @@ typed vs (tree.Choice at condition chosen otherwise) =
 -- both, where the value is known
 pub value_is : (here : ItemPosition) (variables : Variables) (e : Term) (v : Integer) → constant_of variables e ≡ Some v → (after : Operand → Continuation)
     → eval here e variables after ≡ after (Integral v)
-value_is here variables e v is after = subst (λ o. Goes (λ next. eval here e variables next) o) is (evaluates here variables e) after
+value_is here variables e v is after = subst (λ o. GivesConstant (λ next. eval here e variables next) o) is (evaluates here variables e) after
 
 pub kind_is : (variables : Variables) (e : Term) (v : Integer) → constant_of variables e ≡ Some v → type_of variables e ≡ OfInteger v.kind
 kind_is variables e v is = subst (λ o. Typed (type_of variables e) o) is (typed variables e)

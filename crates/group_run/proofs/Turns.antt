@@ -464,13 +464,13 @@ module _
       (end.gathers.0, finishes p whole there end.gathers.1 end.gathers.0.calm ended)
 
 -- what the code's loop knows once it has noted the release
-pub record GoesOn (p q : Plan) (new : Events → State → Type 0) (origin : State) (events : Events) : Type 0 where
+pub record NotedRelease (p q : Plan) (new : Events → State → Type 0) (origin : State) (events : Events) : Type 0 where
   pub plan_same : q ≡ p
   pub reached : Reached p new origin events
 
 pub goes_on :
     {p q : Plan} {new : Events → State → Type 0} {origin : State} {events pushed : Events} {group : ℕ} → Released p new origin events → q ≡ p → group ≡ q.group
-    → pushed ≡ events ++ Release group ∷ [] → GoesOn p q new origin pushed
+    → pushed ≡ events ++ Release group ∷ [] → NotedRelease p q new origin pushed
 goes_on {p} {q} {new} {origin} {events} r same named added = record {
   plan_same = same;
   reached = subst (Reached p new origin) (sym (added ∙ ap (λ n. events ++ Release n ∷ []) (named ∙ ap (λ z. z.group) same))) r.reached;

@@ -168,8 +168,8 @@ module _ {D C R B : Type 0} (model : D → C → R → D → Type 0) (content : 
   Mine = Me (Option B) V
 
   -- what a step owes at one state, where the word i becomes new
-  abbrev Goes : S → ℕ → ℕ → Mine → (Mine → Type 0) → ℕ → Type 0
-  Goes s i id me told new = (w : V) × (a : Act (Option B)) × Valid s.homes me.1 a × Rule (stepped s i new id me.1 w a) × told (w, carried_after me.1 a)
+  abbrev MayStep : S → ℕ → ℕ → Mine → (Mine → Type 0) → ℕ → Type 0
+  MayStep s i id me told new = (w : V) × (a : Act (Option B)) × Valid s.homes me.1 a × Rule (stepped s i new id me.1 w a) × told (w, carried_after me.1 a)
 
   -- only the views change, and who has which name
   pub reviewed : (s : S) (r : Rule s) (vs : List V) (admitted' : ℕ) (seat_of' : ℕ → ℕ) → r.admitted ≤ admitted' → total credit vs ≤ total credit s.views → total share vs ≡ admitted' → total count vs ≡ total count s.views
@@ -235,7 +235,7 @@ module _ {D C R B : Type 0} (model : D → C → R → D → Type 0) (content : 
       let k = r.each_seat id v at in let g = at_stage s r id v (Drawn n) at st in let part : 0 < v.part = g.0 in let near : n < length s.homes = g.3 in let none_yet : word_of s.words n ≡ 0 = g.4 in
       let below : n < drawn_of s.words = (let a : n < v.floor = g.2 in let f : v.floor ≤ drawn_of s.words = k.floor in omega arith) in
       let old = r.each_ticket n near in let w : V = record v { stage = Idle; tickets = v.tickets ++ held n c ∷ [] } in let command' = put r.command n (Some c) in let word : ℕ → ℕ = word_of s.words in let word' = put word n 1 in
-      exchanged (word_of s.words n) 0 1 (Goes s (n + 32) id (v, (n, Some b) ∷ more) (told (word_of s.words n)))
+      exchanged (word_of s.words n) 0 1 (MayStep s (n + 32) id (v, (n, Some b) ∷ more) (told (word_of s.words n)))
       (λ _. (
         w,
         gives,
@@ -358,7 +358,7 @@ module _ {D C R B : Type 0} (model : D → C → R → D → Type 0) (content : 
       let y : ℕ = drawn_of s.words in let v : V = me.0 in let k = r.each_seat id v at in let told = drew content (step slots 16 1 0 none) me in
       let c0 = r.credits.0 in let c1 = r.credits.1 in let tiny = r.small in
       let next : (y + 1) % 2 ^ 64 ≡ y + 1 = omega arith in
-      subst (Goes s 16 id me (told y)) (sym next)
+      subst (MayStep s 16 id me (told y)) (sym next)
       (dite (dec_le slots y)
       (λ full. let w : V = record v { credit = 0; floor = y + 1 } in let sum = total_set credit s.views id v w at in let fl = k.floor in (
         w,
@@ -408,7 +408,7 @@ module _ {D C R B : Type 0} (model : D → C → R → D → Type 0) (content : 
   takes_next slots id me st drives below s r wide at _ =
       let v : V = me.0 in let n : ℕ = length v.known in let k = r.each_seat id v at in let told = took content (step slots (n + 32) 1 2 none) me in let d = k.drives drives in
       let nl : n ≡ length r.log = ap length d.1 in let near : n < length s.homes = omega arith in let old = r.each_ticket n near in let word : ℕ → ℕ = word_of s.words in
-      exchanged (word_of s.words n) 1 2 (Goes s (n + 32) id me (told (word_of s.words n)))
+      exchanged (word_of s.words n) 1 2 (MayStep s (n + 32) id me (told (word_of s.words n)))
       (λ hit. let p = old.placed hit in let b = p.0 in let c = p.1 in let w : V = record v { stage = Taken (c ∷ []) } in let word' = put word n 2 in (
         w,
         takes n (Some b),
@@ -452,7 +452,7 @@ module _ {D C R B : Type 0} (model : D → C → R → D → Type 0) (content : 
       let below : n < drawn = was_drawn s r n near (omega arith) in
       let log' : List E = v.known ++ entry c a ∷ [] in let long : length log' ≡ n + 1 = length-append v.known (entry c a ∷ []) in let w : V = record v { stage = Idle; known = log' } in let word' = put word n 3 in
       let grown : Begins r.log log' = subst (λ (l : List E). Begins l log') d.1 (begins_more v.known (entry c a ∷ [])) in
-      exchanged (word_of s.words n) 2 3 (Goes s (n + 32) id (v, (n, Some b) ∷ more) (told (word_of s.words n)))
+      exchanged (word_of s.words n) 2 3 (MayStep s (n + 32) id (v, (n, Some b) ∷ more) (told (word_of s.words n)))
       (λ _. (
         w,
         gives,
@@ -519,7 +519,7 @@ module _ {D C R B : Type 0} (model : D → C → R → D → Type 0) (content : 
       let mine = subst (λ (z : ℕ). (0 < v.part) × (r.owner z ≡ v.name) × (z < v.floor) × (z < length s.homes) × (r.command z ≡ Some t.command) × (0 < word z)) is (k.tickets i t has) in
       let part : 0 < v.part = mine.0 in let near : n < length s.homes = mine.3 in let old = r.each_ticket n near in let fits = fits_now s r id v at in let word' = put word n 4 in
       let below : n < drawn_of s.words = (let f : v.floor ≤ drawn_of s.words = k.floor in let l : n < v.floor = mine.2 in omega arith) in
-      exchanged (word_of s.words n) 3 4 (Goes s (n + 32) id me (told (word_of s.words n)))
+      exchanged (word_of s.words n) 3 4 (MayStep s (n + 32) id me (told (word_of s.words n)))
       (λ hit. let p = old.answered hit in let b = p.0 in let w : V = record v { collected = n ∷ v.collected; known = r.log } in (
         w,
         takes n (Some b),

@@ -29,6 +29,7 @@ fn width(kind: IntType) -> Width
     }
 }
 
+/// The number of an answer, 0 of one that carries none.
 fn number_of(answer: Answer) -> u64
     ensures { result ≡ answered answer }
 {

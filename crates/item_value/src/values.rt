@@ -140,7 +140,7 @@ pub(crate) fn apply_binary(
     left: u32,
     right: u32,
 ) -> Result<RegisterValue, Termination>
-    ensures { (after : Option Operand → Continuation) → Leads result (reads registers.entry left (λ v. reads registers.entry right (λ w. next.combined operator v w (λ x. after (Some x))))) after }
+    ensures { (after : Option Operand → Continuation) → Leads result (reads registers.entry left (λ v. reads registers.entry right (λ w. next.binary_operation operator v w (λ x. after (Some x))))) after }
 {
     match kept_operand(registers, left) {
         Ok(v) => match kept_operand(registers, right) {
@@ -160,7 +160,7 @@ pub fn apply_binary_to(
     left: u32,
     right: u32,
 ) -> Result<RegisterValue, Termination>
-    ensures { (after : Option Operand → Continuation) → Leads result (reads registers.entry left (λ v. reads registers.entry right (λ w. next.combined operator v w (λ x. after (Some x))))) after }
+    ensures { (after : Option Operand → Continuation) → Leads result (reads registers.entry left (λ v. reads registers.entry right (λ w. next.binary_operation operator v w (λ x. after (Some x))))) after }
 {
     match kept(registers.values, left).bits_as(kinds.0) {
         Some(v) => match kept(registers.values, right).bits_as(kinds.1) {

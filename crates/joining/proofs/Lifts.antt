@@ -3,7 +3,7 @@ use Rattle.std.proofs.Common.{◌≡◌, ℕ, suc, ◌+◌, ◌*◌, ◌<◌, �
 use Rattle.std.proofs.Math.Nat.{suc-mul}
 use Rattle.std.proofs.lemmas.Bool.{and_parts, and_from, true≢false, cond-false, ne_eqb, eqb-true, leb-true, or_left}
 use Rattle.std.proofs.lemmas.Option.{slice_get-get_or}
-use Rattle.clmodel.specs.Cells.{Cells, number, covers, written, combined, size_of, found}
+use Rattle.clmodel.specs.Cells.{Cells, number, covers, written, updated_word, size_of, found}
 use Rattle.clmodel.specs.Launch.{Launch, same_region, region_of, bytes_of, first_byte, kind_of, group_of, conflict}
 use Rattle.clmodel.specs.Run.{Memory, State, initial, byte_at, access_of, lowest, released}
 use Rattle.clmodel.specs.Law.{Logged}
@@ -74,10 +74,10 @@ fit_of i p first (Fetch o v) n a c k = absurd (fetches_not_updates c k)
 
 -- an update more at a word
 updated_at : (m : Memory) (p q : Region) (d c : Class) (v x first word byte : ℕ) → q ≡ p → first ≡ word → d ≡ c
-    → performed m p (Update d v) x first q byte ≡ written (m q) word 4 (combined c x v) byte
+    → performed m p (Update d v) x first q byte ≡ written (m q) word 4 (updated_word c x v) byte
 updated_at m p q d c v x first word byte e f k =
-    subst (λ z. performed m p (Update d v) x first z byte ≡ written (m z) word 4 (combined c x v) byte) (sym e)
-    (performed_in m p (Update d v) x first byte ∙ ap₂ (λ a y. written (m p) a 4 y byte) f (ap (λ z. combined z x v) k))
+    subst (λ z. performed m p (Update d v) x first z byte ≡ written (m z) word 4 (updated_word c x v) byte) (sym e)
+    (performed_in m p (Update d v) x first byte ∙ ap₂ (λ a y. written (m p) a 4 y byte) f (ap (λ z. updated_word z x v) k))
 
 updated_more : (m : Memory) (p q : Region) (d c : Class) (v x first word : ℕ) (vs : List ℕ) (old : Cells) → q ≡ p → first ≡ word → d ≡ c → number (m p) first 4 ≡ Some x
     → Updated c vs old (m q) word → Updated c (v ∷ vs) old (performed m p (Update d v) x first q) word

@@ -2,7 +2,7 @@
 use Rattle.std.proofs.Common.{◌≡◌, ℕ, zero, suc, ◌+◌, ◌-◌, ◌*◌, ◌<◌, ◌≤◌, Bool, true, false, cond, Option, Some, None, refl, sym, ap, ◌∙◌, subst, arith, ◌⊎◌, ⊎_elim, inl, inr, ◌&&◌, ◌||◌, List, [], ◌∷◌, ◌++◌}
 use Rattle.std.proofs.lemmas.Bool.{and_parts, and_from, both_ways, true≢false, cases_Bool, cond-true, or_parts, or_cases, or_left, or_right, and_cases}
 use Rattle.std.proofs.lemmas.Option.{same_Some}
-use Rattle.clmodel.specs.Cells.{Cells, lowest_unset, unset_or, byte_count, covers, written, byte_of, combined, fetched, size_of, found, answer_to, effect}
+use Rattle.clmodel.specs.Cells.{Cells, lowest_unset, unset_or, byte_count, covers, written, byte_of, updated_word, fetched, size_of, found, answer_to, effect}
 use Rattle.clmodel.specs.Launch.{Launch, same_region, region_of, kind_of, access_in, group_of, clash, conflict}
 use Rattle.clmodel.specs.Run.{Memory, State, initial, start, with_cells}
 use Rattle.clmodel.specs.Law.{Logged, newest_conflict}
@@ -335,10 +335,10 @@ effect_inside l lower bm sm i p (Store width value) first x x2 n t byte h clear 
     written_in (sm p) first (byte_count width) value byte h ∙ sym (written_in (bm p) first (byte_count width) value byte h)
 effect_inside l lower bm sm i p (Update c v) first x x2 n t byte h clear =
     let r = covers_parts first 4 byte h in
-    written_in (sm p) first 4 (combined c x2 v) byte h
-    ∙ ap (λ z. Some (byte_of (byte - first) (combined c z v)))
+    written_in (sm p) first 4 (updated_word c x2 v) byte h
+    ∙ ap (λ z. Some (byte_of (byte - first) (updated_word c z v)))
     (same_found l lower bm sm i p (Update c v) first x x2 n t (update_clear l lower bm sm i p c v first x x2 n t byte r.0 r.1 clear))
-    ∙ sym (written_in (bm p) first 4 (combined c x v) byte h)
+    ∙ sym (written_in (bm p) first 4 (updated_word c x v) byte h)
 effect_inside l lower bm sm i p (Fetch o v) first x x2 n t byte h clear =
     written_in (sm p) first 4 (fetched o x2 v) byte h
     ∙ ap (λ z. Some (byte_of (byte - first) (fetched o z v)))

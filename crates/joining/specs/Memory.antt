@@ -1,6 +1,6 @@
 -- What a further group's run leaves in memory, joined to what the lower groups left (OpenCL 1.2, 3.3, 6.12.11; own).
 use Rattle.std.specs.Prelude.{ℕ, ◌+◌, ◌-◌, ◌*◌, ◌/◌, ◌%◌, ◌^◌, Bool, true, false, ◌&&◌, ◌||◌, if◌then◌else◌, Option, None, Some, List, [], ◌∷◌}
-use Rattle.clmodel.specs.Cells.{Cells, byte_count, byte_of, combined, covers, number}
+use Rattle.clmodel.specs.Cells.{Cells, byte_count, byte_of, updated_word, covers, number}
 use Rattle.clmodel.specs.Launch.{same_region}
 use Rattle.clmodel.specs.Run.{Memory, or_else}
 use Rattle.clmodel.specs.declared.access.Access.{Access}
@@ -13,13 +13,13 @@ use Rattle.clmodel.specs.declared.access.Region.{Region}
 -- the number left of s where lower groups left a of it and a further group b, by updates of one class (6.12.11)
 unfoldable pub joined_number : Class → ℕ → ℕ → ℕ → ℕ
 joined_number class.Add s a b = (a + (b + (2 ^ 32 - s % 2 ^ 32))) % 2 ^ 32
-joined_number class.And s a b = combined class.And a b
-joined_number class.Or s a b = combined class.Or a b
-joined_number class.Xor s a b = combined class.Xor a (combined class.Xor b s)
-joined_number class.SignedMin s a b = combined class.SignedMin a b
-joined_number class.UnsignedMin s a b = combined class.UnsignedMin a b
-joined_number class.SignedMax s a b = combined class.SignedMax a b
-joined_number class.UnsignedMax s a b = combined class.UnsignedMax a b
+joined_number class.And s a b = updated_word class.And a b
+joined_number class.Or s a b = updated_word class.Or a b
+joined_number class.Xor s a b = updated_word class.Xor a (updated_word class.Xor b s)
+joined_number class.SignedMin s a b = updated_word class.SignedMin a b
+joined_number class.UnsignedMin s a b = updated_word class.UnsignedMin a b
+joined_number class.SignedMax s a b = updated_word class.SignedMax a b
+joined_number class.UnsignedMax s a b = updated_word class.UnsignedMax a b
 
 -- an access of a kind writes (3.3, 6.12.11)
 abbrev pub writes : AccessKind → Bool

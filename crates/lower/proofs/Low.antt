@@ -22,7 +22,7 @@ use Rattle.regcode.specs.declared.instruction.Instruction.TheVariants as instruc
 use Rattle.lower_expr.proofs.Places.{kind_below}
 use Rattle.lower_expr.specs.Scope.{Scope, register_at, register_in, register_of, free_level}
 use Rattle.lower_expr.specs.Expressions.{count, kind_of, kind_named, type_of_elements, register_for, registers_for, folded, expr_code, terms_code, target_code, target_register, variable_code, element_code, infix_code, branch_code, choice_code, call_code, update_code, call_only_code}
-use Rattle.lower_code.specs.Code.{type_of_target, hold_code, fetch_code, put_code, combine_code}
+use Rattle.lower_code.specs.Code.{type_of_target, set_variable_code, fetch_code, put_code, combine_code}
 use Rattle.lower.specs.Tables.{registers_of, room, register_count}
 use Rattle.lower_expr.proofs.Short.{some_node}
 
@@ -120,7 +120,7 @@ call_only_low n (Some (built_in_function.Integer function)) to numbers h k = cal
 call_only_low n (Some (built_in_function.Atomic function)) to numbers h k =
     low_either n (is_update function) (update_code function numbers) _ (update_low n function numbers k) (call_low n (Some (built_in_function.Atomic function)) to numbers h k)
 
-hold_low : (n : ℕ) (to : Option ℕ) (from : ℕ) (kind : VariableType) → LowOption n to → from < n → Low n (hold_code to from kind)
+hold_low : (n : ℕ) (to : Option ℕ) (from : ℕ) (kind : VariableType) → LowOption n to → from < n → Low n (set_variable_code to from kind)
 hold_low n None from kind h k = ((k, (k, tt)), tt)
 hold_low n (Some to) from kind h k = ((h, (k, tt)), tt)
 

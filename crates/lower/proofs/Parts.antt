@@ -27,7 +27,7 @@ use Rattle.lower_expr.specs.Scope.{Scope, register_at, register_of, level_of, Se
 use Rattle.lower_expr.specs.Expressions.{kind_named, type_of_elements, private_load, private_store, count, target_code, target_register, register_for, registers_for, call_code, update_code, call_only_code}
 use Rattle.lower_expr.specs.Agreement.{HasAt, Reached, Hold, HoldsPart, HoldsTarget}
 use Rattle.lower_expr.proofs.Places.{has_moved, reached_put, array_seen, elements_seen, type_seen}
-use Rattle.lower_code.specs.Code.{hold_code, type_of_target, fetch_code, put_code, wait_code}
+use Rattle.lower_code.specs.Code.{set_variable_code, type_of_target, fetch_code, put_code, wait_code}
 use Rattle.lower_expr.proofs.Lengths.{call_length}
 use Rattle.lower_expr.proofs.Expressions.{expr_runs, target_runs, private_load_run, call_runs}
 use Rattle.lower.proofs.Scopes.{Same, same_self, same_then, put_same, sees_same, slot_between, assigned_sees, unassigned_sees, level_from, stored_sees}
@@ -91,14 +91,14 @@ module _ (given : ItemContext) (code : List Instruction) (bound : ℕ) where
 
   -- a variable is given a value
   pub name_runs : (scope : Scope) (s : State) (ts : List ℕ) (place : ℕ) (now : State) (vs : Variables) (name level : ℕ) (from : VariableType) (v : Operand) (run : Variables → Continuation) → free_level scope ≤ level
-      → Stands scope.base s ts place now → Sees scope now.registers vs → HasAt code place (hold_code (register_of scope name) (register_at level from) (kind_named scope name))
+      → Stands scope.base s ts place now → Sees scope now.registers vs → HasAt code place (set_variable_code (register_of scope name) (register_at level from) (kind_named scope name))
       → reg now.registers (register_at level from) ≡ Some v
-      → ((last : State) (after : Variables) → Stands scope.base s ts (place + length (hold_code (register_of scope name) (register_at level from) (kind_named scope name))) last → Sees scope last.registers after → Agree given code bound last (run after))
+      → ((last : State) (after : Variables) → Stands scope.base s ts (place + length (set_variable_code (register_of scope name) (register_at level from) (kind_named scope name))) last → Sees scope last.registers after → Agree given code bound last (run after))
       → Agree given code bound now (run (assign vs name v))
   name_runs scope s ts place now vs name level from v run free stands same has is go = cases (register_of scope name) refl has go
     where
-      cases : (o : Option ℕ) → register_of scope name ≡ o → HasAt code place (hold_code o (register_at level from) (kind_named scope name))
-          → ((last : State) (after : Variables) → Stands scope.base s ts (place + length (hold_code o (register_at level from) (kind_named scope name))) last → Sees scope last.registers after → Agree given code bound last (run after))
+      cases : (o : Option ℕ) → register_of scope name ≡ o → HasAt code place (set_variable_code o (register_at level from) (kind_named scope name))
+          → ((last : State) (after : Variables) → Stands scope.base s ts (place + length (set_variable_code o (register_at level from) (kind_named scope name))) last → Sees scope last.registers after → Agree given code bound last (run after))
           → Agree given code bound now (run (assign vs name v))
       cases None e has go =
           let kind = kind_named scope name in

@@ -4,7 +4,7 @@ use Rattle.clnum.specs.declared.int_type.IntType.{IntType}
 use Rattle.clnum.specs.declared.int_type.IntType.TheVariants.{Int}
 use Rattle.clnum.specs.declared.operators.BinaryOperator.{BinaryOperator}
 use Rattle.clmodel.specs.Barrier.{fences}
-use Rattle.clmodel.specs.Next.{Continuation, finish, Variables, Destination, is_private_array, Helpers, combined, reach, fetch, one, infix_type, argument_type, call_type, HelperCall, value_of, assigned, call_only, call_statement}
+use Rattle.clmodel.specs.Next.{Continuation, finish, Variables, Destination, is_private_array, Helpers, binary_operation, reach, fetch, one, infix_type, argument_type, call_type, HelperCall, value_of, assigned, call_only, call_statement}
 use Rattle.clmodel.specs.Next as next
 use Rattle.clmodel.specs.Tree.{Term, Terms, Target, TargetVariable, TargetElement, TargetDereference}
 use Rattle.clmodel.specs.declared.operand.Operand.{Operand}
@@ -106,7 +106,7 @@ module _ (given : ItemContext) (code : List Instruction) (most : ℕ) (calls : C
       → reg now.registers (register_at (free_level scope + 1) (type_of_target scope place)) ≡ Some old → reg now.registers (register_at (free_level scope + 2) kind) ≡ Some v
       → HasAt code at (combine_code scope place (free_level scope) operator kind (register_at (free_level scope + 1) (type_of_target scope place)) (register_at (free_level scope + 2) kind))
       → ((last : State) (after : Variables) → Stands scope.base s ts (at + length (combine_code scope place (free_level scope) operator kind (register_at (free_level scope + 1) (type_of_target scope place)) (register_at (free_level scope + 2) kind))) last → Sees scope last.registers after → Agree given code bound last (run after))
-      → Agree given code bound now (combined operator old v (λ new. next.put to new vs run))
+      → Agree given code bound now (binary_operation operator old v (λ new. next.put to new vs run))
   combine_runs scope place operator kind s ts at now vs to old v run stands same held is value has go =
       let level = free_level scope in
       let type = infix_type (Arithmetic operator) (type_of_target scope place) kind in
@@ -155,7 +155,7 @@ module _ (given : ItemContext) (code : List Instruction) (most : ℕ) (calls : C
   pub compound_runs : (scope : Scope) (place : Target) (operator : BinaryOperator) (c : Option HelperCall) (value : Term) (site : ℕ) (ts : List ℕ) (s : State) (at : ℕ) (now : State) (vs : Variables) (run : Variables → Continuation)
       → Stands scope.base s ts at now → Sees scope now.registers vs → HasAt code at (compound_code calls results inside result scope (free_level scope) place operator c value (length ts) site)
       → ((last : State) (after : Variables) → Stands scope.base s ts (at + length (compound_code calls results inside result scope (free_level scope) place operator c value (length ts) site)) last → Sees scope last.registers after → Agree given code bound last (run after))
-      → Agree given code bound now (reach given.here place vs (λ to. fetch to vs (λ old. assigned most given.here helpers inside c value site ts vs (λ v. combined operator old v (λ new. next.put to new vs run)))))
+      → Agree given code bound now (reach given.here place vs (λ to. fetch to vs (λ old. assigned most given.here helpers inside c value site ts vs (λ v. binary_operation operator old v (λ new. next.put to new vs run)))))
   compound_runs scope place operator c value site ts s at now vs run stands same has go =
       let level = free_level scope in
       let pointer = target_register scope level place in
@@ -195,7 +195,7 @@ module _ (given : ItemContext) (code : List Instruction) (most : ℕ) (calls : C
   pub step_runs : (scope : Scope) (place : Target) (operator : BinaryOperator) (ts : List ℕ) (s : State) (at : ℕ) (now : State) (vs : Variables) (run : Variables → Continuation)
       → Stands scope.base s ts at now → Sees scope now.registers vs → HasAt code at (step_code calls results inside result scope (free_level scope) place operator)
       → ((last : State) (after : Variables) → Stands scope.base s ts (at + length (step_code calls results inside result scope (free_level scope) place operator)) last → Sees scope last.registers after → Agree given code bound last (run after))
-      → Agree given code bound now (reach given.here place vs (λ to. fetch to vs (λ old. combined operator old one (λ new. next.put to new vs run))))
+      → Agree given code bound now (reach given.here place vs (λ to. fetch to vs (λ old. binary_operation operator old one (λ new. next.put to new vs run))))
   step_runs scope place operator ts s at now vs run stands same has go =
       let level = free_level scope in
       let pointer = target_register scope level place in

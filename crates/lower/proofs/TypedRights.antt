@@ -31,7 +31,7 @@ use Rattle.regcode.specs.declared.instruction.Instruction.TheVariants as instruc
 use Rattle.regcode.specs.declared.tables.RegisterKind.TheVariants as register_kinds
 use Rattle.lower_expr.specs.Scope.{Scope, register_at, level_of, free_level}
 use Rattle.lower_expr.specs.Expressions.{kind_of, kind_named, type_of_elements, private_load, private_store, register_for, registers_for, expr_code, terms_code, target_code, target_register, update_code, call_only_code, count}
-use Rattle.lower_code.specs.Code.{Calls, result_type, needed_code, no_value_code, value_code, hold_code, type_of_target, fetch_code, put_code, combine_code, wait_code, condition_code, turn_code, right_code, right_type, assign_code, compound_code, step_code, call_only_statement}
+use Rattle.lower_code.specs.Code.{Calls, result_type, needed_code, no_value_code, value_code, set_variable_code, type_of_target, fetch_code, put_code, combine_code, wait_code, condition_code, turn_code, right_code, right_type, assign_code, compound_code, step_code, call_only_statement}
 use Rattle.lower.specs.Accepted.{declared_kind, is_private, Is, Matches, Suit}
 use Rattle.lower.proofs.Suiting.{is_at, is_as, suit_both, suit_either, constant_suits, hold_suits, binary_suits, store_suits, load_suits, private_load_suits, private_store_suits, update_suits, update_by_one_suits, branch_suits}
 use Rattle.lower.proofs.Suited.{element_is, built_in_is, barrier_is, infix_is, call_is, argument_is, first_of, types_are, type_is, numbered, registers_are, variable_suits, call_suits, expression_suits, terms_suit, target_suits}
@@ -193,7 +193,7 @@ module _ (c : Context) (scope : Scope) (m : Matches c scope) where
         → Suit parameters (put_code scope place (target_register scope level place) from)
     put_suits level from _ _ r (rule.variable_target {x = x} {k = k} is) passes of =
         let there = m x (Single k) is in
-        subst (λ o. Suit parameters (hold_code o from (kind_named scope x))) (sym there.register) (
+        subst (λ o. Suit parameters (set_variable_code o from (kind_named scope x))) (sym there.register) (
           hold_suits parameters (register_at there.level k) from (kind_named scope x) r (is_as there.level k (kind_named scope x) (sym there.declared)) of
               (subst (λ q. Passes q r) (sym there.declared) passes),
           tt,

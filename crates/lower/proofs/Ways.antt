@@ -20,13 +20,13 @@ use Rattle.regcode.specs.declared.instruction.Instruction.{Instruction}
 use Rattle.regcode.specs.declared.instruction.Instruction.TheVariants as instruction
 use Rattle.lower_expr.specs.Scope.{Scope, free_level, register_at, register_of}
 use Rattle.lower_expr.specs.Expressions.{kind_named, register_for, registers_for, expr_code, terms_code, target_code, target_register, update_code, call_only_code}
-use Rattle.lower_code.specs.Code.{Exits, past, body_exits, Calls, with_variable, scope_after_part, scope_after_all, needed_code, no_value_code, value_code, hold_code, array_code, type_of_target, fetch_code, put_code, combine_code, wait_code, condition_code, while_code, right_code, right_type, call_only_statement, stmt_code, part_code, stmts_code}
+use Rattle.lower_code.specs.Code.{Exits, past, body_exits, Calls, with_variable, scope_after_part, scope_after_all, needed_code, no_value_code, value_code, set_variable_code, array_code, type_of_target, fetch_code, put_code, combine_code, wait_code, condition_code, while_code, right_code, right_type, call_only_statement, stmt_code, part_code, stmts_code}
 use Rattle.lower.specs.Accepted.{Flat, Sound}
 use Rattle.lower.proofs.Flat.{flat_both, either_flat, variable_flat, call_flat, expression_flat, terms_flat, target_flat}
 use Rattle.lower.proofs.Sound.{leads_at, sound_flat, sound_more, sound_then, sound_both, sound_exit, sound_barrier, sound_test, sound_branch, sound_sides}
 use Rattle.lower.proofs.SoundLoops.{sound_do, sound_while}
 
-hold_flat : (to : Option ℕ) (from : ℕ) (kind : VariableType) → Flat (hold_code to from kind)
+hold_flat : (to : Option ℕ) (from : ℕ) (kind : VariableType) → Flat (set_variable_code to from kind)
 hold_flat None from kind = (tt, tt)
 hold_flat (Some to) from kind = (tt, tt)
 

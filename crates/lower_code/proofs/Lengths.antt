@@ -19,7 +19,7 @@ use Rattle.lower_code.specs.declared.functions.Found.{Found}
 use Rattle.lower_code.specs.Emission.{functions_of, found_code}
 use Rattle.lower_code.specs.Emission as emission
 use Rattle.lower_code.proofs.Helpers.{code_hit}
-use Rattle.lower_code.specs.Code.{Calls, Exits, hold_code, fetch_code, put_code, combine_code, array_code, pass_code, arguments_code, variables_after_part, variables_after_all, parameter_variables, needed_code, no_value_code, value_code, wait_code, condition_code, if_code, if_else_code, turn_code, while_code, do_code, right_code, call_only_statement, stmt_code, part_code, stmts_code, body_code, call_code, result_in, variable}
+use Rattle.lower_code.specs.Code.{Calls, Exits, set_variable_code, fetch_code, put_code, combine_code, array_code, pass_code, arguments_code, variables_after_part, variables_after_all, parameter_variables, needed_code, no_value_code, value_code, wait_code, condition_code, if_code, if_else_code, turn_code, while_code, do_code, right_code, call_only_statement, stmt_code, part_code, stmts_code, body_code, call_code, result_in, variable}
 use Rattle.lower_expr.proofs.Lengths.{SameLength, single, longer, joined, chosen, registered, variable_same, call_only_same, from_level, expr_same, terms_same, target_same}
 
 -- Two ways to emit calls, which give each helper code of one length, wherever it is called. How many arguments there
@@ -32,7 +32,7 @@ AlikeCalls calls other =
 abbrev pub Steady : Calls → Type 0
 Steady calls = AlikeCalls calls calls
 
-hold_same : (to to2 : Option ℕ) (from from2 : ℕ) (kind : VariableType) → SameLength (hold_code to from kind) (hold_code to2 from2 kind)
+hold_same : (to to2 : Option ℕ) (from from2 : ℕ) (kind : VariableType) → SameLength (set_variable_code to from kind) (set_variable_code to2 from2 kind)
 hold_same None None from from2 kind = single
 hold_same None (Some to2) from from2 kind = single
 hold_same (Some to) None from from2 kind = single

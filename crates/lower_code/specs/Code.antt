@@ -15,7 +15,7 @@ use Rattle.regcode.specs.declared.instruction.Instruction.{Instruction}
 use Rattle.regcode.specs.declared.instruction.Instruction.TheVariants as instruction
 use Rattle.lower_expr.specs.Scope.{Scope, free_level, register_at}
 use Rattle.lower_expr.specs.Expressions.{kind_of, register_for, registers_for, expr_code, terms_code, call_only_code, target_code, target_register}
-pub use Rattle.lower_expr.specs.Targets.{hold_code, type_of_target, fetch_code, put_code, combine_code}
+pub use Rattle.lower_expr.specs.Targets.{set_variable_code, type_of_target, fetch_code, put_code, combine_code}
 pub use Rattle.lower_code.specs.Variables.{variable, local_pointer, array_variable, with_variable, variables_after, variables_after_part, variables_after_all, scope_after, scope_after_part, scope_after_all, array_code, parameter_variables, pass_code, arguments_code}
 
 -- How far behind the end of a statement's code its other ends are: what follows a loop that is broken, the condition or

@@ -6,7 +6,7 @@ use Rattle.clnum.specs.Integer.{converted}
 use Rattle.clnum.specs.Operations.{truth, unary_value}
 use Rattle.clnum.specs.declared.int_type.IntType.TheVariants.{Int}
 use Rattle.clmodel.specs.BuiltIns.{built_in}
-use Rattle.clmodel.specs.Next.{Continuation, Variables, known, look, moved, load, pointing, number, test, settle, join, call, combined, chosen_value, base_type, infix_type, type_of, eval, eval_all, reach, declared_type, is_private_array, read_element, load_element}
+use Rattle.clmodel.specs.Next.{Continuation, Variables, known, look, moved, load, pointing, number, test, settle, join, call, binary_operation, chosen_value, base_type, infix_type, type_of, eval, eval_all, reach, declared_type, is_private_array, read_element, load_element}
 use Rattle.clmodel.specs.Next.Expressions.{Destination, Named, ElementOf, Through}
 use Rattle.clmodel.specs.Tree as tree
 use Rattle.clmodel.specs.Tree.{Term, Terms, NoTerm, ThenTerm, Target}
@@ -253,7 +253,7 @@ module _ (given : ItemContext) (code : List Instruction) (bound : ℕ) where
       let inner = expr_code scope (level + 1) right in
       let end : List Instruction = instruction.Binary (register_at level kind) operator (register_for scope level left) (register_for scope (level + 1) right) ∷ [] in
       let there = has_moved code (inner ++ end) middle now.place (sym r.at) has in
-      right_runs now (λ w. combined operator v w after) (seen_kept scope level s middle now vs free r same) (has_left code inner end now.place there)
+      right_runs now (λ w. binary_operation operator v w after) (seen_kept scope level s middle now vs free r same) (has_left code inner end now.place there)
       (λ w later q right_held.
       let here = has_right code inner end now.place later.place (sym q.at) there in
       binary_runs given code bound later after (register_at level kind) operator (register_for scope level left) (register_for scope (level + 1) right) v w here.0

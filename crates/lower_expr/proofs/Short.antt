@@ -17,7 +17,7 @@ use Rattle.regcode.specs.declared.instruction.Instruction.{Instruction}
 use Rattle.lower_expr.specs.Scope.{Scope}
 use Rattle.lower_expr.specs.Expressions.{folded, expr_code, terms_code, target_code, variable_code, element_code, infix_code, choice_code, call_code, call_only_code}
 use Rattle.lower_expr.proofs.Lengths.{call_length, call_only_length}
-use Rattle.lower_expr.specs.Targets.{hold_code, fetch_code, put_code, combine_code}
+use Rattle.lower_expr.specs.Targets.{set_variable_code, fetch_code, put_code, combine_code}
 
 -- there are at most n
 pub record Short (n : ℕ) (xs : List Instruction) : Type 0 where
@@ -63,9 +63,9 @@ call_short function to numbers = record { most = omega (arith, call_length funct
 pub call_only_short : (function : Option BuiltIn) (to : ℕ) (numbers : List ℕ) → Short 1 (call_only_code function to numbers)
 call_only_short function to numbers = record { most = omega (arith, call_only_length function to numbers) }
 
-hold_short : (to : Option ℕ) (from : ℕ) (kind : VariableType) → Short 1 (hold_code to from kind)
-hold_short None from kind = single
-hold_short (Some to) from kind = single
+set_variable_short : (to : Option ℕ) (from : ℕ) (kind : VariableType) → Short 1 (set_variable_code to from kind)
+set_variable_short None from kind = single
+set_variable_short (Some to) from kind = single
 
 -- with the code that n nodes of parts have
 leaf_fits : 2 ≤ 6 * 1
@@ -139,7 +139,7 @@ module _ (scope : Scope) where
   fetch_short (TargetDereference at pointer) reached to = within single (omega arith)
 
   pub put_short : (to : Target) (reached from : ℕ) → Short 1 (put_code scope to reached from)
-  put_short (TargetVariable at name) reached from = hold_short _ from _
+  put_short (TargetVariable at name) reached from = set_variable_short _ from _
   put_short (TargetElement at name index) reached from = either (is_private_array scope.variables name) single single
   put_short (TargetDereference at pointer) reached from = single
 

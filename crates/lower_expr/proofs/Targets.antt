@@ -10,7 +10,7 @@ use Rattle.lower_expr.specs.Scope.{Scope, register_at, register_of}
 use Rattle.lower_expr.specs.Expressions.{kind_of, kind_named, type_of_elements, private_load, private_store, variable_code, target_kind, target_register}
 use Rattle.lower_expr.specs.declared.emission.TargetKind.{TargetKind}
 use Rattle.lower_expr.specs.declared.emission.TargetKind.TheVariants as target
-use Rattle.lower_expr.specs.Targets.{type_of_target, fetch_code, put_code, hold_code}
+use Rattle.lower_expr.specs.Targets.{type_of_target, fetch_code, put_code, set_variable_code}
 use Rattle.lower_expr.specs.Targets.{target_name, destination_of}
 use Rattle.lower_expr.specs.declared.destinations.Destination.{Destination}
 
@@ -28,7 +28,7 @@ target_fetch scope name (target.Pointer pointer) level to = instruction.Load to 
 
 -- a register's value is put there
 abbrev pub target_put : Scope → ℕ → TargetKind → ℕ → ℕ → List Instruction
-target_put scope name target.Variable level from = hold_code (register_of scope name) from (kind_named scope name)
+target_put scope name target.Variable level from = set_variable_code (register_of scope name) from (kind_named scope name)
 target_put scope name (target.Index index) level from = private_store scope name (register_at level index) from ∷ []
 target_put scope name (target.Pointer pointer) level from = instruction.Store (register_at level pointer) from ∷ []
 

@@ -13,9 +13,9 @@ use Rattle.lower_expr.specs.Expressions.{kind_of, kind_named, type_of_elements, 
 use Rattle.lower_expr.specs.declared.destinations.Destination.{Destination}
 
 -- a variable is given a register's value; where there is none of the name, the value is only asked for
-abbrev pub hold_code : Option ℕ → ℕ → VariableType → List Instruction
-hold_code None from kind = instruction.AssignConversion from from kind ∷ []
-hold_code (Some to) from kind = instruction.AssignConversion to from kind ∷ []
+abbrev pub set_variable_code : Option ℕ → ℕ → VariableType → List Instruction
+set_variable_code None from kind = instruction.AssignConversion from from kind ∷ []
+set_variable_code (Some to) from kind = instruction.AssignConversion to from kind ∷ []
 
 -- the type of the target
 abbrev pub type_of_target : Scope → Target → VariableType
@@ -32,7 +32,7 @@ fetch_code scope (TargetDereference at term) reached to = instruction.Load to re
 
 -- a register's value is put there
 abbrev pub put_code : Scope → Target → ℕ → ℕ → List Instruction
-put_code scope (TargetVariable at name) reached from = hold_code (register_of scope name) from (kind_named scope name)
+put_code scope (TargetVariable at name) reached from = set_variable_code (register_of scope name) from (kind_named scope name)
 put_code scope (TargetElement at name index) reached from =
     if is_private_array scope.variables name then private_store scope name reached from ∷ [] else instruction.Store reached from ∷ []
 put_code scope (TargetDereference at term) reached from = instruction.Store reached from ∷ []

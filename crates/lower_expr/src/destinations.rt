@@ -133,7 +133,7 @@ fn set_variable(
     code: &mut Vec<Instruction>,
 ) -> Result<(), AllocError>
     requires { free_level scope.now ≤ 2 ^ 28 }
-    ensures code { OnOk result (code.new.items ≡ code.old.items ++ spec.hold_code (register_of scope.now name) from.0 (kind_named scope.now name)) }
+    ensures code { OnOk result (code.new.items ≡ code.old.items ++ spec.set_variable_code (register_of scope.now name) from.0 (kind_named scope.now name)) }
     ensures longer { OnErr result (IsLonger code.old.items code.new.items) }
 {
     let kind = scope.kind(name);

@@ -15,7 +15,7 @@ use Rattle.clmodel.specs.declared.tree.VariableType.{VariableType}
 use Rattle.regcode.specs.declared.instruction.Instruction.{Instruction}
 use Rattle.regcode.specs.declared.instruction.Instruction.TheVariants as instruction
 use Rattle.lower_expr.proofs.Lengths.{from_level}
-use Rattle.lower_code.specs.Code.{Exits, past, body_exits, while_code, hold_code, fetch_code, put_code, combine_code, array_code, pass_code, arguments_code, array_variable, variables_after, variables_after_part, variables_after_all, parameter_variables, needed_code, no_value_code, value_code, wait_code, condition_code, right_code, call_only_statement, stmt_code, part_code, stmts_code, body_code, call_code, kernel_code, result_in, variable}
+use Rattle.lower_code.specs.Code.{Exits, past, body_exits, while_code, set_variable_code, fetch_code, put_code, combine_code, array_code, pass_code, arguments_code, array_variable, variables_after, variables_after_part, variables_after_all, parameter_variables, needed_code, no_value_code, value_code, wait_code, condition_code, right_code, call_only_statement, stmt_code, part_code, stmts_code, body_code, call_code, kernel_code, result_in, variable}
 use Rattle.lower_code.specs.Code as spec
 use Rattle.origins.specs.declared.names.Meaning.{Meaning}
 use Rattle.origins.specs.declared.names.Named.{Named}
@@ -68,7 +68,7 @@ parameters_named (p ∷ ps) vs = parameters_named ps (variable p.name p.kind ∷
 turned_back : {os : List Origin} (is js ks : List Instruction) → Marks os ((is ++ js) ++ ks) → Marks os (is ++ (js ++ ks))
 turned_back {os = os} is js ks h = subst (λ xs. Marks os xs) (append_assoc is js ks) h
 
-hold_marked : (to : Option ℕ) (from : ℕ) (kind : VariableType) (n : Node) → Marks (times 1 n) (hold_code to from kind)
+hold_marked : (to : Option ℕ) (from : ℕ) (kind : VariableType) (n : Node) → Marks (times 1 n) (set_variable_code to from kind)
 hold_marked None from kind n = single tt
 hold_marked (Some to) from kind n = single tt
 

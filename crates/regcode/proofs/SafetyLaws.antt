@@ -18,7 +18,7 @@ use Rattle.clnum.specs.declared.operators.UnaryOperator.{UnaryOperator}
 use Rattle.clnum.specs.declared.operators.UnaryOperator.TheVariants as unary_operator
 use Rattle.clnum.specs.declared.operators.Builtin.{Builtin}
 use Rattle.clnum.specs.declared.operators.Builtin.TheVariants as builtin
-use Rattle.clmodel.specs.Next.{Continuation, fail, number, pointing, moved, load, store, element_value, read_element, element_set, write_element, atomic_call, fetch_number, fetch_call, combined, arithmetic, test, integer_call, given_value, content, held, known}
+use Rattle.clmodel.specs.Next.{Continuation, fail, number, pointing, moved, load, store, element_value, read_element, element_set, write_element, atomic_call, fetch_number, fetch_call, binary_operation, arithmetic, test, integer_call, given_value, content, held, known}
 use Rattle.clmodel.specs.declared.action.Cause.{Cause}
 use Rattle.clmodel.specs.declared.operand.Operand.{Operand}
 use Rattle.clmodel.specs.declared.operand.Operand.TheVariants.{Integral, Pointed}
@@ -31,7 +31,7 @@ use Rattle.clmodel.specs.declared.tree.VariableType.TheVariants as variable_type
 use Rattle.regcode.specs.Listing.{Listing}
 use Rattle.regcode.specs.Machine.{State, ItemContext, Registers, reg, put, put_array, array_of, entry_at, act, name_of, with_put, with_array, with_turns, passed, onward, argument_at}
 use Rattle.regcode.specs.Rules.{IsVerified, Fits, LeadsInside, Takes, HasRoom, Leads, kind_at, loops_at, kind_of, held_kind, number_kind, common_kind, changed_kind, combined_kind, of_one_kind, of_two_kind, offset_kind, loaded_kind, fetched_kind, is_integer, is_pointer, is_atomic, is_turn}
-use Rattle.regcode.specs.Safety.{Suits, operand_kind, InTables, GoesOn, ended, failed, on_at, after_at, asked, ticked, IsNext, NeverSticks}
+use Rattle.regcode.specs.Safety.{Suits, operand_kind, InTables, Proceeds, ended, failed, on_at, after_at, asked, ticked, IsNext, NeverSticks}
 use Rattle.regcode.specs.declared.instruction.FetchOperands.TheVariants as operands
 use Rattle.regcode.specs.declared.instruction.Instruction.{Instruction}
 use Rattle.regcode.specs.declared.instruction.Instruction.TheVariants as instruction
@@ -96,7 +96,7 @@ fetched_takes _ r h = absurd (takes_nothing r h)
 
 module _ (Ends : Type 0) (Next : State → Type 0) (on after : State → Continuation) where
   abbrev Safe : Continuation → Type 0
-  Safe run = GoesOn Ends Next on after run
+  Safe run = Proceeds Ends Next on after run
 
   known_safe : (name : ℕ) (o : Option Operand) (f : Operand → Continuation) → ((v : Operand) → o ≡ Some v → Safe (f v)) → Safe (known name o f)
   known_safe name None f h = failed _
@@ -128,7 +128,7 @@ module _ (Ends : Type 0) (Next : State → Type 0) (on after : State → Continu
   arithmetic_safe (Err arith_fault.DivideOverflow) kind f is h = failed _
 
   combined_safe : (operator : BinaryOperator) (v w : Operand) (f : Operand → Continuation) (r : Option RegisterKind)
-      → Takes r (combined_kind operator (Some (operand_kind v)) (Some (operand_kind w))) → ((x : Operand) → r ≡ Some (operand_kind x) → Safe (f x)) → Safe (combined operator v w f)
+      → Takes r (combined_kind operator (Some (operand_kind v)) (Some (operand_kind w))) → ((x : Operand) → r ≡ Some (operand_kind x) → Safe (f x)) → Safe (binary_operation operator v w f)
   combined_safe operator (Integral v) (Integral w) f r takes h =
       arithmetic_safe (binary_value operator v w) _ f (binary_is operator v w) (λ x is. h x (takes_is r _ takes ∙ ap Some (sym is)))
   combined_safe binary_operator.Add (Pointed p) (Integral i) f r takes h = h _ (takes_is r _ takes)
@@ -331,7 +331,7 @@ module _ (code : Listing) (s : State) (suits : Suits code s) where
 
   -- what an instruction does, where its operands are as it wants them
   module _ (given : ItemContext) (on after : State → Continuation) where
-    does : (i : Instruction) → Fits code i → InTables code i → LeadsInside code s.place i → GoesOn (i ≡ instruction.End) (IsNext code s) on after (act given (Some i) on after s)
+    does : (i : Instruction) → Fits code i → InTables code i → LeadsInside code s.place i → Proceeds (i ≡ instruction.End) (IsNext code s) on after (act given (Some i) on after s)
     unfolding converted
     does (instruction.Constant to value) fits named goes = on_at _ (put_next to _ (takes_is _ _ fits) goes)
     does (instruction.Unset to) fits named goes = on_at _ (set_next to None fits (λ w e. absurd (none-some w e)) goes)
@@ -443,7 +443,7 @@ module _ (code : Listing) (s : State) (suits : Suits code s) where
         known_safe _ _ on after _ _ _ (λ v e.
         test_safe _ _ on after v _ (subst (λ k. IsTrue (is_integer k)) (suits.typed register v e) fits) sides)
       where
-        sides : (b : Bool) → GoesOn ((instruction.JumpIfZero register by) ≡ instruction.End) (IsNext code s) on after (if b then on (passed s) else on (onward s by))
+        sides : (b : Bool) → Proceeds ((instruction.JumpIfZero register by) ≡ instruction.End) (IsNext code s) on after (if b then on (passed s) else on (onward s by))
         sides true = on_at _ (onward_next _ (omega arith) goes.0)
         sides false = on_at _ (onward_next _ (omega arith) goes.1)
     does (instruction.Back by) fits named goes = on_at _ (back_next _ (let inside = suits.inside in omega (arith, inside)) goes.1 goes.2)
@@ -483,6 +483,6 @@ never_sticks code ok =
     }
   where
     goes : (given : ItemContext) (s : State) → Suits code s → (on after : State → Continuation) → (o : Option Instruction) → slice_get code.instructions s.place ≡ o
-        → (i : Instruction) × (o ≡ Some i) × InTables code i × GoesOn (i ≡ instruction.End) (IsNext code s) on after (act given o on after s)
+        → (i : Instruction) × (o ≡ Some i) × InTables code i × Proceeds (i ≡ instruction.End) (IsNext code s) on after (act given o on after s)
     goes given s suits on after (Some i) here = let fine = ok.each s.place i here in let named = in_tables code i fine.fits in (i, refl, named, does code s suits given on after i fine.fits named fine.leads)
     goes given s suits on after None here = absurd (none-some _ (sym here ∙ slice_get-get_or code.instructions s.place instruction.End suits.inside))

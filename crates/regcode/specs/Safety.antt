@@ -129,13 +129,13 @@ pub record InTables (code : Listing) (i : Instruction) : Type 0 where
 
 -- What an instruction does, where `on` and `after` are what follows: it fails, or asks or takes a tick and goes on,
 -- always in a state of which `Next` holds. It ends only where `Ends` holds.
-pub data GoesOn (Ends : Type 0) (Next : State → Type 0) (on after : State → Continuation) : Continuation → Type 0 where
-  ended : Ends → GoesOn Ends Next on after finish
-  failed : (cause : Cause) → GoesOn Ends Next on after (fail cause)
-  on_at : (s : State) → Next s → GoesOn Ends Next on after (on s)
-  after_at : (s : State) → Next s → GoesOn Ends Next on after (after s)
-  asked : (wanted : Action) (then : Answer → Continuation) → ((answer : Answer) → GoesOn Ends Next on after (then answer)) → GoesOn Ends Next on after (ask wanted then)
-  ticked : (then : Continuation) → GoesOn Ends Next on after then → GoesOn Ends Next on after (tick then)
+pub data Proceeds (Ends : Type 0) (Next : State → Type 0) (on after : State → Continuation) : Continuation → Type 0 where
+  ended : Ends → Proceeds Ends Next on after finish
+  failed : (cause : Cause) → Proceeds Ends Next on after (fail cause)
+  on_at : (s : State) → Next s → Proceeds Ends Next on after (on s)
+  after_at : (s : State) → Next s → Proceeds Ends Next on after (after s)
+  asked : (wanted : Action) (then : Answer → Continuation) → ((answer : Answer) → Proceeds Ends Next on after (then answer)) → Proceeds Ends Next on after (ask wanted then)
+  ticked : (then : Continuation) → Proceeds Ends Next on after then → Proceeds Ends Next on after (tick then)
 
 -- The next state suits the code, and it stands further on, or at a turn of a loop.
 pub record IsNext (code : Listing) (s : State) (next : State) : Type 0 where
@@ -150,4 +150,4 @@ pub record NeverSticks (code : Listing) : Type 0 where
   pub named : (r : ℕ) → r < length code.registers → name_of (slice_get code.registers r) < code.names
   pub next : (given : ItemContext) (s : State) → Suits code s → (on after : State → Continuation)
       → (i : Instruction) × (slice_get code.instructions s.place ≡ Some i) × InTables code i
-      × GoesOn (i ≡ instruction.End) (IsNext code s) on after (act given (slice_get code.instructions s.place) on after s)
+      × Proceeds (i ≡ instruction.End) (IsNext code s) on after (act given (slice_get code.instructions s.place) on after s)

@@ -29,6 +29,7 @@ impl Model for Code {
 }
 
 impl Code {
+    /// Makes code of instructions and tables that were verified.
     pub(crate) fn of(instructions: Vec<Instruction>, tables: Tables) -> Self
         requires { IsVerified (listing instructions.items tables) }
         ensures { result ≡ listing instructions.items tables }

@@ -204,12 +204,14 @@ fn parts(place: usize, instruction: &Instruction) -> Parts
     }
 }
 
+/// A register, by its number in the table of registers.
 fn register(number: u32) -> Option<Part>
     ensures { result ≡ Some (part.Register number) }
 {
     Some(Part::Register(number))
 }
 
+/// A number that an instruction carries, in decimal.
 fn number(number: u32) -> Option<Part>
     ensures { result ≡ Some (part.Number number) }
 {

@@ -33,6 +33,7 @@ pub(crate) fn fences_word(fences: Fences) -> &'static str
     }
 }
 
+/// The word of an operator on one operand.
 fn unary_word(operator: UnaryOperator) -> &'static str
     ensures { result.now ≡ text.unary_word operator }
 {
@@ -44,6 +45,7 @@ fn unary_word(operator: UnaryOperator) -> &'static str
     }
 }
 
+/// The word of an operator between two operands.
 fn binary_word(operator: BinaryOperator) -> &'static str
     ensures { result.now ≡ text.binary_word operator }
 {
@@ -67,6 +69,7 @@ fn binary_word(operator: BinaryOperator) -> &'static str
     }
 }
 
+/// The word of a built-in integer function, which is its name in OpenCL C where it has one (6.12.3).
 fn builtin_word(function: Builtin) -> &'static str
     ensures { result.now ≡ text.builtin_word function }
 {

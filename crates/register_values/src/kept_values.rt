@@ -12,7 +12,7 @@ ghost use Rattle.clmodel.specs.declared.tree.VariableType.TheVariants as variabl
 ghost use Rattle.register_values.specs.RegisterValues as kept;
 ghost use Rattle.register_values.specs.Leading.{Leads};
 
-use crate::operators::combined;
+use crate::operators::binary_operation;
 use crate::register_value::{Form, RegisterValue};
 use crate::termination::Termination;
 use clmodel::action::Cause;
@@ -119,11 +119,11 @@ fn combined_by_value(
     left: RegisterValue,
     right: RegisterValue,
 ) -> Result<RegisterValue, Termination>
-    ensures { (v w : Operand) (after : Option Operand → Continuation) → left ≡ Some v → right ≡ Some w → Leads result (next.combined operator v w (λ x. after (Some x))) after }
+    ensures { (v w : Operand) (after : Option Operand → Continuation) → left ≡ Some v → right ≡ Some w → Leads result (next.binary_operation operator v w (λ x. after (Some x))) after }
 {
     match left.value() {
         Some(v) => match right.value() {
-            Some(w) => match combined(operator, v, w) {
+            Some(w) => match binary_operation(operator, v, w) {
                 Ok(x) => Ok(RegisterValue::new(Some(x))),
                 Err(termination) => Err(termination),
             },
@@ -139,7 +139,7 @@ pub fn combined_values(
     left: RegisterValue,
     right: RegisterValue,
 ) -> Result<RegisterValue, Termination>
-    ensures { (v w : Operand) (after : Option Operand → Continuation) → left ≡ Some v → right ≡ Some w → Leads result (next.combined operator v w (λ x. after (Some x))) after }
+    ensures { (v w : Operand) (after : Option Operand → Continuation) → left ≡ Some v → right ≡ Some w → Leads result (next.binary_operation operator v w (λ x. after (Some x))) after }
 {
     match left.form {
         Form::Integral => match right.form {

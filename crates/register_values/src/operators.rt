@@ -42,12 +42,12 @@ fn withdrawn(pointer: Operand, by: Operand) -> Result<Operand, Termination>
 }
 
 /// An operator on two values: integers, or a pointer and an integer that is added to it or taken from it.
-pub(crate) fn combined(
+pub(crate) fn binary_operation(
     operator: BinaryOperator,
     first: Operand,
     second: Operand,
 ) -> Result<Operand, Termination>
-    ensures { (after : Operand → Continuation) → Leads result (next.combined operator first second after) after }
+    ensures { (after : Operand → Continuation) → Leads result (next.binary_operation operator first second after) after }
 {
     // One match in another, and values made whole again: so each arm is the definition at values that are known.
     match first {

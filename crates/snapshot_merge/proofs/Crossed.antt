@@ -184,19 +184,19 @@ lower_report l c d f byte e h = go (cases_lt d.byte c.byte)
         ∙ sym (ap (λ (z : Bool). if z then Some (conflict_fault l d) else Some f) (le-ltb d.byte byte (over b)))
 
 -- what is reported of a crossing access, by its conflict with its own group's
-abbrev IsReported : Launch → conflict_type.Conflict → Option conflict_type.Conflict → Bool → Option Fault → Fault → ℕ → Type 0
-IsReported l c own last stopped f byte =
+abbrev IsLowerReport : Launch → conflict_type.Conflict → Option conflict_type.Conflict → Bool → Option Fault → Fault → ℕ → Type 0
+IsLowerReport l c own last stopped f byte =
     option_map (conflict_fault l) (lower_first (Some c) own) ≡ (if last && is_below stopped byte then stopped else Some f)
 
 -- the access has no conflict with its own group's
 alone_told : (l : Launch) (c : conflict_type.Conflict) (own : Option conflict_type.Conflict) (last : Bool) (stopped : Option Fault) (f : Fault) (byte : ℕ) → own ≡ None
-    → conflict_fault l c ≡ f → (last && is_below stopped byte) ≡ false → IsReported l c own last stopped f byte
+    → conflict_fault l c ≡ f → (last && is_below stopped byte) ≡ false → IsLowerReport l c own last stopped f byte
 alone_told l c own last stopped f byte none h ne =
     ap (λ o. option_map (conflict_fault l) (lower_first (Some c) o)) none ∙ ap Some h ∙ sym (ap (λ (z : Bool). if z then stopped else Some f) ne)
 
 -- it has one, with which the group stopped
 both_told : (l : Launch) (c d : conflict_type.Conflict) (own : Option conflict_type.Conflict) (last : Bool) (stopped : Option Fault) (f : Fault) (byte : ℕ) → own ≡ Some d
-    → c.byte ≡ byte → conflict_fault l c ≡ f → last ≡ true → stopped ≡ Some (conflict_fault l d) → IsReported l c own last stopped f byte
+    → c.byte ≡ byte → conflict_fault l c ≡ f → last ≡ true → stopped ≡ Some (conflict_fault l d) → IsLowerReport l c own last stopped f byte
 both_told l c d own last stopped f byte is e h at stops =
     ap (λ o. option_map (conflict_fault l) (lower_first (Some c) o)) is
     ∙ lower_report l c d f byte e h
@@ -204,7 +204,7 @@ both_told l c d own last stopped f byte is e h at stops =
 
 newest_told : (p : Plan) (end : State) (stopped : Option Fault) (past : Events) (later rest : List Entry) (e : Entry) (k : ℕ) (entries : List Entry) (c : conflict_type.Conflict) (f : Fault) (byte : ℕ)
     → Follows p.launch past end.log → end.log ≡ accesses (later ++ e ∷ rest) → turn_of p end ≡ ending stopped → (k + 1 ≡ length entries → Repeats later (e ∷ rest)) → EndsAt k later entries
-    → c.byte ≡ byte → conflict_fault p.launch c ≡ f → IsReported p.launch c (newest_conflict p.launch (accesses (e ∷ rest))) (k + 1 == length entries) stopped f byte
+    → c.byte ≡ byte → conflict_fault p.launch c ≡ f → IsLowerReport p.launch c (newest_conflict p.launch (accesses (e ∷ rest))) (k + 1 == length entries) stopped f byte
 newest_told p end stopped past [] rest e k entries c f byte follows log turn repeats ends at tells =
     go (newest_conflict p.launch (accesses (e ∷ rest))) refl
   where
@@ -215,7 +215,7 @@ newest_told p end stopped past [] rest e k entries c f byte follows log turn rep
     last = eq-eqb (k + 1) (length entries) ends
 
     go : (o : Option conflict_type.Conflict) → newest_conflict p.launch (accesses (e ∷ rest)) ≡ o
-        → IsReported p.launch c (newest_conflict p.launch (accesses (e ∷ rest))) (k + 1 == length entries) stopped f byte
+        → IsLowerReport p.launch c (newest_conflict p.launch (accesses (e ∷ rest))) (k + 1 == length entries) stopped f byte
     go None is =
         alone_told p.launch c _ (k + 1 == length entries) stopped f byte is tells
         (and_none (k + 1 == length entries) (is_below stopped byte) (λ _. calm_end p end stopped byte (newest ∙ is) turn))

@@ -1,7 +1,7 @@
 -- What a work-group wrote are bytes.
 use Rattle.std.proofs.Common.{◌≡◌, ℕ, zero, suc, ◌-◌, ◌<◌, ◌&&◌, ◌||◌, Bool, true, false, Option, Some, List, [], ◌∷◌, length, refl, sym, ap, ◌∙◌, subst, arith}
 use Rattle.std.proofs.lemmas.Bool.{and_parts, and_from, true≢false}
-use Rattle.clmodel.specs.Cells.{Cells, cells_of, covers, byte_count, byte_of, written, combined, fetched, size_of, effect}
+use Rattle.clmodel.specs.Cells.{Cells, cells_of, covers, byte_count, byte_of, written, updated_word, fetched, size_of, effect}
 use Rattle.clmodel.specs.Launch.{Launch, same_region, kind_of, group_of, access_in}
 use Rattle.clmodel.specs.Law.{Logged}
 use Rattle.clmodel.specs.Run.{Memory, State, Events, start, step, cells_from, contents, interval_of}
@@ -40,7 +40,7 @@ in_written c first count v byte w h e = byte_below (byte - first) v w (sym (writ
 effect_byte : (op : Operation) (x : ℕ) (c : Cells) (first byte w : ℕ) → writes (kind_of op) ≡ true → covers first (size_of op) byte ≡ true → effect op x c first byte ≡ Some w → w < 256
 effect_byte (Load width) x c first byte w k h e = absurd (true≢false (sym k))
 effect_byte (Store width value) x c first byte w k h e = in_written c first (byte_count width) value byte w h e
-effect_byte (Update class operand) x c first byte w k h e = in_written c first 4 (combined class x operand) byte w h e
+effect_byte (Update class operand) x c first byte w k h e = in_written c first 4 (updated_word class x operand) byte w h e
 effect_byte (Fetch op operand) x c first byte w k h e = in_written c first 4 (fetched op x operand) byte w h e
 
 -- the bytes that were written are bytes

@@ -6,7 +6,7 @@ ghost use Rattle.spaces_base.specs.Space.{Becomes, IsChanged, IsStored, IsUpdate
 
 use crate::pages::Pages;
 use clmodel::access::{Class, FetchOp, Width};
-use spaces_base::cells::{combined, fetched, is_inside};
+use spaces_base::cells::{fetched, is_inside, updated_word};
 use spaces_base::{Space, SpaceFault};
 use std::alloc::{AllocError, Global};
 use std::marker::Model;
@@ -124,7 +124,7 @@ impl<'a> Space for Overlay<'a> {
         ensures updated { IsUpdated false true self.old.bytes at class operand self.new.bytes result }
         ensures lent { self.new.base ≡ self.old.base }
     {
-        self.change(at, |found| combined(class, found, operand))?;
+        self.change(at, |found| updated_word(class, found, operand))?;
         Ok(())
     }
 

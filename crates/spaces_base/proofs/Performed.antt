@@ -2,7 +2,7 @@
 use Rattle.std.proofs.Common.{◌≡◌, ℕ, Bool, Option, Some, List, refl, sym, subst}
 use Rattle.std.specs.Prelude.{Ok}
 use Rattle.std.proofs.Math.Path.{fun_ext}
-use Rattle.clmodel.specs.Cells.{cells_of, byte_count, number, written, combined, fetched}
+use Rattle.clmodel.specs.Cells.{cells_of, byte_count, number, written, updated_word, fetched}
 use Rattle.clmodel.specs.declared.access.Class.{Class}
 use Rattle.clmodel.specs.declared.access.FetchOp.{FetchOp}
 use Rattle.clmodel.specs.declared.access.Width.{Width}
@@ -20,7 +20,7 @@ stored may_want old new first width value operation e h =
 
 pub updated :
     (may_want : Bool) (old new : List (Option ℕ)) (first : ℕ) (class : Class) (operand x : ℕ) (operation : Operation) → operation ≡ Update class operand
-    → number (cells_of old) first 4 ≡ Some x → Becomes old new (written (cells_of old) first 4 (combined class x operand))
+    → number (cells_of old) first 4 ≡ Some x → Becomes old new (written (cells_of old) first 4 (updated_word class x operand))
     → IsPerformed may_want old first operation new (Ok Done)
 updated may_want old new first class operand x operation e f h =
     subst (λ z. IsPerformed may_want old first z new (Ok Done)) (sym e) (x, f, refl, h.length_same, fun_ext h.cells_are)

@@ -1,7 +1,7 @@
 -- The laws of a memory space: a list of bytes, some of which may be unset (OpenCL 1.2, 3.3, 6.12.11; own in the
 -- faults).
 use Rattle.std.specs.Prelude.{◌≡◌, ℕ, ◌+◌, ◌<◌, ◌≤◌, ◌^◌, Bool, true, false, Option, Some, List, length, Result, Ok, Err}
-use Rattle.clmodel.specs.Cells.{Cells, cells_of, byte_count, number, lowest_unset, written, combined, fetched}
+use Rattle.clmodel.specs.Cells.{Cells, cells_of, byte_count, number, lowest_unset, written, updated_word, fetched}
 use Rattle.clmodel.specs.declared.access.Width.{Width}
 use Rattle.clmodel.specs.declared.access.Class.{Class}
 use Rattle.clmodel.specs.declared.access.FetchOp.{FetchOp}
@@ -45,7 +45,7 @@ IsStored read_only may_want old at width value new (Err fault.OutOfMemory) =
 abbrev pub IsUpdated : Bool → Bool → List (Option ℕ) → ℕ → Class → ℕ → List (Option ℕ) → Result (Unit {0}) SpaceFault → Type 0
 IsUpdated read_only may_want old at class operand new (Ok done) =
     (found : ℕ) × (read_only ≡ false) × InRange old at 4 × (number (cells_of old) at 4 ≡ Some found)
-    × Becomes old new (written (cells_of old) at 4 (combined class found operand))
+    × Becomes old new (written (cells_of old) at 4 (updated_word class found operand))
 IsUpdated read_only may_want old at class operand new (Err fault.Bounds) = (read_only ≡ false) × Outside old at 4 × (new ≡ old)
 IsUpdated read_only may_want old at class operand new (Err (fault.Unset byte)) =
     (read_only ≡ false) × InRange old at 4 × (lowest_unset (cells_of old) at 4 ≡ Some byte) × (new ≡ old)

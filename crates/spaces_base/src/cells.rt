@@ -1,7 +1,7 @@
 //! Numbers in rows of bytes, the lowest byte first.
 
 ghost use Rattle.std.specs.Prelude.{◌≡◌, ◌≤◌, ◌<◌, ◌+◌, ◌^◌, ℕ, Option, Some, length, map, nat_le, false, IfOk, IfErr};
-ghost use Rattle.clmodel.specs.Cells.{cells_of, number, lowest_unset, written, combined, fetched, signed_place};
+ghost use Rattle.clmodel.specs.Cells.{cells_of, number, lowest_unset, written, updated_word, fetched, signed_place};
 
 use clmodel::access::{Class, FetchOp};
 
@@ -88,8 +88,8 @@ fn signed_place(x: u32) -> u32
 }
 
 /// What an update leaves of a number.
-pub fn combined(class: Class, x: u32, operand: u32) -> u32
-    ensures { result ≡ combined class x operand }
+pub fn updated_word(class: Class, x: u32, operand: u32) -> u32
+    ensures { result ≡ updated_word class x operand }
 {
     match class {
         Class::Add => x.wrapping_add(operand),
@@ -108,7 +108,7 @@ pub fn fetched(op: FetchOp, x: u32, operand: u32) -> u32
     ensures { result ≡ fetched op x operand }
 {
     match op {
-        FetchOp::Class(class) => combined(class, x, operand),
+        FetchOp::Class(class) => updated_word(class, x, operand),
         FetchOp::Exchange => operand,
         FetchOp::CompareExchange(expected) if x == expected => operand,
         FetchOp::CompareExchange(_) => x,

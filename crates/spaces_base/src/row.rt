@@ -3,7 +3,7 @@
 ghost use Rattle.std.specs.Prelude.{◌≡◌, Some, None, map, length, replicate, false, IfOk};
 ghost use Rattle.spaces_base.specs.Space.{IsChanged};
 
-use crate::cells::{Cell, combined, fetched, is_inside, put, read};
+use crate::cells::{Cell, fetched, is_inside, put, read, updated_word};
 use crate::space::{Space, SpaceFault};
 use clmodel::access::{Class, FetchOp, Width};
 use std::alloc::{AllocError, Global};
@@ -118,7 +118,7 @@ impl<C: Cell> Space for Row<C> {
     }
 
     fn update(&mut self, at: u64, class: Class, operand: u32) -> Result<(), SpaceFault> {
-        self.change(at, |found| combined(class, found, operand))?;
+        self.change(at, |found| updated_word(class, found, operand))?;
         Ok(())
     }
 

@@ -292,12 +292,12 @@ arithmetic (Err arith_fault.DivideByZero) after = fail cause.DivideByZero
 arithmetic (Err arith_fault.DivideOverflow) after = fail cause.DivideOverflow
 
 -- an operator on two values: integers, or a pointer and an integer that is added to it or taken from it
-abbrev pub combined : BinaryOperator → Operand → Operand → (Operand → Continuation) → Continuation
-combined operator (Integral v) (Integral w) after = arithmetic (binary_value operator v w) after
-combined binary_operator.Add (Pointed p) w after = moved (Pointed p) w (λ q. after (Pointed q))
-combined binary_operator.Add (Integral v) (Pointed p) after = moved (Pointed p) (Integral v) (λ q. after (Pointed q))
-combined binary_operator.Subtract (Pointed p) w after = moved_back (Pointed p) w (λ q. after (Pointed q))
-combined _ _ _ after = finish
+abbrev pub binary_operation : BinaryOperator → Operand → Operand → (Operand → Continuation) → Continuation
+binary_operation operator (Integral v) (Integral w) after = arithmetic (binary_value operator v w) after
+binary_operation binary_operator.Add (Pointed p) w after = moved (Pointed p) w (λ q. after (Pointed q))
+binary_operation binary_operator.Add (Integral v) (Pointed p) after = moved (Pointed p) (Integral v) (λ q. after (Pointed q))
+binary_operation binary_operator.Subtract (Pointed p) w after = moved_back (Pointed p) w (λ q. after (Pointed q))
+binary_operation _ _ _ after = finish
 
 -- whether a number isn't zero
 abbrev pub test : Operand → (Bool → Continuation) → Continuation
@@ -398,7 +398,7 @@ settle LogicalOr v after more = test v (λ holds. if holds then after (Integral 
 
 -- an operator's value on both operands
 abbrev pub join : InfixOperator → Operand → Operand → (Operand → Continuation) → Continuation
-join (Arithmetic operator) v w after = combined operator v w after
+join (Arithmetic operator) v w after = binary_operation operator v w after
 join LogicalAnd v w after = test w (λ holds. after (Integral (truth holds)))
 join LogicalOr v w after = test w (λ holds. after (Integral (truth holds)))
 

@@ -5,7 +5,7 @@ use Rattle.clnum.specs.Integer.{Integer}
 use Rattle.clnum.specs.declared.int_type.IntType.{IntType}
 use Rattle.clmodel.specs.BuiltIns.{built_in}
 use Rattle.clmodel.specs.Barrier.{is_barrier, fences}
-use Rattle.clmodel.specs.Next.Expressions.{Continuation, finish, fail, ask, tick, Variables, Binding, variable, held, assign, leave, combined, test, ItemPosition, call_only, eval, eval_all, reach, fetch, put, step_operator, one}
+use Rattle.clmodel.specs.Next.Expressions.{Continuation, finish, fail, ask, tick, Variables, Binding, variable, held, assign, leave, binary_operation, test, ItemPosition, call_only, eval, eval_all, reach, fetch, put, step_operator, one}
 use Rattle.clmodel.specs.Tree.{Term, Number, Variable, Element, ElementAddress, Dereference, Call, Unary, Cast, Binary, Choice, Terms, array_length, Stmt, Empty, Block, Declare, DeclareAs, DeclareArray, Assign, Step, CallOnly, If, IfElse, While, DoWhile, For, Break, Continue, Return, ReturnValue, Stmts, NoStmt, ThenStmt, MaybeStmt, Without, With, MaybeTerm, WithoutTerm, WithTerm, Funcs, NoFunc, ThenFunc}
 use Rattle.clmodel.specs.declared.tree.VariableType.TheVariants as variable_type
 use Rattle.clmodel.specs.declared.tree.Parameter.{Parameter}
@@ -169,9 +169,9 @@ module _ (most : ℕ) (here : ItemPosition) (helpers : Helpers) (inside : ℕ �
         reach here place variables (λ to. assigned (helper_call value) value site ts variables (λ v. put to v variables k.next))
     exec (Assign at place (Some operator) value) site ts k variables =
         reach here place variables (λ to. fetch to variables (λ old.
-        assigned (helper_call value) value site ts variables (λ v. combined operator old v (λ new. put to new variables k.next))))
+        assigned (helper_call value) value site ts variables (λ v. binary_operation operator old v (λ new. put to new variables k.next))))
     exec (Step at place is_increment) site ts k variables =
-        reach here place variables (λ to. fetch to variables (λ old. combined (step_operator is_increment) old one (λ new. put to new variables k.next)))
+        reach here place variables (λ to. fetch to variables (λ old. binary_operation (step_operator is_increment) old one (λ new. put to new variables k.next)))
     exec (CallOnly at name arguments) site ts k variables =
         call_statement (is_barrier name) (built_in name) name arguments site ts variables (k.next variables)
     exec (If at controlling chosen) site ts k variables =
