@@ -42,6 +42,7 @@ pub(crate) fn kind_of(fault: Refused) -> &'static str
     }
 }
 
+/// The number of a fault of syntax, from 1 to 6.
 fn syntax_number(fault: SyntaxFault) -> u8
     ensures { result ≡ titles.syntax_number fault }
 {
@@ -65,6 +66,7 @@ pub(crate) fn number_of(fault: Refused) -> u8
     }
 }
 
+/// The name of a fault of syntax, in one word.
 fn syntax_name(fault: SyntaxFault) -> &'static str
     ensures { result.now ≡ titles.syntax_name fault }
 {
@@ -78,6 +80,7 @@ fn syntax_name(fault: SyntaxFault) -> &'static str
     }
 }
 
+/// The name of a fault of types, in one word.
 fn type_name(fault: TypeFault) -> &'static str
     ensures { result.now ≡ titles.type_name fault }
 {

@@ -19,33 +19,45 @@ use std::alloc::{AllocError, Global};
 /// The functions whose two arguments have one type.
 pub(crate) static OF_ONE_TYPE: [&[u8]; 3] = [b"min", b"max", b"rotate"];
 
+/// The hint at a fence outside of the brackets of `barrier`.
 pub(crate) const FENCES: &str = "a fence stands in the brackets of barrier alone";
 
+/// The hint at a call of `barrier` whose value is wanted.
 pub(crate) const NO_VALUE: &str = "a call of barrier is a statement of its own, and has no value";
 
+/// The hint at a call of a helper or a kernel within an expression.
 pub(crate) const HELPER_CALL: &str =
     "a helper's call is a statement, or the whole right side of =: write int t = f(x); before, and t in the expression; no kernel is called";
 
+/// The hint at the name of a built-in function that isn't called.
 pub(crate) const CALLED: &str = "a built-in function is called, with its arguments in brackets";
 
+/// The hint at two arguments of different types where a function takes two of one type.
 pub(crate) const ONE_TYPE: &str =
     "min, max and rotate take two of one type: write a cast, as in min((int)x, y)";
 
+/// The hint at an operand behind `*` that is of a wrong kind.
 pub(crate) const STARS: &str = "* joins two integers, or stands in front of a pointer";
 
+/// The hint at `break` or `continue` outside of loops.
 pub(crate) const LOOPS: &str = "break and continue stand in a loop of the same function";
 
+/// The hint at a `return` that has a value where none is wanted, or lacks one.
 pub(crate) const RETURNS: &str =
     "a kernel and a helper with void have return; alone, any other helper return with a value";
 
+/// The hint at an array in local memory that is declared in a helper or in an inner block.
 pub(crate) const LOCAL_ARRAY: &str =
     "an array in local memory is declared in the outermost block of a kernel: hand a helper a __local pointer to it";
 
+/// The hint at a pointer where one of another address space is wanted.
 pub(crate) const SPACES: &str =
     "a pointer stays in its address space: write a helper for each; nothing points to private memory, so a helper takes elements of a private array";
 
+/// The hint at an assignment to a whole array.
 pub(crate) const ARRAY_TARGET: &str = "an array is assigned one element after another";
 
+/// The hint at a call by which a function comes to call itself.
 pub(crate) const RECURSION: &str =
     "no function calls itself: write a loop, with an array for what it has to keep";
 
@@ -75,6 +87,7 @@ fn here_mark(place: Place<'_>) -> Mark
     mark_at(nth(place.rest, 0))
 }
 
+/// Says what the token is that stands behind the one at a place.
 fn next_mark(place: Place<'_>) -> Mark
     ensures { result ≡ hints.next_mark (near_of place.entry) }
 {
@@ -166,6 +179,7 @@ fn unknown_hint(place: Place<'_>, word: &[u8]) -> &'static str
     value_hint(word)
 }
 
+/// The hint at a word as a name that isn't known: by the word itself, or by what stands round it.
 fn named_hint(place: Place<'_>, word: &[u8]) -> &'static str
     ensures { result.now ≡ hints.named_said (near_of place.entry) word.now }
 {

@@ -206,6 +206,7 @@ fn fault_at(kind: &str, at: u32) -> Refused {
     }
 }
 
+/// Shows that the hint at the fault of each row begins as the row says.
 #[test]
 fn hints(rt: HostRuntime) -> Result<(), Fail> {
     let alloc = rt.alloc();
@@ -222,6 +223,7 @@ fn hints(rt: HostRuntime) -> Result<(), Fail> {
     Ok(())
 }
 
+/// Shows how a refusal is written: the place and the fault, the line with a mark below it, and the hint.
 #[test]
 fn quoted(rt: HostRuntime) -> Result<(), Fail> {
     let fault = Refused::Syntax(SyntaxFault::Unexpected { at: 13 });

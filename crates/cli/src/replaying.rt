@@ -49,6 +49,7 @@ fn task_of<R: Read>(alloc: Global, reader: &mut R) -> Result<Task, RunFault>
     })
 }
 
+/// What a launch command names. Other commands name none.
 fn launch_in(command: Command) -> Option<LaunchCommand>
     ensures launch { IfSome result (λ launched. command ≡ Command.Launch launched.kernel launched.range) }
     ensures none { IfNone result ((kernel : List ℕ) (range : Range) → command ≡ Command.Launch kernel range → ⊥) }
@@ -154,6 +155,7 @@ fn judge_and_drop(alloc: Global, commands: Vec<Command>, task: Task) -> Result<b
     judge(alloc, commands, &task)
 }
 
+/// The line of an answer, with its line feed.
 fn answer_line(yes: bool) -> &'static str
     ensures { result.now ≡ answer_line yes }
 {

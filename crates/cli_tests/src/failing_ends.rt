@@ -68,6 +68,7 @@ struct Row {
     end: RunEnd,
 }
 
+/// A script that ends well, one whose launch races, and one with commands that are refused.
 const ROWS: [Row; 3] = [
     Row {
         script: SUM,
@@ -176,6 +177,7 @@ fn first_bad_write<W: Threads + Wait + Sync>(
     Ok(None)
 }
 
+/// Whichever of its reads, writes and flushes is the first to fail, a run answers with that fault.
 #[test]
 fn each_call_fails(rt: HostRuntime) -> Result<(), Fail> {
     for row in &ROWS {

@@ -37,6 +37,7 @@ struct Texts {
 }
 
 impl Texts {
+    /// The bytes of the schedule file, if one is named.
     fn schedule(&self) -> Option<&[u8]>
         ensures { option_map (λ bytes. bytes.now) result ≡ option_map (λ bytes. bytes.items) self.now.schedule }
     {

@@ -249,6 +249,7 @@ fn end<R: Env + Files + io::Input + Print + Eprint + AllocGlobal + Threads + Wai
     }
 }
 
+/// Does what the command line asks for, and ends the process with the status 0, 1 or 2.
 fn main(rt: HostRuntime) -> ExitCode {
     end(&rt)
 }

@@ -27,6 +27,7 @@ impl<'a, R: Files> NamedFile<'a, R> {
         }
     }
 
+    /// Opens the file and reads it whole. The fault is `Failed` also where it can't be opened.
     fn read(&self, alloc: Global) -> Result<Vec<u8>, ReadFault> {
         let Ok(file) = fs::open(self.rt, self.path) else {
             return Err(ReadFault::Failed);

@@ -139,6 +139,8 @@ impl Device {
         }
     }
 
+    /// Makes a buffer of 1 to 1,048,576 zero bytes. It is refused where something has the name, with any other size,
+    /// where 64 buffers are there, and where memory runs out.
     fn make_buffer(&mut self, name: Name, size: u64) -> Result<Reply, Refusal>
         ensures ok { IfOk result (λ reply. Answers (machine_of self.old) (Command.Buffer name size) reply (machine_of self.new)) }
         ensures err { IfErr result (λ refusal. Step (machine_of self.old) (Command.Buffer name size) (Reply.Refused refusal) (machine_of self.new)) }
@@ -157,6 +159,8 @@ impl Device {
         Ok(Reply::Done)
     }
 
+    /// Writes bytes into a buffer from an offset on. It is refused where there is no such buffer, without bytes, and
+    /// where they pass the buffer's end.
     fn write(&mut self, name: &Name, offset: u64, bytes: &Bytes) -> Result<Reply, Refusal>
         ensures ok { IfOk result (λ reply. Answers (machine_of self.old) (Command.Write name.now offset bytes.now) reply (machine_of self.new)) }
         ensures err { IfErr result (λ refusal. Step (machine_of self.old) (Command.Write name.now offset bytes.now) (Reply.Refused refusal) (machine_of self.new)) }
@@ -174,6 +178,8 @@ impl Device {
         Ok(Reply::Done)
     }
 
+    /// Fills `count` bytes of a buffer from an offset on with copies of a pattern. It is refused where there is no such
+    /// buffer, where the pattern's length, the offset or the count is bad, and where they pass the buffer's end.
     fn fill(
         &mut self,
         name: &Name,
@@ -199,6 +205,8 @@ impl Device {
         Ok(Reply::Done)
     }
 
+    /// Copies `count` bytes from one buffer to another, or within one where the parts don't overlap. It is refused
+    /// where there is no such buffer, with no bytes, past an end, with an overlap, and where memory runs out.
     fn copy(
         &mut self,
         source: &Name,
@@ -231,6 +239,8 @@ impl Device {
         Ok(Reply::Done)
     }
 
+    /// Reads `count` bytes of a buffer from an offset on. It is refused where there is no such buffer, with no bytes,
+    /// where they pass the buffer's end, and where memory runs out.
     fn read(&self, name: &Name, offset: u64, count: u64) -> Result<Reply, Refusal>
         ensures ok { IfOk result (λ reply. Answers (machine_of self.now) (Command.Read name.now offset count) reply (machine_of self.now)) }
         ensures err { IfErr result (λ refusal. Step (machine_of self.now) (Command.Read name.now offset count) (Reply.Refused refusal) (machine_of self.now)) }
@@ -272,6 +282,7 @@ impl Device {
             || (self.program(name).is_some() && self.has_kernels(name))
     }
 
+    /// Removes a buffer, a program or a kernel. It is refused where nothing has the name, and where a kernel uses it.
     fn release(&mut self, name: &Name) -> Result<Reply, Refusal>
         ensures ok { IfOk result (λ reply. Answers (machine_of self.old) (Command.Release name.now) reply (machine_of self.new)) }
         ensures err { IfErr result (λ refusal. Step (machine_of self.old) (Command.Release name.now) (Reply.Refused refusal) (machine_of self.new)) }
@@ -288,6 +299,8 @@ impl Device {
         Ok(Reply::Done)
     }
 
+    /// Builds a program. It is refused where something has the name, where its source has a fault, and where memory
+    /// runs out.
     #[tactic(auto, using(crate::proofs::Programs::free))]
     fn make_program(&mut self, name: Name, source: &Bytes) -> Result<Reply, Refusal>
         ensures ok { IfOk result (λ reply. Answers (machine_of self.old) (Command.Program name source.now) reply (machine_of self.new)) }
@@ -301,6 +314,8 @@ impl Device {
         Ok(Reply::Done)
     }
 
+    /// Makes a kernel of a program's function, with no arguments set. It is refused where something has the name, where
+    /// the program or its kernel function isn't there, and where memory runs out.
     #[tactic(auto, using(crate::proofs::Programs::free_kernel))]
     fn make_kernel(&mut self, name: Name, program: Name, function: &Name) -> Result<Reply, Refusal>
         ensures ok { IfOk result (λ reply. Answers (machine_of self.old) (Command.Kernel name program function.now) reply (machine_of self.new)) }
@@ -324,6 +339,8 @@ impl Device {
         Ok(Reply::Done)
     }
 
+    /// Sets an argument of a kernel, counted from 0. It is refused where the kernel, or the buffer that is named,
+    /// isn't there, and where no parameter has the index or the argument doesn't suit it.
     fn set_argument(
         &mut self,
         name: &Name,

@@ -12,6 +12,7 @@ use explanation::{Does, NamedItem};
 use serde_json::Value;
 use std::alloc::{AllocError, Global};
 
+/// The word of the class of an update, as a reply has it.
 fn class_word(class: Class) -> &'static str
     ensures { result.now ≡ class_word class }
 {
@@ -39,6 +40,7 @@ pub(crate) fn kind_word(kind: AccessKind) -> &'static str
     }
 }
 
+/// The word of what an item does, which for an access is that of its kind.
 fn does_word(does: &Does) -> &'static str
     ensures { result.now ≡ does_word does.now }
 {

@@ -24,6 +24,7 @@ impl ToJson for ParameterFacts {
     }
 }
 
+/// The word of a kind of memory.
 fn kind_word(kind: MemoryKind) -> &'static str
     ensures { result.now ≡ memory_word kind }
 {
@@ -35,6 +36,7 @@ fn kind_word(kind: MemoryKind) -> &'static str
     }
 }
 
+/// The group of a local object. Other memory has none.
 fn group_of(kind: MemoryKind) -> Option<u64>
     ensures { result ≡ group_of kind }
 {

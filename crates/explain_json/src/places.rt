@@ -10,6 +10,7 @@ use explanation::{CallSite, Code, LoopSite, NodeKind, Spot};
 use serde_json::Value;
 use std::alloc::{AllocError, Global};
 
+/// The word of what stands at a place in the source.
 fn node_word(node: NodeKind) -> &'static str
     ensures { result.now ≡ node_word node }
 {

@@ -79,6 +79,7 @@ impl<T: ToJson> ToJson for Vec<T> {
     }
 }
 
+/// A list as an array of its values, in their order.
 fn list_value<T: ToJson>(alloc: Global, list: &[T]) -> Result<Value, AllocError>
     ensures { IfOk result (λ value. view value ≡ list_data T.json list.now) }
 {

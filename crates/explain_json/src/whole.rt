@@ -65,6 +65,7 @@ pub fn value_of(alloc: Global, whole: &Explanation) -> Result<Value, AllocError>
         .finish()
 }
 
+/// Puts a line feed behind a text.
 fn push_line_feed(text: &mut String) -> Result<(), AllocError>
     ensures { OnOk result (string_bytes text.new ≡ string_bytes text.old ++ 10 ∷ []) }
 {

@@ -33,6 +33,7 @@ struct Wanted<'a> {
     at: u32,
 }
 
+/// The byte of the source at which a statement begins.
 fn begin_of(statement: &Statement) -> u32 {
     Node::Statement(statement).at()
 }

@@ -103,6 +103,7 @@ fn order_reason(
     )
 }
 
+/// The word for a class of atomic updates, the same for signed and unsigned ones.
 fn class_word(class: Class) -> &'static str {
     match class {
         Class::Add => "add",

@@ -15,6 +15,7 @@ use host_commands::build::{NotBuilt, build};
 use refusal_json::refused_json;
 use std::alloc::{AllocError, Global};
 
+/// Turns the fault of a build into the one that a refusal is written for.
 fn refused_of(fault: BuildFault) -> Refused {
     match fault {
         BuildFault::Syntax(fault) => Refused::Syntax(fault),

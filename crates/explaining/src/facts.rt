@@ -214,6 +214,7 @@ fn whole_memory(
     Ok(Some(memory))
 }
 
+/// Makes a text of bytes, with a replacement for what is no UTF-8. An error is out of memory.
 fn text(alloc: Global, bytes: &[u8]) -> Result<String, AllocError> {
     String::from_utf8_lossy(alloc, bytes)
 }
@@ -235,6 +236,7 @@ struct Names {
     program: String,
 }
 
+/// The names of the kernel, its function and its program. An error is out of memory.
 fn names_of(context: &Context<'_>) -> Result<Names, AllocError> {
     let alloc = context.alloc;
     Ok(Names {
@@ -252,6 +254,7 @@ struct Sizes {
     offset: Vec<u64>,
 }
 
+/// Copies the global and local sizes and the offset, one number for each dimension. An error is out of memory.
 fn sizes_of(alloc: Global, range: &Range) -> Result<Sizes, AllocError>
     ensures global { IfOk result (λ sizes. sizes.global.items ≡ range.now.global) }
     ensures local { IfOk result (λ sizes. sizes.local.items ≡ range.now.local) }
@@ -264,6 +267,7 @@ fn sizes_of(alloc: Global, range: &Range) -> Result<Sizes, AllocError>
     })
 }
 
+/// What is told of a launch: its line in the script, its names and its sizes. An error is out of memory.
 fn launch_facts(context: &Context<'_>, place: &Place<'_>) -> Result<LaunchFacts, AllocError>
     ensures { IfOk result (TellsLaunch place.now.ticket place.now.range.now) }
 {
@@ -288,6 +292,7 @@ fn launch_facts(context: &Context<'_>, place: &Place<'_>) -> Result<LaunchFacts,
     })
 }
 
+/// What is told of a fault: its number, its name and its line. An error is out of memory.
 fn fault_facts_of(alloc: Global, fault: &Fault) -> Result<FaultFacts, AllocError>
     ensures { IfOk result (TellsFault fault.now) }
 {
@@ -301,6 +306,8 @@ fn fault_facts_of(alloc: Global, fault: &Fault) -> Result<FaultFacts, AllocError
     })
 }
 
+/// What is told of the given schedule, with the number of its events, and of the short one, with the items
+/// in it. An error is out of memory.
 pub(crate) fn schedule_facts(
     alloc: Global,
     fault: &Fault,
@@ -331,6 +338,7 @@ struct Head {
     fault: FaultFacts,
 }
 
+/// What is said before the reasons: the script's name, the launch and the fault. An error is out of memory.
 fn head_of(context: &Context<'_>, place: &Place<'_>, fault: &Fault) -> Result<Head, AllocError>
     ensures launch { IfOk result (λ head. TellsLaunch place.now.ticket place.now.range.now head.launch) }
     ensures fault { IfOk result (λ head. TellsFault fault.now head.fault) }
@@ -350,6 +358,7 @@ struct Body {
     why: Vec<String>,
 }
 
+/// The memory, the items and the reasons of a fault that was played. An error is out of memory.
 fn body_of(
     context: &Context<'_>,
     buffers: &Buffers,

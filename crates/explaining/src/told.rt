@@ -89,6 +89,7 @@ struct GivenSchedule {
     events: u64,
 }
 
+/// Writes a schedule as a text, and counts its events. An error is out of memory.
 fn given_schedule(
     alloc: Global,
     fault: &Fault,

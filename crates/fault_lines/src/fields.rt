@@ -79,6 +79,7 @@ pub fn list_before(end: u8, bytes: &[u8]) -> Option<(&[u8], &[u8])>
     line_fields::list_before(end, TURN_LIMIT, bytes)
 }
 
+/// The place of the first line feed, if there is one.
 fn line_end(bytes: &[u8]) -> Option<usize>
     ensures value { result ≡ position (λ b. not (is_inner b)) bytes.now }
     ensures within { IfSome result (λ end. end < length bytes.now) }
@@ -86,6 +87,7 @@ fn line_end(bytes: &[u8]) -> Option<usize>
     bytes.iter().position(|byte| *byte == b'\n')
 }
 
+/// How many bytes stand in front of the first line feed, or all where there is none.
 fn line_length(bytes: &[u8]) -> usize
     ensures value { result ≡ front_length is_inner bytes.now }
     ensures within { result ≤ length bytes.now }

@@ -55,6 +55,7 @@ fn kind_at(bytes: &[u8]) -> Option<(AccessKind, &[u8])>
     Some((kind_of(word)?, rest))
 }
 
+/// A place in a buffer, behind the word `buffer`: the name in front of a space, and the rest behind it.
 #[tactic(auto, unfolding(crate::specs::Reading::buffer_at))]
 fn buffer_at(bytes: &[u8]) -> Option<(Place<'_>, &[u8])>
     ensures { option_map (λ read. (location_of read.0, read.1.now)) result ≡ buffer_at bytes.now }
@@ -63,6 +64,7 @@ fn buffer_at(bytes: &[u8]) -> Option<(Place<'_>, &[u8])>
     Some((Place::Buffer(name), rest))
 }
 
+/// A place in local memory, behind the word `local`: a group and a name, each in front of a space, and the rest.
 #[tactic(auto, unfolding(crate::specs::Reading::local_at))]
 fn local_at(bytes: &[u8]) -> Option<(Place<'_>, &[u8])>
     ensures { option_map (λ read. (location_of read.0, read.1.now)) result ≡ local_at bytes.now }
@@ -92,6 +94,7 @@ fn place_at(bytes: &[u8]) -> Option<(Place<'_>, &[u8])>
     local_place_at(bytes)
 }
 
+/// A list of turns in front of a space, behind the word `turns`, and the rest.
 #[tactic(auto, unfolding(crate::specs::Reading::listed_at))]
 fn listed_at(bytes: &[u8]) -> Option<(Option<&[u8]>, &[u8])>
     ensures { option_map (λ read. (option_map (λ list. list.now) read.0, read.1.now)) result ≡ listed_at bytes.now }
@@ -111,6 +114,7 @@ fn turns_at(bytes: &[u8]) -> Option<(Option<&[u8]>, &[u8])>
     Some((None, bytes))
 }
 
+/// A wait at a barrier, behind the word `barrier`: its site, the turns where there are any, and the rest.
 #[tactic(auto, unfolding(crate::specs::Reading::barrier_at))]
 fn barrier_at(bytes: &[u8]) -> Option<(Halt<'_>, &[u8])>
     ensures { option_map (λ read. (stop_of read.0, read.1.now)) result ≡ barrier_at bytes.now }
@@ -120,6 +124,7 @@ fn barrier_at(bytes: &[u8]) -> Option<(Halt<'_>, &[u8])>
     Some((Halt::Barrier { site, turns }, rest))
 }
 
+/// A wait at a barrier, with the word `barrier` in front, and the rest.
 #[tactic(auto, unfolding(crate::specs::Reading::barrier_stop_at))]
 fn barrier_stop_at(bytes: &[u8]) -> Option<(Halt<'_>, &[u8])>
     ensures { option_map (λ read. (stop_of read.0, read.1.now)) result ≡ barrier_stop_at bytes.now }
@@ -139,6 +144,7 @@ fn stop_at(bytes: &[u8]) -> Option<(Halt<'_>, &[u8])>
     barrier_stop_at(bytes)
 }
 
+/// Two accesses that clash on a byte, behind `race item` or `order item`, and the rest.
 #[tactic(auto, unfolding(crate::specs::Reading::conflict_at))]
 fn conflict_at(clash: Clash, bytes: &[u8]) -> Option<(LentFault<'_>, &[u8])>
     ensures { option_map (λ read. (fault_of read.0, read.1.now)) result ≡ conflict_at clash bytes.now }
@@ -163,6 +169,7 @@ fn conflict_at(clash: Clash, bytes: &[u8]) -> Option<(LentFault<'_>, &[u8])>
     Some((LentFault::Conflict(conflict), rest))
 }
 
+/// Two items with the stop of each, behind `divergence item`, and the rest.
 #[tactic(auto, unfolding(crate::specs::Reading::divergence_at))]
 fn divergence_at(bytes: &[u8]) -> Option<(LentFault<'_>, &[u8])>
     ensures { option_map (λ read. (fault_of read.0, read.1.now)) result ≡ divergence_at bytes.now }
@@ -181,6 +188,7 @@ fn divergence_at(bytes: &[u8]) -> Option<(LentFault<'_>, &[u8])>
     Some((LentFault::Divergence(divergence), rest))
 }
 
+/// The index of an element, behind the word `element` and in front of a space, and the rest. It may be below 0.
 #[tactic(auto, unfolding(crate::specs::Reading::element_at))]
 fn element_at(bytes: &[u8]) -> Option<(i64, &[u8])>
     ensures { option_map (λ read. (read.0, read.1.now)) result ≡ element_at bytes.now }
@@ -205,6 +213,7 @@ fn private_at(item: u32, bytes: &[u8]) -> Option<(Private<'_>, &[u8])>
     Some((place, rest))
 }
 
+/// An access of an element that is out of range, behind its item, and the rest.
 #[tactic(auto, unfolding(crate::specs::Reading::access_bounds_at))]
 fn access_bounds_at(item: u32, bytes: &[u8]) -> Option<(LentFault<'_>, &[u8])>
     ensures { option_map (λ read. (fault_of read.0, read.1.now)) result ≡ access_bounds_at item bytes.now }
@@ -221,6 +230,7 @@ fn access_bounds_at(item: u32, bytes: &[u8]) -> Option<(LentFault<'_>, &[u8])>
     Some((LentFault::Bounds(bounds), rest))
 }
 
+/// An element out of range, of a private array or of a place in memory, behind `bounds item`, and the rest.
 #[tactic(auto, unfolding(crate::specs::Reading::bounds_at))]
 fn bounds_at(bytes: &[u8]) -> Option<(LentFault<'_>, &[u8])>
     ensures { option_map (λ read. (fault_of read.0, read.1.now)) result ≡ bounds_at bytes.now }
@@ -233,6 +243,7 @@ fn bounds_at(bytes: &[u8]) -> Option<(LentFault<'_>, &[u8])>
     access_bounds_at(item, rest)
 }
 
+/// An unset variable of an item, behind the word `variable`, and the rest.
 #[tactic(auto, unfolding(crate::specs::Reading::variable_at))]
 fn variable_at(item: u32, bytes: &[u8]) -> Option<(LentFault<'_>, &[u8])>
     ensures { option_map (λ read. (fault_of read.0, read.1.now)) result ≡ variable_at item bytes.now }
@@ -241,6 +252,7 @@ fn variable_at(item: u32, bytes: &[u8]) -> Option<(LentFault<'_>, &[u8])>
     Some((LentFault::UnsetVariable { item, variable }, rest))
 }
 
+/// An access that reads an unset byte of local memory, behind its item, and the rest.
 #[tactic(auto, unfolding(crate::specs::Reading::access_unset_at))]
 fn access_unset_at(item: u32, bytes: &[u8]) -> Option<(LentFault<'_>, &[u8])>
     ensures { option_map (λ read. (fault_of read.0, read.1.now)) result ≡ access_unset_at item bytes.now }
@@ -258,6 +270,7 @@ fn access_unset_at(item: u32, bytes: &[u8]) -> Option<(LentFault<'_>, &[u8])>
     Some((LentFault::Unset(unset), rest))
 }
 
+/// An unset variable, private element or byte of local memory, behind `unset item`, and the rest.
 #[tactic(auto, unfolding(crate::specs::Reading::unset_at))]
 fn unset_at(bytes: &[u8]) -> Option<(LentFault<'_>, &[u8])>
     ensures { option_map (λ read. (fault_of read.0, read.1.now)) result ≡ unset_at bytes.now }

@@ -30,6 +30,7 @@ pub enum ReadFault {
     OutOfMemory,
 }
 
+/// A location with a copy of the name.
 fn location_of(alloc: Global, place: Place<'_>) -> Result<Location, AllocError>
     ensures { IfOk result (λ location. location ≡ location_of place.entry) }
 {
@@ -59,6 +60,7 @@ fn listed_turns(alloc: Global, text: &[u8]) -> Result<Turns, AllocError>
     Turns::copy_of(alloc, numbers.as_slice())
 }
 
+/// The turns round a barrier, none where no list of them stands in the line.
 fn turns_of(alloc: Global, turns: Option<&[u8]>) -> Result<Turns, AllocError>
     ensures { IfOk result (λ made. made ≡ turns_of (option_map (λ list. list.now) turns.entry)) }
 {
@@ -68,6 +70,7 @@ fn turns_of(alloc: Global, turns: Option<&[u8]>) -> Result<Turns, AllocError>
     }
 }
 
+/// A stop with its turns as numbers.
 fn stop_of(alloc: Global, halt: Halt<'_>) -> Result<Stop, AllocError>
     ensures { IfOk result (λ stop. stop ≡ stop_of halt.entry) }
 {
@@ -80,6 +83,7 @@ fn stop_of(alloc: Global, halt: Halt<'_>) -> Result<Stop, AllocError>
     }
 }
 
+/// Two accesses that conflict, with a copy of the name of their place.
 fn conflict_of(alloc: Global, lent: Conflict<'_>) -> Result<Fault, AllocError>
     ensures { IfOk result (λ fault. fault ≡ conflict_of lent.entry) }
 {
@@ -94,6 +98,7 @@ fn conflict_of(alloc: Global, lent: Conflict<'_>) -> Result<Fault, AllocError>
     })
 }
 
+/// Two items at different stops, with the turns of both as numbers.
 fn divergence_of(alloc: Global, lent: Divergence<'_>) -> Result<Fault, AllocError>
     ensures { IfOk result (λ fault. fault ≡ divergence_of lent.entry) }
 {
@@ -105,6 +110,7 @@ fn divergence_of(alloc: Global, lent: Divergence<'_>) -> Result<Fault, AllocErro
     })
 }
 
+/// An access out of range, with a copy of the name of its place.
 fn bounds_of(alloc: Global, lent: Bounds<'_>) -> Result<Fault, AllocError>
     ensures { IfOk result (λ fault. fault ≡ bounds_of lent.entry) }
 {
@@ -116,6 +122,7 @@ fn bounds_of(alloc: Global, lent: Bounds<'_>) -> Result<Fault, AllocError>
     })
 }
 
+/// An access of an unset byte, with a copy of the name of its place.
 fn unset_of(alloc: Global, lent: Unset<'_>) -> Result<Fault, AllocError>
     ensures { IfOk result (λ fault. fault ≡ unset_of lent.entry) }
 {
@@ -164,6 +171,7 @@ struct File<'a> {
     schedule: &'a [u8],
 }
 
+/// What a schedule file tells, if the bytes are one, to their end.
 #[tactic(auto, unfolding(crate::specs::Reading::file_of))]
 fn file_of(bytes: &[u8]) -> Option<File<'_>>
     ensures { option_map (λ file. (file.ticket, fault_of file.fault, file.schedule.now)) result ≡ file_of bytes.now }

@@ -11,6 +11,7 @@ use clmodel::schedule::{EventRun, Schedule};
 use line_fields::{after, number_at};
 use std::alloc::{AllocError, Global};
 
+/// A run of events of one item in front: the item, `*` and the count, which is at least 1; and the rest.
 #[tactic(auto, unfolding(crate::specs::Reading::item_run_at))]
 fn item_run_at(bytes: &[u8]) -> Option<(EventRun, &[u8])>
     ensures { option_map (λ read. (read.0, read.1.now)) result ≡ item_run_at bytes.now }
@@ -23,6 +24,7 @@ fn item_run_at(bytes: &[u8]) -> Option<(EventRun, &[u8])>
     Some((EventRun::Item { item, count }, rest))
 }
 
+/// A release of a group from its barrier, behind the letter `r`, and the rest.
 #[tactic(auto, unfolding(crate::specs::Reading::release_at))]
 fn release_at(bytes: &[u8]) -> Option<(EventRun, &[u8])>
     ensures { option_map (λ read. (read.0, read.1.now)) result ≡ release_at bytes.now }
@@ -31,6 +33,7 @@ fn release_at(bytes: &[u8]) -> Option<(EventRun, &[u8])>
     Some((EventRun::Release { group }, rest))
 }
 
+/// A run of events in front, of one item or a release, and the rest.
 #[tactic(auto, unfolding(crate::specs::Reading::run_at))]
 fn run_at(bytes: &[u8]) -> Option<(EventRun, &[u8])>
     ensures { option_map (λ read. (read.0, read.1.now)) result ≡ run_at bytes.now }

@@ -31,6 +31,7 @@ enum Part<'a> {
     Schedule(&'a [EventRun]),
 }
 
+/// The word of the class of an update.
 fn class_word(class: Class) -> &'static str
     ensures { result.now ≡ class_text class }
 {
@@ -46,6 +47,7 @@ fn class_word(class: Class) -> &'static str
     }
 }
 
+/// The word of a kind of access, which for an update is that of its class.
 fn kind_word(kind: AccessKind) -> &'static str
     ensures { result.now ≡ kind_text kind }
 {
@@ -57,6 +59,7 @@ fn kind_word(kind: AccessKind) -> &'static str
     }
 }
 
+/// The words in front of the first item of a conflict, with the number of the fault.
 fn clash_words(clash: Clash) -> &'static str
     ensures { result.now ≡ clash_text clash }
 {
@@ -66,6 +69,7 @@ fn clash_words(clash: Clash) -> &'static str
     }
 }
 
+/// Writes where a byte or an element lies: in a buffer, or in a local object of a group.
 fn write_location<W: Write>(location: &Location, writer: &mut W) -> Result<(), WriteFailed>
     ensures { Puts (W.sink writer.old) result (W.sink writer.new) (location_text location.now) }
 {
@@ -86,12 +90,14 @@ fn write_location<W: Write>(location: &Location, writer: &mut W) -> Result<(), W
     }
 }
 
+/// Writes a comma and a turn, which isn't the first of its list.
 fn write_later_turn<W: Write>(turn: u32, writer: &mut W) -> Result<(), WriteFailed>
     ensures { Puts (W.sink writer.old) result (W.sink writer.new) (later_turn_text turn) }
 {
     write_pieces(&[Piece::Text(","), Piece::Number32(turn)], writer)
 }
 
+/// Writes the turns of a list behind its first one.
 fn write_later_turns<W: Write>(turns: &[u32], writer: &mut W) -> Result<(), WriteFailed>
     ensures { Puts (W.sink writer.old) result (W.sink writer.new) (flat_map later_turn_text turns.now) }
 {
@@ -101,6 +107,7 @@ fn write_later_turns<W: Write>(turns: &[u32], writer: &mut W) -> Result<(), Writ
     Ok(())
 }
 
+/// Writes the turns behind the site of a barrier, and nothing where there are none.
 fn write_turns<W: Write>(turns: &[u32], writer: &mut W) -> Result<(), WriteFailed>
     ensures { Puts (W.sink writer.old) result (W.sink writer.new) (turns_text turns.now) }
 {
@@ -111,6 +118,7 @@ fn write_turns<W: Write>(turns: &[u32], writer: &mut W) -> Result<(), WriteFaile
     write_later_turns(others, writer)
 }
 
+/// Writes where an item waits, or that it has ended.
 fn write_stop<W: Write>(stop: &Stop, writer: &mut W) -> Result<(), WriteFailed>
     ensures { Puts (W.sink writer.old) result (W.sink writer.new) (stop_text stop.now) }
 {
@@ -124,6 +132,7 @@ fn write_stop<W: Write>(stop: &Stop, writer: &mut W) -> Result<(), WriteFailed>
     write_turns(instance.turns.as_slice(), writer)
 }
 
+/// Writes a run of events behind a space.
 fn write_run<W: Write>(run: EventRun, writer: &mut W) -> Result<(), WriteFailed>
     ensures { Puts (W.sink writer.old) result (W.sink writer.new) (run_text run) }
 {
@@ -144,6 +153,7 @@ fn write_run<W: Write>(run: EventRun, writer: &mut W) -> Result<(), WriteFailed>
     }
 }
 
+/// Writes runs of events, each behind a space.
 fn write_runs<W: Write>(runs: &[EventRun], writer: &mut W) -> Result<(), WriteFailed>
     ensures { Puts (W.sink writer.old) result (W.sink writer.new) (flat_map run_text runs.now) }
 {
@@ -153,6 +163,7 @@ fn write_runs<W: Write>(runs: &[EventRun], writer: &mut W) -> Result<(), WriteFa
     Ok(())
 }
 
+/// Writes the runs of a schedule behind a space, or `-` where there are none.
 fn write_schedule<W: Write>(runs: &[EventRun], writer: &mut W) -> Result<(), WriteFailed>
     ensures { Puts (W.sink writer.old) result (W.sink writer.new) (schedule_text runs.now) }
 {
@@ -162,6 +173,7 @@ fn write_schedule<W: Write>(runs: &[EventRun], writer: &mut W) -> Result<(), Wri
     write_runs(runs, writer)
 }
 
+/// Writes a part of a line, with its numbers in decimal.
 fn write_part<W: Write>(part: &Part<'_>, writer: &mut W) -> Result<(), WriteFailed>
     ensures { Puts (W.sink writer.old) result (W.sink writer.new) (part_text part.now) }
 {
@@ -179,6 +191,7 @@ fn write_part<W: Write>(part: &Part<'_>, writer: &mut W) -> Result<(), WriteFail
     }
 }
 
+/// Writes the parts of a line in their order, with nothing between them.
 fn write_parts<W: Write>(parts: &[Part<'_>], writer: &mut W) -> Result<(), WriteFailed>
     ensures { Puts (W.sink writer.old) result (W.sink writer.new) (flat_map part_text parts.now) }
 {

@@ -126,6 +126,7 @@ pub fn mark_at(token: Option<Token>) -> Mark
     }
 }
 
+/// Whether no token stands there.
 pub(crate) fn is_nothing(mark: Mark) -> bool
     ensures { result ≡ marks.is_nothing mark }
 {

@@ -66,24 +66,32 @@ type Looked = (Part, Is, Is, Is);
 const TYPES: &str =
     "this is no type: the types are char uchar short ushort int uint long ulong size_t; there are no typedefs and no structs";
 
+/// What to write for a type of two words.
 const ONE_WORD: &str = "a type is one word: long for long int and long long, short for short int";
 
+/// What to write for a `const` that isn't behind an address space.
 const NO_CONST: &str =
     "const stands behind an address space alone, as in __global const int *p: leave it out of variables and values";
 
+/// What to write for a variable outside of functions.
 const NO_VARIABLES: &str =
     "there are no variables outside of functions: pass the value as a parameter, or write the number in its place";
 
+/// What to write for `++` or `--` within an expression.
 const NO_STEP: &str = "++ and -- are statements and have no value: write i++; before or behind";
 
+/// What to write for a function within another.
 const NOT_NESTED: &str =
     "a function stands outside of other functions: a } may be missing in front of it";
 
+/// What to write for a declaration that is the one statement of an `if`, an `else` or a loop.
 const IN_A_BLOCK: &str = "a declaration stands in a block: write { } round it";
 
+/// What to write for a cast to a pointer.
 const NO_CASTS: &str =
     "there are no casts of pointers: a pointer keeps its type and its address space";
 
+/// What to write for an `if`, a `while` or a `for` without its brackets.
 const BRACKETS: &str = "brackets are wanted: if (..), while (..), for (..; ..; ..)";
 
 /// What to write where no rule fits.
@@ -341,18 +349,21 @@ pub(crate) static RULES: [(Looked, &str); 83] = [
     ),
 ];
 
+/// Whether it is the word of a type, `size_t` among them.
 fn is_type(mark: Mark) -> bool
     ensures { result ≡ rules.is_type mark }
 {
     matches!(mark, Mark::Type | SizeT)
 }
 
+/// Whether it is the word of an address space, `__local` among them.
 fn is_space(mark: Mark) -> bool
     ensures { result ≡ rules.is_space mark }
 {
     matches!(mark, Mark::Space | Mark::Local)
 }
 
+/// Whether it is `=`, alone or with an operator.
 fn is_assignment(mark: Mark) -> bool
     ensures { result ≡ rules.is_assignment mark }
 {

@@ -88,6 +88,7 @@ fn open_with(count: usize, mark: Mark, opening: Mark, closing: Mark) -> usize
     }
 }
 
+/// Whether the next statement begins behind it.
 fn ends_statement(mark: Mark) -> bool
     ensures { result ≡ seen.ends_statement mark }
 {

@@ -582,6 +582,7 @@ impl<D: Machine<C, R>, C: Drop, R: Drop> Driver<D, C, R> {
         }
     }
 
+    /// Gives up the driver's seat, and hands out its machine.
     fn into_machine(self) -> D
         ensures { result ≡ self.machine }
     {

@@ -41,30 +41,35 @@ pub type Rows<D, C, R> = Table<
     Global,
 >;
 
+/// A client's step that draws the next ticket, or tells it that all are drawn.
 pub(crate) struct Draw;
 
 impl<D, C: Drop, R: Drop> Play<Option<Box<Request<C, R>>>, View<D, C, R>> for Draw {
     ghost then = { drew box_value };
 }
 
+/// A client's step that places its request at the ticket that it drew last.
 pub(crate) struct Put;
 
 impl<D, C: Drop, R: Drop> Play<Option<Box<Request<C, R>>>, View<D, C, R>> for Put {
     ghost then = { placed box_value };
 }
 
+/// The driver's step that takes the next ticket's request, or tells it that none is there.
 pub(crate) struct Take;
 
 impl<D, C: Drop, R: Drop> Play<Option<Box<Request<C, R>>>, View<D, C, R>> for Take {
     ghost then = { took box_value };
 }
 
+/// The driver's step that puts the reply to the request that it took.
 pub(crate) struct Answer;
 
 impl<D, C: Drop, R: Drop> Play<Option<Box<Request<C, R>>>, View<D, C, R>> for Answer {
     ghost then = { answered box_value };
 }
 
+/// A client's step that collects the reply at one of its tickets, or tells it that none is there, of a machine `M`.
 pub(crate) struct Gather<M> {
     machine: PhantomData<M>,
 }
@@ -74,6 +79,7 @@ impl<D: Machine<C, R>, C: Drop, R: Drop> Play<Option<Box<Request<C, R>>>, View<D
     ghost then = { gathered D.step box_value };
 }
 
+/// A step that tells a seat how many tickets are drawn, and what the driver has done, of a machine `M`.
 pub(crate) struct Look<M> {
     machine: PhantomData<M>,
 }
@@ -83,6 +89,7 @@ impl<D: Machine<C, R>, C: Drop, R: Drop> Play<Option<Box<Request<C, R>>>, View<D
     ghost then = { looked D.step box_value };
 }
 
+/// A client's seat that is split off the driver's: the driver lets one client more in.
 pub(crate) struct Admit;
 
 impl<D, C, R> Split<View<D, C, R>> for Admit {
@@ -91,6 +98,7 @@ impl<D, C, R> Split<View<D, C, R>> for Admit {
     ghost right = { guest_of };
 }
 
+/// A note that is split off a seat: the seat stays what it is, and the note says what it knows.
 pub(crate) struct Tell;
 
 impl<D, C, R> Split<View<D, C, R>> for Tell {
@@ -99,6 +107,7 @@ impl<D, C, R> Split<View<D, C, R>> for Tell {
     ghost right = { note_of };
 }
 
+/// A note that is split off a seat with its right to draw and its count of tickets, which the seat then lacks.
 pub(crate) struct Leave;
 
 impl<D, C, R> Split<View<D, C, R>> for Leave {
@@ -107,6 +116,7 @@ impl<D, C, R> Split<View<D, C, R>> for Leave {
     ghost right = { farewell_of };
 }
 
+/// A note that is joined to a seat: the seat then knows what the note says, which is spent.
 pub(crate) struct Learn;
 
 impl<D, C, R> Join<View<D, C, R>> for Learn {

@@ -424,6 +424,7 @@ fn is_vector_of(word: &[u8], element: &[u8]) -> bool
     word.starts_with(element) && is_one_of(&WIDTHS, &word[element.len()..])
 }
 
+/// Whether a word is the name of one of these types with the number of components behind it.
 fn is_vector_in(elements: &[&[u8]], word: &[u8]) -> bool
     ensures { result ≡ list_any (λ element. is_vector_of word.now element.now) elements.now }
 {
@@ -437,6 +438,7 @@ fn is_vector(word: &[u8]) -> bool
     is_vector_in(&ELEMENTS, word)
 }
 
+/// Whether a table of predefined names has the word.
 fn is_named(table: &[(&[u8], Predefined)], word: &[u8]) -> bool
     ensures { result ≡ list_any (λ entry. bytes_eq entry.0.now word.now) table.now }
 {
@@ -479,6 +481,7 @@ pub fn argument_hint(word: &[u8]) -> Option<&'static str>
     Some(taken)
 }
 
+/// Whether a word has a letter from a to z.
 fn has_small_letter(word: &[u8]) -> bool
     ensures { result ≡ list_any is_ascii_lowercase word.now }
 {

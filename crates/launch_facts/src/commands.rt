@@ -19,6 +19,7 @@ pub struct ProgramSource<'a> {
     pub kernel_command: usize,
 }
 
+/// How many line feeds there are.
 fn line_feeds(bytes: &[u8]) -> usize
     ensures value { result ≡ count_by (λ byte. byte == 10) bytes.now }
     ensures within { result ≤ length bytes.now }
@@ -58,6 +59,7 @@ pub(crate) fn was_done(done: &[bool], number: usize) -> bool
     }
 }
 
+/// Whether a command makes the kernel of a name.
 fn makes_kernel(command: &Command, wanted: &Name) -> bool
     ensures { result ≡ makes_kernel wanted.now command.now }
 {
@@ -67,6 +69,7 @@ fn makes_kernel(command: &Command, wanted: &Name) -> bool
     }
 }
 
+/// Whether a command makes the program of a name.
 fn makes_program(command: &Command, wanted: &Name) -> bool
     ensures { result ≡ makes_program wanted.now command.now }
 {

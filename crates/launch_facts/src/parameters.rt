@@ -14,6 +14,7 @@ use explanation::ParameterFacts;
 use host_commands::command::Command;
 use std::alloc::{AllocError, Global};
 
+/// The word of an address space, as a source has it.
 fn space_word(space: AddressSpace) -> &'static str
     ensures { result.now ≡ space_word space }
 {
@@ -97,6 +98,7 @@ fn facts_of(
     })
 }
 
+/// Whether an argument is the buffer of a name.
 fn is_buffer(argument: &Argument, buffer: &Name) -> bool
     ensures { result ≡ is_buffer buffer.now argument.now }
 {

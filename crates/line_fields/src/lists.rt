@@ -9,6 +9,7 @@ ghost use Rattle.line_fields.specs.Fronts.{front_length, list_below, before};
 use crate::numbers::number_of;
 use crate::words::after;
 
+/// Whether a byte is a digit or a comma.
 #[tactic(auto, unfolding(crate::specs::Texts::is_listed))]
 fn is_listed(byte: u8) -> bool
     ensures { result ≡ is_listed byte }
@@ -16,6 +17,7 @@ fn is_listed(byte: u8) -> bool
     byte.is_ascii_digit() || byte == b','
 }
 
+/// The place of the first byte that is no digit and no comma, if there is one.
 fn list_end(bytes: &[u8]) -> Option<usize>
     ensures value { result ≡ position (λ b. not (is_listed b)) bytes.now }
     ensures within { IfSome result (λ end. end < length bytes.now) }
@@ -23,6 +25,7 @@ fn list_end(bytes: &[u8]) -> Option<usize>
     bytes.iter().position(|byte| !is_listed(*byte))
 }
 
+/// How many digits and commas stand in front.
 fn list_length(bytes: &[u8]) -> usize
     ensures value { result ≡ front_length is_listed bytes.now }
     ensures within { result ≤ length bytes.now }

@@ -9,12 +9,14 @@ ghost use Rattle.line_fields.specs.Fronts.{front_length, name_to, before};
 
 use crate::words::after;
 
+/// Whether a byte may begin a name: a letter or `_`.
 fn is_first(byte: u8) -> bool
     ensures { result ≡ is_first byte }
 {
     byte.is_ascii_uppercase() || byte.is_ascii_lowercase() || byte == b'_'
 }
 
+/// Whether a byte may stand in a name behind its first one: a letter, a digit or `_`.
 #[tactic(auto, unfolding(crate::specs::Texts::is_later))]
 fn is_later(byte: u8) -> bool
     ensures { result ≡ is_later byte }
@@ -22,6 +24,7 @@ fn is_later(byte: u8) -> bool
     is_first(byte) || byte.is_ascii_digit()
 }
 
+/// Whether all bytes are letters, digits and `_`.
 fn are_later(bytes: &[u8]) -> bool
     ensures { result ≡ list_all is_later bytes.now }
 {
@@ -38,6 +41,7 @@ fn is_name_to(most: usize, text: &[u8]) -> bool
     is_first(*first) && later.len() < most && are_later(later)
 }
 
+/// The place of the first byte that is no letter, no digit and no `_`, if there is one.
 fn name_end(bytes: &[u8]) -> Option<usize>
     ensures value { result ≡ position (λ b. not (is_later b)) bytes.now }
     ensures within { IfSome result (λ end. end < length bytes.now) }
@@ -45,6 +49,7 @@ fn name_end(bytes: &[u8]) -> Option<usize>
     bytes.iter().position(|byte| !is_later(*byte))
 }
 
+/// How many letters, digits and `_` stand in front.
 fn name_length(bytes: &[u8]) -> usize
     ensures value { result ≡ front_length is_later bytes.now }
     ensures within { result ≤ length bytes.now }

@@ -9,6 +9,7 @@ ghost use Rattle.line_fields.specs.Fronts.{front_length, number_at, negative_at,
 
 use crate::words::after;
 
+/// The place of the first byte that is no digit, if there is one.
 fn number_end(bytes: &[u8]) -> Option<usize>
     ensures value { result ≡ position (λ b. not (is_ascii_digit b)) bytes.now }
     ensures within { IfSome result (λ end. end < length bytes.now) }
@@ -16,6 +17,7 @@ fn number_end(bytes: &[u8]) -> Option<usize>
     bytes.iter().position(|byte| !byte.is_ascii_digit())
 }
 
+/// How many digits stand in front.
 fn number_length(bytes: &[u8]) -> usize
     ensures value { result ≡ front_length is_ascii_digit bytes.now }
     ensures within { result ≤ length bytes.now }

@@ -124,6 +124,7 @@ fn is_pair<D: Described>(
     is_told(launch, told, told.second, other)
 }
 
+/// The number of a buffer, or that of a local object in its group.
 fn number_of(region: Region) -> u32 {
     match region {
         Region::Buffer(number) | Region::Local { number, .. } => number,

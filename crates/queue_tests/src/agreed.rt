@@ -30,6 +30,7 @@ fn draw(
     Ok((adder, last))
 }
 
+/// Shows that a ticket which either client draws once they agreed is above each one that they drew before.
 #[test]
 fn tickets_after_agree_are_above_both(rt: HostRuntime) -> Result<(), Fail> {
     let alloc: Global = rt.alloc();

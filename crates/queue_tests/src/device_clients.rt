@@ -175,6 +175,8 @@ fn shared<W: Threads + Wait + Sync>(rt: &W, alloc: Global) -> Result<(Count, Dev
     Ok((count, close(rt, queue, Vec::new(alloc), driver)))
 }
 
+/// Shows that each of 4,096 commands has the right reply and a ticket of its own, and that each client is then
+/// answered Full.
 #[test]
 fn sixteen_clients_share_a_device(rt: HostRuntime) -> Result<(), Fail> {
     let alloc: Global = rt.alloc();

@@ -116,6 +116,7 @@ fn exact(history: &Vec<u32>, replies: &Vec<Option<u32>>) -> usize {
     exact
 }
 
+/// Shows that the replies at all 4,096 tickets are the sums of what was asked for up to them.
 #[test]
 fn sixteen_clients_have_one_history(rt: HostRuntime) -> Result<(), Fail> {
     let alloc: Global = rt.alloc();

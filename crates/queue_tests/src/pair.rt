@@ -9,10 +9,13 @@ use host_queue::{Client, Driver, Machine, Queue, Request, close, open};
 use std::alloc::{AllocError, Global};
 use std::test::Fail;
 
+/// A queue of the machine that adds.
 type Tallies = Queue<Tally, u32, u32>;
 
+/// A client at such a queue.
 type Member = Client<Tally, u32, u32>;
 
+/// The driver of such a queue.
 type Runner = Driver<Tally, u32, u32>;
 
 /// A queue with one client.
@@ -91,6 +94,7 @@ fn sums(
     Ok(exact.len())
 }
 
+/// Shows that a lone client's first 4,096 requests are answered with the sums, and its next one is not.
 #[test]
 fn one_client_is_answered_at_once(rt: HostRuntime) -> Result<(), Fail> {
     let alloc: Global = rt.alloc();
@@ -101,6 +105,7 @@ fn one_client_is_answered_at_once(rt: HostRuntime) -> Result<(), Fail> {
     Ok(())
 }
 
+/// Shows that the tickets of two clients rise from one to the other where they agree in between.
 #[test]
 fn agreed_tickets_rise(rt: HostRuntime) -> Result<(), Fail> {
     let alloc: Global = rt.alloc();
@@ -143,6 +148,7 @@ fn polls_hand_everything_back(rt: HostRuntime) -> Result<(), Fail> {
     Ok(())
 }
 
+/// Shows that the other client is answered in its turn once one is dropped, whose requests are done all the same.
 #[test]
 fn a_dropped_client_loses_nobody_elses_tickets(rt: HostRuntime) -> Result<(), Fail> {
     let alloc: Global = rt.alloc();

@@ -287,6 +287,7 @@ fn are_right(
     }
 }
 
+/// Shows that two clients of a device collect five right replies by the driver's note of the last one.
 #[test]
 fn two_clients_share_a_device(rt: HostRuntime) -> Result<(), Fail> {
     let alloc: Global = rt.alloc();

@@ -83,6 +83,7 @@ fn machine_of(alloc: Global) -> Result<(Waiting, Arc<Counts, Global>), AllocErro
     Ok((Waiting { counts: shared }, counts))
 }
 
+/// Shows that a command which waits until a later submit has returned sees that it has.
 #[test]
 fn a_submit_returns_while_a_command_is_done(rt: HostRuntime) -> Result<(), Fail> {
     let alloc: Global = rt.alloc();

@@ -17,6 +17,7 @@ use std::alloc::{AllocError, Global};
 /// it.
 const VERSION: u32 = 1;
 
+/// The fault of a refusal as a JSON value: its kind, its number and its name.
 fn fault_value(alloc: Global, refusal: &Refusal) -> Result<Value, AllocError>
     ensures { IfOk result (λ value. view value ≡ fault_data refusal.now) }
 {
@@ -24,6 +25,7 @@ fn fault_value(alloc: Global, refusal: &Refusal) -> Result<Value, AllocError>
     json!(in alloc; {"number": number, "name": name, "kind": kind})
 }
 
+/// The place of a refusal in its source as a JSON value, with the text of its line.
 fn spot_value(alloc: Global, refusal: &Refusal) -> Result<Value, AllocError>
     ensures { IfOk result (λ value. view value ≡ spot_data refusal.now) }
 {
@@ -59,6 +61,7 @@ pub fn value_of(alloc: Global, name: &str, refusal: &Refusal) -> Result<Value, A
     })
 }
 
+/// Puts a line feed behind a text.
 fn push_line_feed(text: &mut String) -> Result<(), AllocError>
     ensures { OnOk result (string_bytes text.new ≡ string_bytes text.old ++ 10 ∷ []) }
 {

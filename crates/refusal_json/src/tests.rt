@@ -5,6 +5,7 @@ use build_hints::Refused;
 use clsyntax_lex::token::SyntaxFault;
 use std::test::Fail;
 
+/// A byte that begins no token is told in one line, with its place in the source and in the file, and a hint.
 #[test]
 fn told(rt: HostRuntime) -> Result<(), Fail> {
     let fault = Refused::Syntax(SyntaxFault::BadByte { at: 11 });

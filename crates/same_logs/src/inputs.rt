@@ -40,6 +40,7 @@ fn numbers_of(alloc: Global, text: &[u8]) -> Result<Numbers, AllocError> {
     Ok(Numbers::new(numbers))
 }
 
+/// Reads the index space of a row. An error is out of memory.
 fn range_of(alloc: Global, row: &Row<'_>) -> Result<Range, AllocError> {
     Ok(Range {
         global: numbers_of(alloc, row.global)?,
@@ -59,6 +60,7 @@ fn argument_of(alloc: Global, letter: u8) -> Result<Argument, AllocError> {
     }
 }
 
+/// The arguments that letters stand for, one for each in their order. An error is out of memory.
 fn arguments_of(alloc: Global, letters: &[u8]) -> Result<Vec<Option<Argument>>, AllocError> {
     let mut arguments = Vec::new(alloc);
     for letter in letters {

@@ -11,6 +11,7 @@ use fault_facts::Gathered;
 use group_run::{GroupEnd, GroupResult};
 use spaces::{Overlay, Space};
 
+/// The hexadecimal digits, each at the place of its value.
 const DIGITS: [u8; 16] = *b"0123456789abcdef";
 
 /// Writes what a group's buffer holds: its bytes as they are.

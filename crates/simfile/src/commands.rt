@@ -34,6 +34,7 @@ fn range_of(alloc: Global, line: LaunchLine<'_>) -> Result<Range, AllocError>
     })
 }
 
+/// What an argument is set to, with a copy of the name where it is a buffer.
 fn argument_of(alloc: Global, setting: Setting<'_>) -> Result<Argument, AllocError>
     ensures { IfOk result (λ argument. argument ≡ argument_of setting.entry) }
 {
@@ -44,6 +45,7 @@ fn argument_of(alloc: Global, setting: Setting<'_>) -> Result<Argument, AllocErr
     }
 }
 
+/// The command that makes a buffer of a name, of `size` bytes.
 fn buffer(alloc: Global, name: &[u8], size: u64) -> Result<Command, AllocError>
     ensures { IfOk result (λ made. made ≡ command.Buffer name.now size) }
 {
@@ -51,6 +53,7 @@ fn buffer(alloc: Global, name: &[u8], size: u64) -> Result<Command, AllocError>
     Ok(Command::Buffer { name, size })
 }
 
+/// The command of a `write`, with the bytes that its digits write.
 fn write(alloc: Global, line: WriteLine<'_>) -> Result<Command, AllocError>
     ensures { IfOk result (λ made. made ≡ write_of line.entry) }
 {
@@ -61,6 +64,7 @@ fn write(alloc: Global, line: WriteLine<'_>) -> Result<Command, AllocError>
     })
 }
 
+/// The command of a `fill`, with the pattern that its digits write.
 fn fill(alloc: Global, line: FillLine<'_>) -> Result<Command, AllocError>
     ensures { IfOk result (λ made. made ≡ fill_of line.entry) }
 {
@@ -72,6 +76,7 @@ fn fill(alloc: Global, line: FillLine<'_>) -> Result<Command, AllocError>
     })
 }
 
+/// The command of a `copy`, with copies of the names of both buffers.
 fn copy(alloc: Global, line: CopyLine<'_>) -> Result<Command, AllocError>
     ensures { IfOk result (λ made. made ≡ copy_of line.entry) }
 {
@@ -84,6 +89,7 @@ fn copy(alloc: Global, line: CopyLine<'_>) -> Result<Command, AllocError>
     })
 }
 
+/// The command of a `read`, with a copy of the name of its buffer.
 fn read(alloc: Global, line: ReadLine<'_>) -> Result<Command, AllocError>
     ensures { IfOk result (λ made. made ≡ read_of line.entry) }
 {
@@ -94,6 +100,7 @@ fn read(alloc: Global, line: ReadLine<'_>) -> Result<Command, AllocError>
     })
 }
 
+/// The command that releases the buffer, the program or the kernel of a name.
 fn release(alloc: Global, name: &[u8]) -> Result<Command, AllocError>
     ensures { IfOk result (λ made. made ≡ command.Release name.now) }
 {
@@ -101,6 +108,7 @@ fn release(alloc: Global, name: &[u8]) -> Result<Command, AllocError>
     Ok(Command::Release { name })
 }
 
+/// The command that builds a program, with copies of its name and of its source.
 fn program(alloc: Global, name: &[u8], source: &[u8]) -> Result<Command, AllocError>
     ensures { IfOk result (λ made. made ≡ command.Program name.now source.now) }
 {
@@ -109,6 +117,7 @@ fn program(alloc: Global, name: &[u8], source: &[u8]) -> Result<Command, AllocEr
     Ok(Command::Program { name, source })
 }
 
+/// The command of a `kernel`, with copies of its name and of its program's and function's.
 fn kernel(alloc: Global, line: KernelLine<'_>) -> Result<Command, AllocError>
     ensures { IfOk result (λ made. made ≡ kernel_of line.entry) }
 {
@@ -119,6 +128,7 @@ fn kernel(alloc: Global, line: KernelLine<'_>) -> Result<Command, AllocError>
     })
 }
 
+/// The command of an `arg`, with copies of the names of its kernel and, where it is set to one, of its buffer.
 fn arg(alloc: Global, line: ArgLine<'_>) -> Result<Command, AllocError>
     ensures { IfOk result (λ made. made ≡ arg_of line.entry) }
 {
@@ -129,6 +139,7 @@ fn arg(alloc: Global, line: ArgLine<'_>) -> Result<Command, AllocError>
     })
 }
 
+/// The command of a `launch`, with the numbers of its lists.
 fn launch(alloc: Global, line: LaunchLine<'_>) -> Result<Command, AllocError>
     ensures { IfOk result (λ made. made ≡ launch_of line.entry) }
 {

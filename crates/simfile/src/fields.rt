@@ -55,6 +55,7 @@ pub fn numbers_of(alloc: Global, text: &[u8]) -> Result<Numbers, AllocError>
     Ok(Numbers::new(numbers.collect(alloc)?))
 }
 
+/// Whether a byte is a decimal digit or one of the small letters `a` to `f`.
 #[tactic(auto, unfolding(crate::specs::Fields::is_hex_digit))]
 fn is_hex_digit(byte: u8) -> bool
     ensures { result ≡ is_hex_digit byte }
@@ -90,6 +91,7 @@ fn hex_blocks(bytes: &[u8]) -> usize
     BLOCK * blocks
 }
 
+/// The place of the first byte that is no hexadecimal digit, if there is one.
 fn hex_end(bytes: &[u8]) -> Option<usize>
     ensures value { result ≡ position (λ b. not (is_hex_digit b)) bytes.now }
     ensures within { IfSome result (λ end. end < length bytes.now) }
@@ -105,6 +107,7 @@ fn digits_in_front(bytes: &[u8]) -> usize
     hex_end(bytes).unwrap_or(bytes.len())
 }
 
+/// How many digits stand in front, found by whole blocks and then one by one.
 fn hex_length(bytes: &[u8]) -> usize
     ensures value { result ≡ front_length is_hex_digit bytes.now }
     ensures within { result ≤ length bytes.now }

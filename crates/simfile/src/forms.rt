@@ -16,6 +16,7 @@ use line_fields::{after, number_at, number_before, value_at};
 /// The most lines of a source.
 pub(crate) const MAX_SOURCE_LINES: u64 = 65_536;
 
+/// A `buffer`, behind that word: its name, its size in bytes and a line feed, and the rest.
 #[tactic(auto, unfolding(crate::specs::Reading::buffer_at))]
 fn buffer_at(bytes: &[u8]) -> Option<(Line<'_>, &[u8])>
     ensures { option_map (λ read. (command_of read.0, read.1.now)) result ≡ buffer_at bytes.now }
@@ -25,6 +26,7 @@ fn buffer_at(bytes: &[u8]) -> Option<(Line<'_>, &[u8])>
     Some((Line::Buffer { name, size }, rest))
 }
 
+/// A `write`, behind that word: its buffer, the offset, the bytes and a line feed, and the rest.
 #[tactic(auto, unfolding(crate::specs::Reading::write_at))]
 fn write_at(bytes: &[u8]) -> Option<(Line<'_>, &[u8])>
     ensures { option_map (λ read. (command_of read.0, read.1.now)) result ≡ write_at bytes.now }
@@ -40,6 +42,7 @@ fn write_at(bytes: &[u8]) -> Option<(Line<'_>, &[u8])>
     Some((Line::Write(line), rest))
 }
 
+/// A `fill`, behind that word: its buffer, the offset, the count, the pattern and a line feed, and the rest.
 #[tactic(auto, unfolding(crate::specs::Reading::fill_at))]
 fn fill_at(bytes: &[u8]) -> Option<(Line<'_>, &[u8])>
     ensures { option_map (λ read. (command_of read.0, read.1.now)) result ≡ fill_at bytes.now }
@@ -57,6 +60,7 @@ fn fill_at(bytes: &[u8]) -> Option<(Line<'_>, &[u8])>
     Some((Line::Fill(line), rest))
 }
 
+/// A `copy`, behind that word: two buffers, each with its offset, the count and a line feed, and the rest.
 #[tactic(auto, unfolding(crate::specs::Reading::copy_at))]
 fn copy_at(bytes: &[u8]) -> Option<(Line<'_>, &[u8])>
     ensures { option_map (λ read. (command_of read.0, read.1.now)) result ≡ copy_at bytes.now }
@@ -76,6 +80,7 @@ fn copy_at(bytes: &[u8]) -> Option<(Line<'_>, &[u8])>
     Some((Line::Copy(line), rest))
 }
 
+/// A `read`, behind that word: its buffer, the offset, the count and a line feed, and the rest.
 #[tactic(auto, unfolding(crate::specs::Reading::read_at))]
 fn read_at(bytes: &[u8]) -> Option<(Line<'_>, &[u8])>
     ensures { option_map (λ read. (command_of read.0, read.1.now)) result ≡ read_at bytes.now }
@@ -91,6 +96,7 @@ fn read_at(bytes: &[u8]) -> Option<(Line<'_>, &[u8])>
     Some((Line::Read(line), rest))
 }
 
+/// A `release`, behind that word: a name and a line feed, and the rest.
 #[tactic(auto, unfolding(crate::specs::Reading::release_at))]
 fn release_at(bytes: &[u8]) -> Option<(Line<'_>, &[u8])>
     ensures { option_map (λ read. (command_of read.0, read.1.now)) result ≡ release_at bytes.now }
@@ -110,6 +116,7 @@ fn source_at(count: u64, bytes: &[u8]) -> Option<(&[u8], &[u8])>
     lines_at(count, bytes)
 }
 
+/// A `program`, behind that word: its name, the count of its lines, a line feed and these lines, and the rest.
 #[tactic(auto, unfolding(crate::specs::Reading::program_at))]
 fn program_at(bytes: &[u8]) -> Option<(Line<'_>, &[u8])>
     ensures { option_map (λ read. (command_of read.0, read.1.now)) result ≡ program_at bytes.now }
@@ -120,6 +127,7 @@ fn program_at(bytes: &[u8]) -> Option<(Line<'_>, &[u8])>
     Some((Line::Program { name, source }, rest))
 }
 
+/// A `kernel`, behind that word: its name, its program, its function and a line feed, and the rest.
 #[tactic(auto, unfolding(crate::specs::Reading::kernel_at))]
 fn kernel_at(bytes: &[u8]) -> Option<(Line<'_>, &[u8])>
     ensures { option_map (λ read. (command_of read.0, read.1.now)) result ≡ kernel_at bytes.now }
@@ -135,6 +143,7 @@ fn kernel_at(bytes: &[u8]) -> Option<(Line<'_>, &[u8])>
     Some((Line::Kernel(line), rest))
 }
 
+/// The name of a buffer, behind the word `buffer`, and the rest.
 #[tactic(auto, unfolding(crate::specs::Reading::buffer_argument_at))]
 fn buffer_argument_at(bytes: &[u8]) -> Option<(Setting<'_>, &[u8])>
     ensures { option_map (λ read. (argument_of read.0, read.1.now)) result ≡ buffer_argument_at bytes.now }
@@ -143,6 +152,7 @@ fn buffer_argument_at(bytes: &[u8]) -> Option<(Setting<'_>, &[u8])>
     Some((Setting::Buffer(buffer), rest))
 }
 
+/// A number from -2^63 to 2^64 - 1, behind the word `value`, and the rest.
 #[tactic(auto, unfolding(crate::specs::Reading::value_argument_at))]
 fn value_argument_at(bytes: &[u8]) -> Option<(Setting<'_>, &[u8])>
     ensures { option_map (λ read. (argument_of read.0, read.1.now)) result ≡ value_argument_at bytes.now }
@@ -151,6 +161,7 @@ fn value_argument_at(bytes: &[u8]) -> Option<(Setting<'_>, &[u8])>
     Some((Setting::Value(value), rest))
 }
 
+/// A count of bytes of local memory, behind the word `local`, and the rest.
 #[tactic(auto, unfolding(crate::specs::Reading::local_argument_at))]
 fn local_argument_at(bytes: &[u8]) -> Option<(Setting<'_>, &[u8])>
     ensures { option_map (λ read. (argument_of read.0, read.1.now)) result ≡ local_argument_at bytes.now }
@@ -173,6 +184,7 @@ fn argument_at(bytes: &[u8]) -> Option<(Setting<'_>, &[u8])>
     local_argument_at(after(b" local ", bytes)?)
 }
 
+/// An `arg`, behind that word: its kernel, the index, what it is set to and a line feed, and the rest.
 #[tactic(auto, unfolding(crate::specs::Reading::arg_at))]
 fn arg_at(bytes: &[u8]) -> Option<(Line<'_>, &[u8])>
     ensures { option_map (λ read. (command_of read.0, read.1.now)) result ≡ arg_at bytes.now }
@@ -222,6 +234,7 @@ fn uniform_at(version: Version, bytes: &[u8]) -> (bool, &[u8])
     }
 }
 
+/// A `launch`, behind that word: its kernel, its lists, `uniform` if it is so, a line feed, and the rest.
 #[tactic(auto, unfolding(crate::specs::Reading::launch_at, line_fields::specs::Fronts::before))]
 fn launch_at(version: Version, bytes: &[u8]) -> Option<(Line<'_>, &[u8])>
     ensures { option_map (λ read. (command_of read.0, read.1.now)) result ≡ launch_at version bytes.now }

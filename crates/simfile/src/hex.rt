@@ -8,6 +8,7 @@ ghost use Rattle.simfile.specs.Fields.{byte_text, hex_digit};
 
 use counted_io::{Write, WriteFailed};
 
+/// The hexadecimal digit of a value, in lower case.
 fn hex_digit(value: u8) -> u8
     requires { value < 16 }
     ensures { result ≡ hex_digit value }

@@ -14,6 +14,7 @@ use counted_io::pieces::{Piece, write_pieces};
 use counted_io::{Write, WriteFailed};
 use host_commands::command::{BuildFault, Refusal, Reply};
 
+/// A syntax fault's number and name, with the words in front of its place.
 fn syntax_words(fault: SyntaxFault) -> &'static str
     ensures { result.now ≡ syntax_words fault }
 {
@@ -27,6 +28,7 @@ fn syntax_words(fault: SyntaxFault) -> &'static str
     }
 }
 
+/// The place of a syntax fault in bytes of the source, from 0, and 0 where memory was refused.
 fn syntax_place(fault: SyntaxFault) -> u32
     ensures { result ≡ syntax_place fault }
 {
@@ -40,6 +42,7 @@ fn syntax_place(fault: SyntaxFault) -> u32
     }
 }
 
+/// A type fault's number and name, with the words in front of its place.
 fn type_words(fault: TypeFault) -> &'static str
     ensures { result.now ≡ type_words fault }
 {

@@ -12,6 +12,7 @@ pub struct Position {
     pub begin: usize,
 }
 
+/// Counts the bytes of a text that end a line.
 fn line_feeds(bytes: &[u8]) -> usize
     ensures value { result ≡ line_feeds bytes.now }
     ensures within { result ≤ length bytes.now }

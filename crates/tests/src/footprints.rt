@@ -10,8 +10,10 @@ use std::test::Fail;
 /// An item, a buffer, the first of four bytes, and the kind of an access.
 type Row = (u32, u32, u16, AccessKind);
 
+/// An atomic addition.
 const ADD: AccessKind = AccessKind::Update(Class::Add);
 
+/// The accesses that a footprint is given, in their order.
 const KEPT: [Row; 4] = [
     (0, 3, 254, AccessKind::Load),
     (1, 3, 256, AccessKind::Load),
@@ -31,6 +33,7 @@ const ASKED: [(Row, Option<(u32, u64)>); 8] = [
     ((9, 4, 256, AccessKind::Store), None),
 ];
 
+/// Makes an access out of a row, with the value 0 and in interval 0.
 fn access(row: Row) -> Access
     ensures { result.first + byte_count result.width < 2 ^ 64 }
 {
@@ -46,6 +49,7 @@ fn access(row: Row) -> Access
     }
 }
 
+/// Shows that an access meets the lowest byte that conflicts, and there the access that was added first.
 #[test]
 fn the_lowest_byte_and_there_the_earliest(rt: HostRuntime) -> Result<(), Fail> {
     let mut footprint = Footprint::new(rt.alloc());
@@ -62,6 +66,7 @@ fn the_lowest_byte_and_there_the_earliest(rt: HostRuntime) -> Result<(), Fail> {
     Ok(())
 }
 
+/// Shows that an access to a local object meets none of those to the buffer of the same number.
 // A local object has the number of a buffer that was touched: no other group shares it.
 #[test]
 fn a_local_object_meets_nothing(rt: HostRuntime) -> Result<(), Fail> {
@@ -106,6 +111,7 @@ const STORES: [(u8, Width, u64, Option<(u32, u64)>); 6] = [
     (9, Width::One, 7, None),
 ];
 
+/// Shows that in a uniform launch alone a store passes where each byte was left as it leaves it.
 // In a uniform launch a store meets the first access that left another byte, and passes where all left its own.
 #[test]
 fn stores_of_the_same_byte_pass(rt: HostRuntime) -> Result<(), Fail> {

@@ -20,6 +20,7 @@ const ROWS: [(u32, u8, AccessKind, Option<u64>, usize); 8] = [
     (4, 20, AccessKind::Update(Class::Add), Some(20), 8),
 ];
 
+/// Makes an entry of an access to four bytes of buffer 0, with the value 0, in interval 0 and of event 0.
 fn entry(item: u32, first: u8, kind: AccessKind) -> Entry
     ensures { IsPlaced result }
 {
@@ -35,6 +36,7 @@ fn entry(item: u32, first: u8, kind: AccessKind) -> Entry
     Entry { access, event: 0 }
 }
 
+/// Shows which accesses a log keeps, and the byte of each conflict that it tells.
 // An access that is there in the running interval isn't kept again. One of another interval is, and is no conflict.
 #[test]
 fn accesses_are_noted(rt: HostRuntime) -> Result<(), Fail> {
@@ -52,6 +54,7 @@ fn accesses_are_noted(rt: HostRuntime) -> Result<(), Fail> {
     Ok(())
 }
 
+/// Shows that additions of two groups pass, and that a minimum conflicts with an addition at the byte they share.
 #[test]
 fn groups_conflict_on_buffers(rt: HostRuntime) -> Result<(), Fail> {
     let mut one = ListLog::new(rt.alloc(), false);
@@ -80,6 +83,7 @@ fn groups_conflict_on_buffers(rt: HostRuntime) -> Result<(), Fail> {
 /// How many local objects an item stores to: as many as local memory has bytes.
 const OBJECTS: u32 = 32768;
 
+/// Shows that a log keeps one store for each of 32,768 local objects, and no second one.
 // Stores to as many local objects are kept apart, and each again is found without a walk.
 #[test]
 fn local_objects_are_told_apart(rt: HostRuntime) -> Result<(), Fail> {
@@ -112,6 +116,7 @@ pub(crate) const STORES: [(u32, u8, Operation, Option<u64>, Option<u64>); 9] = [
     (7, 16, Operation::Load(Width::One), Some(16), Some(16)),
 ];
 
+/// Shows where stores of two items to one byte conflict, in a uniform launch and in another.
 // In a uniform launch two stores conflict where they leave different bytes: not by their numbers, and whichever store
 // of an item it is.
 #[test]

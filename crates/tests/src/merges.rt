@@ -198,6 +198,7 @@ fn is_as(outcome: &Outcome, expected: &Expected) -> bool {
     }
 }
 
+/// Shows that each row comes to what it says, both run whole and run group by group and merged.
 #[test]
 fn merged_as_run_whole(rt: HostRuntime) -> Result<(), Fail> {
     for (source, bytes, expected) in &ROWS {

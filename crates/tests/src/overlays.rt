@@ -4,6 +4,7 @@ use clmodel::access::{Class, Width};
 use spaces::{Overlay, Space};
 use std::test::Fail;
 
+/// Shows that a store over a page's end changes both pages, and that one past the buffer's end is an error.
 // Four bytes, of which two end page 0 and two begin page 1, and four in the last page, which has 88 bytes.
 #[test]
 fn changes_over_a_page_end(rt: HostRuntime) -> Result<(), Fail> {
@@ -19,6 +20,7 @@ fn changes_over_a_page_end(rt: HostRuntime) -> Result<(), Fail> {
     Ok(())
 }
 
+/// Shows that a store far behind is loaded again, and that its page alone counts as changed.
 // The page 65,536, of a buffer that is larger than any of a device.
 #[test]
 fn changes_a_far_page(rt: HostRuntime) -> Result<(), Fail> {

@@ -7,8 +7,10 @@ use renumbering::renumber;
 use std::alloc::{AllocError, Global};
 use std::test::Fail;
 
+/// The kind of a register of `int`.
 const INT: RegisterKind = RegisterKind::Integer(IntType::Int);
 
+/// The kind of a register of `ulong`.
 const ULONG: RegisterKind = RegisterKind::Integer(IntType::Ulong);
 
 /// Tables with a hundred registers of int, and behind them one of ulong; each has its own number as its name.

@@ -8,8 +8,10 @@ use shadow_list::{AccessLog, Entry, Fenced, ListLog};
 use std::alloc::{AllocError, Global};
 use std::test::Fail;
 
+/// The buffer that is accessed.
 const BUFFER: Region = Region::Buffer(0);
 
+/// The local object that is accessed.
 const LOCAL: Region = Region::Local {
     group: 0,
     number: 0,
@@ -58,6 +60,7 @@ fn events_of<L: GroupAccesses>(alloc: Global, log: &L) -> Result<Vec<u32>, Alloc
     Ok(events)
 }
 
+/// Shows which conflicts a running log tells, and which accesses it and its list keep for other groups.
 #[test]
 fn what_lasts_of_a_running_log(rt: HostRuntime) -> Result<(), Fail> {
     let mut log = GroupLog::new(rt.alloc(), false);
@@ -81,6 +84,7 @@ fn what_lasts_of_a_running_log(rt: HostRuntime) -> Result<(), Fail> {
     Ok(())
 }
 
+/// Shows that a list tells the same conflicts, and that its summary keeps what tells other groups something new.
 // The same of the list of all accesses, of which the accesses are kept that tell something new.
 #[test]
 fn what_lasts_of_a_list(rt: HostRuntime) -> Result<(), Fail> {
@@ -106,6 +110,7 @@ fn what_lasts_of_a_list(rt: HostRuntime) -> Result<(), Fail> {
     Ok(())
 }
 
+/// Shows where a running log tells conflicts of stores, in a uniform launch and in another.
 // A running log judges stores as the list of all accesses does, and again once it is cleared.
 #[test]
 fn stores_of_the_same_byte_pass_in_a_uniform_launch(rt: HostRuntime) -> Result<(), Fail> {

@@ -76,6 +76,7 @@ fn read_and_written(alloc: Global, file: &[u8]) -> Result<(u64, Vec<u8>), Fail> 
     Ok((ticket, writer.into_inner()))
 }
 
+/// Shows that a file's ticket is read, and that its fault and its schedule are written again byte for byte.
 // A schedule file tells its ticket, and its second line is written again as it was.
 #[test]
 fn files(rt: HostRuntime) -> Result<(), Fail> {
@@ -90,6 +91,7 @@ fn files(rt: HostRuntime) -> Result<(), Fail> {
     Ok(())
 }
 
+/// Shows that a text with a flaw is answered by `BadText`.
 // All else is told to be none.
 #[test]
 fn others(rt: HostRuntime) -> Result<(), Fail> {

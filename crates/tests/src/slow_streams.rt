@@ -7,6 +7,7 @@ use std::io::{BufWriter, Error, ErrorKind};
 use std::test::Fail;
 use streams::{Input, Output};
 
+/// The nine bytes that are written and read.
 const TEXT: &str = "clean\nok\n";
 
 /// Moves one byte at each other call, is interrupted at the rest, and fails where no calls are left.
@@ -77,6 +78,7 @@ fn write_over(alloc: Global, slow: Slow) -> Result<(Result<(), WriteFailed>, Slo
     Ok((answer, output.into_inner()))
 }
 
+/// Shows that a text is written over a slow stream, or its beginning where the stream fails.
 // Two calls a byte, and a flush: of each stream that fails at a call before, what it took has come out.
 #[test]
 fn writing(rt: HostRuntime) -> Result<(), Fail> {
@@ -97,6 +99,7 @@ fn writing(rt: HostRuntime) -> Result<(), Fail> {
     Ok(())
 }
 
+/// Shows that a text is read from a slow stream, and that the reader fails where the stream does.
 // Two calls a byte, and those at the end of the text.
 #[test]
 fn reading(rt: HostRuntime) -> Result<(), AllocError> {

@@ -13,8 +13,10 @@ use regcode::{Instruction, Register, RegisterKind, Tables, VerifyFault, verify};
 use std::alloc::{AllocError, Global};
 use std::test::Fail;
 
+/// The type `int`.
 const INT: VariableType = VariableType::Integer(IntType::Int);
 
+/// The type of a pointer to `const int` in constant memory.
 const POINTER: VariableType = VariableType::Pointer(PointerType {
     space: AddressSpace::Constant,
     is_const: true,
@@ -64,6 +66,7 @@ const WAIT: Instruction = Barrier {
     },
 };
 
+/// A code in each line: whether it is verified, its instructions, and behind `|` the depth of loops at each.
 // Codes and the loops that are entered at each place: the first instruction, the ways out of the code and into loops,
 // the ways back, and loops in one another.
 const WAYS: &str = "\
@@ -136,6 +139,7 @@ fn is_verified(alloc: Global, row: &str) -> Result<Option<bool>, Fail> {
     Ok(Some(fault_of(alloc, &code, &loops)?.is_none()))
 }
 
+/// Shows that the code of each row of the table is verified or rejected as the row says.
 #[test]
 fn ways(rt: HostRuntime) -> Result<(), Fail> {
     for row in WAYS.lines() {
@@ -270,6 +274,7 @@ const MISFITS: [Instruction; 27] = [
     JumpIfZero { test: 2, by: 0 },
 ];
 
+/// Shows that each of the misfits makes a code rejected.
 #[test]
 fn operands(rt: HostRuntime) -> Result<(), Fail> {
     for (row, instruction) in MISFITS.into_iter().enumerate() {
@@ -279,6 +284,7 @@ fn operands(rt: HostRuntime) -> Result<(), Fail> {
     Ok(())
 }
 
+/// Shows that a code is rejected where a constant isn't of its register's type.
 // A number of `int` in a register of `uint`.
 #[test]
 fn a_constant_of_another_type(rt: HostRuntime) -> Result<(), Fail> {
@@ -291,6 +297,7 @@ fn a_constant_of_another_type(rt: HostRuntime) -> Result<(), Fail> {
     Ok(())
 }
 
+/// Shows that a code is rejected where a register has a name that isn't there.
 // The registers' names are the last of six, so that five are too few.
 #[test]
 fn a_register_of_a_missing_name(rt: HostRuntime) -> Result<(), Fail> {

@@ -14,6 +14,7 @@ use std::alloc::{AllocError, Global};
 use std::sync::Wait;
 use std::thread::Threads;
 
+/// The owner of the two words that the workers share, which knows the count of groups.
 pub(crate) type WorkTable = Table<u8, Hand, u64, Drawing, Global>;
 
 /// Ends the table with the seat that has all parts: each group was drawn, and each least fault that was seen is known

@@ -14,6 +14,7 @@ fn are_in_order(results: &[Ended]) -> bool {
         && !ended.stopped)
 }
 
+/// Shows that each of up to 65,536 groups is run once by 1 to 16 workers, and that the results are in order.
 #[test]
 fn all_groups_in_their_order(rt: HostRuntime) -> Result<(), Fail> {
     for (count, workers) in [(0, 16), (3, 16), (65_536, 1), (65_536, 3), (65_536, 16)] {

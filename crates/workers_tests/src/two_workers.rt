@@ -58,6 +58,7 @@ pub fn launched<W: Threads + Wait + Sync, G: Gate>(
     Ok(Some(run_parallel(rt, alloc, &launch, device.buffers(), workers, gate)?))
 }
 
+/// Shows that both groups are run at the same time by `run_parallel`, which comes to the sums.
 #[test]
 fn they_meet_in_run_parallel(rt: HostRuntime) -> Result<(), Fail> {
     let Some((device, command)) = all_but_the_last(rt.alloc(), SUM) else {
@@ -83,6 +84,7 @@ fn is_applied<W: Threads + Wait + Sync>(
     Ok(is_clean(&reply) && holds_sums(alloc, device.buffers())?)
 }
 
+/// Shows that both groups are run at the same time by `apply_with`, which leaves the sums on the device.
 #[test]
 fn they_meet_in_apply_with(rt: HostRuntime) -> Result<(), Fail> {
     let Some((device, command)) = all_but_the_last(rt.alloc(), SUM) else {
@@ -137,6 +139,7 @@ fn driven<W: Threads + Wait + Sync>(
     })
 }
 
+/// Shows that both groups are run at the same time by `drive_with`, whose reply is clean, and the sums are there.
 #[test]
 fn they_meet_in_drive_with(rt: HostRuntime) -> Result<(), Fail> {
     let Some((device, command)) = all_but_the_last(rt.alloc(), SUM) else {
