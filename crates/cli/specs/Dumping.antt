@@ -8,7 +8,7 @@ use Rattle.counted_io.specs.Sink.{Sink, Wrote, Stopped, CountsUp}
 use Rattle.counted_io.specs.Source.{Are}
 use Rattle.lower.specs.Names.{LowersNamed}
 use Rattle.regcode.specs.Listing.{Listing}
-use Rattle.regcode.specs.Text.{text_of}
+use Rattle.code_text.specs.Text.{text_of}
 use Rattle.simfile.specs.Lines.{check_line}
 use Rattle.cli.specs.declared.session.Reader.TheVariants as reader
 use Rattle.cli.specs.declared.session.RunFault.{RunFault}

@@ -9,10 +9,10 @@ use crate::checking::tell;
 use crate::reading::bytes_of;
 use crate::session::{Reader, RunFault};
 use cltypes::Checked;
+use code_text::dump;
 use counted_io::{Read, Write};
 use host_commands::build::{NotBuilt, build};
 use lower::lower;
-use regcode::dump;
 use std::alloc::Global;
 
 /// Writes the code of a program's kernel as text, and lets go of it.

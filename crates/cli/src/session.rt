@@ -11,12 +11,12 @@ ghost use Rattle.cli.specs.Session.{one_end, Answered, Broken, Unanswered, Ran, 
 
 use crate::only_client::OnlyClient;
 use crate::reading::commands_of;
+use code_text::DumpFault;
 use counted_io::{Read, Write, WriteFailed};
 use fault_lines::ReadFault as FileFault;
 use host_commands::command::{Command, Reply};
 use host_queue::Request;
 use lower::LowerFault;
-use regcode::DumpFault;
 use serving::ServeFault;
 use simfile::replies::write_reply;
 use simfile::script::ScriptFault;

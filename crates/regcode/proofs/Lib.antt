@@ -1,6 +1,5 @@
 pub mod Registers
 pub mod Agreement
-pub mod Dumped
 pub mod Judged
 mod Named
 pub mod SafetyLaws

@@ -1,7 +1,5 @@
-pub mod Parts
 pub mod Listed
 pub mod Listing
 pub mod Machine
 pub mod Rules
 pub mod Safety
-pub mod Text

@@ -3,7 +3,7 @@ use Rattle.std.proofs.lemmas.List.{append-nil}
 use Rattle.std.proofs.lemmas.Result.{err_from_is_err_and}
 use Rattle.counted_io.specs.Sink.{Stopped}
 use Rattle.counted_io.proofs.Puts.{stopped_then}
-use Rattle.regcode.specs.Text.{text_of}
+use Rattle.code_text.specs.Text.{text_of}
 use Rattle.cli.proofs.dumping.tell_kernel.Goals as goal
 
 pub returns-in_err-flush-clause-untold : goal.returns-in_err-flush-clause-untold

@@ -2,13 +2,13 @@
 #![tactic(auto)]
 
 ghost use Rattle.std.specs.Prelude.{◌≡◌};
-ghost use Rattle.regcode.specs.Text as text;
+ghost use Rattle.code_text.specs.Text as text;
 
-use crate::instruction::Instruction;
 use clmodel::action::Fences;
 use clmodel::setup::{AtomicFunction, WorkItemFunction};
 use clmodel::tree::AddressSpace;
 use clnum::{BinaryOperator, Builtin, UnaryOperator};
+use regcode::Instruction;
 
 /// The qualifier of an address space (OpenCL 1.2, section 6.5), with a space behind it.
 pub(crate) fn space_word(space: AddressSpace) -> &'static str

@@ -1,10 +1,10 @@
 -- The text of the parts of a line.
 use Rattle.std.specs.Prelude.{ℕ, Option, None, Some, List, [], ◌∷◌, ◌++◌, codes, decimal}
-use Rattle.regcode.specs.declared.dumping.Part.{Part}
-use Rattle.regcode.specs.declared.dumping.Part.TheVariants as part
+use Rattle.code_text.specs.declared.dumping.Part.{Part}
+use Rattle.code_text.specs.declared.dumping.Part.TheVariants as part
 use Rattle.clnum.specs.Integer.{type_word}
 use Rattle.counted_io.specs.Pieces.{joined}
-use Rattle.regcode.specs.Text.{fences_word, register, pointed, private, typed, variable_type}
+use Rattle.code_text.specs.Text.{fences_word, register, pointed, private, typed, variable_type}
 
 abbrev pub part_text : Part → List ℕ
 part_text (part.Register r) = register r

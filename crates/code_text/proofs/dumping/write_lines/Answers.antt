@@ -1,7 +1,7 @@
 use Rattle.std.proofs.Common.{rules}
 use Rattle.std.proofs.lemmas.Result.{err_from_is_err_and}
-use Rattle.regcode.proofs.Dumped.{lines_wrote, lines_stopped}
-use Rattle.regcode.proofs.dumping.write_lines.Goals as goal
+use Rattle.code_text.proofs.Dumped.{lines_wrote, lines_stopped}
+use Rattle.code_text.proofs.dumping.write_lines.Goals as goal
 
 pub returns-in_err-write_line : goal.returns-in_err-write_line
 returns-in_err-write_line g c =

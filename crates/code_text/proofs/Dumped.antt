@@ -5,7 +5,7 @@ use Rattle.counted_io.specs.Pieces.{joined}
 use Rattle.counted_io.specs.Sink.{Sink, Wrote, Stopped, Puts}
 use Rattle.counted_io.proofs.Puts.{wrote_then, stopped_then, stopped_more}
 use Rattle.regcode.specs.declared.instruction.Instruction.{Instruction}
-use Rattle.regcode.specs.Text.{line_of, lines_from}
+use Rattle.code_text.specs.Text.{line_of, lines_from}
 
 -- the text of a line, by what is written of it one after another
 abbrev pub written_line : (place word first second third fourth : List ℕ) → List ℕ

@@ -3,18 +3,17 @@
 
 ghost use Rattle.std.specs.Prelude.{◌≡◌, ◌+◌, ◌-◌, ◌<◌, ◌^◌, Some};
 ghost use Rattle.counted_io.specs.Sink.{Puts};
-ghost use Rattle.regcode.specs.declared.dumping.Part.TheVariants as part;
-ghost use Rattle.regcode.specs.Parts.{part_text, behind, parts_text};
-ghost use Rattle.regcode.specs.Text.{listed, names_in, line_of, text_of, variable_type};
+ghost use Rattle.code_text.specs.declared.dumping.Part.TheVariants as part;
+ghost use Rattle.code_text.specs.Parts.{part_text, behind, parts_text};
+ghost use Rattle.code_text.specs.Text.{listed, names_in, line_of, text_of, variable_type};
 
-use crate::code::Code;
-use crate::instruction::{FetchOperands, Instruction};
 use crate::words::{fences_word, instruction_word, space_word};
 use clmodel::action::Fences;
 use clmodel::tree::VariableType;
 use clnum::{IntType, Value};
 use counted_io::pieces::{Piece, write_number, write_pieces};
 use counted_io::{Write, WriteFailed};
+use regcode::{Code, FetchOperands, Instruction};
 
 /// Why code was not dumped.
 #[derive(Clone, Copy, Debug, PartialEq, Eq)]

@@ -1,7 +1,7 @@
 use Rattle.std.proofs.lemmas.Result.{err_from_is_err_and}
 use Rattle.counted_io.proofs.Puts.{stopped_more, puts_then}
-use Rattle.regcode.specs.Parts.{part_text}
-use Rattle.regcode.proofs.dumping.write_behind.Goals as goal
+use Rattle.code_text.specs.Parts.{part_text}
+use Rattle.code_text.proofs.dumping.write_behind.Goals as goal
 
 pub returns-in_err-write : goal.returns-in_err-write
 returns-in_err-write g c =
