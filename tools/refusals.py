@@ -105,7 +105,7 @@ def runs_of(report):
 
 def each(library, command, folder, what="memory"):
     """The runs of a command: none refused first, then each request in turn, or a sample of more than MOST. The last refuses none, since it makes
-    fewer. A command of `clsim serve` reads FILE."""
+    fewer, and comes to what the first came to: else the series ended before all were tried. A command of `clsim serve` reads FILE."""
     report = os.path.join(folder, "REPORT")
     environment = {**os.environ, "LD_PRELOAD": library, "WHAT": what, "REFUSE": "each", "REPORT": report, "SECONDS": str(LIMIT),
                    "MOST": str(MOST), "FIRST": str(FIRST), "STEP": str(STEP), "LAST": str(LAST)}
@@ -121,6 +121,8 @@ def each(library, command, folder, what="memory"):
     os.remove(report)
     if len(runs) < 2 or runs[0].refused or runs[-1].refused or any(run.refused != 1 for run in runs[1:-1]):
         raise BadReport(f"{len(runs)} runs, of which not each but the first and the last refused one request")
+    if runs[-1].came() != runs[0].came():
+        raise BadReport(f"run {runs[-1].number}, with none refused, came to {runs[-1].came()!r}"[:600])
     return runs
 
 

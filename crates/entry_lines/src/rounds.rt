@@ -88,7 +88,7 @@ fn is_told(heads: &[Entry], steps: &[Step], line: &Line) -> bool
     true
 }
 
-/// The line that the newest entries of one round are: None if they aren't three rounds, or its steps get no memory.
+/// The last entries of a line of one round, as three rounds. None if they aren't so, or their steps get no memory.
 pub(crate) fn tail_of(heads: &[Entry], steps: &mut Vec<Step>, last: &Line) -> Option<Line>
     requires heads { last.now.head + last.now.count ≤ length heads.now }
     requires short { last.now.start + last.now.count < 2 ^ 64 }
