@@ -7,7 +7,7 @@ use Rattle.clmodel.specs.Typing.Functions.{names}
 use Rattle.clmodel.specs.Typing.Sizes.{node_limit, parameter_limit}
 use Rattle.lower_code.specs.Code.{kernel_code}
 use Rattle.lower.specs.Bounds.{per_node, TypedKernelsShort, TypedKernelsFewRegisters, TypedKernelsFit}
-use Rattle.lower.specs.Tables.{register_count}
+use Rattle.code_tables.specs.Tables.{register_count}
 use Rattle.lower.proofs.LowKernels.{kernels_few_registers}
 use Rattle.lower.proofs.ShortKernels.{kernels_short}
 use Rattle.lower.proofs.TypedKernels.{kernel_typed}

@@ -11,7 +11,7 @@ use Rattle.regcode.specs.declared.instruction.Instruction.{Instruction}
 use Rattle.regcode.specs.declared.instruction.Instruction.TheVariants as instruction
 use Rattle.lower_expr.specs.Scope.{Scope}
 use Rattle.lower_code.specs.Code.{Exits, parameter_variables, pass_code, result_in, no_value_code, stmts_code, body_code, call_code, arguments_code, kernel_code}
-use Rattle.lower.specs.Tables.{depth_after, loops_from, tabled}
+use Rattle.code_tables.specs.Tables.{depth_after, loops_from, tabled}
 use Rattle.lower.specs.Accepted.{Flat, Standing, Going, Sound, Distinct, KernelsGo}
 use Rattle.lower.proofs.Sound.{leads_at, there, first_leads, standing_left, standing_right, going_both, sound_flat, sound_then, sound_both}
 use Rattle.lower.proofs.CallCode.{by_name}

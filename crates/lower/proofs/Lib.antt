@@ -8,7 +8,6 @@ pub mod Calls
 pub mod Suiting
 pub mod Suited
 pub mod Flat
-pub mod Below
 pub mod Tabled
 pub mod Sound
 pub mod SoundLoops
@@ -20,7 +19,6 @@ pub mod CallCode
 pub mod TypedRights
 pub mod TypedStatements
 pub mod TypedKernels
-pub mod Counted
 pub mod Lowered
 pub mod Rounds
 pub mod Lent

@@ -23,7 +23,7 @@ use Rattle.lower_expr.proofs.Places.{kind_below}
 use Rattle.lower_expr.specs.Scope.{Scope, register_at, register_in, register_of, free_level}
 use Rattle.lower_expr.specs.Expressions.{count, kind_of, kind_named, type_of_elements, register_for, registers_for, folded, expr_code, terms_code, target_code, target_register, variable_code, element_code, infix_code, branch_code, choice_code, call_code, update_code, call_only_code}
 use Rattle.lower_code.specs.Code.{type_of_target, set_variable_code, fetch_code, put_code, combine_code}
-use Rattle.lower.specs.Tables.{registers_of, room, register_count}
+use Rattle.code_tables.specs.Tables.{registers_of, room, register_count}
 use Rattle.lower_expr.proofs.Short.{some_node}
 
 -- these numbers are below n

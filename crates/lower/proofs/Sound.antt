@@ -8,7 +8,7 @@ use Rattle.regcode.specs.Rules.{loops_at, most_loops, Leads, LeadsInside}
 use Rattle.regcode.specs.declared.instruction.Instruction.{Instruction}
 use Rattle.regcode.specs.declared.instruction.Instruction.TheVariants as instruction
 use Rattle.lower_code.specs.Code.{Exits, past}
-use Rattle.lower.specs.Tables.{depth_after}
+use Rattle.code_tables.specs.Tables.{depth_after}
 use Rattle.lower.specs.Accepted.{Stays, Flat, Standing, ends, Going, Opens, Sound}
 
 pub leads_at : (L : Listing) (d p q : ℕ) → p ≡ q → Leads L p d → Leads L q d

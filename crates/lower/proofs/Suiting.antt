@@ -28,7 +28,7 @@ use Rattle.regcode.proofs.Registers.{kind_within}
 use Rattle.clnum.specs.Integer.{type_number}
 use Rattle.lower_expr.specs.Scope.{kind_number, register_at}
 use Rattle.lower_expr.proofs.Places.{register_below}
-use Rattle.lower.specs.Tables.{kinds, register_kind}
+use Rattle.code_tables.specs.Tables.{kinds, register_kind}
 use Rattle.lower.specs.Accepted.{Suits, Suit, Is}
 
 pub suit_both : (parameters : List VariableType) (xs ys : List Instruction) → Suit parameters xs → Suit parameters ys → Suit parameters (xs ++ ys)

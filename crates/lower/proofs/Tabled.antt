@@ -9,9 +9,9 @@ use Rattle.regcode.specs.Listing.{Listing}
 use Rattle.regcode.specs.Rules.{kind_at, HasRoom}
 use Rattle.regcode.specs.declared.instruction.Instruction.{Instruction}
 use Rattle.regcode.specs.declared.instruction.Instruction.TheVariants as instruction
-use Rattle.lower.specs.Tables.{register_kind, register_in, name_behind, renamed, name_count, greatest, each_below, registers_of, room, register_count, objects_of, names_of, arrays_of, array_count, elements_for, most_at, depth_after, loops_from, tabled}
-use Rattle.lower.proofs.Below.{below_counted, below_has, below_at}
-use Rattle.lower.proofs.Counted.{greatest_there}
+use Rattle.code_tables.specs.Tables.{register_kind, register_in, name_behind, renamed, name_count, greatest, each_below, registers_of, room, register_count, objects_of, names_of, arrays_of, array_count, elements_for, most_at, depth_after, loops_from, tabled}
+use Rattle.code_tables.proofs.Below.{below_counted, below_has, below_at}
+use Rattle.code_tables.proofs.Counted.{greatest_there}
 use Rattle.lower.specs.Accepted.{Has, HasArray, Suits, Suit, SuitFits}
 
 tables_have : (code : Listing) (n : ℕ) → ((r : ℕ) → r < n → kind_at code r ≡ Some (register_kind r)) → (rs : List ℕ) → room rs ≤ n → Has code rs

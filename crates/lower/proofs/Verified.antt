@@ -5,7 +5,7 @@ use Rattle.clmodel.specs.Next.{sites_in}
 use Rattle.regcode.specs.declared.instruction.Instruction.{Instruction}
 use Rattle.regcode.specs.declared.instruction.Instruction.TheVariants as instruction
 use Rattle.lower_code.specs.Code.{result_in, body_code, call_code, arguments_code, kernel_code}
-use Rattle.lower.specs.Tables.{register_count, loops_from}
+use Rattle.code_tables.specs.Tables.{register_count, loops_from}
 use Rattle.lower.specs.Accepted.{KernelsVerified}
 use Rattle.lower.proofs.Tabled.{suit_fits, names_there, loops_counted}
 use Rattle.lower.proofs.KernelWays.{kernels_go}

@@ -20,7 +20,7 @@ use Rattle.lower_expr.specs.Scope.{Scope, register_at, register_of}
 use Rattle.lower_expr.specs.Expressions.{kind_named, expr_code, target_code}
 use Rattle.regcode.specs.declared.instruction.Instruction.TheVariants as instruction
 use Rattle.lower_code.specs.Code.{local_pointer, Exits, Calls, stmts_code, kernel_code}
-use Rattle.lower.specs.Tables.{register_kind, registers_of, names_of, objects_of, depth_after, tabled}
+use Rattle.code_tables.specs.Tables.{register_kind, registers_of, names_of, objects_of, depth_after, tabled}
 
 -- these registers are in the tables, each with its kind
 abbrev pub Has : Listing → List ℕ → Type 0

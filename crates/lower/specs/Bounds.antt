@@ -12,7 +12,7 @@ use Rattle.lower_code.specs.Code.{kernel_code}
 use Rattle.lower_code.specs.Helpers.{inside, sizes_in}
 use Rattle.lower_code.specs.Trees.{all_of}
 use Rattle.lower_code.specs.Variables.{row_elements}
-use Rattle.lower.specs.Tables.{register_count}
+use Rattle.code_tables.specs.Tables.{register_count}
 
 -- how many instructions a node has at most
 abbrev pub per_node : ℕ

@@ -1,5 +1,4 @@
 pub mod Correct
-pub mod Tables
 pub mod Accepted
 pub mod Lowers
 pub mod Lists

@@ -5,7 +5,7 @@ use Rattle.clmodel.specs.Tree.{Func, Funcs}
 use Rattle.clmodel.specs.declared.tree.VariableType.{VariableType}
 use Rattle.regcode.specs.Listing.{Listing}
 use Rattle.lower_code.specs.Code.{kernel_code}
-use Rattle.lower.specs.Tables.{tabled}
+use Rattle.code_tables.specs.Tables.{tabled}
 
 -- the types of a function's parameters
 abbrev pub parameter_types : Func → List VariableType

@@ -10,7 +10,6 @@
 #![tactic(auto)]
 
 pub mod code_laws;
-mod code_tables;
 mod expansion;
 pub mod kernel_laws;
 mod kernels;

@@ -14,7 +14,6 @@ ghost use Rattle.lower.specs.Lowers.{IsLowered};
 ghost use Rattle.lower.specs.Names.{LowersNamed, ListsNamed};
 
 use crate::code_laws::acts_as_the_tree;
-use crate::code_tables::tables_of;
 use crate::kernel_laws::{
     typed_kernels_are_short, typed_kernels_are_verified, typed_kernels_have_few_barriers,
 };
@@ -22,6 +21,7 @@ use crate::kernels::emit_kernel;
 use clmodel::lookup::PlacedFunction;
 use clmodel::tree::{Parameter, Tree, VariableType};
 use cltypes::Checked;
+use code_tables::tables_of;
 use regcode::{Code, Instruction, Tables, VerifyFault, verify};
 use std::alloc::{AllocError, Global};
 use thiserror::Error;

@@ -1,6 +1,6 @@
 use Rattle.std.proofs.Common.{length, arith}
-use Rattle.lower.proofs.Counted.{registers_within, names_end}
-use Rattle.lower.proofs.code_tables.register_names.Goals as goal
+use Rattle.code_tables.proofs.Counted.{registers_within, names_end}
+use Rattle.code_tables.proofs.tables.register_names.Goals as goal
 
 pub rename-requires : goal.rename-requires
 rename-requires c =

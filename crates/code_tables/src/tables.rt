@@ -4,7 +4,7 @@
 ghost use Rattle.std.specs.Prelude.{◌≡◌, ℕ, ◌+◌, ◌≤◌, max, [], ◌∷◌, length, get_or, IfOk};
 ghost use Rattle.regcode.specs.Listed.{listing};
 ghost use Rattle.regcode.specs.Safety.{operand_sources};
-ghost use Rattle.lower.specs.Tables as spec;
+ghost use Rattle.code_tables.specs.Tables as spec;
 
 use clmodel::tree::VariableType;
 use clnum::IntType;

@@ -6,8 +6,8 @@ use Rattle.std.proofs.Math.Nat.{le-max_left, le-max_right}
 use Rattle.regcode.specs.declared.instruction.Instruction.{Instruction}
 use Rattle.regcode.specs.declared.tables.Register.{Register}
 use Rattle.regcode.specs.declared.tables.RegisterKind.{RegisterKind}
-use Rattle.lower.proofs.Below.{below_counted, below_at}
-use Rattle.lower.specs.Tables.{register_kind, register_in, greatest, registers_of, room, register_count, name_behind, register_name, arrays_of, array_count, most_at, each_below}
+use Rattle.code_tables.proofs.Below.{below_counted, below_at}
+use Rattle.code_tables.specs.Tables.{register_kind, register_in, greatest, registers_of, room, register_count, name_behind, register_name, arrays_of, array_count, most_at, each_below}
 
 -- no instruction has a greater number than the greatest
 pub greatest_there : (number : Instruction → ℕ) (code : List Instruction) (place : ℕ) (i : Instruction) → slice_get code place ≡ Some i → number i ≤ greatest number code

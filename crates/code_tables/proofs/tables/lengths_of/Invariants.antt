@@ -1,6 +1,6 @@
 use Rattle.std.proofs.Common.{◌≡◌, ℕ, max, drop, get_or, length}
-use Rattle.lower.specs.Tables.{most_at, array_count}
-use Rattle.lower.proofs.code_tables.lengths_of.Given as goal
+use Rattle.code_tables.specs.Tables.{most_at, array_count}
+use Rattle.code_tables.proofs.tables.lengths_of.Given as goal
 
 abbrev pub invariant-loop-instruction : goal.invariant-loop-instruction
 invariant-loop-instruction l =

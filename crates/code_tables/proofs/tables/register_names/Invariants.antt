@@ -1,6 +1,6 @@
 use Rattle.std.proofs.Common.{◌≡◌, ℕ, drop, get_or, length}
-use Rattle.lower.specs.Tables.{name_behind, register_name, register_count}
-use Rattle.lower.proofs.code_tables.register_names.Given as goal
+use Rattle.code_tables.specs.Tables.{name_behind, register_name, register_count}
+use Rattle.code_tables.proofs.tables.register_names.Given as goal
 
 abbrev pub invariant-loop-instruction : goal.invariant-loop-instruction
 invariant-loop-instruction l =

@@ -1,6 +1,6 @@
 use Rattle.std.proofs.Common.{◌∙◌, arith}
-use Rattle.lower.proofs.Counted.{registers_grow, registers_end}
-use Rattle.lower.proofs.code_tables.registers_of.Goals as goal
+use Rattle.code_tables.proofs.Counted.{registers_grow, registers_end}
+use Rattle.code_tables.proofs.tables.registers_of.Goals as goal
 
 pub loop-register-preserved : goal.loop-register-preserved
 loop-register-preserved c =

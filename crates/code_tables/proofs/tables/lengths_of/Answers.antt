@@ -1,6 +1,6 @@
 use Rattle.std.proofs.Common.{length, arith}
-use Rattle.lower.proofs.Counted.{array_within, lengths_end}
-use Rattle.lower.proofs.code_tables.lengths_of.Goals as goal
+use Rattle.code_tables.proofs.Counted.{array_within, lengths_end}
+use Rattle.code_tables.proofs.tables.lengths_of.Goals as goal
 
 pub raise-requires : goal.raise-requires
 raise-requires c =
