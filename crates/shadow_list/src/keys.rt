@@ -45,7 +45,7 @@ fn in_buffer(region: Region) -> bool
 }
 
 /// The number of an object among buffers, or among local objects of its group.
-fn object_number(region: Region) -> u32
+pub fn object_number(region: Region) -> u32
     ensures { result ≡ object_number region }
 {
     match region {

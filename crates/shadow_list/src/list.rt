@@ -8,9 +8,9 @@ ghost use Rattle.shadow_list.specs.Past.{IsBefore};
 
 use crate::access_list::AccessList;
 use crate::index::{Index, hit_from, is_there, keep};
-use crate::log::{AccessLog, Accesses, Entry, Fenced, Hit, Logged};
+use crate::log::{AccessLog, Accesses, Entry, Fenced, Hit, Logged, stamped};
 use crate::search::hit;
-use clmodel::access::{Access, Region, Rule};
+use clmodel::access::{Region, Rule};
 use std::alloc::{AllocError, Global};
 
 /// A log with an index: for each word of four bytes, or for each byte of a word that was accessed in part, whose its
@@ -109,23 +109,6 @@ impl ListLog {
         }
     }
 
-    /// An access with the running interval of its address space.
-    fn stamped(&self, entry: Entry) -> Entry
-        ensures { result ≡ stamped (logged self.now.entries.items self.now.local_interval self.now.global_interval self.now.uniform) entry }
-    {
-        let interval = match entry.access.region {
-            Region::Buffer(_) => self.global_interval,
-            Region::Local { .. } => self.local_interval,
-        };
-        Entry {
-            access: Access {
-                interval,
-                ..entry.access
-            },
-            ..entry
-        }
-    }
-
     /// From where on the entries are that an access of a region can conflict with or be equal to: none before is of its
     /// address space and of the running interval there.
     fn first(&self, region: Region) -> usize
@@ -179,7 +162,7 @@ impl AccessLog for ListLog {
         ensures once { OnOk result (IsKeptOnce self.old.entries.items (stamped (logged self.old.entries.items self.old.local_interval self.old.global_interval self.old.uniform) entry) self.new.entries.items) }
     {
         let from = self.first(entry.access.region);
-        let entry = self.stamped(entry);
+        let entry = stamped(entry, self.global_interval, self.local_interval);
         let log = self.entries.as_slice();
         let cell = self
             .index

@@ -1,6 +1,7 @@
 //! What an access log is.
 
 ghost use Rattle.std.specs.Prelude.{◌≡◌, ◌<◌, ◌+◌, ◌-◌, ◌^◌, ℕ, length, slice_index_or};
+ghost use Rattle.clmodel.specs.Run.{by_region};
 ghost use Rattle.shadow_list.specs.Log.{Log, IsNoted, IsPlaced, entry_of, running, after_fence};
 
 use clmodel::access::{Access, Clash, Operation, Region};
@@ -30,6 +31,30 @@ impl Entry {
         };
         Entry { access, event }
     }
+
+    /// The same access, made in this interval.
+    pub fn with_interval(self, interval: u32) -> Self
+        ensures { result ≡ record self { access = record self.access { interval = interval } } }
+    {
+        Entry {
+            access: Access {
+                interval,
+                ..self.access
+            },
+            ..self
+        }
+    }
+}
+
+/// An access with the running interval of its address space, by those of global and of local memory.
+pub fn stamped(entry: Entry, global_interval: u32, local_interval: u32) -> Entry
+    ensures { result ≡ record entry { access = record entry.access { interval = by_region entry.access.region global_interval local_interval } } }
+{
+    let interval = match entry.access.region {
+        Region::Buffer(_) => global_interval,
+        Region::Local { .. } => local_interval,
+    };
+    entry.with_interval(interval)
 }
 
 /// A conflict of two accesses on a byte.

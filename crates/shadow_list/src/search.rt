@@ -66,7 +66,7 @@ pub(crate) fn is_among(x: &Access, log: &[Entry]) -> bool
 }
 
 /// Whether two accesses are equal.
-pub(crate) fn is_same(x: &Access, y: &Access) -> bool
+pub fn is_same(x: &Access, y: &Access) -> bool
     ensures same { IsTrue result → x.now ≡ y.now }
     ensures other { result ≡ false → x.now ≡ y.now → ⊥ }
 {
