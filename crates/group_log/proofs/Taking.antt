@@ -20,6 +20,7 @@ use Rattle.group_log.specs.Side.{TakesOf}
 use Rattle.group_log.specs.declared.side.Side.{Side}
 use Rattle.shadow.proofs.Absorbing.{Takes, takes_marked, takes_apart, sort_self}
 use Rattle.shadow.proofs.Absorbing as absorbing
+use Rattle.shadow_list.specs.Keys.{object_number}
 use Rattle.shadow_list.specs.Log.{in_buffer}
 use Rattle.shadow_list.specs.declared.log.Entry.{Entry}
 use Rattle.group_traces.specs.Traces.{untouched, first_in, grows, trace_with, passes, tells, takes}
@@ -32,6 +33,11 @@ use Rattle.group_log.proofs.Covering.{no_conflict}
 use Rattle.group_log.proofs.Standing.{stands_told, stands_clear, stands_more, stands_with, stands_begun, stands_none}
 
 -- ---- regions
+
+-- the number of an object, as the log of a list says it
+pub number_is : (n : ℕ) (r : Region) → n ≡ object_number r → n ≡ number_of r
+number_is n (region.Buffer m) h = h
+number_is n (region.Local g m) h = h
 
 -- an access is at a byte of its own region where it covers it
 own_at : (r : Region) (byte : ℕ) (x : Access) → x.region ≡ r → covers x.first (byte_count x.width) byte ≡ true → at_byte r byte x ≡ true

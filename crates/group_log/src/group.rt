@@ -12,7 +12,7 @@ ghost use Rattle.group_log.specs.Tells.{Tells, with_last};
 use crate::lasting::Lasting;
 use crate::side::{Glance, Side};
 use crate::whole::Whole;
-use clmodel::access::{Access, Region};
+use clmodel::access::Region;
 use shadow::{AccessSummary, GroupAccesses};
 use shadow_list::{AccessLog, Entry, Fenced, Hit, Logged};
 use std::alloc::{AllocError, Global};
@@ -42,19 +42,6 @@ pub struct GroupLog {
     ghost entries: { lasting.entries.items ≡ short_of whole.items },
     ghost has_last: { lasting.has_last ≡ last_of false whole.items },
     ghost left_out: { LeavesOut [] whole.items },
-}
-
-/// An access of a running interval.
-fn stamped(entry: Entry, interval: u32) -> Entry
-    ensures { result ≡ record entry { access = record entry.access { interval = interval } } }
-{
-    Entry {
-        access: Access {
-            interval,
-            ..entry.access
-        },
-        ..entry
-    }
 }
 
 impl GroupLog {
@@ -189,7 +176,7 @@ impl GroupLog {
         requires space { in_buffer entry.access.region ≡ false }
         ensures { IsNoted (log_of self.old) entry (log_of self.new) result }
     {
-        let entry = stamped(entry, self.local.interval);
+        let entry = entry.with_interval(self.local.interval);
         let glance = self.local.look(&entry.access);
         if glance.look.sight.clear {
             self.take_local(glance, entry)?;
@@ -206,7 +193,7 @@ impl GroupLog {
         requires space { in_buffer entry.access.region ≡ true }
         ensures { IsNoted (log_of self.old) entry (log_of self.new) result }
     {
-        let entry = stamped(entry, self.global.interval);
+        let entry = entry.with_interval(self.global.interval);
         let glance = self.global.look(&entry.access);
         if glance.look.sight.clear {
             self.take_global(glance, entry)?;

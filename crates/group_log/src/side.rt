@@ -14,7 +14,7 @@ ghost use Rattle.group_log.specs.Stands.{region_at, number_of, AllStand, AllTake
 use clmodel::access::{Access, Region, Rule};
 use entry_lines::EntryLines;
 use group_traces::{Look, Sight, Traces, is_near};
-use shadow_list::{Entry, Hit};
+use shadow_list::{Entry, Hit, object_number};
 use std::alloc::{AllocError, Global};
 
 /// What is kept of the accesses of the running interval of local or of global memory: those that tell a conflict that
@@ -42,16 +42,6 @@ pub(crate) struct Glance {
     /// The number of its object, where its bytes are looked at.
     pub(crate) number: Option<u32>,
     pub(crate) look: Look,
-}
-
-/// The number of an object.
-fn number_of(region: Region) -> u32
-    ensures { result ≡ number_of region }
-{
-    match region {
-        Region::Buffer(number) => number,
-        Region::Local { number, .. } => number,
-    }
 }
 
 /// Whether a region differs from that of the first access in the object's number alone.
@@ -143,7 +133,7 @@ impl Side {
         ensures known { IsKnown self.now x.now result }
     {
         if self.whole && is_near(x) && is_at(self.home, x.region) {
-            let number = number_of(x.region);
+            let number = object_number(x.region);
             return Glance {
                 number: Some(number),
                 look: self.traces.look(self.uniform, number, x),

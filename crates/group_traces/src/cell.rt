@@ -11,6 +11,10 @@ use crate::trace::{Sight, Trace};
 use crate::word::WordTrace;
 use clmodel::access::Access;
 use shadow::{WordMark, mark_of};
+use shadow_list::WORD_BYTES;
+
+/// How many words a cell has.
+pub(crate) const CELL_WORDS: usize = 8;
 
 /// What is kept of the accesses to a word of four bytes.
 #[derive(Clone, Copy)]
@@ -38,7 +42,7 @@ pub struct Apart {
 #[derive(Clone, Copy)]
 pub struct Cell {
     pub key: u64,
-    pub words: [Word; 8],
+    pub words: [Word; CELL_WORDS],
 }
 
 /// What is kept of byte k of a word of a cell, by the bytes at a place: nothing where they are of another word, which
@@ -95,7 +99,7 @@ impl Word {
     {
         match *self {
             Word::Untouched => true,
-            Word::Whole(_) => count == 4,
+            Word::Whole(_) => count == WORD_BYTES,
             Word::Single(how, who) => Singles { how, who }.holds(x, first, count),
             Word::Apart(at) => match apart.get(at) {
                 None => false,
@@ -133,7 +137,7 @@ impl Word {
         ensures with { (apart : List TheApart) (key n k : ℕ) → k < 4 → word_trace apart key n result k ≡ part_with x.now first count k untouched }
         ensures whole { IsWhole result }
     {
-        if count == 4 {
+        if count == WORD_BYTES {
             return Word::Whole(WordTrace::of(x.interval, mark));
         }
         Word::of_singles(Singles::none(x.interval, x.kind).with(x, first, count))
@@ -182,7 +186,7 @@ impl Word {
             taken: true,
         };
         for byte in first..first + count {
-            let trace = self.byte(apart, key, n, (byte % 4) as usize);
+            let trace = self.byte(apart, key, n, (byte % WORD_BYTES) as usize);
             sight = sight.and(trace.sight(uniform, x.interval, mark_of(x, byte)));
         }
         sight
@@ -214,7 +218,7 @@ impl Word {
                 told: count == 0,
                 taken: count == 0,
             },
-            Word::Whole(whole) if count == 4 => whole.sight(uniform, x.interval, mark),
+            Word::Whole(whole) if count == WORD_BYTES => whole.sight(uniform, x.interval, mark),
             _ => self.bytes_sight(apart, key, n, uniform, x, first, count),
         }
     }
@@ -228,7 +232,7 @@ pub fn bytes_with(traces: [Trace; 4], x: &Access, first: u64, count: u64) -> [Tr
 {
     let mut traces = traces;
     for byte in first..first + count {
-        let k = (byte % 4) as usize;
+        let k = (byte % WORD_BYTES) as usize;
         traces[k] = traces[k].with(x.interval, mark_of(x, byte));
     }
     traces

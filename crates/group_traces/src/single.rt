@@ -7,6 +7,7 @@ ghost use Rattle.group_traces.specs.Traces.{untouched, first_in, part_with, sing
 use crate::trace::Trace;
 use clmodel::access::{Access, AccessKind};
 use shadow::{Mark, mark_of};
+use shadow_list::WORD_BYTES;
 
 /// Of which kind the accesses were, at which bytes, and what a store left of each; 0 of all other kinds.
 #[derive(Clone, Copy)]
@@ -102,7 +103,7 @@ impl Singles {
             return false;
         }
         for byte in first..first + count {
-            if !self.holds_byte((byte % 4) as usize, mark_of(x, byte)) {
+            if !self.holds_byte((byte % WORD_BYTES) as usize, mark_of(x, byte)) {
                 return false;
             }
         }
@@ -134,7 +135,7 @@ impl Singles {
     {
         let mut singles = self;
         for byte in first..first + count {
-            singles = singles.with_byte((byte % 4) as usize, mark_of(x, byte));
+            singles = singles.with_byte((byte % WORD_BYTES) as usize, mark_of(x, byte));
         }
         singles
     }

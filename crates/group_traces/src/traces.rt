@@ -8,12 +8,20 @@ ghost use Rattle.shadow.specs.Seen.{byte_mark, mark_of};
 ghost use Rattle.group_traces.specs.Cells.{word_trace, word_at, cell_at, cell_trace, at_key, key_of, trace_of, IsOwn, IsNear, IsWritten, IsMarked, IsSame, IsPut, IsPart, IsFitting};
 ghost use Rattle.group_traces.specs.Traces.{untouched, passes, tells, takes, part_with};
 
-use crate::cell::{Apart, Cell, Word, bytes_with};
+use crate::cell::{Apart, CELL_WORDS, Cell, Word, bytes_with};
 use crate::trace::Sight;
 use clmodel::access::Access;
 use shadow::{WordMark, word_mark};
+use shadow_list::{VALUE_BYTES, WORD_BYTES, WORD_VALUES};
 use std::alloc::{AllocError, Global};
 use std::collections::HashMap;
+
+/// How many bytes a cell has.
+const CELL_BYTES: u64 = CELL_WORDS as u64 * WORD_BYTES;
+
+/// Below which byte of its object an access ends that is near: the number of its cell is one of a word then, as that of
+/// the object is.
+const NEAR_BYTES: u64 = WORD_VALUES * CELL_BYTES;
 
 /// What is kept of each byte of numbered objects, in cells of eight words that were touched.
 #[derive(Drop)]
@@ -39,7 +47,9 @@ pub fn is_near(x: &Access) -> bool
     ensures { result ≡ true → IsNear x.now }
 {
     let count = x.width.bytes();
-    x.first + count < 0x20_0000_0000 && (x.first % 4 + count <= 4 || count == 8 && x.first % 8 == 0)
+    x.first + count < NEAR_BYTES
+        && (x.first % WORD_BYTES + count <= WORD_BYTES
+            || count == VALUE_BYTES && x.first % VALUE_BYTES == 0)
 }
 
 /// The key of the cell of a byte of an object.
@@ -47,7 +57,7 @@ fn key_of(number: u32, byte: u64) -> u64
     requires { byte < 2 ^ 37 }
     ensures { result ≡ key_of number byte }
 {
-    byte / 32 * 0x1_0000_0000 + number as u64
+    byte / CELL_BYTES * WORD_VALUES + number as u64
 }
 
 /// The word of a byte in its cell.
@@ -55,7 +65,7 @@ fn word_of(byte: u64) -> usize
     ensures value { result ≡ byte % 32 / 4 }
     ensures small { result < 8 }
 {
-    (byte % 32 / 4) as usize
+    (byte % CELL_BYTES / WORD_BYTES) as usize
 }
 
 impl Traces {
@@ -147,11 +157,25 @@ impl Traces {
         ensures taken { result.taken ≡ true → (number : ℕ) → IsOwn self.now (key_of number x.now.first) i → (byte : ℕ) → covers x.now.first (byte_count x.now.width) byte ≡ true → takes (trace_of self.now number byte) (mark_of x.now byte) ≡ true }
     {
         let count = x.width.bytes();
-        let low = self.part(i, uniform, x, x.first, count.min(4), word_mark(x, false));
-        if count <= 4 {
+        let low = self.part(
+            i,
+            uniform,
+            x,
+            x.first,
+            count.min(WORD_BYTES),
+            word_mark(x, false),
+        );
+        if count <= WORD_BYTES {
             return low;
         }
-        let high = self.part(i, uniform, x, x.first + 4, 4, word_mark(x, true));
+        let high = self.part(
+            i,
+            uniform,
+            x,
+            x.first + WORD_BYTES,
+            WORD_BYTES,
+            word_mark(x, true),
+        );
         low.and(high)
     }
 
@@ -189,7 +213,7 @@ impl Traces {
         let i = self.cells.len();
         self.cells.push(Cell {
             key,
-            words: [Word::Untouched; 8],
+            words: [Word::Untouched; CELL_WORDS],
         })?;
         self.places.insert(key, i)?;
         Ok(i)
@@ -319,10 +343,10 @@ impl Traces {
         ensures marked { OnOk result ((number : ℕ) → number < 2 ^ 32 → IsOwn self.old (key_of number x.now.first) i → IsMarked self.old self.new number x.now) }
         ensures same { OnErr result (IsSame self.old self.new) }
     {
-        self.fit(i, x, x.first, 4)?;
-        self.fit(i, x, x.first + 4, 4)?;
-        self.write(i, x, x.first, 4, word_mark(x, false));
-        self.write(i, x, x.first + 4, 4, word_mark(x, true));
+        self.fit(i, x, x.first, WORD_BYTES)?;
+        self.fit(i, x, x.first + WORD_BYTES, WORD_BYTES)?;
+        self.write(i, x, x.first, WORD_BYTES, word_mark(x, false));
+        self.write(i, x, x.first + WORD_BYTES, WORD_BYTES, word_mark(x, true));
         Ok(())
     }
 
@@ -336,7 +360,7 @@ impl Traces {
     {
         let i = self.make(place, key_of(number, x.first))?;
         let count = x.width.bytes();
-        if count <= 4 {
+        if count <= WORD_BYTES {
             self.mark_one(i, x, count)
         } else {
             self.mark_two(i, x)

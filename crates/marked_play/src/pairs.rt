@@ -6,12 +6,12 @@ ghost use Rattle.std.specs.Bool.{Decides};
 ghost use Rattle.clmodel.specs.Cells.{byte_count, covers};
 ghost use Rattle.marked_play.specs.Pairs.{IsTold, Clashes, IsPair, IsFoundPair};
 
-use clmodel::access::{Access, Region};
+use clmodel::access::Access;
 use clmodel::fault::Location;
 use clmodel::text::Name;
 use launches::Described;
 use replay::Partner;
-use shadow_list::left_at;
+use shadow_list::{left_at, object_number};
 use std::alloc::{AllocError, Global};
 use std::collections::HashMap;
 
@@ -124,13 +124,6 @@ fn is_pair<D: Described>(
     is_told(launch, told, told.second, other)
 }
 
-/// The number of a buffer, or that of a local object in its group.
-fn number_of(region: Region) -> u32 {
-    match region {
-        Region::Buffer(number) | Region::Local { number, .. } => number,
-    }
-}
-
 /// Where an access lies, if it is that of a partner. An error is out of memory.
 fn spot_of<D: Described>(
     launch: &D,
@@ -142,7 +135,7 @@ fn spot_of<D: Described>(
         return Ok(None);
     }
     Ok(Some(Spot {
-        number: number_of(access.region),
+        number: object_number(access.region),
         interval: if told.one_group { access.interval } else { 0 },
     }))
 }

@@ -7,8 +7,8 @@ ghost use Rattle.page_log.specs.Pages.{count_on_page};
 
 use crate::between::conflicts_between;
 use crate::list::PagedList;
-use clmodel::access::{Access, Region, Rule};
-use shadow_list::{AccessLog, Accesses, Entry, Fenced, Hit, Logged};
+use clmodel::access::Rule;
+use shadow_list::{AccessLog, Accesses, Entry, Fenced, Hit, Logged, stamped};
 use std::alloc::{AllocError, Global};
 
 /// A log with an index by object and page of 64 bytes. A new access costs two look-ups in a hash table, and one
@@ -37,23 +37,6 @@ impl PageLog {
         }
     }
 
-    /// An access with the running interval of its address space.
-    fn stamped(&self, entry: Entry) -> Entry
-        ensures { result ≡ stamped (logged self.now.list.entries.items self.now.local_interval self.now.global_interval self.now.uniform) entry }
-    {
-        let interval = match entry.access.region {
-            Region::Buffer(_) => self.global_interval,
-            Region::Local { .. } => self.local_interval,
-        };
-        Entry {
-            access: Access {
-                interval,
-                ..entry.access
-            },
-            ..entry
-        }
-    }
-
     /// Judges a new access as `note` does, and says with how many accesses it was compared: with all that are of the
     /// same object and touch the same page. An error is out of memory, and changes nothing.
     pub fn note_counted(&mut self, entry: Entry) -> Result<(Option<Hit>, u64), AllocError>
@@ -62,7 +45,7 @@ impl PageLog {
         ensures once { OnOk result (IsKeptOnce self.old.list.entries.items (stamped (logged self.old.list.entries.items self.old.local_interval self.old.global_interval self.old.uniform) entry) self.new.list.entries.items) }
         ensures counted { IfOk result (λ r. r.1 ≡ count_on_page entry.access self.old.list.entries.items) }
     {
-        let entry = self.stamped(entry);
+        let entry = stamped(entry, self.global_interval, self.local_interval);
         let tally = self.list.compare(Rule::within_group(self.uniform), &entry);
         if !tally.is_there {
             self.list.push(entry)?;

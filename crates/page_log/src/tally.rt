@@ -1,14 +1,14 @@
 //! What comparing an access with others finds.
 
-ghost use Rattle.std.specs.Prelude.{◌≡◌, ◌+◌, ◌∷◌, ◌<◌, ◌-◌, ◌^◌, [], List, IsTrue, false, true};
+ghost use Rattle.std.specs.Prelude.{◌≡◌, ◌+◌, ◌∷◌, ◌<◌, ◌-◌, ◌^◌, [], List, true};
 ghost use Rattle.shadow_list.specs.Log.{IsPlaced};
 ghost use Rattle.clmodel.specs.declared.access.Rule.{Rule as TheRule};
 ghost use Rattle.shadow_list.specs.declared.log.Entry.{Entry as TheEntry};
 ghost use Rattle.page_log.specs.Pages.{share_page};
 ghost use Rattle.page_log.specs.Tally.{lower_hit, hit_with};
 
-use clmodel::access::{Access, Rule};
-use shadow_list::{Entry, Hit, hit};
+use clmodel::access::Rule;
+use shadow_list::{Entry, Hit, hit, is_same};
 
 /// What comparing an access with others has found so far.
 #[derive(Clone, Copy)]
@@ -40,14 +40,6 @@ pub(crate) fn hit_with(rule: Rule, x: &Entry, earlier: &Entry) -> Option<Hit>
 {
     let earlier = [*earlier];
     hit(rule, x, earlier.as_slice())
-}
-
-/// Whether two accesses are equal.
-fn is_same(x: &Access, y: &Access) -> bool
-    ensures same { IsTrue result → x.now ≡ y.now }
-    ensures other { result ≡ false → x.now ≡ y.now → ⊥ }
-{
-    x == y
 }
 
 impl Tally {

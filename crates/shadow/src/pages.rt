@@ -15,11 +15,17 @@ use crate::words::{
 use clmodel::access::Access;
 use std::alloc::{AllocError, Global};
 
-/// The words of a page.
+/// How many bytes a word has.
+const WORD_BYTES: usize = shadow_list::WORD_BYTES as usize;
+
+/// How many bytes the value of an access has, which are all that an access can be at.
+const VALUE_BYTES: usize = shadow_list::VALUE_BYTES as usize;
+
+/// How many words a page has.
 const PAGE_WORDS: usize = 64;
 
-/// The bytes of a page.
-const PAGE_BYTES: usize = 256;
+/// How many bytes a page has.
+const PAGE_BYTES: usize = PAGE_WORDS * WORD_BYTES;
 
 /// The words of a buffer, in pages, of which those have words that were touched.
 #[derive(Drop)]
@@ -82,7 +88,7 @@ fn mark_words(pages: &mut Vec<Vec<Word>>, x: &Access, number: usize, count: usiz
     ensures { (apart : List TheBytes) → IsMarked (cell_in apart pages.old.items) (cell_in apart pages.new.items) (mark_of x.now) (4 * number) count result }
 {
     let low = mark_word(pages, number, word_mark(x, false));
-    if count == 4 {
+    if count == WORD_BYTES {
         return low;
     }
     let high = mark_word(pages, number + 1, word_mark(x, true));
@@ -95,9 +101,9 @@ fn mark_byte(pages: &[Vec<Word>], apart: &mut Vec<Bytes>, byte: usize, mark: Mar
     ensures kept { (n : ℕ) (w : TheWord) → IsApart apart.old.items n w → IsApart apart.new.items n w }
     ensures marked { IsMarked (cell_in apart.old.items pages.now) (cell_in apart.new.items pages.now) (λ _. mark) byte 1 result }
 {
-    let number = byte / 4;
+    let number = byte / WORD_BYTES;
     match pages[number / PAGE_WORDS][number % PAGE_WORDS] {
-        Word::Apart(at) => mark_in(&mut apart[at].bytes, byte % 4, mark),
+        Word::Apart(at) => mark_in(&mut apart[at].bytes, byte % WORD_BYTES, mark),
         Word::Untouched | Word::Touched(_) | Word::Mixed(_, _) => unreachable!(),
     }
 }
@@ -190,9 +196,9 @@ impl Pages {
     pub(crate) fn cell(&self, byte: usize) -> Seen
         ensures { result ≡ cell_in self.now.apart.items self.now.pages.items byte }
     {
-        match self.word(byte / 4) {
+        match self.word(byte / WORD_BYTES) {
             None => Seen::Untouched,
-            Some(word) => byte_seen(&self.apart, byte / 4, *word, byte % 4),
+            Some(word) => byte_seen(&self.apart, byte / WORD_BYTES, *word, byte % WORD_BYTES),
         }
     }
 
@@ -213,12 +219,12 @@ impl Pages {
         requires inside { first + count < 2 ^ 64 }
         ensures { result ≡ true → (byte : ℕ) → first ≤ byte → byte < first + count → against uniform (mark_of x.now byte) byte (cell_in self.now.apart.items self.now.pages.items byte) ≡ None }
     {
-        if first % 4 != 0 || count < 4 {
+        if first % WORD_BYTES != 0 || count < WORD_BYTES {
             return false;
         }
-        let number = first / 4;
+        let number = first / WORD_BYTES;
         let low = self.passes(uniform, number, word_mark(x, false));
-        low && (count == 4 || self.passes(uniform, number + 1, word_mark(x, true)))
+        low && (count == WORD_BYTES || self.passes(uniform, number + 1, word_mark(x, true)))
     }
 
     /// The conflict of an access on the lowest of n bytes that has one, by whether the launch is uniform.
@@ -290,11 +296,11 @@ impl Pages {
         ensures ready { result ≡ true → is_ready (word_in self.now.pages.items (first / 4)) ≡ true }
         ensures ready_two { result ≡ true → (count ≡ 8) → is_ready (word_in self.now.pages.items (first / 4 + 1)) ≡ true }
     {
-        if first % 4 != 0 || count < 4 {
+        if first % WORD_BYTES != 0 || count < WORD_BYTES {
             return false;
         }
-        let number = first / 4;
-        self.is_ready(number) && (count != 8 || self.is_ready(number + 1))
+        let number = first / WORD_BYTES;
+        self.is_ready(number) && (count != VALUE_BYTES || self.is_ready(number + 1))
     }
 
     /// Whether an access is new to what is kept of one of `count` bytes.
@@ -320,7 +326,7 @@ impl Pages {
         let count = x.width.bytes() as usize;
         self.make_both(alloc, first, first + count - 1)?;
         if self.is_whole(first, count) {
-            return Ok(mark_words(&mut self.pages, x, first / 4, count));
+            return Ok(mark_words(&mut self.pages, x, first / WORD_BYTES, count));
         }
         if !self.has_news(x, first, count) {
             return Ok(false);
@@ -328,8 +334,8 @@ impl Pages {
         split_words(
             &mut self.pages,
             &mut self.apart,
-            first / 4,
-            (first + count - 1) / 4,
+            first / WORD_BYTES,
+            (first + count - 1) / WORD_BYTES,
         )?;
         Ok(mark_bytes(&self.pages, &mut self.apart, x, first, count))
     }

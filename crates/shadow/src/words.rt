@@ -9,16 +9,7 @@ ghost use Rattle.shadow.specs.declared.words.Bytes.{Bytes as TheBytes};
 
 use crate::seen::{Mark, Seen, is_new, seen_with};
 use clmodel::access::{Access, AccessKind};
-use shadow_list::{both_store, clash, kind_number};
-
-/// How many bits a byte has.
-const BYTE_BITS: usize = 8;
-
-/// How many values a byte has.
-const BYTE_VALUES: u32 = 256;
-
-/// How many values a word has.
-const WORD_VALUES: u64 = 1 << 32;
+use shadow_list::{BYTE_BITS, BYTE_VALUES, WORD_VALUES, both_store, clash, kind_number};
 
 /// Who accessed all four bytes of a word, and how.
 #[derive(Clone, Copy)]
@@ -90,7 +81,7 @@ pub fn byte_mark(mark: WordMark, k: usize) -> Mark
     Mark {
         item: mark.item,
         kind: mark.kind,
-        left: ((mark.left >> (BYTE_BITS * k)) % BYTE_VALUES) as u8,
+        left: ((mark.left as u64 >> (BYTE_BITS * k as u64)) % BYTE_VALUES) as u8,
     }
 }
 

@@ -11,14 +11,14 @@ use Rattle.group_log.proofs.group.GroupLog.note_global.Goals as goal
 pub returns-else-glance : goal.returns-else-glance
 returns-else-glance c =
     let l : GroupLog = c.args.self.now in
-    noted_stamped (log_of l) (log_of c.judge_global.new.self) c.args.entry c.stamped-entry.result c.judge_global.result (stamped_global (log_of l) c.args.entry c.stamped-entry.result c.requires.space c.stamped-entry.ensures) c.judge_global.ensures
+    noted_stamped (log_of l) (log_of c.judge_global.new.self) c.args.entry c.with_interval-entry.result c.judge_global.result (stamped_global (log_of l) c.args.entry c.with_interval-entry.result c.requires.space c.with_interval-entry.ensures) c.judge_global.ensures
 
 pub returns-in_ok-take_global : goal.returns-in_ok-take_global
 returns-in_ok-take_global c =
     let l : GroupLog = c.args.self.now in
-    let x : Entry = c.stamped-entry.result in
-    let space : in_buffer x.access.region ≡ true = ap (λ (z : Entry). in_buffer z.access.region) c.stamped-entry.ensures ∙ c.requires.space in
-    let same : x ≡ stamped (log_of l) c.args.entry = stamped_global (log_of l) c.args.entry x c.requires.space c.stamped-entry.ensures in
+    let x : Entry = c.with_interval-entry.result in
+    let space : in_buffer x.access.region ≡ true = ap (λ (z : Entry). in_buffer z.access.region) c.with_interval-entry.ensures ∙ c.requires.space in
+    let same : x ≡ stamped (log_of l) c.args.entry = stamped_global (log_of l) c.args.entry x c.requires.space c.with_interval-entry.ensures in
     noted_last (log_of l) (log_of c.take_global.new.self) c.args.entry x None same c.in_ok-take_global.ensures.taken
     (told l.global.uniform true l.global.interval l.global.kept.items (all_of l.whole.items) (log_of l) c.args.entry x None l.global_tells
-    (sym (none_hit (within_group l.global.uniform) x l.global.kept.items (c.look-glance.ensures.clear c.if-glance.true))) same space (ap (λ (z : Entry). z.access.interval) c.stamped-entry.ensures))
+    (sym (none_hit (within_group l.global.uniform) x l.global.kept.items (c.look-glance.ensures.clear c.if-glance.true))) same space (ap (λ (z : Entry). z.access.interval) c.with_interval-entry.ensures))

@@ -11,15 +11,15 @@ use Rattle.group_log.proofs.group.GroupLog.note_local.Goals as goal
 pub returns-else-glance : goal.returns-else-glance
 returns-else-glance c =
     let l : GroupLog = c.args.self.now in
-    noted_stamped (log_of l) (log_of c.judge_local.new.self) c.args.entry c.stamped-entry.result c.judge_local.result (stamped_local (log_of l) c.args.entry c.stamped-entry.result c.requires.space c.stamped-entry.ensures) c.judge_local.ensures
+    noted_stamped (log_of l) (log_of c.judge_local.new.self) c.args.entry c.with_interval-entry.result c.judge_local.result (stamped_local (log_of l) c.args.entry c.with_interval-entry.result c.requires.space c.with_interval-entry.ensures) c.judge_local.ensures
 
 pub returns-in_ok-take_local : goal.returns-in_ok-take_local
 returns-in_ok-take_local c =
     let l : GroupLog = c.args.self.now in
-    let x : Entry = c.stamped-entry.result in
-    let space : in_buffer x.access.region ≡ false = ap (λ (z : Entry). in_buffer z.access.region) c.stamped-entry.ensures ∙ c.requires.space in
-    let same : x ≡ stamped (log_of l) c.args.entry = stamped_local (log_of l) c.args.entry x c.requires.space c.stamped-entry.ensures in
+    let x : Entry = c.with_interval-entry.result in
+    let space : in_buffer x.access.region ≡ false = ap (λ (z : Entry). in_buffer z.access.region) c.with_interval-entry.ensures ∙ c.requires.space in
+    let same : x ≡ stamped (log_of l) c.args.entry = stamped_local (log_of l) c.args.entry x c.requires.space c.with_interval-entry.ensures in
     noted_last (log_of l) (log_of c.take_local.new.self) c.args.entry x None same c.in_ok-take_local.ensures.taken
     (told l.local.uniform false l.local.interval l.local.kept.items (all_of l.whole.items) (log_of l) c.args.entry x None l.local_tells
-    (sym (none_hit (within_group l.local.uniform) x l.local.kept.items (c.look-glance.ensures.clear c.if-glance.true))) same space (ap (λ (z : Entry). z.access.interval) c.stamped-entry.ensures)
+    (sym (none_hit (within_group l.local.uniform) x l.local.kept.items (c.look-glance.ensures.clear c.if-glance.true))) same space (ap (λ (z : Entry). z.access.interval) c.with_interval-entry.ensures)
     ∙ ap (λ u. hit (within_group u) (stamped (log_of l) c.args.entry) (all_of l.whole.items)) l.one_launch)

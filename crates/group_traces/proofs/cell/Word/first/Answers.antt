@@ -4,9 +4,9 @@ use Rattle.group_traces.specs.Traces.{untouched, part_with}
 use Rattle.group_traces.proofs.Keeping.{whole_part}
 use Rattle.group_traces.proofs.cell.Word.first.Goals as goal
 
-pub returns-then-count-eq4-clause-with : goal.returns-then-count-eq4-clause-with
-returns-then-count-eq4-clause-with c apart key n k small =
-    c.of.ensures k small ∙ whole_part c.args.x.now c.args.first c.args.count k c.args.mark untouched c.requires.one_word c.if-count-eq4.true small c.requires.mark
+pub returns-then-count-eq-WORD_BYTES-clause-with : goal.returns-then-count-eq-WORD_BYTES-clause-with
+returns-then-count-eq-WORD_BYTES-clause-with c apart key n k small =
+    c.of.ensures k small ∙ whole_part c.args.x.now c.args.first c.args.count k c.args.mark untouched c.requires.one_word c.if-count-eq-WORD_BYTES.true small c.requires.mark
 
 pub with-requires-clause-holds : goal.with-requires-clause-holds
 with-requires-clause-holds c =
