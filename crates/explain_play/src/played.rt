@@ -24,7 +24,6 @@ use clmodel::access::{Access, AccessKind};
 use clmodel::action::Action;
 use clmodel::fault::{Fault, Location};
 use clmodel::schedule::{Event, Schedule};
-use clmodel::text::Name;
 use clnum::Value;
 use item_step::Launch;
 use launches::laws::setups_are_runnable;
@@ -32,10 +31,11 @@ use launches::{Described, LoadedLaunch, Runnable, group_count};
 use marked_play::{
     Mark, Pair, Replica, Stand, WantedPair, dividend_of, find_pair, mark_schedule, stand_of,
 };
-use replay::{Player, told_conflict};
+use replay::{Player, copies};
 use shadow_list::both_store;
-use spaces_base::{Buffers, Plain};
+use spaces_base::Buffers;
 use std::alloc::{AllocError, Global};
+use told_conflicts::told_conflict;
 
 /// An access of a schedule: what an item does where.
 #[derive(Drop)]
@@ -66,18 +66,6 @@ pub struct Played {
     pub pair: Option<Pair>,
     pub first: Standing,
     pub second: Standing,
-}
-
-/// A copy of the buffers of these names.
-fn copies(alloc: Global, names: &[Name], buffers: &Buffers) -> Result<Vec<Plain>, AllocError>
-    ensures { IfOk result (λ copies. copies.items ≡ map (λ name. map Some (bytes_in buffers.now name)) names.now) }
-{
-    let mut copies = Vec::with_capacity(alloc, names.len())?;
-    for name in names {
-        let bytes = buffers.bytes_in(name).to_vec(alloc)?;
-        copies.push(Plain::new(bytes))?;
-    }
-    Ok(copies)
 }
 
 /// The conflict that a fault tells, if it tells one.

@@ -5,9 +5,9 @@ use Rattle.clmodel.specs.Launch.{Launch, location_of, left_at}
 use Rattle.clmodel.specs.declared.access.Access.{Access}
 use Rattle.clmodel.specs.declared.access.AccessKind.{AccessKind}
 use Rattle.clmodel.specs.declared.fault.Location.{Location}
+use Rattle.told_conflicts.specs.declared.conflicts.Partner.{Partner}
 use Rattle.marked_play.specs.declared.pairs.Pair.{Pair}
 use Rattle.marked_play.specs.declared.pairs.WantedPair.{WantedPair}
-use Rattle.replay.specs.declared.conflicts.Partner.{Partner}
 
 -- an access of this item and kind, at this byte of this location
 pub record IsTold (launch : Launch) (item : ℕ) (kind : AccessKind) (location : Location) (byte : ℕ) (access : Access) : Type 0 where

@@ -10,10 +10,10 @@ use clmodel::access::Access;
 use clmodel::fault::Location;
 use clmodel::text::Name;
 use launches::Described;
-use replay::Partner;
 use shadow_list::{left_at, object_number};
 use std::alloc::{AllocError, Global};
 use std::collections::HashMap;
+use told_conflicts::Partner;
 
 /// A conflict, as a fault tells it; whether both items are of one group, whose barriers can order them; and whether the
 /// two have to leave different bytes.

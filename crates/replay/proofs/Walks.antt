@@ -11,6 +11,7 @@ use Rattle.clmodel.proofs.Steps.{some_inj}
 use Rattle.launches.proofs.Lists.{get_set}
 use Rattle.item_step.specs.Running.{Running}
 use Rattle.launches.specs.Items.{IsAsked}
+use Rattle.told_conflicts.proofs.Spots.{below_next}
 use Rattle.replay.specs.Items.{is_at, IsAlike, IsAnswered, AreAlike, AreAsked, AreAt, AreAnswered}
 use Rattle.launches.specs.declared.slot.Slot.{Slot}
 
@@ -72,9 +73,6 @@ alike_next l r old new k end x y below inside is same h = alike_more l r old new
 at_alike :
     (l : Launch) (r : ℕ → Running) (stop : Stop) (k : ℕ) (w x : Slot) → IsAlike l r k w x → is_at l stop k x ≡ is_at l stop k w
 at_alike l r stop k w x same = ap (λ a. both_stop (Some stop) (stop_of a)) (same.acts [])
-
-pub below_next : (j k : ℕ) → j < k + 1 → (j < k) ⊎ (j ≡ k)
-below_next j k h = grind arith
 
 pub at_more :
     (l : Launch) (r : ℕ → Running) (old new : List Slot) (first k : ℕ) (stop : Stop) (x : Slot) (found : Bool) → slice_get new k ≡ Some x → found ≡ is_at l stop k x → found ≡ true → AreAlike l r old new

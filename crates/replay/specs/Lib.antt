@@ -2,4 +2,3 @@ pub mod Items
 pub mod States
 pub mod Nexts
 pub mod Played
-pub mod Spots

@@ -8,13 +8,11 @@ ghost use Rattle.clmodel.specs.Law.{Fails, Shows};
 ghost use Rattle.clmodel.specs.Run.{State, byte_at, next_action, stop_of};
 ghost use Rattle.clmodel.specs.declared.fault.Fault.TheVariants as faults;
 ghost use Rattle.item_step.specs.Running.{Running};
+ghost use Rattle.told_conflicts.specs.Spots.{is_conflict};
 ghost use Rattle.replay.specs.States.{IsAt};
 ghost use Rattle.replay.specs.Nexts.{StopsAt, ReadsUnset};
-ghost use Rattle.replay.specs.Spots.{is_conflict};
 
-use crate::conflicts::{shows_conflict, told_conflict};
 use crate::nexts::{NextAccess, access_of, cause_of, stop_of};
-use crate::places::{is_at, is_fault_of};
 use crate::player::Player;
 use clmodel::access::{AccessKind, Operation};
 use clmodel::action::Stop;
@@ -22,6 +20,7 @@ use clmodel::fault::{Fault, Location};
 use divergence::same_stop;
 use launches::Runnable;
 use std::alloc::{AllocError, Global};
+use told_conflicts::{is_at, is_fault_of, shows_conflict, told_conflict};
 
 /// Whether an item waits at this stop. An error is out of memory.
 fn stops_at<D: Runnable>(

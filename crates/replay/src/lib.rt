@@ -10,8 +10,9 @@
 //! with the answers that the item had. `play` answers true exactly where the event is possible in the state that the
 //! player is at, and then the player is at the state that the event leads to; else it stays. The other calls tell of
 //! that state: what an item does next, the accesses so far, where an element begins, the lowest byte that is unset. An
-//! event costs the same however many items there are, and no buffer is copied. The crate uses neither overlays nor the
-//! runner of groups.
+//! event costs the same however many items there are, and no buffer is copied. `copies` makes the memory with which a
+//! player begins. `told_conflicts` judges whether the accesses have a conflict that a fault tells. The crate uses
+//! neither overlays nor the runner of groups.
 #![tactic(auto)]
 
 ghost use Rattle.std.specs.Prelude.{IfOk};
@@ -24,23 +25,20 @@ ghost use Rattle.launches.specs.Groups.{HasGroups};
 ghost use Rattle.spaces_base.specs.Buffers.{bytes_in};
 
 mod buffers;
-mod conflicts;
 mod dividends;
 mod events;
 mod faults;
 mod group;
 mod members;
 mod nexts;
-mod places;
 mod player;
 mod slot;
 
-use crate::buffers::copies;
 use crate::events::play_schedule;
 use crate::faults::shows;
+pub use buffers::copies;
 use clmodel::fault::Fault;
 use clmodel::schedule::Schedule;
-pub use conflicts::{Partner, told_conflict};
 pub use fault_lines::{ReadFault, read, write};
 use item_step::Launch;
 use launches::laws::setups_are_runnable;

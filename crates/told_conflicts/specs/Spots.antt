@@ -11,9 +11,9 @@ use Rattle.clmodel.specs.declared.fault.Fault.{Fault}
 use Rattle.clmodel.specs.declared.fault.Fault.TheVariants as fault
 use Rattle.clmodel.specs.declared.fault.Location.{Location}
 use Rattle.clmodel.specs.declared.fault.Location.TheVariants as location
-use Rattle.replay.specs.declared.conflicts.Spot.{Spot}
-use Rattle.replay.specs.declared.conflicts.Left.{Left}
-use Rattle.replay.specs.declared.conflicts.Left.TheVariants as left
+use Rattle.told_conflicts.specs.declared.conflicts.Spot.{Spot}
+use Rattle.told_conflicts.specs.declared.conflicts.Left.{Left}
+use Rattle.told_conflicts.specs.declared.conflicts.Left.TheVariants as left
 
 -- a fault tells of two accesses that conflict
 abbrev pub is_conflict : Fault → Bool

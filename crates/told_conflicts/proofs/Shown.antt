@@ -21,8 +21,8 @@ use Rattle.clmodel.proofs.Conflicts.{Meet, no_clash, no_conflict}
 use Rattle.clmodel.proofs.Steps.{none_some, some_inj, if_some, if_true}
 use Rattle.clmodel.proofs.Swaps.{cases_region}
 use Rattle.clmodel.proofs.Logs.{logged_front, logged_back}
-use Rattle.replay.specs.Spots.{number_in, HasOther, AnyMeets}
-use Rattle.replay.specs.declared.conflicts.Spot.{Spot}
+use Rattle.told_conflicts.specs.Spots.{number_in, HasOther, AnyMeets}
+use Rattle.told_conflicts.specs.declared.conflicts.Spot.{Spot}
 
 -- ---- a log by places
 

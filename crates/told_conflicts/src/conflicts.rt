@@ -8,7 +8,7 @@ ghost use Rattle.clmodel.specs.Launch.{both_store, clash, group_of};
 ghost use Rattle.clmodel.specs.Law.{Shows};
 ghost use Rattle.clmodel.specs.Run.{State};
 ghost use Rattle.clmodel.specs.declared.fault.Fault.TheVariants as faults;
-ghost use Rattle.replay.specs.Spots.{is_conflict, number_in, same_spot, differs, IsSpot, HasOther, Meets, AnyMeets};
+ghost use Rattle.told_conflicts.specs.Spots.{is_conflict, number_in, same_spot, differs, IsSpot, HasOther, Meets, AnyMeets};
 
 use crate::places::is_at;
 use clmodel::access::{Access, AccessKind, Clash, Region, Rule};

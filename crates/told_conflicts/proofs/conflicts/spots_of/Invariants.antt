@@ -1,9 +1,9 @@
 use Rattle.std.specs.Bool.{Decides}
 use Rattle.std.specs.HashMap.{get}
 use Rattle.std.proofs.Common.{ℕ}
-use Rattle.replay.specs.Spots.{same_spot, differs, HasOther}
-use Rattle.replay.specs.declared.conflicts.Spot.{Spot}
-use Rattle.replay.proofs.conflicts.spots_of.Given as goal
+use Rattle.told_conflicts.specs.Spots.{same_spot, differs, HasOther}
+use Rattle.told_conflicts.specs.declared.conflicts.Spot.{Spot}
+use Rattle.told_conflicts.proofs.conflicts.spots_of.Given as goal
 
 abbrev pub invariant-loop-access : goal.invariant-loop-access
 invariant-loop-access l =

@@ -1,9 +1,9 @@
 use Rattle.std.proofs.Common.{ap, sym, ◌∙◌}
 use Rattle.std.proofs.lemmas.Bool.{false≢true}
 use Rattle.std.specs.HashMap.{get}
-use Rattle.replay.specs.Spots.{same_spot, differs}
-use Rattle.replay.proofs.Spots.{one_spot}
-use Rattle.replay.proofs.conflicts.meets.Goals as goal
+use Rattle.told_conflicts.specs.Spots.{same_spot, differs}
+use Rattle.told_conflicts.proofs.Spots.{one_spot}
+use Rattle.told_conflicts.proofs.conflicts.meets.Goals as goal
 
 pub returns-then-not-differs : goal.returns-then-not-differs
 returns-then-not-differs g c = (

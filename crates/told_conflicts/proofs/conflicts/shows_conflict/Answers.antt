@@ -2,9 +2,9 @@ use Rattle.std.proofs.Common.{sym, ◌∙◌}
 use Rattle.std.proofs.lemmas.Result.{IfOk-weaker}
 use Rattle.std.specs.HashMap.{get}
 use Rattle.std.proofs.lemmas.Bool.{false≢true}
-use Rattle.replay.specs.Spots.{same_spot, differs}
-use Rattle.replay.proofs.Shown.{shown, shown_needs}
-use Rattle.replay.proofs.conflicts.shows_conflict.Goals as goal
+use Rattle.told_conflicts.specs.Spots.{same_spot, differs}
+use Rattle.told_conflicts.proofs.Shown.{shown, shown_needs}
+use Rattle.told_conflicts.proofs.conflicts.shows_conflict.Goals as goal
 
 pub returns-then-told : goal.returns-then-told
 returns-then-told g c = λ s order. (

@@ -2,10 +2,10 @@ use Rattle.std.proofs.Common.{◌||◌, ap, sym, ◌∙◌, ◌<◌, length, ari
 use Rattle.std.specs.Bool.{Decides}
 use Rattle.std.specs.HashMap.{get}
 use Rattle.std.proofs.lemmas.Option.{slice_get-get_or}
-use Rattle.replay.specs.Spots.{same_spot, differs, HasOther}
-use Rattle.replay.proofs.Spots.{is_other, told_more, none_more, one_more, same_spot-is}
-use Rattle.replay.proofs.conflicts.spots_of.Goals as goal
-use Rattle.replay.proofs.conflicts.spots_of.Goals.{in-Some+in_ok-insert, in_default}
+use Rattle.told_conflicts.specs.Spots.{same_spot, differs, HasOther}
+use Rattle.told_conflicts.proofs.Spots.{is_other, told_more, none_more, one_more, same_spot-is}
+use Rattle.told_conflicts.proofs.conflicts.spots_of.Goals as goal
+use Rattle.told_conflicts.proofs.conflicts.spots_of.Goals.{in-Some+in_ok-insert, in_default}
 
 pub loop-access-preserved : goal.loop-access-preserved
 loop-access-preserved c spot byte =

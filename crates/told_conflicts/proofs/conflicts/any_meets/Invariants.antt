@@ -2,8 +2,8 @@ use Rattle.std.proofs.Common.{◌≡◌, ℕ, ◌<◌, Some}
 use Rattle.std.specs.Prelude.{slice_get}
 use Rattle.std.specs.HashMap.{get}
 use Rattle.clmodel.specs.declared.access.Access.{Access}
-use Rattle.replay.specs.Spots.{same_spot, differs, Meets}
-use Rattle.replay.proofs.conflicts.any_meets.Given as goal
+use Rattle.told_conflicts.specs.Spots.{same_spot, differs, Meets}
+use Rattle.told_conflicts.proofs.conflicts.any_meets.Given as goal
 
 abbrev pub invariant-loop-access : goal.invariant-loop-access
 invariant-loop-access g l =

@@ -9,10 +9,12 @@ use Rattle.clmodel.specs.declared.access.AccessKind.{AccessKind}
 use Rattle.clmodel.specs.declared.access.Rule.{Rule}
 use Rattle.clmodel.specs.declared.fault.Location.{Location}
 use Rattle.clmodel.proofs.Steps.{some_inj}
-use Rattle.replay.specs.Spots.{same_spot, differs, IsSpot, HasOther}
-use Rattle.replay.specs.declared.conflicts.Left.{Left}
-use Rattle.replay.specs.declared.conflicts.Spot.{Spot}
-use Rattle.replay.proofs.Walks.{below_next}
+use Rattle.told_conflicts.specs.Spots.{same_spot, differs, IsSpot, HasOther}
+use Rattle.told_conflicts.specs.declared.conflicts.Left.{Left}
+use Rattle.told_conflicts.specs.declared.conflicts.Spot.{Spot}
+
+pub below_next : (j k : ℕ) → j < k + 1 → (j < k) ⊎ (j ≡ k)
+below_next j k h = grind arith
 
 pub same_spot-is : (a b : Spot) → same_spot a b ≡ true → a ≡ b
 same_spot-is a b h =

@@ -1,0 +1,2 @@
+pub mod Spots
+mod Shown
