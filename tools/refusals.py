@@ -1,4 +1,4 @@
-"""Each request for memory refused in turn, and each read and write, for tools/rows: what `clsim` and the programs of direct calls do then.
+"""Each request for memory refused in turn, and each read and write, for tools/rows: what `clsim` and the program of direct calls do then.
 
 refuse.c is built and preloaded. It runs a program once for each request that it makes, with that one refused, and tells what came of each run. Of
 a program that makes more than MOST requests, a sample is refused.
@@ -42,14 +42,12 @@ EARLY = [(b"", text, 2) for text in (OUT_OF_MEMORY, b"error: out of memory\n")]
 # commands that may be answered so (docs/use/script.md, "Replies")
 GROWING = {b"buffer", b"copy", b"program", b"kernel", b"arg", b"launch", b"read"}
 
-# the programs of direct calls: the crates of their names, and their calls that take memory
-CALLS = {
-    "refused_calls": [b"passes lex", b"passes parse", b"passes check", b"passes lower", b"store", b"update", b"fetch", b"list note",
-                      b"list note of a conflict", b"log note", b"log note of a conflict", b"pages note", b"pages note of a conflict"],
-    "refused_launches": [b"launches prepare", b"launches start", b"launches run_group by one_group", b"launches merge", b"launches run_launch",
-                         b"launches replay", b"launches run_parallel"],
-    "refused_queue": [b"queue open", b"queue drive_one with memory", b"answer open"],
-}
+# the program of direct calls, which is the crate of its name, and its calls that take memory
+CALLER = "refused_calls"
+CALLS = [b"passes lex", b"passes parse", b"passes check", b"passes lower", b"store", b"update", b"fetch", b"list note", b"list note of a conflict",
+         b"log note", b"log note of a conflict", b"pages note", b"pages note of a conflict", b"launches prepare", b"launches start",
+         b"launches run_group by one_group", b"launches merge", b"launches run_launch", b"launches replay", b"launches run_parallel", b"queue open",
+         b"queue drive_one with memory", b"answer open"]
 # the call that takes memory while every request is refused
 REFUSABLE = b"queue drive_one where memory may be refused"
 
@@ -332,8 +330,8 @@ def is_made_again(lines, wanted):
 
 
 def wrong_call(whole, run):
-    """What is wrong with the lines of one run of a program of direct calls in which a request was refused, or nothing: one call answered so, or
-    what it needs couldn't be made. Then it was made again, and all lines came."""
+    """What is wrong with the lines of one run of the direct calls in which a request was refused, or nothing: one call answered so, or what it needs
+    couldn't be made. Then it was made again, and all lines came."""
     said = set(run.error.splitlines()) <= set(whole.error.splitlines())
     wanted, came = by_section(whole.output.splitlines()), by_section(run.output.splitlines())
     other = [section for section in {**wanted, **came} if came.get(section) != wanted.get(section)]
@@ -346,9 +344,9 @@ def wrong_call(whole, run):
     return None
 
 
-def judged_calls(command, calls, output, library, folder):
-    """What came of the runs of a program of direct calls, and what is wrong. With no request refused its lines are those of its own crate, but for
-    the buffer that is made while every request is refused. Each of these calls has to be met by a refusal in some run."""
+def judged_calls(command, output, library, folder):
+    """What came of the runs of the program of direct calls, and what is wrong. With no request refused its lines are those of its own crate, but for
+    the call that takes memory while every request is refused. Each of CALLS has to be met by a refusal in some run."""
     whole, *runs = each(library, command, folder)
     wanted = output.replace(REFUSABLE + b": done\n", REFUSABLE + b": out of memory\n")
     if (whole.output, whole.status) != (wanted, 0):
@@ -360,7 +358,7 @@ def judged_calls(command, calls, output, library, folder):
         wrong = wrong_call(whole, run) if run.output != whole.output else None
         said += [f"request {run.number}: {wrong}"] if wrong else []
         said += left(whole, run)
-    missing = [call.decode() for call in calls if call not in met]
+    missing = [call.decode() for call in CALLS if call not in met]
     return whole.asked, counts, said + ([f"never met want of memory: {', '.join(missing)}"] if missing else [])
 
 
@@ -416,14 +414,14 @@ def ends(row, words, library):
     yield task(row, "a write fails", judged_writes, words, library)
 
 
-def task_of_calls(crates, name, library):
-    """A program of direct calls, whose output stands in its crate."""
-    program = os.path.join(crates, name, "out", name)
+def task_of_calls(crates, library):
+    """The program of direct calls, whose output stands in its crate."""
+    program = os.path.join(crates, CALLER, "out", CALLER)
     if not os.path.isfile(program) or not os.access(program, os.X_OK):
         raise BadReport(f"no program: {program}")
-    with open(os.path.join(crates, name, "stdout"), "rb") as file:
+    with open(os.path.join(crates, CALLER, "stdout"), "rb") as file:
         output = file.read()
-    return Task(name, lambda folder: judged_calls([program], CALLS[name], output, library, folder))
+    return Task(CALLER, lambda folder: judged_calls([program], output, library, folder))
 
 
 def done(task, place):
@@ -447,7 +445,7 @@ def tried(rows, program, crates):
     outcome = Outcome(0, [], [], Counter())
     with tempfile.TemporaryDirectory() as place, ThreadPoolExecutor(os.cpu_count()) as pool:
         built = library(place)
-        todo = [*(task_of_calls(crates, name, built) for name in CALLS), *tasks(rows, program, built)]
+        todo = [task_of_calls(crates, built), *tasks(rows, program, built)]
         for title, asked, counts, said in pool.map(lambda task: done(task, place), todo):
             outcome.refused += counts
             if asked > MOST:

@@ -38,3 +38,13 @@ pub fn told<R: Print, T: Drop>(rt: &R, call: &str, outcome: Result<T, Came>) -> 
         }
     }
 }
+
+/// From here on every request for memory is refused, by the library that `tools/rows` puts before the program.
+pub fn refuse_all<R: Eprint>(rt: &R) {
+    let _ = rt.eprint("refuse: all\n");
+}
+
+/// From here on none is.
+pub fn refuse_none<R: Eprint>(rt: &R) {
+    let _ = rt.eprint("refuse: none\n");
+}

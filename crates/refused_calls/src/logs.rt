@@ -1,4 +1,5 @@
-//! Logs: they keep what they kept where memory is refused.
+//! Logs: they keep what they kept where memory is refused. `len` of `GroupLog` is how many accesses it tells other
+//! groups, of the other two how many they have.
 
 use crate::came::{Came, done_if, is_done};
 use clmodel::access::{Operation, Region, Width};
@@ -14,17 +15,19 @@ const ITEMS: u8 = 6;
 /// The item that stores where the store of one of those was refused.
 const OTHER: u8 = ITEMS;
 
-/// What comes of noting a store of an item from a word of buffer 0 on, which meets another at its first byte or meets
-/// none: the log has one access more, or, out of memory, as many as before.
+/// What each of them does to two words.
+const STORE: Operation = Operation::Store(Width::Eight, 7);
+
+/// What comes of noting an item's operation from a word of buffer 0 on, which meets another at its first byte or meets
+/// none: the log's `len` is one more, or, out of memory, what it was.
 fn noted<L: AccessLog + GroupAccesses>(
     log: &mut L,
     item: u8,
     word: u16,
-    width: Width,
+    operation: Operation,
     is_met: bool,
 ) -> Came {
     let first = 4 * word as u64;
-    let operation = Operation::Store(width, 7);
     let before = log.len();
     let outcome = log.note(Entry::of(item as u32, Region::Buffer(0), first, operation, 0));
     let after = log.len();
@@ -40,21 +43,31 @@ fn noted<L: AccessLog + GroupAccesses>(
 /// Notes the store of item 0. Where it is refused, that of another item there meets nothing, since the log is as it
 /// was.
 fn try_first<R: Print, L: AccessLog + GroupAccesses>(rt: &R, call: &str, log: &mut L) {
-    let _ = is_done(rt, call, noted(log, 0, 0, Width::Eight, false))
-        || is_done(rt, call, noted(log, OTHER, 0, Width::Eight, false));
+    let _ = is_done(rt, call, noted(log, 0, 0, STORE, false))
+        || is_done(rt, call, noted(log, OTHER, 0, STORE, false));
 }
 
 /// What comes of noting the store of an item to the word of its number and the next one. It meets that of the item
 /// before.
 fn met<L: AccessLog + GroupAccesses>(log: &mut L, item: u8) -> Came {
-    noted(log, item, item as u16, Width::Eight, true)
+    noted(log, item, item as u16, STORE, true)
 }
 
-/// The same again after it was refused. Before it another item stores to bytes at which the refused store alone was,
-/// and meets nothing, since the log is as it was.
+/// The same again after it was refused. Before it another item stores to bytes of the second word, at which the refused
+/// store alone was, and the item before loads the first word, at which but for the refused store it alone was. Both
+/// meet nothing, since the log is as it was.
 fn met_again<L: AccessLog + GroupAccesses>(log: &mut L, item: u8) -> Came {
-    match noted(log, OTHER, item as u16 + 1, Width::Two, false) {
-        Came::Done => met(log, item),
+    let word = item as u16;
+    let second = noted(log, OTHER, word + 1, Operation::Store(Width::Two, 7), false);
+    let first = noted(
+        log,
+        item.saturating_sub(1),
+        word,
+        Operation::Load(Width::Four),
+        false,
+    );
+    match (second, first) {
+        (Came::Done, Came::Done) => met(log, item),
         _ => Came::Wrong,
     }
 }

@@ -7,6 +7,7 @@ use clsyntax_lex::token::SyntaxFault;
 use clsyntax_lex::{Tokens, lex};
 use cltypes::{Checked, TypeFault, check};
 use code_text::dump;
+use counted_io::Write;
 use lower::{LowerFault, lower};
 use regcode::Code;
 use std::alloc::Global;
@@ -42,7 +43,8 @@ fn are_as_before(alloc: Global, tokens: &Tokens) -> bool {
     let Ok(wanted) = lexed(alloc) else {
         return false;
     };
-    tokens.as_slice() == wanted.as_slice()
+    !wanted.as_slice().is_empty()
+        && tokens.as_slice() == wanted.as_slice()
         && tokens.names() == wanted.names()
         && tokens.length() == wanted.length()
 }
@@ -77,6 +79,7 @@ fn text_of(alloc: Global, checked: &Checked) -> Option<Vec<u8>> {
     let text = BufWriter::with_capacity(alloc, 0, Vec::new(alloc)).ok()?;
     let mut writer = Output::new(text);
     dump(&code, &mut writer).ok()?;
+    writer.flush().ok()?;
     Some(writer.into_inner())
 }
 
@@ -86,7 +89,7 @@ fn is_as_before(alloc: Global, checked: &Checked) -> bool {
         return false;
     };
     match (text_of(alloc, checked), text_of(alloc, &wanted)) {
-        (Some(text), Some(wanted)) => text.as_slice() == wanted.as_slice(),
+        (Some(text), Some(wanted)) => !wanted.is_empty() && text.as_slice() == wanted.as_slice(),
         _ => false,
     }
 }

@@ -3,7 +3,7 @@ use Rattle.item_step.specs.Launches.{setup_of}
 use Rattle.snapshot_merge.specs.Launches.{list_log}
 use Rattle.spaces_base.specs.Buffers.{bytes_in}
 use Rattle.snapshot_merge.proofs.Leading.{Lead}
-use Rattle.refused_launches.proofs.one_thread.results_of.Given as goal
+use Rattle.refused_calls.proofs.one_thread.results_of.Given as goal
 
 abbrev pub invariant-loop-group : goal.invariant-loop-group
 invariant-loop-group l = Lead (λ overlay. overlay.bytes) list_log (launch_of (setup_of l.launch) (bytes_in l.buffers)) l.group l.results.items

@@ -18,15 +18,9 @@ pub fn commands_of(alloc: Global, script: &str) -> Option<Vec<Command>> {
 /// The last command of a script. None where memory is refused.
 pub fn command_of(alloc: Global, script: &str) -> Option<Command> {
     match commands_of(alloc, script) {
-        Some(commands) => last_of(commands),
+        Some(mut commands) => commands.pop(),
         None => None,
     }
-}
-
-/// The last of some commands.
-fn last_of(commands: Vec<Command>) -> Option<Command> {
-    let mut commands = commands;
-    commands.pop()
 }
 
 /// Whether a device does all of these commands.

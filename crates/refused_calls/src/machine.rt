@@ -1,6 +1,6 @@
 //! A machine of which one command takes memory.
 ghost use Rattle.std.specs.Prelude.{◌≡◌};
-ghost use Rattle.refused_queue.specs.declared.machine.Reply.TheVariants.{OutOfMemory};
+ghost use Rattle.refused_calls.specs.declared.machine.Reply.TheVariants.{OutOfMemory};
 
 use crate::came::Came;
 use crate::requests::Tells;
@@ -48,12 +48,18 @@ pub struct Holding {
 }
 
 impl Holding {
-    /// The same with the count kept.
-    pub fn with_kept(self) -> Self {
-        Holding {
-            kept: self.kept.wrapping_add(1),
-            last: Some(self.count),
-            ..self
+    /// What the machine holds once it has done a command.
+    pub fn after(self, command: Command) -> Self {
+        match command {
+            Command::Count => Holding {
+                count: self.count.wrapping_add(1),
+                ..self
+            },
+            Command::Keep => Holding {
+                kept: self.kept.wrapping_add(1),
+                last: Some(self.count),
+                ..self
+            },
         }
     }
 }

@@ -1,14 +1,4 @@
-//! Calls on a queue, with a line for what came of each. `tools/rows` runs it with each request for memory refused in
-//! turn. A call that is refused then answers so, and the same call is made again and does its work. The calls that take
-//! no memory are made between two lines on standard error, `refuse: all` and `refuse: none`, between which every
-//! request is refused.
-#![tactic(auto)]
-
-mod came;
-mod machine;
-mod queue;
-mod requests;
-mod tickets;
+//! Queues over a counter: one of two clients, and one of an only client.
 
 use crate::came::{Came, is_done};
 use crate::machine::{Command, Counter, Reply};
@@ -62,11 +52,7 @@ fn try_client<T: Print + Eprint>(rt: &T, alloc: Global) -> bool {
 }
 
 /// Tries the calls, and again where memory is refused before.
-fn try_all<T: Print + Eprint>(rt: &T, alloc: Global) {
+pub fn try_all<T: Print + Eprint>(rt: &T, alloc: Global) {
     let _ = try_clients(rt, alloc) || try_clients(rt, alloc);
     let _ = try_client(rt, alloc) || try_client(rt, alloc);
-}
-
-fn main(rt: HostRuntime) {
-    try_all(&rt, rt.alloc());
 }

@@ -3,7 +3,7 @@ use Rattle.std.specs.Option.{option_to_list}
 use mathlib.Core.Option.{some-ne-none}
 use lib.ListN.{get_elem?}
 use Rattle.atomic_table.proofs.Lists.{at_last}
-use Rattle.refused_queue.proofs.tickets.open_one.Goals as goal
+use Rattle.refused_calls.proofs.tickets.open_one.Goals as goal
 
 pub returns-clause-one : goal.returns-clause-one
 returns-clause-one g c = let rest = c.pop.new.self.items in let items = c.pop.ensures.items ∙ ap (λ o. rest ++ option_to_list o) c.unwrap-client.ensures in let opened = c.in_ok-queue.ensures in

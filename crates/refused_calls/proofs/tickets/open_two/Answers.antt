@@ -2,7 +2,7 @@ use Rattle.std.proofs.Common.{refl, ap, arith, ◌∙◌, ◌≡◌, ◌+◌, le
 use Rattle.std.specs.Option.{option_to_list}
 use lib.ListN.{get_elem?}
 use Rattle.atomic_table.proofs.Lists.{at_last, at_longer}
-use Rattle.refused_queue.proofs.tickets.open_two.Goals as goal
+use Rattle.refused_calls.proofs.tickets.open_two.Goals as goal
 
 pub returns-clause-one : goal.returns-clause-one
 returns-clause-one g c = let one = c.pop.new.self.items in let none = c.pop-2.new.self.items in let opened = c.in_ok-queue.ensures in let second = c.unwrap-second.result in let first = c.unwrap-first.result in

@@ -1,6 +1,6 @@
 use Rattle.std.proofs.Common.{sym, subst}
 use Rattle.host_queue.specs.Clients.{IsOpen}
-use Rattle.refused_queue.proofs.tickets.polled_twice.Goals as goal
+use Rattle.refused_calls.proofs.tickets.polled_twice.Goals as goal
 
 pub driven-requires-clause-own : goal.driven-requires-clause-own
 driven-requires-clause-own g c = let err = c.in-Err.ensures.err in

@@ -1,20 +1,51 @@
 //! The calls of a queue over any machine: it is made whole or not at all, and they take no memory.
 ghost use Rattle.std.specs.Prelude.{◌≡◌, ◌≢◌};
+ghost use Rattle.std.specs.Box.{box_value};
+ghost use Rattle.host_queue.specs.declared.view.Request.TheVariants.{Asked};
 ghost use Rattle.host_queue.specs.Clients.{IsOnly};
 
 use crate::came::{Came, done_if, is_done, refuse_all, refuse_none};
-use crate::machine::{Holding, Holds};
+use crate::machine::{Command, Holding, Holds};
 use crate::requests::{Requests, Tells};
 use crate::tickets::{known, open_one, open_two, polled};
-use host_queue::{Client, Driver, Machine, Queue};
+use host_queue::{Client, Driver, Machine, Queue, Request};
 use std::alloc::Global;
 
-/// What comes of a client's next request, which is polled.
+/// How a client comes to a reply.
+#[derive(Clone, Copy)]
+enum Way {
+    /// It polls, too early and again.
+    Poll,
+    /// It knows that the reply is there.
+    Known,
+}
+
+/// A request with its reply, to which a client comes in some way.
+fn replied<D: Machine<C, R>, C: Drop, R: Drop>(
+    queue: &Queue<D, C, R>,
+    client: &mut Client<D, C, R>,
+    driver: &mut Driver<D, C, R>,
+    request: Box<Request<C, R>>,
+    way: Way,
+) -> Option<Box<Request<C, R>>>
+    requires one { (client.old.seat.table_id ≡ queue.now.table.shared.table_id) × (driver.old.seat.table_id ≡ queue.now.table.shared.table_id) }
+    requires asked { (c : C) × (box_value request ≡ Asked c) }
+    ensures one { (client.new.seat.table_id ≡ client.old.seat.table_id) × (driver.new.seat.table_id ≡ driver.old.seat.table_id) }
+    ensures name { client.new.seat.me.0.name ≡ client.old.seat.me.0.name }
+{
+    match way {
+        Way::Poll => polled(queue, client, driver, request),
+        Way::Known => known(queue, client, driver, request),
+    }
+}
+
+/// What comes of a client's next request.
 fn asked<D: Machine<C, R>, C: Drop, R: Drop + Tells>(
     queue: &Queue<D, C, R>,
     client: &mut Client<D, C, R>,
     driver: &mut Driver<D, C, R>,
     requests: &mut Requests<C, R>,
+    way: Way,
 ) -> Came
     requires one { (client.old.seat.table_id ≡ queue.now.table.shared.table_id) × (driver.old.seat.table_id ≡ queue.now.table.shared.table_id) }
     ensures one { (client.new.seat.table_id ≡ client.old.seat.table_id) × (driver.new.seat.table_id ≡ driver.old.seat.table_id) }
@@ -23,57 +54,39 @@ fn asked<D: Machine<C, R>, C: Drop, R: Drop + Tells>(
     let Some(request) = requests.next() else {
         return Came::Wrong;
     };
-    match polled(queue, client, driver, request) {
+    match replied(queue, client, driver, request, way) {
         Some(request) => requests.keep(request),
         None => Came::Wrong,
     }
 }
 
-/// The same, by the call that knows that the reply is there.
-fn asked_known<D: Machine<C, R>, C: Drop, R: Drop + Tells>(
-    queue: &Queue<D, C, R>,
-    client: &mut Client<D, C, R>,
-    driver: &mut Driver<D, C, R>,
-    requests: &mut Requests<C, R>,
-) -> Came
-    requires one { (client.old.seat.table_id ≡ queue.now.table.shared.table_id) × (driver.old.seat.table_id ≡ queue.now.table.shared.table_id) }
-    ensures one { (client.new.seat.table_id ≡ client.old.seat.table_id) × (driver.new.seat.table_id ≡ driver.old.seat.table_id) }
-    ensures name { client.new.seat.me.0.name ≡ client.old.seat.me.0.name }
-{
-    let Some(request) = requests.next() else {
-        return Came::Wrong;
-    };
-    match known(queue, client, driver, request) {
-        Some(request) => requests.keep(request),
-        None => Came::Wrong,
-    }
-}
-
-/// What came of a request to keep the count, by what the machine held before and holds after it: one count more, or,
-/// out of memory, what it held.
-fn came_of_keeping(came: Came, before: Holding, after: Holding) -> Came {
+/// What came of a command, by what the machine held before and holds after it: what the command leaves, or, out of
+/// memory, what it held.
+fn came_of(came: Came, command: Command, before: Holding, after: Holding) -> Came {
     match came {
-        Came::Done => done_if(after == before.with_kept()),
+        Came::Done => done_if(after == before.after(command)),
         Came::OutOfMemory if after == before => Came::OutOfMemory,
         _ => Came::Wrong,
     }
 }
 
-/// What comes of a client's next request, which is to keep the count. The machine is read before and after it.
-fn asked_to_keep<D: Machine<C, R> + Holds, C: Drop, R: Drop + Tells>(
+/// What comes of a client's next request, which has this command. The machine is read before and after it.
+fn asked_to<D: Machine<C, R> + Holds, C: Drop, R: Drop + Tells>(
     queue: &Queue<D, C, R>,
     client: &mut Client<D, C, R>,
     driver: &mut Driver<D, C, R>,
     requests: &mut Requests<C, R>,
+    command: Command,
+    way: Way,
 ) -> Came
     requires one { (client.old.seat.table_id ≡ queue.now.table.shared.table_id) × (driver.old.seat.table_id ≡ queue.now.table.shared.table_id) }
     ensures one { (client.new.seat.table_id ≡ client.old.seat.table_id) × (driver.new.seat.table_id ≡ driver.old.seat.table_id) }
     ensures name { client.new.seat.me.0.name ≡ client.old.seat.me.0.name }
 {
     let before = driver.machine.holding();
-    let came = asked(queue, client, driver, requests);
+    let came = asked(queue, client, driver, requests, way);
     let after = driver.machine.holding();
-    came_of_keeping(came, before, after)
+    came_of(came, command, before, after)
 }
 
 /// What came of the calls of two clients, whose requests are all in one box.
@@ -97,11 +110,11 @@ fn results_of_calls<D: Machine<C, R> + Holds, C: Drop, R: Drop + Tells>(
     requires two { first.old.seat.me.0.name ≢ second.old.seat.me.0.name }
     ensures one { (second.new.seat.table_id ≡ second.old.seat.table_id) × (driver.new.seat.table_id ≡ driver.old.seat.table_id) }
 {
-    let polled = asked(queue, first, driver, requests);
-    let known = asked_known(queue, second, driver, requests);
+    let polled = asked_to(queue, first, driver, requests, Command::Count, Way::Poll);
+    let known = asked_to(queue, second, driver, requests, Command::Count, Way::Known);
     first.agree(queue, second);
-    let kept = asked_to_keep(queue, second, driver, requests);
-    let agreed = asked_known(queue, first, driver, requests);
+    let kept = asked_to(queue, second, driver, requests, Command::Keep, Way::Poll);
+    let agreed = asked_to(queue, first, driver, requests, Command::Count, Way::Known);
     CallResults {
         polled,
         known,
@@ -138,7 +151,7 @@ fn kept_again<D: Machine<C, R> + Holds, C: Drop, R: Drop + Tells>(
     ensures one { (client.new.seat.table_id ≡ client.old.seat.table_id) × (driver.new.seat.table_id ≡ driver.old.seat.table_id) }
 {
     match kept {
-        Came::OutOfMemory => asked_to_keep(queue, client, driver, requests),
+        Came::OutOfMemory => asked_to(queue, client, driver, requests, Command::Keep, Way::Poll),
         _ => kept,
     }
 }
@@ -217,8 +230,9 @@ fn is_answered<D: Machine<C, R>, C: Drop, R: Drop + Tells>(
     }
 }
 
-/// Whether three requests of an only client are done at once.
-fn are_answered<D: Machine<C, R>, C: Drop, R: Drop + Tells>(
+/// Whether three requests of an only client, which are to count, are done at once. The machine is read before and after
+/// them.
+fn are_answered<D: Machine<C, R> + Holds, C: Drop, R: Drop + Tells>(
     queue: &Queue<D, C, R>,
     client: &mut Client<D, C, R>,
     driver: &mut Driver<D, C, R>,
@@ -227,14 +241,17 @@ fn are_answered<D: Machine<C, R>, C: Drop, R: Drop + Tells>(
     requires one { (client.old.seat.table_id ≡ queue.now.table.shared.table_id) × (driver.old.seat.table_id ≡ queue.now.table.shared.table_id) }
     requires only { IsOnly driver.old.seat.me.0 client.old.seat.me.0 }
 {
+    let before = driver.machine.holding();
     let first = is_answered(queue, client, driver, requests);
     let second = is_answered(queue, client, driver, requests);
     let third = is_answered(queue, client, driver, requests);
-    first && second && third
+    let after = driver.machine.holding();
+    let counted = before.after(Command::Count).after(Command::Count);
+    first && second && third && after == counted.after(Command::Count)
 }
 
 /// Tries the call of an only client with every request for memory refused.
-fn try_answers<T: Print + Eprint, D: Machine<C, R>, C: Drop, R: Drop + Tells>(
+fn try_answers<T: Print + Eprint, D: Machine<C, R> + Holds, C: Drop, R: Drop + Tells>(
     rt: &T,
     queue: &Queue<D, C, R>,
     client: &mut Client<D, C, R>,
@@ -251,7 +268,7 @@ fn try_answers<T: Print + Eprint, D: Machine<C, R>, C: Drop, R: Drop + Tells>(
 }
 
 /// Opens a queue over a machine, and tries the call of its only client. False where the queue is refused.
-pub fn try_one<T: Print + Eprint, D: Machine<C, R>, C: Drop, R: Drop + Tells>(
+pub fn try_one<T: Print + Eprint, D: Machine<C, R> + Holds, C: Drop, R: Drop + Tells>(
     rt: &T,
     alloc: Global,
     machine: D,

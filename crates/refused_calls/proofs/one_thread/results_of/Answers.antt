@@ -9,7 +9,7 @@ use Rattle.snapshot_merge.specs.Launches.{AreResults}
 use Rattle.snapshot_merge.proofs.Ending.{below_there}
 use Rattle.spaces_base.specs.Buffers.{bytes_in}
 use Rattle.snapshot_merge.proofs.Leading.{Lead, lead_more, lead_stopped, lead_all}
-use Rattle.refused_launches.proofs.one_thread.results_of.Goals as goal
+use Rattle.refused_calls.proofs.one_thread.results_of.Goals as goal
 
 pub loop-group-init : goal.loop-group-init
 loop-group-init c =
