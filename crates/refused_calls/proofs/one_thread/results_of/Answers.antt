@@ -1,4 +1,4 @@
-use Rattle.std.proofs.Common.{ℕ, suc, ◌*◌, ◌≤◌, ◌∙◌, sym, subst, add-one}
+use Rattle.std.proofs.Common.{suc, ◌*◌, ◌≤◌, ◌∙◌, sym, subst, add-one}
 use Rattle.std.proofs.Math.Nat.{mul-le-mul_right}
 use Rattle.clmodel.specs.Launch.{Launch}
 use Rattle.clmodel.specs.Next.{launch_of}
