@@ -162,7 +162,7 @@ fn is_in(kind: IntType, number: i128) -> bool
     }
 }
 
-/// Shifts to the left, by the count modulo the width of the value's type (6.3j).
+/// Shifts to the left, by the count modulo the width of the value's promoted type (6.3j).
 fn shift_left(value: Value, count: Value) -> Value
     ensures { result ≡ operations.shift (λ x power. x *ℤ pos power) value count }
 {
@@ -171,7 +171,7 @@ fn shift_left(value: Value, count: Value) -> Value
     Value::wrapped(kind, value.number() << count)
 }
 
-/// Shifts to the right, by the count modulo the width of the value's type; the sign fills a signed one (6.3j).
+/// Shifts to the right, by the count modulo the width of the promoted type; the sign fills a signed one (6.3j).
 fn shift_right(value: Value, count: Value) -> Value
     ensures { result ≡ operations.shift (λ x power. int_div_euclid x (pos power)) value count }
 {

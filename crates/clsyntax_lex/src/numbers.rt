@@ -27,7 +27,7 @@ pub(crate) struct Suffix {
 }
 
 impl Base {
-    /// How many digits there are (C99 6.4.4.1).
+    /// How many digits the base has (C99 6.4.4.1).
     fn radix(self) -> u32
         ensures { result ≡ numbers.radix self }
     {

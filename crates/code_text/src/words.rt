@@ -69,7 +69,7 @@ fn binary_word(operator: BinaryOperator) -> &'static str
     }
 }
 
-/// The word of a built-in integer function, which is its name in OpenCL C where it has one (6.12.3).
+/// The word of a built-in integer function, which is its name in OpenCL C (6.12.3).
 fn builtin_word(function: Builtin) -> &'static str
     ensures { result.now ≡ text.builtin_word function }
 {
