@@ -104,6 +104,7 @@ fn try_command<R: Print + Eprint + Threads + Wait + Sync>(
     match command_of(alloc, LAUNCH) {
         Some(command) => {
             try_launched(rt, alloc, device, &command);
+            drop(command);
             true
         }
         None => is_done(rt, "launches command", Came::OutOfMemory),
@@ -113,7 +114,11 @@ fn try_command<R: Print + Eprint + Threads + Wait + Sync>(
 /// Tries the calls. False where memory is refused before.
 fn try_device<R: Print + Eprint + Threads + Wait + Sync>(rt: &R, alloc: Global) -> bool {
     match device_of(alloc, SCRIPT) {
-        Some(device) => try_command(rt, alloc, &device),
+        Some(device) => {
+            let is_tried = try_command(rt, alloc, &device);
+            drop(device);
+            is_tried
+        }
         None => is_done(rt, "launches device", Came::OutOfMemory),
     }
 }

@@ -34,10 +34,12 @@ fn is_fault(outcome: &Outcome) -> bool {
 
 /// What came of a call that runs the launch.
 pub fn ran(outcome: Result<Outcome, AllocError>) -> Came {
-    match &outcome {
+    let came = match &outcome {
         Ok(outcome) => done_if(is_fault(outcome)),
         Err(AllocError) => Came::OutOfMemory,
-    }
+    };
+    drop(outcome);
+    came
 }
 
 /// Whether an action is an access.
@@ -168,7 +170,11 @@ fn try_whole<R: Print>(rt: &R, alloc: Global, launch: &Launch<'_>, buffers: &Buf
     requires whole { HasGroups (setup_of launch.now) }
 {
     match run_launch(alloc, launch, buffers) {
-        Ok(outcome) => try_outcome(rt, alloc, launch, buffers, &outcome),
+        Ok(outcome) => {
+            let is_tried = try_outcome(rt, alloc, launch, buffers, &outcome);
+            drop(outcome);
+            is_tried
+        }
         Err(AllocError) => is_done(rt, "launches run_launch", Came::OutOfMemory),
     }
 }

@@ -73,14 +73,26 @@ fn checked_anew(alloc: Global) -> Option<Checked> {
     checked(alloc, tree).ok()
 }
 
+/// Code as text. None where memory is refused.
+fn written(alloc: Global, code: &Code) -> Option<Vec<u8>> {
+    let text = BufWriter::with_capacity(alloc, 0, Vec::new(alloc)).ok()?;
+    let mut writer = Output::new(text);
+    let is_whole = dump(code, &mut writer).is_ok() && writer.flush().is_ok();
+    let text = writer.into_inner();
+    if is_whole {
+        Some(text)
+    } else {
+        drop(text);
+        None
+    }
+}
+
 /// The code of a program, as text. None where memory is refused.
 fn text_of(alloc: Global, checked: &Checked) -> Option<Vec<u8>> {
     let code = lower(alloc, checked, "f").ok()?;
-    let text = BufWriter::with_capacity(alloc, 0, Vec::new(alloc)).ok()?;
-    let mut writer = Output::new(text);
-    dump(&code, &mut writer).ok()?;
-    writer.flush().ok()?;
-    Some(writer.into_inner())
+    let text = written(alloc, &code);
+    drop(code);
+    text
 }
 
 /// Whether a program comes to the code of the source, which is read and checked anew.

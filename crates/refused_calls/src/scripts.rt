@@ -24,11 +24,12 @@ pub fn command_of(alloc: Global, script: &str) -> Option<Command> {
 }
 
 /// Whether a device does all of these commands.
-fn does_all(device: &mut Device, commands: Vec<Command>) -> bool {
+pub fn does_all(device: &mut Device, commands: Vec<Command>) -> bool {
     let mut is_done = true;
     for command in commands {
         let reply = device.apply(command);
         is_done = is_done && matches!(reply, Reply::Done);
+        drop(reply);
     }
     is_done
 }
@@ -39,6 +40,7 @@ fn device_after(alloc: Global, commands: Vec<Command>) -> Option<Device> {
     if does_all(&mut device, commands) {
         Some(device)
     } else {
+        drop(device);
         None
     }
 }

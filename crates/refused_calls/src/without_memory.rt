@@ -1,28 +1,20 @@
 //! Commands of a device that take no memory.
 
 use crate::came::{Came, done_if, is_done, refuse_all, refuse_none};
-use crate::scripts::{commands_of, device_of};
-use device::{Command, Device, Reply};
+use crate::scripts::{commands_of, device_of, does_all};
+use device::{Command, Device};
 use std::alloc::Global;
 
 /// The device's buffer.
 const BUFFER: &str = "buffer b 4\n";
 
-/// The commands, of which the last comes first.
-const THREE: &str = "release b\nfill b 0 4 09\nwrite b 0 01020304\n";
-
-/// Whether a device does the last of some commands.
-fn does(device: &mut Device, commands: &mut Vec<Command>) -> bool {
-    match commands.pop() {
-        Some(command) => matches!(device.apply(command), Reply::Done),
-        None => false,
-    }
-}
+/// The commands.
+const THREE: &str = "write b 0 01020304\nfill b 0 4 09\nrelease b\n";
 
 /// Tries a write, a fill and a release, with every request refused.
-fn try_all_on<R: Print + Eprint>(rt: &R, device: &mut Device, commands: &mut Vec<Command>) -> bool {
+fn try_all_on<R: Print + Eprint>(rt: &R, device: &mut Device, commands: Vec<Command>) -> bool {
     refuse_all(rt);
-    let are_done = does(device, commands) && does(device, commands) && does(device, commands);
+    let are_done = does_all(device, commands);
     refuse_none(rt);
     is_done(
         rt,
@@ -32,9 +24,13 @@ fn try_all_on<R: Print + Eprint>(rt: &R, device: &mut Device, commands: &mut Vec
 }
 
 /// Tries them with these commands. False where memory is refused before.
-fn try_commands<R: Print + Eprint>(rt: &R, alloc: Global, commands: &mut Vec<Command>) -> bool {
+fn try_commands<R: Print + Eprint>(rt: &R, alloc: Global, commands: Vec<Command>) -> bool {
     match device_of(alloc, BUFFER) {
-        Some(mut device) => try_all_on(rt, &mut device, commands),
+        Some(mut device) => {
+            let are_done = try_all_on(rt, &mut device, commands);
+            drop(device);
+            are_done
+        }
         None => is_done(rt, "device of a buffer", Came::OutOfMemory),
     }
 }
@@ -42,7 +38,7 @@ fn try_commands<R: Print + Eprint>(rt: &R, alloc: Global, commands: &mut Vec<Com
 /// Tries them. False where memory is refused before.
 fn try_device<R: Print + Eprint>(rt: &R, alloc: Global) -> bool {
     match commands_of(alloc, THREE) {
-        Some(mut commands) => try_commands(rt, alloc, &mut commands),
+        Some(commands) => try_commands(rt, alloc, commands),
         None => is_done(rt, "device commands", Came::OutOfMemory),
     }
 }
