@@ -26,8 +26,8 @@ use clmodel::setup::WorkItemFunction;
 use clmodel::tree::VariableType;
 use clnum::{BinaryOperator, Builtin, IntType, UnaryOperator};
 use register_values::kept_values::{
-    combined_bits, combined_values, common_value, converted_value, held, moved_value, pointer_of,
-    tested_value, unary_of,
+    binary_operation_on_values, binary_result, common_value, converted_value, held, moved_value,
+    pointer_of, tested_value, unary_of,
 };
 use register_values::operators::{of_one, of_two};
 use register_values::pointers::{index_of, number};
@@ -144,7 +144,7 @@ pub(crate) fn apply_binary(
 {
     match kept_operand(registers, left) {
         Ok(v) => match kept_operand(registers, right) {
-            Ok(w) => combined_values(operator, v, w),
+            Ok(w) => binary_operation_on_values(operator, v, w),
             Err(termination) => Err(termination),
         },
         Err(termination) => Err(termination),
@@ -164,7 +164,7 @@ pub fn apply_binary_to(
 {
     match kept(registers.values, left).bits_as(kinds.0) {
         Some(v) => match kept(registers.values, right).bits_as(kinds.1) {
-            Some(w) => combined_bits(operator, kinds.0, v, kinds.1, w),
+            Some(w) => binary_result(operator, kinds.0, v, kinds.1, w),
             None => apply_binary(registers, operator, left, right),
         },
         None => apply_binary(registers, operator, left, right),

@@ -120,9 +120,9 @@ call_only_low n (Some (built_in_function.Integer function)) to numbers h k = cal
 call_only_low n (Some (built_in_function.Atomic function)) to numbers h k =
     low_either n (is_update function) (update_code function numbers) _ (update_low n function numbers k) (call_low n (Some (built_in_function.Atomic function)) to numbers h k)
 
-hold_low : (n : ℕ) (to : Option ℕ) (from : ℕ) (kind : VariableType) → LowOption n to → from < n → Low n (set_variable_code to from kind)
-hold_low n None from kind h k = ((k, (k, tt)), tt)
-hold_low n (Some to) from kind h k = ((h, (k, tt)), tt)
+set_variable_low : (n : ℕ) (to : Option ℕ) (from : ℕ) (kind : VariableType) → LowOption n to → from < n → Low n (set_variable_code to from kind)
+set_variable_low n None from kind h k = ((k, (k, tt)), tt)
+set_variable_low n (Some to) from kind h k = ((h, (k, tt)), tt)
 
 pub some_place : (sizes : Sizes) (to : Target) → 1 ≤ (target_size sizes to).nodes
 some_place sizes (TargetVariable at name) = omega arith
@@ -234,7 +234,7 @@ module _ (sizes : Sizes) (top : ℕ) (scope : Scope) (within : free_level scope 
   fetch_low (TargetDereference a pointer) reached to h k = ((k, (h, tt)), tt)
 
   pub put_low : (place : Target) (reached from : ℕ) → reached < 16 * top → from < 16 * top → Low (16 * top) (put_code scope place reached from)
-  put_low (TargetVariable a name) reached from h k = hold_low (16 * top) _ from _ (named name) k
+  put_low (TargetVariable a name) reached from h k = set_variable_low (16 * top) _ from _ (named name) k
   put_low (TargetElement a name index) reached from h k = low_either (16 * top) (is_private_array scope.variables name) _ _ ((h, (k, tt)), tt) ((h, (k, tt)), tt)
   put_low (TargetDereference a pointer) reached from h k = ((h, (k, tt)), tt)
 

@@ -18,7 +18,7 @@ use Rattle.clmodel.specs.declared.tree.InfixOperator.TheVariants.{Arithmetic}
 use Rattle.clmodel.specs.Next.{is_update}
 use Rattle.clmodel.specs.Typing.Rules.{Passes, integers, pointers, Operates, arithmetic, pointer_sum, pointer_difference, sum_pointer}
 use Rattle.regcode.specs.Listing.{Listing}
-use Rattle.regcode.specs.Rules.{kind_at, kind_of, held_kind, number_kind, common_kind, changed_kind, combined_kind, of_one_kind, of_two_kind, offset_kind, loaded_kind, fetched_kind, is_integer, is_pointer, is_atomic, Takes, HasType}
+use Rattle.regcode.specs.Rules.{kind_at, kind_of, held_kind, number_kind, common_kind, changed_kind, binary_operation_kind, of_one_kind, of_two_kind, offset_kind, loaded_kind, fetched_kind, is_integer, is_pointer, is_atomic, Takes, HasType}
 use Rattle.regcode.specs.declared.instruction.FetchOperands.TheVariants as operands
 use Rattle.regcode.specs.declared.instruction.Instruction.{Instruction}
 use Rattle.regcode.specs.declared.instruction.Instruction.TheVariants as instruction
@@ -99,11 +99,11 @@ held_is : (kind from : VariableType) → Passes kind from → held_kind kind (So
 held_is _ _ integers = refl
 held_is _ _ (pointers {p = p} {q = q} e writable space) = same_element p.element q.element e
 
-combined_is : {operator : BinaryOperator} (j k r : VariableType) → Operates (Arithmetic operator) j k r → combined_kind operator (Some (kind_of j)) (Some (kind_of k)) ≡ Some (kind_of r)
-combined_is _ _ _ arithmetic = refl
-combined_is _ _ _ pointer_sum = refl
-combined_is _ _ _ pointer_difference = refl
-combined_is _ _ _ sum_pointer = refl
+binary_operation_kind_is : {operator : BinaryOperator} (j k r : VariableType) → Operates (Arithmetic operator) j k r → binary_operation_kind operator (Some (kind_of j)) (Some (kind_of k)) ≡ Some (kind_of r)
+binary_operation_kind_is _ _ _ arithmetic = refl
+binary_operation_kind_is _ _ _ pointer_sum = refl
+binary_operation_kind_is _ _ _ pointer_difference = refl
+binary_operation_kind_is _ _ _ sum_pointer = refl
 
 module _ (parameters : List VariableType) where
   pub constant_suits : (to : ℕ) (value : Number) → Is to (variable_type.Integer value.kind) → Suits parameters (instruction.Constant to value)
@@ -138,8 +138,8 @@ module _ (parameters : List VariableType) where
   pub binary_suits : (to left right : ℕ) (operator : BinaryOperator) (j k r : VariableType) → Is to r → Is left j → Is right k → Operates (Arithmetic operator) j k r
       → Suits parameters (instruction.Binary to operator left right)
   binary_suits to left right operator j k r is of by operates code same wide =
-      takes (kind_at code to) (combined_kind operator (kind_at code left) (kind_at code right)) (kind_of r) (wide.registers.0 ∙ ap Some is)
-      (ap₂ (combined_kind operator) (wide.registers.1.0 ∙ ap Some of) (wide.registers.1.1.0 ∙ ap Some by) ∙ combined_is j k r operates)
+      takes (kind_at code to) (binary_operation_kind operator (kind_at code left) (kind_at code right)) (kind_of r) (wide.registers.0 ∙ ap Some is)
+      (ap₂ (binary_operation_kind operator) (wide.registers.1.0 ∙ ap Some of) (wide.registers.1.1.0 ∙ ap Some by) ∙ binary_operation_kind_is j k r operates)
 
   pub one_suits : (to first : ℕ) (function : Builtin) (kind result : IntType) → Is to (variable_type.Integer result) → Is first (variable_type.Integer kind)
       → of_one_kind function (Some (Integer kind)) ≡ Some (Integer result) → Suits parameters (instruction.Builtin to function first None)

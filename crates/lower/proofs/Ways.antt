@@ -26,12 +26,12 @@ use Rattle.lower.proofs.Flat.{flat_both, either_flat, variable_flat, call_flat, 
 use Rattle.lower.proofs.Sound.{leads_at, sound_flat, sound_more, sound_then, sound_both, sound_exit, sound_barrier, sound_test, sound_branch, sound_sides}
 use Rattle.lower.proofs.SoundLoops.{sound_do, sound_while}
 
-hold_flat : (to : Option ℕ) (from : ℕ) (kind : VariableType) → Flat (set_variable_code to from kind)
-hold_flat None from kind = (tt, tt)
-hold_flat (Some to) from kind = (tt, tt)
+set_variable_flat : (to : Option ℕ) (from : ℕ) (kind : VariableType) → Flat (set_variable_code to from kind)
+set_variable_flat None from kind = (tt, tt)
+set_variable_flat (Some to) from kind = (tt, tt)
 
 put_flat : (scope : Scope) (place : Target) (pointer from : ℕ) → Flat (put_code scope place pointer from)
-put_flat scope (TargetVariable at name) pointer from = hold_flat (register_of scope name) from (kind_named scope name)
+put_flat scope (TargetVariable at name) pointer from = set_variable_flat (register_of scope name) from (kind_named scope name)
 put_flat scope (TargetElement at name index) pointer from = either_flat (is_private_array scope.variables name) _ _ (tt, tt) (tt, tt)
 put_flat scope (TargetDereference at term) pointer from = (tt, tt)
 

@@ -32,11 +32,11 @@ AlikeCalls calls other =
 abbrev pub Steady : Calls → Type 0
 Steady calls = AlikeCalls calls calls
 
-hold_same : (to to2 : Option ℕ) (from from2 : ℕ) (kind : VariableType) → SameLength (set_variable_code to from kind) (set_variable_code to2 from2 kind)
-hold_same None None from from2 kind = single
-hold_same None (Some to2) from from2 kind = single
-hold_same (Some to) None from from2 kind = single
-hold_same (Some to) (Some to2) from from2 kind = single
+set_variable_same : (to to2 : Option ℕ) (from from2 : ℕ) (kind : VariableType) → SameLength (set_variable_code to from kind) (set_variable_code to2 from2 kind)
+set_variable_same None None from from2 kind = single
+set_variable_same None (Some to2) from from2 kind = single
+set_variable_same (Some to) None from from2 kind = single
+set_variable_same (Some to) (Some to2) from from2 kind = single
 
 pub array_same : (is_local : Bool) (element : IntType) (count number number2 level level2 : ℕ) → SameLength (array_code is_local element count number level) (array_code is_local element count number2 level2)
 array_same true element count number number2 level level2 = single
@@ -94,7 +94,7 @@ module _ (base other : ℕ) where
   fetch_same vs (TargetDereference at pointer) reached reached2 to to2 = single
 
   pub put_same : (vs : Variables) (to : Target) (reached reached2 from from2 : ℕ) → SameLength (put_code (from_level base vs) to reached from) (put_code (from_level other vs) to reached2 from2)
-  put_same vs (TargetVariable at name) reached reached2 from from2 = hold_same _ _ from from2 _
+  put_same vs (TargetVariable at name) reached reached2 from from2 = set_variable_same _ _ from from2 _
   put_same vs (TargetElement at name index) reached reached2 from from2 = chosen (is_private_array vs name) single single
   put_same vs (TargetDereference at pointer) reached reached2 from from2 = single
 

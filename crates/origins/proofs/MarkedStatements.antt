@@ -68,9 +68,9 @@ parameters_named (p ∷ ps) vs = parameters_named ps (variable p.name p.kind ∷
 turned_back : {os : List Origin} (is js ks : List Instruction) → Marks os ((is ++ js) ++ ks) → Marks os (is ++ (js ++ ks))
 turned_back {os = os} is js ks h = subst (λ xs. Marks os xs) (append_assoc is js ks) h
 
-hold_marked : (to : Option ℕ) (from : ℕ) (kind : VariableType) (n : Node) → Marks (times 1 n) (set_variable_code to from kind)
-hold_marked None from kind n = single tt
-hold_marked (Some to) from kind n = single tt
+set_variable_marked : (to : Option ℕ) (from : ℕ) (kind : VariableType) (n : Node) → Marks (times 1 n) (set_variable_code to from kind)
+set_variable_marked None from kind n = single tt
+set_variable_marked (Some to) from kind n = single tt
 
 either_one : (b : Bool) (n : Node) (i j : Instruction) → Suits i n → Suits j n → Marks (times 1 n) (if b then i ∷ [] else j ∷ [])
 either_one true n i j h k = single h
@@ -114,7 +114,7 @@ module _ (base : ℕ) where
 
   put_marked : (vs : Variables) (to : Target) (reached from : ℕ) (n : Node) → stores n ≡ true → names n ≡ target_named to
       → Marks (times 1 n) (put_code (from_level base vs) to reached from)
-  put_marked vs (TargetVariable at name) reached from n h e = hold_marked _ from _ n
+  put_marked vs (TargetVariable at name) reached from n h e = set_variable_marked _ from _ n
   put_marked vs (TargetElement at name index) reached from n h e = either_one (is_private_array vs name) n _ _ e h
   put_marked vs (TargetDereference at pointer) reached from n h e = single h
 

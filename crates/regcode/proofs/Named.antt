@@ -13,7 +13,7 @@ use Rattle.clnum.specs.declared.operators.UnaryOperator.{UnaryOperator}
 use Rattle.clmodel.specs.declared.tree.VariableType.{VariableType}
 use Rattle.clmodel.specs.declared.tree.VariableType.TheVariants as variable_type
 use Rattle.regcode.specs.Listing.{Listing}
-use Rattle.regcode.specs.Rules.{Fits, Takes, HasType, HasRoom, kind_at, held_kind, number_kind, common_kind, changed_kind, combined_kind, of_one_kind, of_two_kind, offset_kind, loaded_kind, fetched_kind, is_integer, is_pointer, is_atomic, AreIntegers}
+use Rattle.regcode.specs.Rules.{Fits, Takes, HasType, HasRoom, kind_at, held_kind, number_kind, common_kind, changed_kind, binary_operation_kind, of_one_kind, of_two_kind, offset_kind, loaded_kind, fetched_kind, is_integer, is_pointer, is_atomic, AreIntegers}
 use Rattle.regcode.specs.Safety.{InTables, Below, operand_sources}
 use Rattle.regcode.specs.declared.instruction.FetchOperands.{FetchOperands}
 use Rattle.regcode.specs.declared.instruction.FetchOperands.TheVariants as operands
@@ -65,12 +65,12 @@ changed_there : (operator : UnaryOperator) (o r : Option RegisterKind) → Takes
 changed_there operator (Some (Integer kind)) r h = tt
 changed_there operator _ r h = absurd (takes_nothing r h)
 
-combined_there : (operator : BinaryOperator) (o p r : Option RegisterKind) → Takes r (combined_kind operator o p) → There o × There p
-combined_there operator (Some (Integer a)) (Some (Integer b)) r h = (tt, tt)
-combined_there binary_operator.Add (Some (Pointer a)) (Some (Integer b)) r h = (tt, tt)
-combined_there binary_operator.Add (Some (Integer a)) (Some (Pointer b)) r h = (tt, tt)
-combined_there binary_operator.Subtract (Some (Pointer a)) (Some (Integer b)) r h = (tt, tt)
-combined_there _ _ _ r h = absurd (takes_nothing r h)
+binary_operation_there : (operator : BinaryOperator) (o p r : Option RegisterKind) → Takes r (binary_operation_kind operator o p) → There o × There p
+binary_operation_there operator (Some (Integer a)) (Some (Integer b)) r h = (tt, tt)
+binary_operation_there binary_operator.Add (Some (Pointer a)) (Some (Integer b)) r h = (tt, tt)
+binary_operation_there binary_operator.Add (Some (Integer a)) (Some (Pointer b)) r h = (tt, tt)
+binary_operation_there binary_operator.Subtract (Some (Pointer a)) (Some (Integer b)) r h = (tt, tt)
+binary_operation_there _ _ _ r h = absurd (takes_nothing r h)
 
 of_one_there : (function : Builtin) (o r : Option RegisterKind) → Takes r (of_one_kind function o) → There o
 of_one_there builtin.Abs (Some (Integer a)) r h = tt
@@ -145,7 +145,7 @@ module _ (code : Listing) where
   in_tables (instruction.Unary to operator operand) h =
       record { reads = (register operand (changed_there operator _ _ h), tt); writes = (target to _ h, tt); arrays = tt; objects = tt; names = tt; parameters = tt }
   in_tables (instruction.Binary to operator left right) h =
-      let both = combined_there operator _ _ _ h in
+      let both = binary_operation_there operator _ _ _ h in
       record { reads = (register left both.0, (register right both.1, tt)); writes = (target to _ h, tt); arrays = tt; objects = tt; names = tt; parameters = tt }
   in_tables (instruction.Builtin to function first None) h =
       record { reads = (register first (of_one_there function _ _ h), tt); writes = (target to _ h, tt); arrays = tt; objects = tt; names = tt; parameters = tt }

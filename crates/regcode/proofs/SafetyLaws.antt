@@ -30,7 +30,7 @@ use Rattle.clmodel.specs.declared.tree.VariableType.{VariableType}
 use Rattle.clmodel.specs.declared.tree.VariableType.TheVariants as variable_type
 use Rattle.regcode.specs.Listing.{Listing}
 use Rattle.regcode.specs.Machine.{State, ItemContext, Registers, reg, put, put_array, array_of, entry_at, act, name_of, with_put, with_array, with_turns, passed, onward, argument_at}
-use Rattle.regcode.specs.Rules.{IsVerified, Fits, LeadsInside, Takes, HasRoom, Leads, kind_at, loops_at, kind_of, held_kind, number_kind, common_kind, changed_kind, combined_kind, of_one_kind, of_two_kind, offset_kind, loaded_kind, fetched_kind, is_integer, is_pointer, is_atomic, is_turn}
+use Rattle.regcode.specs.Rules.{IsVerified, Fits, LeadsInside, Takes, HasRoom, Leads, kind_at, loops_at, kind_of, held_kind, number_kind, common_kind, changed_kind, binary_operation_kind, of_one_kind, of_two_kind, offset_kind, loaded_kind, fetched_kind, is_integer, is_pointer, is_atomic, is_turn}
 use Rattle.regcode.specs.Safety.{Suits, operand_kind, InTables, Proceeds, ended, failed, on_at, after_at, asked, ticked, IsNext, NeverSticks}
 use Rattle.regcode.specs.declared.instruction.FetchOperands.TheVariants as operands
 use Rattle.regcode.specs.declared.instruction.Instruction.{Instruction}
@@ -127,14 +127,14 @@ module _ (Ends : Type 0) (Next : State → Type 0) (on after : State → Continu
   arithmetic_safe (Err arith_fault.DivideByZero) kind f is h = failed _
   arithmetic_safe (Err arith_fault.DivideOverflow) kind f is h = failed _
 
-  combined_safe : (operator : BinaryOperator) (v w : Operand) (f : Operand → Continuation) (r : Option RegisterKind)
-      → Takes r (combined_kind operator (Some (operand_kind v)) (Some (operand_kind w))) → ((x : Operand) → r ≡ Some (operand_kind x) → Safe (f x)) → Safe (binary_operation operator v w f)
-  combined_safe operator (Integral v) (Integral w) f r takes h =
+  binary_operation_safe : (operator : BinaryOperator) (v w : Operand) (f : Operand → Continuation) (r : Option RegisterKind)
+      → Takes r (binary_operation_kind operator (Some (operand_kind v)) (Some (operand_kind w))) → ((x : Operand) → r ≡ Some (operand_kind x) → Safe (f x)) → Safe (binary_operation operator v w f)
+  binary_operation_safe operator (Integral v) (Integral w) f r takes h =
       arithmetic_safe (binary_value operator v w) _ f (binary_is operator v w) (λ x is. h x (takes_is r _ takes ∙ ap Some (sym is)))
-  combined_safe binary_operator.Add (Pointed p) (Integral i) f r takes h = h _ (takes_is r _ takes)
-  combined_safe binary_operator.Add (Integral i) (Pointed p) f r takes h = h _ (takes_is r _ takes)
-  combined_safe binary_operator.Subtract (Pointed p) (Integral i) f r takes h = h _ (takes_is r _ takes)
-  combined_safe _ _ _ f r takes h = absurd (takes_nothing r takes)
+  binary_operation_safe binary_operator.Add (Pointed p) (Integral i) f r takes h = h _ (takes_is r _ takes)
+  binary_operation_safe binary_operator.Add (Integral i) (Pointed p) f r takes h = h _ (takes_is r _ takes)
+  binary_operation_safe binary_operator.Subtract (Pointed p) (Integral i) f r takes h = h _ (takes_is r _ takes)
+  binary_operation_safe _ _ _ f r takes h = absurd (takes_nothing r takes)
 
   moved_safe : (v w : Operand) (f : PointerValue → Continuation) (r : Option RegisterKind)
       → Takes r (offset_kind (Some (operand_kind v)) (Some (operand_kind w))) → ((q : PointerValue) → r ≡ Some (PointerKind q.element) → Safe (f q)) → Safe (moved v w f)
@@ -357,9 +357,9 @@ module _ (code : Listing) (s : State) (suits : Suits code s) where
     does (instruction.Binary to operator left right) fits named goes =
         known_safe _ _ on after _ _ _ (λ v e.
         known_safe _ _ on after _ _ _ (λ w e'.
-        combined_safe _ _ on after operator v w _ (kind_at code to)
-        (subst (λ k. Takes (kind_at code to) (combined_kind operator (Some (operand_kind v)) k)) (suits.typed right w e')
-        (subst (λ k. Takes (kind_at code to) (combined_kind operator k (kind_at code right))) (suits.typed left v e) fits))
+        binary_operation_safe _ _ on after operator v w _ (kind_at code to)
+        (subst (λ k. Takes (kind_at code to) (binary_operation_kind operator (Some (operand_kind v)) k)) (suits.typed right w e')
+        (subst (λ k. Takes (kind_at code to) (binary_operation_kind operator k (kind_at code right))) (suits.typed left v e) fits))
         (λ x is. on_at _ (put_next to x is goes))))
     does (instruction.Builtin to function first None) fits named goes =
         known_safe _ _ on after _ _ _ (λ v e.

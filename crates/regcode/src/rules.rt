@@ -7,8 +7,9 @@ ghost use Rattle.regcode.specs.Rules as spec;
 
 use crate::instruction::{FetchOperands, Instruction};
 use crate::kinds::{
-    changed_kind, combined_kind, common_kind, fetched_kind, held_kind, is_atomic, is_integer,
-    is_pointer, kind_of, loaded_kind, number_kind, of_one_kind, of_two_kind, offset_kind, takes,
+    binary_operation_kind, changed_kind, common_kind, fetched_kind, held_kind, is_atomic,
+    is_integer, is_pointer, kind_of, loaded_kind, number_kind, of_one_kind, of_two_kind,
+    offset_kind, takes,
 };
 use crate::tables::{RegisterKind, Tables};
 use clmodel::tree::VariableType;
@@ -114,7 +115,7 @@ impl Judged<'_> {
                 right,
             } => self.takes(
                 *to,
-                combined_kind(*operator, self.kind(*left), self.kind(*right)),
+                binary_operation_kind(*operator, self.kind(*left), self.kind(*right)),
             ),
             Instruction::Builtin {
                 to,

@@ -95,7 +95,7 @@ pub fn unary_of(operator: UnaryOperator, value: RegisterValue) -> Result<Registe
 
 /// What an operator gives on two numbers of types.
 #[inline(always)]
-pub fn combined_bits(
+pub fn binary_result(
     operator: BinaryOperator,
     left_kind: IntType,
     left: u64,
@@ -114,7 +114,7 @@ pub fn combined_bits(
 }
 
 /// An operator on what two registers have, of which one is a pointer.
-fn combined_by_value(
+fn binary_operation_by_value(
     operator: BinaryOperator,
     left: RegisterValue,
     right: RegisterValue,
@@ -134,7 +134,7 @@ fn combined_by_value(
 }
 
 /// An operator on what two registers have: integers, or a pointer and an integer that is added to it or taken from it.
-pub fn combined_values(
+pub fn binary_operation_on_values(
     operator: BinaryOperator,
     left: RegisterValue,
     right: RegisterValue,
@@ -143,10 +143,10 @@ pub fn combined_values(
 {
     match left.form {
         Form::Integral => match right.form {
-            Form::Integral => combined_bits(operator, left.kind, left.bits, right.kind, right.bits),
-            _ => combined_by_value(operator, left, right),
+            Form::Integral => binary_result(operator, left.kind, left.bits, right.kind, right.bits),
+            _ => binary_operation_by_value(operator, left, right),
         },
-        _ => combined_by_value(operator, left, right),
+        _ => binary_operation_by_value(operator, left, right),
     }
 }
 

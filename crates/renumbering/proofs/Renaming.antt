@@ -15,7 +15,7 @@ use Rattle.regcode.specs.Safety.{Suits, InTables, Below, sources}
 use Rattle.regcode.specs.declared.instruction.FetchOperands.TheVariants as operands
 use Rattle.regcode.specs.declared.instruction.Instruction.{Instruction}
 use Rattle.regcode.specs.declared.instruction.Instruction.TheVariants as instruction
-use Rattle.regcode.proofs.Agreement.{Alike, number_alike, pointing_alike, known_alike, test_alike, moved_alike, combined_alike, given_value_alike, read_alike, write_alike, ask_alike, tick_alike, store_alike}
+use Rattle.regcode.proofs.Agreement.{Alike, number_alike, pointing_alike, known_alike, test_alike, moved_alike, binary_operation_alike, given_value_alike, read_alike, write_alike, ask_alike, tick_alike, store_alike}
 use Rattle.regcode.proofs.Registers.{item_put, item_kept}
 use Rattle.regcode.proofs.SafetyLaws.{never_sticks}
 use Rattle.renumbering.specs.Renamed.{renamed}
@@ -109,7 +109,7 @@ module _ (rename : ℕ → ℕ) (old new : Listing) (is : IsRenamed rename old n
     act_same (instruction.Unary to operator operand) b = reads operand b.0 _ _ (λ v. number_alike ticks v _ _ (λ n. puts to _))
     act_same (instruction.Binary to operator left right) b =
         reads left b.0 _ _ (λ v. reads right b.1.0 _ _ (λ w.
-        combined_alike ticks operator v w (λ x. on (with_put s to (Some x))) (λ x. on' (with_put (with_values s others) (rename to) (Some x))) (λ x. puts to (Some x))))
+        binary_operation_alike ticks operator v w (λ x. on (with_put s to (Some x))) (λ x. on' (with_put (with_values s others) (rename to) (Some x))) (λ x. puts to (Some x))))
     act_same (instruction.Builtin to function first None) b =
         reads first b.0 _ _ (λ v. number_alike ticks v _ _ (λ m.
         given_value_alike ticks _ (λ x. on (with_put s to (Some x))) (λ x. on' (with_put (with_values s others) (rename to) (Some x))) (λ x. puts to (Some x))))
