@@ -80,14 +80,14 @@ pub(crate) enum Hinted {
     Recursion,
 }
 
-/// What the token at a place is, and the one behind it.
+/// What the token at a place is.
 fn here_mark(place: Place<'_>) -> Mark
     ensures { result ≡ hints.here_mark (near_of place.entry) }
 {
     mark_at(nth(place.rest, 0))
 }
 
-/// Says what the token is that stands behind the one at a place.
+/// What the token behind the one at a place is.
 fn next_mark(place: Place<'_>) -> Mark
     ensures { result ≡ hints.next_mark (near_of place.entry) }
 {

@@ -138,6 +138,7 @@ fn line_comment_len(bytes: &[u8]) -> usize
     bytes.iter().take_while(|byte| is_in_line(**byte)).count()
 }
 
+/// The symbol at the front as a token, the longest that fits; a byte that no symbol begins with is bad (C99 6.4.6).
 fn symbol_piece(bytes: &[u8]) -> Piece
     ensures { result ≡ pieces.symbol_piece bytes.now }
 {

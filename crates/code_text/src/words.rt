@@ -83,6 +83,7 @@ fn builtin_word(function: Builtin) -> &'static str
     }
 }
 
+/// The name of a work-item function in OpenCL C (OpenCL 1.2, section 6.12.1).
 fn query_word(function: WorkItemFunction) -> &'static str
     ensures { result.now ≡ text.query_word function }
 {
@@ -97,6 +98,7 @@ fn query_word(function: WorkItemFunction) -> &'static str
     }
 }
 
+/// The name of an atomic function in OpenCL C (OpenCL 1.2, section 6.12.11).
 fn atomic_word(function: AtomicFunction) -> &'static str
     ensures { result.now ≡ text.atomic_word function }
 {

@@ -47,7 +47,7 @@ fn run<R: Print + AllocGlobal + Threads + Wait + Sync>(rt: &R) -> io::Result<()>
     println!(rt; "{} buffers", device.buffers().len())
 }
 
-/// Runs the program. An error comes where memory is refused, or standard output fails.
+/// Serves the clients and prints their replies. An error comes where memory is refused, or standard output fails.
 fn main(rt: HostRuntime) -> io::Result<()> {
     run(&rt)
 }

@@ -19,8 +19,8 @@ use std::collections::HashMap;
 /// How many bytes a cell has.
 const CELL_BYTES: u64 = CELL_WORDS as u64 * WORD_BYTES;
 
-/// Below which byte of its object an access ends that is near: the number of its cell is one of a word then, as that of
-/// the object is.
+/// An access that ends at this byte of its object or later isn't near. The cells before it have numbers below 2^32, as
+/// objects have, so that both numbers make one key of 64 bits.
 const NEAR_BYTES: u64 = WORD_VALUES * CELL_BYTES;
 
 /// What is kept of each byte of numbered objects, in cells of eight words that were touched.

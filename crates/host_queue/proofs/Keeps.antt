@@ -167,7 +167,7 @@ module _ {D C R B : Type 0} (model : D → C → R → D → Type 0) (content : 
   abbrev Mine : Type 0
   Mine = Me (Option B) V
 
-  -- what a step owes at one state, where the word i becomes new
+  -- in a state where the rule holds, a step by which the word i becomes new keeps it
   abbrev MayStep : S → ℕ → ℕ → Mine → (Mine → Type 0) → ℕ → Type 0
   MayStep s i id me told new = (w : V) × (a : Act (Option B)) × Valid s.homes me.1 a × Rule (stepped s i new id me.1 w a) × told (w, carried_after me.1 a)
 

@@ -33,6 +33,7 @@ fn try_all<R: Print + Eprint + Threads + Wait + Sync>(rt: &R, alloc: Global) {
     clients::try_all(rt, alloc);
 }
 
+/// Tries all calls, each with the memory of this process.
 fn main(rt: HostRuntime) {
     try_all(&rt, rt.alloc());
 }

@@ -27,6 +27,7 @@ __kernel void f(__global int *a) {
 }
 ";
 
+/// What came of a pass that gave this fault: memory was refused, or the source, which is right, was not taken.
 fn of_syntax(fault: SyntaxFault) -> Came {
     match fault {
         SyntaxFault::OutOfMemory => Came::OutOfMemory,
@@ -34,6 +35,7 @@ fn of_syntax(fault: SyntaxFault) -> Came {
     }
 }
 
+/// The tokens of the source.
 fn lexed(alloc: Global) -> Result<Tokens, Came> {
     lex(alloc, SOURCE.as_bytes()).map_err(of_syntax)
 }
@@ -58,6 +60,7 @@ fn parsed(alloc: Global, tokens: &Tokens) -> Result<Tree, Came> {
     }
 }
 
+/// The tree with its types.
 fn checked(alloc: Global, tree: Tree) -> Result<Checked, Came> {
     match check(alloc, tree) {
         Ok(checked) => Ok(checked),

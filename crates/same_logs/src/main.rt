@@ -118,7 +118,7 @@ fn run<R: Input + Print>(rt: &R, alloc: Global) -> Result<(), NotRun> {
     Ok(())
 }
 
-/// Runs the program. An error comes where a line of standard input isn't read, or a launch isn't run.
+/// Runs all launches with each log. An error comes where a line of standard input isn't read, or a launch isn't run.
 fn main(rt: HostRuntime) -> Result<(), NotRun> {
     run(&rt, rt.alloc())
 }

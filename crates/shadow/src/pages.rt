@@ -18,7 +18,7 @@ use std::alloc::{AllocError, Global};
 /// How many bytes a word has.
 const WORD_BYTES: usize = shadow_list::WORD_BYTES as usize;
 
-/// How many bytes the value of an access has, which are all that an access can be at.
+/// How many bytes the widest access is at.
 const VALUE_BYTES: usize = shadow_list::VALUE_BYTES as usize;
 
 /// How many words a page has.

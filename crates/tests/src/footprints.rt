@@ -112,7 +112,6 @@ const STORES: [(u8, Width, u64, Option<(u32, u64)>); 6] = [
 ];
 
 /// Shows that in a uniform launch alone a store passes where each byte was left as it leaves it.
-// In a uniform launch a store meets the first access that left another byte, and passes where all left its own.
 #[test]
 fn stores_of_the_same_byte_pass(rt: HostRuntime) -> Result<(), Fail> {
     let mut footprint = Footprint::new(rt.alloc());

@@ -42,7 +42,6 @@ const TEXTS: [(&str, &str); 5] = [
 ];
 
 /// Shows that each source is printed as its text, and so is that text when it is read again.
-// What was printed is read again, and printed as it was.
 #[test]
 fn texts(rt: HostRuntime) -> Result<(), Fail> {
     for (source, text) in TEXTS {

@@ -85,7 +85,6 @@ fn what_lasts_of_a_running_log(rt: HostRuntime) -> Result<(), Fail> {
 }
 
 /// Shows that a list tells the same conflicts, and that its summary keeps what tells other groups something new.
-// The same of the list of all accesses, of which the accesses are kept that tell something new.
 #[test]
 fn what_lasts_of_a_list(rt: HostRuntime) -> Result<(), Fail> {
     let mut log = ListLog::new(rt.alloc(), false);

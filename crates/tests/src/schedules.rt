@@ -77,7 +77,6 @@ fn read_and_written(alloc: Global, file: &[u8]) -> Result<(u64, Vec<u8>), Fail> 
 }
 
 /// Shows that a file's ticket is read, and that its fault and its schedule are written again byte for byte.
-// A schedule file tells its ticket, and its second line is written again as it was.
 #[test]
 fn files(rt: HostRuntime) -> Result<(), Fail> {
     for (head, ticket, line) in FILES {
