@@ -3,9 +3,6 @@ use Rattle.std.specs.Prelude.{ℕ, ℤ, ◌==◌, length, List, [], ◌∷◌, �
 use Rattle.std.specs.Fmt.{signed_decimal}
 use Rattle.std.specs.List.{flat_map}
 use Rattle.clmodel.specs.declared.access.AccessKind.{AccessKind}
-use Rattle.clmodel.specs.declared.access.AccessKind.TheVariants as kind
-use Rattle.clmodel.specs.declared.access.Class.{Class}
-use Rattle.clmodel.specs.declared.access.Class.TheVariants as class
 use Rattle.clmodel.specs.declared.access.Clash.{Clash}
 use Rattle.clmodel.specs.declared.access.Clash.TheVariants.{Race, Order}
 use Rattle.clmodel.specs.declared.action.Stop.{Stop}
@@ -17,22 +14,7 @@ use Rattle.clmodel.specs.declared.fault.Location.TheVariants as location
 use Rattle.clmodel.specs.declared.schedule.EventRun.{EventRun}
 use Rattle.clmodel.specs.declared.schedule.EventRun.TheVariants as run
 use Rattle.counted_io.specs.Pieces.{joined}
-
-abbrev pub class_text : Class → List ℕ
-class_text class.Add = codes "add"
-class_text class.And = codes "and"
-class_text class.Or = codes "or"
-class_text class.Xor = codes "xor"
-class_text class.SignedMin = codes "smin"
-class_text class.UnsignedMin = codes "umin"
-class_text class.SignedMax = codes "smax"
-class_text class.UnsignedMax = codes "umax"
-
-abbrev pub kind_text : AccessKind → List ℕ
-kind_text kind.Load = codes "load"
-kind_text kind.Store = codes "store"
-kind_text (kind.Update of) = class_text of
-kind_text kind.Fetch = codes "fetch"
+pub use Rattle.access_words.specs.Words.{class_text, kind_text}
 
 abbrev pub clash_text : Clash → List ℕ
 clash_text Race = codes "fault 1 race item "

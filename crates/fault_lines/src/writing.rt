@@ -5,10 +5,11 @@ ghost use Rattle.std.specs.Prelude.{◌≡◌};
 ghost use Rattle.std.specs.List.{flat_map};
 ghost use Rattle.counted_io.specs.Pieces.{joined};
 ghost use Rattle.counted_io.specs.Sink.{Puts};
-ghost use Rattle.fault_lines.specs.Text.{class_text, kind_text, clash_text, location_text, later_turn_text, turns_text, stop_text, run_text, schedule_text, fault_words, fault_item, byte_texts, element_texts, private_texts, variable_texts, conflict_texts, divergence_texts, fault_details, fault_text, fault_line};
+ghost use Rattle.fault_lines.specs.Text.{clash_text, location_text, later_turn_text, turns_text, stop_text, run_text, schedule_text, fault_words, fault_item, byte_texts, element_texts, private_texts, variable_texts, conflict_texts, divergence_texts, fault_details, fault_text, fault_line};
 ghost use Rattle.fault_lines.specs.Parts.{part_text};
 
-use clmodel::access::{AccessKind, Clash, Class};
+use access_words::kind_word;
+use clmodel::access::{AccessKind, Clash};
 use clmodel::action::Stop;
 use clmodel::fault::{Fault, Location};
 use clmodel::schedule::{EventRun, Schedule};
@@ -29,34 +30,6 @@ enum Part<'a> {
     Location(&'a Location),
     Stop(&'a Stop),
     Schedule(&'a [EventRun]),
-}
-
-/// The word of the class of an update.
-fn class_word(class: Class) -> &'static str
-    ensures { result.now ≡ class_text class }
-{
-    match class {
-        Class::Add => "add",
-        Class::And => "and",
-        Class::Or => "or",
-        Class::Xor => "xor",
-        Class::SignedMin => "smin",
-        Class::UnsignedMin => "umin",
-        Class::SignedMax => "smax",
-        Class::UnsignedMax => "umax",
-    }
-}
-
-/// The word of a kind of access, which for an update is that of its class.
-fn kind_word(kind: AccessKind) -> &'static str
-    ensures { result.now ≡ kind_text kind }
-{
-    match kind {
-        AccessKind::Load => "load",
-        AccessKind::Store => "store",
-        AccessKind::Update(class) => class_word(class),
-        AccessKind::Fetch => "fetch",
-    }
 }
 
 /// The words in front of the first item of a conflict, with the number of the fault.
