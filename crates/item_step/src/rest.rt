@@ -1,11 +1,13 @@
 //! What an item asks where it rests.
 #![tactic(auto)]
 
-ghost use Rattle.std.specs.Prelude.{◌≡◌};
+ghost use Rattle.std.specs.Prelude.{◌≡◌, ℕ, List};
 ghost use Rattle.item_step.specs.Accessing.{access_of};
+ghost use Rattle.item_step.specs.BriefActions.{action_from};
 
+use crate::brief_action::BriefAction;
 use clmodel::access::Operation;
-use clmodel::action::{Action, Fences};
+use clmodel::action::Fences;
 use clmodel::operand::Pointer;
 use clnum::IntType;
 use item_state::Rest;
@@ -44,10 +46,10 @@ pub(crate) struct FoundAccess {
 impl FoundAccess {
     /// The access as an action.
     #[inline(always)]
-    pub(crate) fn action(self) -> Action
-        ensures { result ≡ access_of self }
+    pub(crate) fn action(self) -> BriefAction
+        ensures { (turns : List ℕ) → action_from result turns ≡ access_of self }
     {
-        Action::Access {
+        BriefAction::Access {
             object: self.pointer.object,
             element: self.pointer.offset,
             operation: self.operation,
@@ -67,8 +69,8 @@ pub(crate) enum Stop {
 }
 
 /// The action that an item makes, and how it goes on with the answer, if it takes one.
-#[derive(Drop)]
+#[derive(Clone, Copy)]
 pub(crate) struct Found {
-    pub(crate) action: Action,
+    pub(crate) action: BriefAction,
     pub(crate) pending: Option<Pending>,
 }
