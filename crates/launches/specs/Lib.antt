@@ -3,6 +3,7 @@ pub mod Items
 pub mod Objects
 pub use Rattle.clmodel.specs.Launch
 pub use Rattle.clmodel.specs.Next
+pub use Rattle.item_step.specs.BriefActions
 pub use Rattle.item_step.specs.Launches
 pub use Rattle.item_step.specs.Listing
 pub use Rattle.item_step.specs.Machine

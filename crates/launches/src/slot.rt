@@ -4,13 +4,15 @@ ghost use Rattle.std.specs.Prelude.{◌≡◌, ℕ, [], ◌∷◌, ◌++◌, Lis
 ghost use Rattle.clmodel.specs.Launch.{Launch};
 ghost use Rattle.clmodel.specs.declared.action.Action.TheVariants as action;
 ghost use Rattle.clmodel.specs.declared.action.Answer.{Answer};
+ghost use Rattle.item_step.specs.BriefActions.{action_from};
 ghost use Rattle.item_step.specs.Running.{Running};
-ghost use Rattle.launches.specs.Items.{acts_of, IsAsked, Runs, Stands};
+ghost use Rattle.item_step.specs.declared.brief_action.BriefAction.TheVariants as brief;
+ghost use Rattle.launches.specs.Items.{acts_of, turns_of, IsAsked, Runs, Stands};
 ghost use Rattle.launches.specs.declared.slot.Slot.TheVariants as slot;
 
 use crate::runnable::Runnable;
 use clmodel::action::{Action, Answer};
-use item_step::Item;
+use item_step::{BriefAction, Item};
 use std::alloc::{AllocError, Global};
 
 /// A work-item as it runs (OpenCL 1.2, section 3.2). It is started when it is first asked, and one that has ended keeps
@@ -89,6 +91,27 @@ impl<'a> Slot<'a> {
         *self = Slot::Ended;
     }
 
+    /// What the item does next, once it was asked.
+    #[inline(always)]
+    pub fn goes_on_brief(&mut self) -> BriefAction
+        requires { IsAsked self.old }
+        ensures action { (launch : Launch) (item : ℕ) → action_from result (turns_of self.new) ≡ acts_of launch item self.old [] }
+        ensures same { (launch : Launch) (item : ℕ) (answers : List Answer) → acts_of launch item self.new answers ≡ acts_of launch item self.old answers }
+        ensures asked { IsAsked self.new }
+        ensures ended { result ≡ brief.End → self.new ≡ slot.Ended }
+        ensures stands { Stands self.new (action_from result (turns_of self.new)) }
+        ensures runs { (start : Running) (answers : List Answer) → Runs start answers self.old → Runs start answers self.new }
+    {
+        let Slot::Running(running) = self else {
+            return BriefAction::End;
+        };
+        let action = running.next_brief();
+        if let BriefAction::End = action {
+            self.end();
+        }
+        action
+    }
+
     /// The action that the item makes next, once it was asked.
     #[inline(always)]
     pub fn goes_on(&mut self) -> Action
@@ -100,14 +123,30 @@ impl<'a> Slot<'a> {
         ensures stands { Stands self.new result }
         ensures runs { (start : Running) (answers : List Answer) → Runs start answers self.old → Runs start answers self.new }
     {
-        let Slot::Running(running) = self else {
-            return Action::End;
-        };
-        let action = running.next();
-        if let Action::End = action {
-            self.end();
+        let action = self.goes_on_brief();
+        match self {
+            Slot::Running(running) => running.whole_action(action),
+            _ => Action::End,
         }
-        action
+    }
+
+    /// What the item does next. An error is out of memory.
+    #[inline(always)]
+    pub fn next_brief<D: Runnable>(
+        &mut self,
+        alloc: Global,
+        launch: &'a D,
+        item: u32,
+    ) -> Result<BriefAction, AllocError>
+        ensures action { IfOk result (λ action. action_from action (turns_of self.new) ≡ acts_of (D.launch launch.now) item self.old []) }
+        ensures same { (answers : List Answer) → acts_of (D.launch launch.now) item self.new answers ≡ acts_of (D.launch launch.now) item self.old answers }
+        ensures asked { OnOk result (IsAsked self.new) }
+        ensures ended { IfOk result (λ made. made ≡ brief.End → self.new ≡ slot.Ended) }
+        ensures stands { IfOk result (λ action. Stands self.new (action_from action (turns_of self.new))) }
+        ensures runs { (answers : List Answer) → Runs (D.started launch.now item) answers self.old → Runs (D.started launch.now item) answers self.new }
+    {
+        self.start(alloc, launch, item)?;
+        Ok(self.goes_on_brief())
     }
 
     /// The action that the item makes next. An error is out of memory.
@@ -127,6 +166,18 @@ impl<'a> Slot<'a> {
     {
         self.start(alloc, launch, item)?;
         Ok(self.goes_on())
+    }
+
+    /// The numbers of the turns that its loops have made, the outermost loop first. An item that isn't under way has
+    /// none.
+    #[inline(always)]
+    pub fn turns(&self) -> &[u32]
+        ensures { result.now ≡ turns_of self.now }
+    {
+        match self {
+            Slot::Running(running) => running.turns(),
+            _ => &[],
+        }
     }
 
     /// The next action of the item, which was asked, is answered.

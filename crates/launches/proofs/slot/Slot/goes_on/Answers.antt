@@ -1,15 +1,6 @@
-use Rattle.std.proofs.Common.{[], sym, ap, subst, ◌∙◌}
-use Rattle.item_step.proofs.Going.{arrives_on}
-use Rattle.launches.specs.Items.{acts_of, Runs}
+use Rattle.std.proofs.Common.{subst}
+use Rattle.launches.specs.Items.{Runs}
 use Rattle.launches.proofs.slot.Slot.goes_on.Goals as goal
 
-pub returns-in_default-action : goal.returns-in_default-action
-returns-in_default-action c =
-    record {
-      action = λ launch item. c.next-action.ensures.action ∙ sym (ap (λ slot. acts_of launch item slot []) c.in-Running.is);
-      same = λ launch item answers. c.next-action.ensures.same.same answers ∙ sym (ap (λ slot. acts_of launch item slot answers) c.in-Running.is);
-      asked = tt;
-      ended = λ e. absurd (c.in_default-action.not-End e);
-      stands = c.next-action.ensures.stands;
-      runs = λ start answers held. arrives_on (subst (Runs start answers) c.in-Running.is held) c.next-action.ensures.same;
-    }
+pub returns-in-Running-clause-runs : goal.returns-in-Running-clause-runs
+returns-in-Running-clause-runs c start answers held = subst (Runs start answers) c.in-Running.is (c.goes_on_brief-action.ensures.runs start answers held)
