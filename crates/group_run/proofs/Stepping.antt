@@ -28,6 +28,8 @@ use Rattle.clmodel.specs.declared.schedule.Event.TheVariants.{Item, Release}
 use Rattle.clmodel.proofs.CellLaws.{found_unset}
 use Rattle.clmodel.proofs.Ending.{sum_below_less, not_over, one_more, less_left}
 use Rattle.clmodel.proofs.Steps.{none_some, if_true, if_false, made, region_for, item_at, release_at, map_some, map_none}
+use Rattle.item_step.specs.BriefActions.{action_from}
+use Rattle.item_step.specs.declared.brief_action.BriefAction.{BriefAction}
 use Rattle.shadow_list.specs.Log.{Log, stamped, entry_of, hit, IsKept, IsNoted}
 use Rattle.shadow_list.specs.declared.log.Entry.{Entry}
 use Rattle.shadow_list.specs.declared.log.Hit.{Hit}
@@ -498,13 +500,15 @@ next_fits {I} acts bytes ro p r items number globals locals log k i j last there
         ∙ ap (λ n. p.launch.next (p.first + n) (s.answers (p.first + n) ++ answers)) (sym c.0)
     go q z (inr c) answers = f.acting q z c.1 answers
 
--- an item's next action where memory doesn't want
+-- what an item does next where memory doesn't want, by the turns of its loops as the code has them
 pub actions_are :
     {I G E : Type 0} (acts : ℕ → I → List Answer → Action) (bytes : G → List (Option ℕ)) (ro : Bool) (p : Plan) (items : List I) (number : ℕ) (globals : List G)
-    (locals : List (List (Option ℕ))) (log : Log) (k : ℕ) (i : I) → slice_get items k ≡ Some i → (answer : Result Action E) → IfOk answer (λ a. a ≡ acts k i [])
-    → IfOk answer (λ a. (events : Events) (s : State) → Fits acts bytes ro p items number globals locals log events s → next_action p.launch s (p.first + k) ≡ a)
-actions_are acts bytes ro p items number globals locals log k i e (Ok a) h = λ events s f. action_is acts bytes ro p items number globals locals log events s k i a e h f
-actions_are acts bytes ro p items number globals locals log k i e (Err error) h = tt
+    (locals : List (List (Option ℕ))) (log : Log) (k : ℕ) (i : I) (turns told : List ℕ) → turns ≡ told → slice_get items k ≡ Some i → (answer : Result BriefAction E)
+    → IfOk answer (λ a. action_from a turns ≡ acts k i [])
+    → IfOk answer (λ a. (events : Events) (s : State) → Fits acts bytes ro p items number globals locals log events s → next_action p.launch s (p.first + k) ≡ action_from a told)
+actions_are acts bytes ro p items number globals locals log k i turns told same e (Ok a) h = λ events s f.
+    action_is acts bytes ro p items number globals locals log events s k i (action_from a turns) e h f ∙ ap (action_from a) same
+actions_are acts bytes ro p items number globals locals log k i turns told same e (Err error) h = tt
 
 -- the first item's action
 pub at_first : (p : Plan) (s : State) (a b : Action) → next_action p.launch s (p.first + 0) ≡ a → a ≡ b → next_action p.launch s p.first ≡ b

@@ -1,5 +1,5 @@
 -- The turns of a group, and what its events leave as it was.
-use Rattle.std.proofs.Common.{◌≡◌, ℕ, ◌+◌, ◌<◌, ◌≤◌, ◌^◌, ◌⊎◌, Bool, true, false, not, ◌&&◌, ◌==◌, if◌then◌else◌, ℤ, Option, None, Some, [], ◌∷◌, ◌++◌, length, refl, sym, ap, ◌∙◌, subst, inl, inr, arith, eqb-true, eq-eqb}
+use Rattle.std.proofs.Common.{◌≡◌, ℕ, ◌+◌, ◌<◌, ◌≤◌, ◌^◌, ◌⊎◌, Bool, true, false, not, ◌&&◌, ◌==◌, if◌then◌else◌, ℤ, Option, None, Some, List, [], ◌∷◌, ◌++◌, length, refl, sym, ap, ◌∙◌, subst, inl, inr, arith, eqb-true, eq-eqb}
 use Rattle.std.proofs.lemmas.Bool.{and_from, false≢true, cases_lt}
 use Rattle.clmodel.specs.Launch.{Launch, group_of}
 use Rattle.clmodel.specs.Run.{State, Events, step, next_action, straggler, stop_of, both_stop, same_stop, same_numbers}
@@ -22,6 +22,9 @@ use Rattle.std.specs.Prelude.{Result, Ok, IfOk, Box}
 use Rattle.std.specs.declared.alloc.Global.{Global}
 use Rattle.clmodel.proofs.Ending.{step_less}
 use Rattle.clmodel.proofs.Faultless.{same_numbers_self}
+use Rattle.item_step.specs.BriefActions.{action_from}
+use Rattle.item_step.specs.declared.brief_action.BriefAction.{BriefAction}
+use Rattle.item_step.specs.declared.brief_action.BriefAction.TheVariants as brief
 use Rattle.joining.specs.Group.{Plan, IsGroup, going, turn_of, RunsIn, Reached, Reported, IsRun}
 use Rattle.joining.proofs.GroupTurns as group_turns
 use Rattle.group_run.specs.Loops.{Accesses, Steps, IsMade, AtOneStop, Gathers, IsLeading, GathersAt, GathersOrReports, IsBrief, IsGathered}
@@ -342,13 +345,14 @@ pub interval_asks :
 interval_asks p q fits origin events e whole brief r =
     subst (λ z. IsGroup z × (IsBrief z origin × Reached z fits origin events)) (sym e) (whole, (brief, r))
 
--- an item's next action in a state that fits, as the code was told it by its plan
+-- an item's next action in a state that fits, as the code was told it by its plan and the turns of the item's loops
 pub acting :
-    {E : Type 0} (p q : Plan) (fits : Events → State → Type 0) {events : Events} (s : State) (k : ℕ) (a : Action) {answer : Result Action E} → q ≡ p → fits events s → answer ≡ Ok a
-    → IfOk answer (λ x. (es : Events) (t : State) → fits es t → next_action q.launch t (q.first + k) ≡ x) → next_action p.launch s (p.first + k) ≡ a
-acting p q fits {events} s k a e holds is value =
-    subst (λ z. next_action z.launch s (z.first + k) ≡ a) e
-    (subst (λ r. IfOk r (λ x. (es : Events) (t : State) → fits es t → next_action q.launch t (q.first + k) ≡ x)) is value events s holds)
+    {E : Type 0} (p q : Plan) (fits : Events → State → Type 0) {events : Events} (s : State) (k : ℕ) (turns : List ℕ) (a : BriefAction) {answer : Result BriefAction E} → q ≡ p → fits events s
+    → answer ≡ Ok a → IfOk answer (λ x. (es : Events) (t : State) → fits es t → next_action q.launch t (q.first + k) ≡ action_from x turns)
+    → next_action p.launch s (p.first + k) ≡ action_from a turns
+acting p q fits {events} s k turns a e holds is value =
+    subst (λ z. next_action z.launch s (z.first + k) ≡ action_from a turns) e
+    (subst (λ r. IfOk r (λ x. (es : Events) (t : State) → fits es t → next_action q.launch t (q.first + k) ≡ action_from x turns)) is value events s holds)
 
 abbrev pub IsWaiting : Plan → (Events → State → Type 0) → Fences → Type 0
 IsWaiting p fits fences =
@@ -414,6 +418,15 @@ over (action.Access o element op) x h other = absurd (none_some x h)
 over (action.Barrier i fences) x h other = absurd (other i fences refl)
 over action.End x h other = refl
 over (action.Fault c) x h other = absurd (none_some x h)
+
+-- what an item does next is no barrier
+pub no_barrier :
+    (a : BriefAction) (turns : List ℕ) → ((site depth : ℕ) (fences : Fences) → a ≡ brief.Barrier site depth fences → ⊥) → (i : Instance) (fences : Fences)
+    → action_from a turns ≡ action.Barrier i fences → ⊥
+no_barrier (brief.Access object element operation) turns other i fences h = cc
+no_barrier (brief.Barrier site depth fences) turns other i told h = other site depth fences refl
+no_barrier brief.End turns other i fences h = cc
+no_barrier (brief.Fault cause) turns other i fences h = cc
 
 -- ---- an interval that is over
 

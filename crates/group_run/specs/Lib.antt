@@ -4,5 +4,7 @@ pub mod Items
 pub mod Fits
 pub mod Logs
 pub mod Results
+pub mod Stops
+pub use Rattle.launches.specs.BriefActions
 pub use Rattle.launches.specs.Groups
 pub use Rattle.launches.specs.Objects

@@ -14,11 +14,13 @@ ghost use Rattle.group_run.specs.Items.{acts_at};
 ghost use Rattle.launches.specs.Items.{acts_of};
 ghost use Rattle.group_run.specs.Logs.{IsJudged, after_fences, conflict_of};
 
+use crate::brief_stop::BriefStop;
 use crate::faults::{self, bounds_fault, unset_fault};
 use crate::machine::{Machine, Made, Report};
 use clmodel::access::{Conflict, Object, Operation};
-use clmodel::action::{Action, Answer, Cause, Fences};
+use clmodel::action::{Answer, Cause, Fences, Stop};
 use clmodel::fault::Fault;
+use item_step::BriefAction;
 use launches::objects::{perform_on, size_of};
 use launches::{Described, Runnable, Slot};
 use shadow_list::{AccessLog, Entry, Fenced, Hit};
@@ -149,15 +151,17 @@ fn answer_all<'a, D: Runnable>(
 }
 
 impl<'a, D: Runnable, G: Space, L: AccessLog> Machine for Group<'a, D, G, L> {
-    ghost use Rattle.std.specs.Prelude.{◌-◌, ◌^◌, length};
+    ghost use Rattle.std.specs.Prelude.{◌-◌, ◌^◌, length, slice_get};
     ghost use Rattle.group_run.specs.Fits.{Fits};
-    ghost use Rattle.group_run.specs.Items.{acts_at};
+    ghost use Rattle.group_run.specs.Items.{acts_at, turns_in};
 
     ghost plan = { λ m. record { launch = D.Described.launch m.launch.now; group = m.number; first = m.first; count = length m.items.items } };
 
     ghost fits = { λ m. Fits (acts_at (D.Described.launch m.launch.now) m.first) G.bytes G.read_only (record { launch = D.Described.launch m.launch.now; group = m.number; first = m.first; count = length m.items.items }) m.items.items m.made m.buffers.items m.locals.items (L.Logged.log m.log) };
 
     ghost ticks = { λ m k. 2 ^ 32 - m.made };
+
+    ghost turns_at = { λ m k. turns_in (slice_get m.items.items k) };
 
     fn first(&self) -> u32 {
         self.first
@@ -172,8 +176,16 @@ impl<'a, D: Runnable, G: Space, L: AccessLog> Machine for Group<'a, D, G, L> {
     }
 
     #[inline(always)]
-    fn next(&mut self, k: u32) -> Result<Action, AllocError> {
-        self.items[k as usize].next(self.alloc, self.launch, self.first + k)
+    fn next(&mut self, k: u32) -> Result<BriefAction, AllocError> {
+        self.items[k as usize].next_brief(self.alloc, self.launch, self.first + k)
+    }
+
+    fn turns(&self, k: u32) -> &[u32] {
+        self.items[k as usize].turns()
+    }
+
+    fn stop(&self, k: u32, stop: BriefStop) -> Result<Stop, AllocError> {
+        stop.with_turns(self.alloc, self.turns(k))
     }
 
     fn access(

@@ -6,6 +6,7 @@
 //! logs by their traits, and no other group.
 #![tactic(auto)]
 
+mod brief_stop;
 mod faults;
 mod group;
 mod loops;

@@ -6,46 +6,50 @@ ghost use Rattle.clmodel.specs.Run.{State, Events, next_action, stop_of};
 ghost use Rattle.clmodel.specs.declared.action.Stop.{Stop};
 ghost use Rattle.joining.specs.Group.{IsGroup, Reached, IsRun};
 ghost use Rattle.group_run.specs.Loops.{Accesses, Gathers, GathersAt, GathersOrReports, IsBrief, IsGathered};
+ghost use Rattle.group_run.specs.Stops.{stop_from};
 
+use crate::brief_stop::BriefStop;
 use crate::machine::{Machine, Made, Report};
 use crate::runs::Runs;
 use clmodel::access::{Object, Operation};
-use clmodel::action::{Action, Stop};
+use clmodel::action::Stop;
 use clmodel::fault::Fault;
 use clmodel::schedule::Event;
-use divergence::same_stop;
+use item_step::BriefAction;
 use std::alloc::AllocError;
 use std::mem::replace;
 
 /// Judges an item's stop: the first item's is kept, and that of another is compared with it. It reports a stop that is
-/// another one. An error is out of memory.
+/// another one. An error is out of memory. The turns of the loops round a barrier are copied for the first item, and
+/// for one that is elsewhere.
 // It is no part of `run_item`, where each access would have to make room for a stop.
 #[inline(never)]
 fn stop_at<M: Machine>(
     m: &M,
     k: u32,
-    stop: Stop,
+    stop: BriefStop,
     leading: &mut Option<Stop>,
     runs: &Runs,
 ) -> Result<Report, AllocError>
     ghost origin: { State }
     requires whole { IsGroup (M.plan m.now) }
     requires inside { k < (M.plan m.now).count }
-    requires reached { (g : GathersAt (M.plan m.now) (M.fits m.now) origin runs.now k leading.old) × (stop_of (next_action (M.plan m.now).launch g.0.0.state ((M.plan m.now).first + k)) ≡ Some stop) }
+    requires reached { (g : GathersAt (M.plan m.now) (M.fits m.now) origin runs.now k leading.old) × (stop_of (next_action (M.plan m.now).launch g.0.0.state ((M.plan m.now).first + k)) ≡ Some (stop_from stop (M.turns_at m.now k))) }
     ensures { IfOk result (GathersOrReports (M.plan m.now) (M.fits m.now) origin runs.now (k + 1) leading.new) }
 {
     let Some(first) = leading else {
-        *leading = Some(stop);
+        *leading = Some(m.stop(k, stop)?);
         return Ok(None);
     };
-    if same_stop(first, &stop) {
+    if stop.is_same(m.turns(k), first) {
         return Ok(None);
     }
+    let other_stop = m.stop(k, stop)?;
     let fault = Fault::Divergence {
         item: m.first(),
         stop: replace(first, Stop::Ended),
         other_item: m.first() + k,
-        other_stop: stop,
+        other_stop,
     };
     Ok(Some(m.boxed(fault)?))
 }
@@ -101,10 +105,10 @@ fn run_item<M: Machine>(
     ensures halted { IfOk result (GathersOrReports (M.plan m.old) (M.fits m.new) origin runs.new (k + 1) leading.new) }
 {
     'steps: loop {
-        // No `?` at `next`: it would move an action, which has room for a barrier's turns, for each access.
+        // No `?` at `next`: it would move an action for each access.
         match m.next(k) {
             Ok(
-                Action::Access {
+                BriefAction::Access {
                     object,
                     element,
                     operation,
@@ -115,11 +119,11 @@ fn run_item<M: Machine>(
                     Some(fault) => return Ok(Some(fault)),
                 }
             }
-            Ok(Action::Barrier { instance, .. }) => {
-                return stop_at(m, k, Stop::At(instance), leading, runs);
+            Ok(BriefAction::Barrier { site, depth, .. }) => {
+                return stop_at(m, k, BriefStop::At { site, depth }, leading, runs);
             }
-            Ok(Action::End) => return stop_at(m, k, Stop::Ended, leading, runs),
-            Ok(Action::Fault(cause)) => {
+            Ok(BriefAction::End) => return stop_at(m, k, BriefStop::Ended, leading, runs),
+            Ok(BriefAction::Fault(cause)) => {
                 let fault = m.fault_of(m.first() + k, cause)?;
                 return Ok(Some(fault));
             }
@@ -164,7 +168,7 @@ pub fn run_items<M: Machine>(m: &mut M, runs: &mut Runs) -> Result<Report, Alloc
             Some(fault) => return Ok(Some(fault)),
         }
         match m.next(0)? {
-            Action::Barrier { fences, .. } => {
+            BriefAction::Barrier { fences, .. } => {
                 m.release(fences)?;
                 runs.push(Event::Release(m.group()))?;
             }

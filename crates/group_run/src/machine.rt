@@ -1,17 +1,21 @@
 //! What the run of a group asks of its items and their memory.
 
-ghost use Rattle.std.specs.Prelude.{◌≡◌, ◌<◌, ◌≤◌, ◌+◌, ◌^◌, [], ◌∷◌, ◌++◌, ℕ, None, IfOk, OnOk};
+ghost use Rattle.std.specs.Prelude.{◌≡◌, ◌<◌, ◌≤◌, ◌+◌, ◌^◌, [], ◌∷◌, ◌++◌, ℕ, List, None, IfOk, OnOk};
 ghost use Rattle.clmodel.specs.Run.{State, Events, step, next_action, straggler};
 ghost use Rattle.clmodel.specs.Law.{fault_of};
 ghost use Rattle.clmodel.specs.declared.action.Action.TheVariants.{Access, Barrier};
 ghost use Rattle.clmodel.specs.declared.action.Instance.{Instance};
 ghost use Rattle.clmodel.specs.declared.schedule.Event.TheVariants.{Release};
 ghost use Rattle.joining.specs.Group.{Plan};
+ghost use Rattle.item_step.specs.BriefActions.{action_from};
 ghost use Rattle.group_run.specs.Loops.{Accesses, IsMade, judged_as};
+ghost use Rattle.group_run.specs.Stops.{stop_from};
 
+use crate::brief_stop::BriefStop;
 use clmodel::access::{Object, Operation};
-use clmodel::action::{Action, Cause, Fences};
+use clmodel::action::{Cause, Fences, Stop};
 use clmodel::fault::Fault;
+use item_step::BriefAction;
 use std::alloc::AllocError;
 
 /// The fault that ends the run of a group, if there is one. It lies on the heap: an answer of each access would else be
@@ -52,6 +56,8 @@ pub trait Machine {
 
     ghost ticks: { Self → ℕ → ℕ };
 
+    ghost turns_at: { Self → ℕ → List ℕ };
+
     /// The number of the group's first item.
     fn first(&self) -> u32
         ensures sum { result + (plan self.now).count < 2 ^ 32 }
@@ -65,13 +71,23 @@ pub trait Machine {
     fn count(&self) -> u32
         ensures { result ≡ (plan self.now).count };
 
-    /// The next action of an item, which changes nothing that is seen. An error is out of memory.
-    fn next(&mut self, k: u32) -> Result<Action, AllocError>
+    /// What an item does next. Nothing changes that is seen. An error is out of memory.
+    fn next(&mut self, k: u32) -> Result<BriefAction, AllocError>
         requires { k < (plan self.old).count }
         ensures plan_same { plan self.new ≡ plan self.old }
         ensures ticks_same { (j : ℕ) → ticks self.new j ≡ ticks self.old j }
         ensures fits_same { (events : Events) (s : State) → fits self.old events s → fits self.new events s }
-        ensures value { IfOk result (λ action. (events : Events) (s : State) → fits self.old events s → next_action (plan self.old).launch s ((plan self.old).first + k) ≡ action) };
+        ensures value { IfOk result (λ action. (events : Events) (s : State) → fits self.old events s → next_action (plan self.old).launch s ((plan self.old).first + k) ≡ action_from action (turns_at self.new k)) };
+
+    /// The numbers of the turns that an item's loops have made, the outermost loop first.
+    fn turns(&self, k: u32) -> &[u32]
+        requires { k < (plan self.now).count }
+        ensures { result.now ≡ turns_at self.now k };
+
+    /// Where an item stops, with a copy of the turns of the loops round it. An error is out of memory.
+    fn stop(&self, k: u32, stop: BriefStop) -> Result<Stop, AllocError>
+        requires { k < (plan self.now).count }
+        ensures { IfOk result (λ copied. copied ≡ stop_from stop (turns_at self.now k)) };
 
     /// Does this access, which is what an item does next. An error is out of memory.
     fn access(

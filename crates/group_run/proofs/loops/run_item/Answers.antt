@@ -3,7 +3,10 @@ use Rattle.std.specs.Prelude.{Ok}
 use Rattle.clmodel.specs.Run.{stop_of}
 use Rattle.clmodel.specs.Law.{Reports}
 use Rattle.clmodel.specs.declared.action.Action.TheVariants as action
-use Rattle.clmodel.specs.declared.action.Stop.TheVariants.{At, Ended}
+use Rattle.clmodel.specs.declared.action.Stop.TheVariants.{Ended}
+use Rattle.item_step.specs.declared.brief_action.BriefAction.TheVariants as brief
+use Rattle.group_run.specs.Stops.{stop_from}
+use Rattle.group_run.specs.declared.brief_stop.BriefStop.TheVariants as brief_stop
 use Rattle.group_run.proofs.Turns.{advance_asks, stop_asks, acting, fails, told, advanced_on, reported_on}
 use Rattle.group_run.proofs.loops.run_item.Goals as goal
 
@@ -12,7 +15,7 @@ advance-requires g c κs within =
     let p = g.M.Machine.plan c.args.m.now in
     let r = c.steps.invariant.gathers in
     let acts =
-    acting p (g.M.Machine.plan c.steps.m) (g.M.Machine.fits c.steps.m) r.0.0.state c.args.k (action.Access c.in-Ok-Access.object c.in-Ok-Access.element c.in-Ok-Access.operation) c.steps.invariant.plan_same r.0.0.holds
+    acting p (g.M.Machine.plan c.steps.m) (g.M.Machine.fits c.steps.m) r.0.0.state c.args.k (g.M.Machine.turns_at c.next.new.self c.args.k) (brief.Access c.in-Ok-Access.object c.in-Ok-Access.element c.in-Ok-Access.operation) c.steps.invariant.plan_same r.0.0.holds
     (c.in-Ok-Access.is ∙ ap Ok c.in-Ok-Access.field-0-is) c.next.ensures.value in
     let back : to_z w64 (of_z w64 c.in-Ok-Access.element) ≡ c.in-Ok-Access.element = search rules in (
       assumption within,
@@ -25,11 +28,12 @@ pub stop_at-requires : goal.stop_at-requires
 stop_at-requires g c κs within =
     let p = g.M.Machine.plan c.args.m.now in
     let r = c.steps.invariant.gathers in
+    let turns = g.M.Machine.turns_at c.next.new.self c.args.k in
     let acts =
-    acting p (g.M.Machine.plan c.steps.m) (g.M.Machine.fits c.steps.m) r.0.0.state c.args.k (action.Barrier c.in-Ok-Barrier.instance c.in-Ok-Barrier.field-0-1) c.steps.invariant.plan_same r.0.0.holds
+    acting p (g.M.Machine.plan c.steps.m) (g.M.Machine.fits c.steps.m) r.0.0.state c.args.k turns (brief.Barrier c.in-Ok-Barrier.site c.in-Ok-Barrier.depth c.in-Ok-Barrier.field-0-2) c.steps.invariant.plan_same r.0.0.holds
     (c.in-Ok-Barrier.is ∙ ap Ok c.in-Ok-Barrier.field-0-is) c.next.ensures.value in (
       assumption within,
-      stop_asks p (g.M.Machine.plan c.next.new.self) (g.M.Machine.fits c.steps.m) (g.M.Machine.fits c.next.new.self) g.origin c.steps.runs c.args.k (At c.in-Ok-Barrier.instance)
+      stop_asks p (g.M.Machine.plan c.next.new.self) (g.M.Machine.fits c.steps.m) (g.M.Machine.fits c.next.new.self) g.origin c.steps.runs c.args.k (stop_from (brief_stop.At c.in-Ok-Barrier.site c.in-Ok-Barrier.depth) turns)
           (c.next.ensures.plan_same ∙ c.steps.invariant.plan_same) c.requires.1.0 c.requires.1.1.0 c.steps.leading r c.next.ensures.fits_same (ap stop_of acts),
     )
 
@@ -38,7 +42,7 @@ stop_at-requires-in-Ok-End g c κs within =
     let p = g.M.Machine.plan c.args.m.now in
     let r = c.steps.invariant.gathers in
     let acts =
-    acting p (g.M.Machine.plan c.steps.m) (g.M.Machine.fits c.steps.m) r.0.0.state c.args.k action.End c.steps.invariant.plan_same r.0.0.holds
+    acting p (g.M.Machine.plan c.steps.m) (g.M.Machine.fits c.steps.m) r.0.0.state c.args.k (g.M.Machine.turns_at c.next.new.self c.args.k) brief.End c.steps.invariant.plan_same r.0.0.holds
     (c.in-Ok-End.is ∙ ap Ok c.in-Ok-End.field-0-is) c.next.ensures.value in (
       assumption within,
       stop_asks p (g.M.Machine.plan c.next.new.self) (g.M.Machine.fits c.steps.m) (g.M.Machine.fits c.next.new.self) g.origin c.steps.runs c.args.k Ended
@@ -52,7 +56,7 @@ returns-in-Ok-Fault-clause-halted g c =
     let e : q ≡ p = c.next.ensures.plan_same ∙ c.steps.invariant.plan_same in
     let r = c.steps.invariant.gathers in
     let acts =
-    acting p (g.M.Machine.plan c.steps.m) (g.M.Machine.fits c.steps.m) r.0.0.state c.args.k (action.Fault c.in-Ok-Fault.cause) c.steps.invariant.plan_same r.0.0.holds
+    acting p (g.M.Machine.plan c.steps.m) (g.M.Machine.fits c.steps.m) r.0.0.state c.args.k (g.M.Machine.turns_at c.next.new.self c.args.k) (brief.Fault c.in-Ok-Fault.cause) c.steps.invariant.plan_same r.0.0.holds
     (c.in-Ok-Fault.is ∙ ap Ok c.in-Ok-Fault.field-0-is) c.next.ensures.value in
     record {
       state = r.0.0.state;
@@ -70,7 +74,7 @@ steps-preserved g c =
     let r = i.gathers in
     let e = c.next.ensures.plan_same ∙ i.plan_same in
     let acts =
-    acting p (g.M.Machine.plan c.steps.m) (g.M.Machine.fits c.steps.m) r.0.0.state c.args.k (action.Access c.in-Ok-Access.object c.in-Ok-Access.element c.in-Ok-Access.operation) i.plan_same r.0.0.holds
+    acting p (g.M.Machine.plan c.steps.m) (g.M.Machine.fits c.steps.m) r.0.0.state c.args.k (g.M.Machine.turns_at c.next.new.self c.args.k) (brief.Access c.in-Ok-Access.object c.in-Ok-Access.element c.in-Ok-Access.operation) i.plan_same r.0.0.holds
     (c.in-Ok-Access.is ∙ ap Ok c.in-Ok-Access.field-0-is) c.next.ensures.value in
     let back : to_z w64 (of_z w64 c.in-Ok-Access.element) ≡ c.in-Ok-Access.element = search rules in
     record {
@@ -88,7 +92,7 @@ returns-in-Some-clause-halted g c =
     let i = c.steps.invariant in
     let r = i.gathers in
     let acts =
-    acting p (g.M.Machine.plan c.steps.m) (g.M.Machine.fits c.steps.m) r.0.0.state c.args.k (action.Access c.in-Ok-Access.object c.in-Ok-Access.element c.in-Ok-Access.operation) i.plan_same r.0.0.holds
+    acting p (g.M.Machine.plan c.steps.m) (g.M.Machine.fits c.steps.m) r.0.0.state c.args.k (g.M.Machine.turns_at c.next.new.self c.args.k) (brief.Access c.in-Ok-Access.object c.in-Ok-Access.element c.in-Ok-Access.operation) i.plan_same r.0.0.holds
     (c.in-Ok-Access.is ∙ ap Ok c.in-Ok-Access.field-0-is) c.next.ensures.value in
     let back : to_z w64 (of_z w64 c.in-Ok-Access.element) ≡ c.in-Ok-Access.element = search rules in
     reported_on p (g.M.Machine.plan c.next.new.self) (g.M.Machine.fits c.steps.m) (g.M.Machine.fits c.next.new.self) (g.M.Machine.fits c.advance.new.m) g.origin c.steps.runs
