@@ -8,6 +8,7 @@
 #![tactic(auto)]
 
 pub mod accesses;
+pub mod counters;
 pub mod elements;
 pub mod giving;
 pub mod item_context;
