@@ -1,11 +1,12 @@
 -- What the commands before a launch, each of which was done or refused, tell of its program (own; OpenCL 1.2, sections
 -- 5.6 and 5.7).
-use Rattle.std.specs.Prelude.{◌≡◌, ◌⊎◌, ℕ, ◌+◌, ◌-◌, ◌^◌, ◌<◌, ◌==◌, ◌&&◌, Bool, true, false, Option, None, Some, List, take, length, min, count_by, slice_get, option_and_then}
+use Rattle.std.specs.Prelude.{◌≡◌, ◌⊎◌, ℕ, ◌+◌, ◌-◌, ◌^◌, ◌<◌, ◌&&◌, Bool, true, false, Option, None, Some, List, take, length, min, slice_get, option_and_then}
 use Rattle.std.specs.List.{sum_by}
 use Rattle.std.specs.Option.{option_map_or, unwrap_or}
 use Rattle.clmodel.specs.Setup.{same_text}
 use Rattle.host_commands.specs.declared.command.Command.{Command}
 use Rattle.host_commands.specs.declared.command.Command.TheVariants as command
+use Rattle.source_lines.specs.Lines.{line_feeds}
 
 abbrev pub makes_kernel : List ℕ → Command → Bool
 makes_kernel wanted (command.Kernel name program function) = same_text name wanted
@@ -39,7 +40,7 @@ IsLast p n (Some last) = (last < n) × (p last ≡ true) × ((k : ℕ) → last 
 
 -- how many lines of a script a command takes: one, and behind that of a program its source
 abbrev pub lines_of : Command → ℕ
-lines_of (command.Program name source) = count_by (λ byte. byte == 10) source + 1
+lines_of (command.Program name source) = line_feeds source + 1
 lines_of _ = 1
 
 -- the line of a script in which a command begins, from 1, where so many lines stand before the first command

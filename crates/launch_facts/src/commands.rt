@@ -1,11 +1,12 @@
 //! The commands of a script, by their lines.
 #![tactic(auto)]
 
-ghost use Rattle.std.specs.Prelude.{◌≡◌, ℕ, ◌+◌, ◌-◌, ◌^◌, ◌≤◌, ◌==◌, length, min, count_by, slice_get, option_map, option_and_then, IfNone, IfSome, if◌then◌else◌};
+ghost use Rattle.std.specs.Prelude.{◌≡◌, ℕ, ◌+◌, ◌-◌, ◌^◌, length, min, slice_get, option_map, option_and_then, IfNone, IfSome, if◌then◌else◌};
 ghost use Rattle.launch_facts.specs.Commands.{makes_kernel, makes_program, kernel_names, program_source, was_done, did, lines_of, line_of, IsLast, IsSource, HasNoSource};
 
 use clmodel::text::Name;
 use host_commands::command::Command;
+use source_lines::line_feeds;
 
 /// The source of a kernel's program: its bytes, the line of the script in which it begins, from 1, and the names of the
 /// program and of the function.
@@ -17,14 +18,6 @@ pub struct ProgramSource<'a> {
     pub function: &'a Name,
     /// The number of the command that made the kernel
     pub kernel_command: usize,
-}
-
-/// How many line feeds there are.
-fn line_feeds(bytes: &[u8]) -> usize
-    ensures value { result ≡ count_by (λ byte. byte == 10) bytes.now }
-    ensures within { result ≤ length bytes.now }
-{
-    bytes.iter().filter(|byte| **byte == b'\n').count()
 }
 
 /// How many lines of a script a command takes.

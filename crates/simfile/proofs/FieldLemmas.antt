@@ -1,12 +1,11 @@
 -- Fields as loops find them.
-use Rattle.std.proofs.Common.{◌≡◌, ℕ, zero, suc, ◌+◌, ◌-◌, ◌*◌, ◌<◌, ◌≤◌, Bool, true, false, ◌&&◌, cond, if◌then◌else◌, List, [], ◌∷◌, ◌++◌, append_assoc, length, take, drop, set, get_or, None, Some, refl, ap, sym, ◌∙◌, arith}
+use Rattle.std.proofs.Common.{◌≡◌, ℕ, zero, suc, ◌+◌, ◌-◌, ◌*◌, ◌<◌, ◌≤◌, Bool, true, false, ◌&&◌, if◌then◌else◌, List, [], ◌∷◌, ◌++◌, append_assoc, length, take, drop, set, get_or, None, Some, refl, ap, sym, ◌∙◌, arith}
 use Rattle.std.proofs.lemmas.Bool.{false≢true}
 use Rattle.std.proofs.lemmas.Bool.Decides.{nat_tests}
 use Rattle.std.proofs.lemmas.List.{append-nil, at_drop_more, at_drop_all, drop-take, take-append-drop, take-take, take_all, take_more_set}
 use Rattle.std.proofs.lemmas.List.Concat.{flat_map-append}
 use Rattle.std.proofs.lemmas.List.Folds.{list_all-append}
-use Rattle.std.proofs.lemmas.List.Sums.{sum_by-append}
-use Rattle.std.specs.List.{count_by, flat_map, list_all}
+use Rattle.std.specs.List.{flat_map, list_all}
 use Rattle.counted_io.specs.Sink.{Sink, Wrote, Stopped}
 use Rattle.counted_io.proofs.Puts.{wrote_then, stopped_then, stopped_more}
 use Rattle.line_fields.specs.Fronts.{front_length}
@@ -73,12 +72,6 @@ take_block n k xs =
 -- a front is what lies before a place, and what lies behind
 pub take_between : {X : Type 0} (n e m : ℕ) (xs : List X) → n ≤ e → m ≡ e → take m xs ≡ take n xs ++ take (e - n) (drop n xs)
 take_between n e m xs h is = let same : m ≡ n + (e - n) = omega (arith, h, is) in ap (λ k. take k xs) same ∙ take_block n (e - n) xs
-
-pub count_between : (p : ℕ → Bool) (n e m : ℕ) (xs : List ℕ) → n ≤ e → m ≡ e → count_by p (take m xs) ≡ count_by p (take n xs) + count_by p (take (e - n) (drop n xs))
-count_between p n e m xs h is = ap (count_by p) (take_between n e m xs h is) ∙ sum_by-append (λ x. cond (p x) 1 0) (take n xs) (take (e - n) (drop n xs))
-
-pub count_rest : (p : ℕ → Bool) (n : ℕ) (xs : List ℕ) → n ≤ length xs → count_by p xs ≡ count_by p (take n xs) + count_by p (take (length xs - n) (drop n xs))
-count_rest p n xs h = ap (count_by p) (sym (take_all (length xs) xs (omega arith))) ∙ count_between p n (length xs) (length xs) xs h refl
 
 pub all_between : (p : ℕ → Bool) (n e m : ℕ) (xs : List ℕ) → n ≤ e → m ≡ e → list_all p (take n xs) ≡ true → list_all p (take (e - n) (drop n xs)) ≡ true → list_all p (take m xs) ≡ true
 all_between p n e m xs h is before behind =

@@ -1,7 +1,7 @@
 //! Scripts: the text of commands, one after another.
 #![tactic(auto)]
 
-ghost use Rattle.std.specs.Prelude.{◌≡◌, ◌+◌, ◌-◌, ◌*◌, ◌<◌, ◌≤◌, [], ◌∷◌, ◌++◌, List, length, take, count_by, ◌==◌, IfOk, IfErr, OnOk};
+ghost use Rattle.std.specs.Prelude.{◌≡◌, ◌+◌, ◌-◌, ◌<◌, ◌≤◌, [], ◌∷◌, ◌++◌, List, length, take, IfOk, IfErr, OnOk};
 ghost use Rattle.simfile.specs.Views.{command_of};
 ghost use Rattle.simfile.specs.Script.{IsScript, line_feeds};
 ghost use Rattle.simfile.specs.Faults.{NoScript};
@@ -11,6 +11,7 @@ use crate::commands::command_of;
 use crate::forms::{line_at, version_at};
 use crate::lines::Line;
 use host_commands::command::Command;
+use source_lines::line_feeds;
 use std::alloc::{AllocError, Global};
 
 /// Why a text is no script, or was not read.
@@ -34,46 +35,6 @@ impl From<AllocError> for ScriptFault {
 
 /// The most commands of a script.
 const MAX_COMMANDS: u32 = 4096;
-
-/// The bytes whose line feeds are counted at once.
-const BLOCK: usize = 128;
-
-/// How many line feeds a block has.
-fn feeds_in_block(block: &[u8]) -> u8
-    requires { length block.now ≤ 128 }
-    ensures value { result ≡ count_by (λ byte. byte == 10) block.now }
-    ensures within { result ≤ length block.now }
-{
-    let mut count = 0;
-    for byte in block {
-        if *byte == b'\n' {
-            count += 1;
-        }
-    }
-    count
-}
-
-/// How many line feeds so many whole blocks in front have.
-fn feeds_in_blocks(blocks: usize, bytes: &[u8]) -> usize
-    requires { 128 * blocks ≤ length bytes.now }
-    ensures value { result ≡ count_by (λ byte. byte == 10) (take (128 * blocks) bytes.now) }
-    ensures within { result ≤ 128 * blocks }
-{
-    let mut count = 0;
-    for index in 0..blocks {
-        count += usize::from(feeds_in_block(&bytes[BLOCK * index..BLOCK * index + BLOCK]));
-    }
-    count
-}
-
-/// How many line feeds the bytes have.
-pub(crate) fn line_feeds(bytes: &[u8]) -> usize
-    ensures value { result ≡ count_by (λ byte. byte == 10) bytes.now }
-    ensures within { result ≤ length bytes.now }
-{
-    let blocks = bytes.len() / BLOCK;
-    feeds_in_blocks(blocks, bytes) + usize::from(feeds_in_block(&bytes[BLOCK * blocks..]))
-}
 
 /// The number of the line at which the rest of the bytes begins.
 fn line_number(bytes: &[u8], rest: &[u8]) -> usize

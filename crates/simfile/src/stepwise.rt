@@ -12,9 +12,9 @@ use crate::commands::command_of;
 use crate::fields::name_before;
 use crate::forms::{MAX_SOURCE_LINES, line_at};
 use crate::lines::Version;
-use crate::script::line_feeds;
 use host_commands::command::Command;
 use line_fields::{after, number_before};
+use source_lines::line_feeds;
 use std::alloc::{AllocError, Global};
 
 /// The first line of a script of version 2.

@@ -1,8 +1,10 @@
 //! The line and the column of a byte, and the text of a line.
 #![tactic(auto)]
 
-ghost use Rattle.std.specs.Prelude.{◌≡◌, ◌≢◌, ℕ, ◌+◌, ◌-◌, ◌<◌, ◌≤◌, ◌==◌, length, count_by, slice_index, slice_range};
-ghost use Rattle.source_lines.specs.Lines.{line_feeds, line_of, BeginsLine, EndsLine};
+ghost use Rattle.std.specs.Prelude.{◌≡◌, ◌≢◌, ℕ, ◌+◌, ◌-◌, ◌<◌, ◌≤◌, length, slice_index, slice_range};
+ghost use Rattle.source_lines.specs.Lines.{line_of, BeginsLine, EndsLine};
+
+use crate::feeds::line_feeds;
 
 /// Where a byte stands: the line and the column, both from 1, and the byte at which the line begins, from 0.
 #[derive(Clone, Copy, Debug, PartialEq, Eq)]
@@ -10,14 +12,6 @@ pub struct Position {
     pub line: usize,
     pub column: usize,
     pub begin: usize,
-}
-
-/// Counts the bytes of a text that end a line.
-fn line_feeds(bytes: &[u8]) -> usize
-    ensures value { result ≡ line_feeds bytes.now }
-    ensures within { result ≤ length bytes.now }
-{
-    bytes.iter().filter(|byte| **byte == b'\n').count()
 }
 
 /// Where the line behind these bytes begins.

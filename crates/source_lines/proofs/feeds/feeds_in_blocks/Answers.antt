@@ -1,6 +1,6 @@
-use Rattle.std.proofs.Common.{◌≡◌, ◌==◌, ◌+◌, ◌*◌, ap₂, sym, ◌∙◌, arith}
-use Rattle.simfile.proofs.FieldLemmas.{count_between}
-use Rattle.simfile.proofs.script.feeds_in_blocks.Goals as goal
+use Rattle.std.proofs.Common.{◌==◌, ◌+◌, ◌*◌, ap₂, sym, ◌∙◌, arith}
+use Rattle.source_lines.proofs.Counted.{count_between}
+use Rattle.source_lines.proofs.feeds.feeds_in_blocks.Goals as goal
 
 pub loop-index-preserved : goal.loop-index-preserved
 loop-index-preserved c =

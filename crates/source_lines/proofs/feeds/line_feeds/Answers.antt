@@ -1,6 +1,6 @@
-use Rattle.std.proofs.Common.{◌≡◌, ◌==◌, ◌+◌, ◌*◌, ◌/◌, ap₂, sym, ◌∙◌, arith, length}
-use Rattle.simfile.proofs.FieldLemmas.{count_rest}
-use Rattle.simfile.proofs.script.line_feeds.Goals as goal
+use Rattle.std.proofs.Common.{◌==◌, ◌+◌, ◌*◌, ◌/◌, ap₂, sym, ◌∙◌, arith, length}
+use Rattle.source_lines.proofs.Counted.{count_rest}
+use Rattle.source_lines.proofs.feeds.line_feeds.Goals as goal
 
 pub returns-clause-value : goal.returns-clause-value
 returns-clause-value c =
