@@ -8,7 +8,6 @@
 #![tactic(auto)]
 
 pub mod accesses;
-pub mod counters;
 pub mod elements;
 pub mod giving;
 pub mod item_context;
