@@ -1,16 +1,11 @@
 -- The items of a group, by their places in it (own).
-use Rattle.std.specs.Prelude.{ℕ, ◌+◌, Option, None, Some, List, []}
+use Rattle.std.specs.Prelude.{ℕ, ◌+◌, List}
 use Rattle.clmodel.specs.Launch.{Launch}
 use Rattle.clmodel.specs.declared.action.Action.{Action}
 use Rattle.clmodel.specs.declared.action.Answer.{Answer}
-use Rattle.launches.specs.Items.{acts_of, turns_of}
+use Rattle.launches.specs.Items.{acts_of}
 use Rattle.launches.specs.declared.slot.Slot.{Slot}
 
 -- the action that the item at a place makes after further answers, by the number of the group's first item
 abbrev pub acts_at : Launch → ℕ → ℕ → Slot → List Answer → Action
 acts_at launch first k = acts_of launch (first + k)
-
--- the numbers of the turns that an item's loops have made, the outermost loop first, if there is such an item
-abbrev pub turns_in : Option Slot → List ℕ
-turns_in None = []
-turns_in (Some slot) = turns_of slot

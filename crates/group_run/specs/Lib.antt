@@ -5,6 +5,7 @@ pub mod Fits
 pub mod Logs
 pub mod Results
 pub mod Stops
+pub mod Turns
 pub use Rattle.launches.specs.BriefActions
 pub use Rattle.launches.specs.Groups
 pub use Rattle.launches.specs.Objects

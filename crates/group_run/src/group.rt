@@ -153,7 +153,8 @@ fn answer_all<'a, D: Runnable>(
 impl<'a, D: Runnable, G: Space, L: AccessLog> Machine for Group<'a, D, G, L> {
     ghost use Rattle.std.specs.Prelude.{◌-◌, ◌^◌, length, slice_get};
     ghost use Rattle.group_run.specs.Fits.{Fits};
-    ghost use Rattle.group_run.specs.Items.{acts_at, turns_in};
+    ghost use Rattle.group_run.specs.Items.{acts_at};
+    ghost use Rattle.group_run.specs.Turns.{turns_in};
 
     ghost plan = { λ m. record { launch = D.Described.launch m.launch.now; group = m.number; first = m.first; count = length m.items.items } };
 

@@ -14,12 +14,6 @@ acts_of launch item slot.Waiting answers = launch.next item answers
 acts_of launch item (slot.Running running) answers = action_of running answers
 acts_of launch item slot.Ended answers = action.End
 
--- the numbers of the turns that an item's loops have made, the outermost loop first: none where it isn't under way
-abbrev pub turns_of : Slot → List ℕ
-turns_of slot.Waiting = []
-turns_of (slot.Running running) = running.state.counters
-turns_of slot.Ended = []
-
 -- the item was asked
 abbrev pub IsAsked : Slot → Type 0
 IsAsked slot.Waiting = ⊥

@@ -1,6 +1,7 @@
 pub mod Groups
 pub mod Items
 pub mod Objects
+pub mod Turns
 pub use Rattle.clmodel.specs.Launch
 pub use Rattle.clmodel.specs.Next
 pub use Rattle.item_step.specs.BriefActions

@@ -7,7 +7,8 @@ ghost use Rattle.clmodel.specs.declared.action.Answer.{Answer};
 ghost use Rattle.item_step.specs.BriefActions.{action_from};
 ghost use Rattle.item_step.specs.Running.{Running};
 ghost use Rattle.item_step.specs.declared.brief_action.BriefAction.TheVariants as brief;
-ghost use Rattle.launches.specs.Items.{acts_of, turns_of, IsAsked, Runs, Stands};
+ghost use Rattle.launches.specs.Items.{acts_of, IsAsked, Runs, Stands};
+ghost use Rattle.launches.specs.Turns.{turns_of};
 ghost use Rattle.launches.specs.declared.slot.Slot.TheVariants as slot;
 
 use crate::runnable::Runnable;

@@ -3,8 +3,9 @@ use Rattle.std.proofs.lemmas.List.{length-set, get_or-set_same}
 use Rattle.std.proofs.lemmas.Option.{slice_get_read}
 use Rattle.group_run.proofs.Stepping.{actions_are, next_fits}
 use Rattle.joining.specs.Group.{Plan}
-use Rattle.launches.specs.Items.{turns_of}
-use Rattle.group_run.specs.Items.{acts_at, turns_in}
+use Rattle.launches.specs.Turns.{turns_of}
+use Rattle.group_run.specs.Items.{acts_at}
+use Rattle.group_run.specs.Turns.{turns_in}
 use Rattle.group_run.proofs.group.GroupMachine.next.Goals as goal
 
 pub returns-clause-value : goal.returns-clause-value
