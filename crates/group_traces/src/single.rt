@@ -33,7 +33,8 @@ pub struct Singles {
 }
 
 /// Whether two kinds are one.
-fn is_same(kind: AccessKind, other: AccessKind) -> bool
+#[inline(always)]
+pub(crate) fn is_same(kind: AccessKind, other: AccessKind) -> bool
     ensures { result ≡ true → kind ≡ other }
 {
     kind == other

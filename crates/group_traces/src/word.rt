@@ -1,11 +1,13 @@
 //! What is kept of the accesses to a word of four bytes, of which each was to all four.
 
-ghost use Rattle.std.specs.Prelude.{◌≡◌, ◌<◌, ◌||◌, ℕ, None, not, true, false, slice_index_or};
+ghost use Rattle.std.specs.Prelude.{◌≡◌, ◌<◌, ◌==◌, ◌||◌, ℕ, None, not, true, false, slice_index_or};
 ghost use Rattle.shadow.specs.Seen.{one_sort, mark_clash, byte_mark};
 ghost use Rattle.group_traces.specs.Traces.{first_in, trace_with, passes, tells, takes, word_byte};
 
+use crate::single::is_same;
 use crate::trace::{Sight, Trace, or};
-use shadow::{WordMark, agrees, byte_mark, is_one_sort, one_sort};
+use shadow::{WordMark, agrees, byte_mark};
+use shadow_list::kind_number;
 
 /// How a group accessed a word, as a `Trace` says it of each byte.
 #[derive(Clone, Copy)]
@@ -33,11 +35,11 @@ fn either(a: [bool; 4], b: [bool; 4]) -> [bool; 4]
     ]
 }
 
-/// Whether at each byte the first holds or the second doesn't.
-fn settled(a: [bool; 4], b: [bool; 4]) -> bool
-    ensures { result ≡ true → (k : ℕ) → k < 4 → (slice_index_or a k false || not (slice_index_or b k false)) ≡ true }
+/// Whether it holds at every byte.
+fn is_all(a: [bool; 4]) -> bool
+    ensures { result ≡ true → (k : ℕ) → k < 4 → slice_index_or a k false ≡ true }
 {
-    or(a[0], !b[0]) && or(a[1], !b[1]) && or(a[2], !b[2]) && or(a[3], !b[3])
+    a[0] & a[1] & a[2] & a[3]
 }
 
 /// Whether it holds at no byte.
@@ -47,27 +49,54 @@ fn is_none(a: [bool; 4]) -> bool
     !a[0] && !a[1] && !a[2] && !a[3]
 }
 
-/// Whether two accesses to all of a word are of different sorts at byte k of it.
-fn differ(a: WordMark, b: WordMark, k: usize) -> bool
+/// Whether two accesses to all of a word leave one number at byte k of it.
+fn leave_same(a: WordMark, b: WordMark, k: usize) -> bool
     requires { k < 4 }
-    ensures { result ≡ not (one_sort (byte_mark a k) (byte_mark b k)) }
+    ensures { result ≡ ((byte_mark a k).left == (byte_mark b k).left) }
 {
-    !one_sort(byte_mark(a, k), byte_mark(b, k))
+    byte_mark(a, k).left == byte_mark(b, k).left
 }
 
-/// At which bytes two accesses to all of a word are of different sorts.
+/// At which bytes two accesses to all of a word are of different sorts: at all four where their kinds differ.
 fn differing(a: WordMark, b: WordMark) -> [bool; 4]
     ensures { (k : ℕ) → k < 4 → slice_index_or result k false ≡ not (one_sort (byte_mark a k) (byte_mark b k)) }
 {
-    if is_one_sort(a, b) {
-        return [false; 4];
+    if kind_number(a.kind) != kind_number(b.kind) {
+        return [true; 4];
     }
     [
-        differ(a, b, 0),
-        differ(a, b, 1),
-        differ(a, b, 2),
-        differ(a, b, 3),
+        !leave_same(a, b, 0),
+        !leave_same(a, b, 1),
+        !leave_same(a, b, 2),
+        !leave_same(a, b, 3),
     ]
+}
+
+/// At which bytes two accesses to all of a word are seen to be of one sort: at none where their kinds differ.
+#[inline(always)]
+fn alike(a: WordMark, b: WordMark) -> [bool; 4]
+    ensures { (k : ℕ) → k < 4 → slice_index_or result k false ≡ true → one_sort (byte_mark a k) (byte_mark b k) ≡ true }
+{
+    if !is_same(a.kind, b.kind) {
+        return [false; 4];
+    }
+    if a.left == b.left {
+        return [true; 4];
+    }
+    [
+        leave_same(a, b, 0),
+        leave_same(a, b, 1),
+        leave_same(a, b, 2),
+        leave_same(a, b, 3),
+    ]
+}
+
+/// Whether at each byte one of two holds.
+#[inline(always)]
+fn settled(a: [bool; 4], b: [bool; 4]) -> bool
+    ensures { result ≡ true → (k : ℕ) → k < 4 → (slice_index_or a k false || slice_index_or b k false) ≡ true }
+{
+    is_all(either(a, b))
 }
 
 impl WordTrace {
@@ -131,24 +160,24 @@ impl WordTrace {
         is_none(self.mixed) && agrees(uniform, self.mark, mark)
     }
 
-    /// Whether two items made accesses of one sort alone in the interval, from which an access differs at none of these
-    /// bytes.
-    fn repeats(self, differing: [bool; 4]) -> bool
+    /// Whether two items made accesses of one sort alone in the interval, which is that of an access at all bytes.
+    fn repeats(self, alike: [bool; 4]) -> bool
         ensures many { result ≡ true → self.many ≡ true }
         ensures alike { result ≡ true → (k : ℕ) → k < 4 → slice_index_or self.mixed k false ≡ false }
-        ensures same { result ≡ true → (k : ℕ) → k < 4 → slice_index_or differing k false ≡ false }
+        ensures same { result ≡ true → (k : ℕ) → k < 4 → slice_index_or alike k false ≡ true }
     {
-        self.many && is_none(self.mixed) && is_none(differing)
+        self.many && is_none(self.mixed) && is_all(alike)
     }
 
     /// What is seen of an access of an interval.
+    #[inline(always)]
     pub fn sight(self, uniform: bool, interval: u32, mark: WordMark) -> Sight
         ensures clear { result.clear ≡ true → (k : ℕ) → k < 4 → passes uniform (word_byte self k) interval (byte_mark mark k) ≡ true }
         ensures told { result.told ≡ true → (k : ℕ) → k < 4 → tells (word_byte self k) interval (byte_mark mark k) ≡ true }
         ensures taken { result.taken ≡ true → (k : ℕ) → k < 4 → takes (word_byte self k) (byte_mark mark k) ≡ true }
     {
-        let differing = differing(self.mark, mark);
-        let taken = settled(self.several, differing);
+        let alike = alike(self.mark, mark);
+        let taken = settled(self.several, alike);
         if self.interval != interval {
             return Sight {
                 clear: true,
@@ -159,13 +188,13 @@ impl WordTrace {
         if !self.many && self.mark.item == mark.item {
             return Sight {
                 clear: true,
-                told: settled(self.mixed, differing),
+                told: settled(self.mixed, alike),
                 taken,
             };
         }
         Sight {
             clear: self.all_agree(uniform, mark),
-            told: self.repeats(differing),
+            told: self.repeats(alike),
             taken,
         }
     }

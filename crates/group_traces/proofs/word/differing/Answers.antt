@@ -1,15 +1,18 @@
-use Rattle.std.proofs.Common.{◌≡◌, false, not, [], ◌∷◌, get_or, sym, ap, arith}
+use Rattle.std.proofs.Common.{◌≡◌, ℕ, false, not, ◌==◌, ◌&&◌, true, [], ◌∷◌, get_or, sym, ap, ◌∙◌, eq-eqb}
+use Rattle.shadow_list.specs.Kinds.{kind_number}
 use Rattle.shadow.specs.Seen.{one_sort, byte_mark}
+use Rattle.shadow.specs.declared.words.WordMark.{WordMark}
 use Rattle.group_traces.proofs.Fours.{each_of_four}
 use Rattle.group_traces.proofs.word.differing.Goals as goal
 
-pub returns-then-is_one_sort : goal.returns-then-is_one_sort
-returns-then-is_one_sort c =
-    let same = c.is_one_sort.ensures.same c.if-is_one_sort.true in
-    each_of_four (λ k. get_or (false ∷ false ∷ false ∷ false ∷ []) k false ≡ not (one_sort (byte_mark c.args.a k) (byte_mark c.args.b k)))
-    (sym (ap not (same 0 (omega arith)))) (sym (ap not (same 1 (omega arith)))) (sym (ap not (same 2 (omega arith)))) (sym (ap not (same 3 (omega arith))))
-
 pub returns : goal.returns
 returns c =
-    each_of_four (λ k. get_or (c.differ.result ∷ c.differ-2.result ∷ c.differ-3.result ∷ c.differ-4.result ∷ []) k false ≡ not (one_sort (byte_mark c.args.a k) (byte_mark c.args.b k)))
-    c.differ.ensures c.differ-2.ensures c.differ-3.ensures c.differ-4.ensures
+    let a : WordMark = c.args.a in
+    let b : WordMark = c.args.b in
+    let same : (kind_number a.kind == kind_number b.kind) ≡ true =
+    eq-eqb (kind_number a.kind) (kind_number b.kind) (sym c.kind_number.ensures.value ∙ c.if-kind_number.false ∙ c.kind_number-2.ensures.value) in
+    let sort : (k : ℕ) → not ((byte_mark a k).left == (byte_mark b k).left) ≡ not (one_sort (byte_mark a k) (byte_mark b k)) =
+    λ k. sym (ap (λ q. not (q && ((byte_mark a k).left == (byte_mark b k).left))) same) in
+    each_of_four
+    (λ k. get_or (not c.leave_same.result ∷ not c.leave_same-2.result ∷ not c.leave_same-3.result ∷ not c.leave_same-4.result ∷ []) k false ≡ not (one_sort (byte_mark a k) (byte_mark b k)))
+    (ap not c.leave_same.ensures ∙ sort 0) (ap not c.leave_same-2.ensures ∙ sort 1) (ap not c.leave_same-3.ensures ∙ sort 2) (ap not c.leave_same-4.ensures ∙ sort 3)
