@@ -124,6 +124,7 @@ impl Side {
     }
 
     /// What is known of an access of the running interval.
+    #[inline(always)]
     pub(crate) fn look(&self, x: &Access) -> Glance
         requires placed { x.now.first + byte_count x.now.width < 2 ^ 64 }
         requires interval { x.now.interval ≡ self.now.interval }

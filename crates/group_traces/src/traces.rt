@@ -148,26 +148,17 @@ impl Traces {
         cell.words[n].sight(&self.apart, cell.key, n, uniform, x, first, count, mark)
     }
 
-    /// What is seen of an access, by the place of the cell of its bytes.
-    fn sight(&self, i: usize, uniform: bool, x: &Access) -> Sight
+    /// What is seen of an access of eight bytes, by the place of the cell of its bytes.
+    #[inline(never)]
+    fn pair_sight(&self, i: usize, uniform: bool, x: &Access) -> Sight
         requires inside { i < length self.now.cells.items }
         requires near { IsNear x.now }
+        requires wide { 4 < byte_count x.now.width }
         ensures clear { result.clear ≡ true → (number : ℕ) → IsOwn self.now (key_of number x.now.first) i → (byte : ℕ) → covers x.now.first (byte_count x.now.width) byte ≡ true → passes uniform (trace_of self.now number byte) x.now.interval (mark_of x.now byte) ≡ true }
         ensures told { result.told ≡ true → (number : ℕ) → IsOwn self.now (key_of number x.now.first) i → (byte : ℕ) → covers x.now.first (byte_count x.now.width) byte ≡ true → tells (trace_of self.now number byte) x.now.interval (mark_of x.now byte) ≡ true }
         ensures taken { result.taken ≡ true → (number : ℕ) → IsOwn self.now (key_of number x.now.first) i → (byte : ℕ) → covers x.now.first (byte_count x.now.width) byte ≡ true → takes (trace_of self.now number byte) (mark_of x.now byte) ≡ true }
     {
-        let count = x.width.bytes();
-        let low = self.part(
-            i,
-            uniform,
-            x,
-            x.first,
-            count.min(WORD_BYTES),
-            word_mark(x, false),
-        );
-        if count <= WORD_BYTES {
-            return low;
-        }
+        let low = self.part(i, uniform, x, x.first, WORD_BYTES, word_mark(x, false));
         let high = self.part(
             i,
             uniform,
@@ -179,7 +170,24 @@ impl Traces {
         low.and(high)
     }
 
+    /// What is seen of an access, by the place of the cell of its bytes.
+    #[inline(always)]
+    fn sight(&self, i: usize, uniform: bool, x: &Access) -> Sight
+        requires inside { i < length self.now.cells.items }
+        requires near { IsNear x.now }
+        ensures clear { result.clear ≡ true → (number : ℕ) → IsOwn self.now (key_of number x.now.first) i → (byte : ℕ) → covers x.now.first (byte_count x.now.width) byte ≡ true → passes uniform (trace_of self.now number byte) x.now.interval (mark_of x.now byte) ≡ true }
+        ensures told { result.told ≡ true → (number : ℕ) → IsOwn self.now (key_of number x.now.first) i → (byte : ℕ) → covers x.now.first (byte_count x.now.width) byte ≡ true → tells (trace_of self.now number byte) x.now.interval (mark_of x.now byte) ≡ true }
+        ensures taken { result.taken ≡ true → (number : ℕ) → IsOwn self.now (key_of number x.now.first) i → (byte : ℕ) → covers x.now.first (byte_count x.now.width) byte ≡ true → takes (trace_of self.now number byte) (mark_of x.now byte) ≡ true }
+    {
+        let count = x.width.bytes();
+        if count > WORD_BYTES {
+            return self.pair_sight(i, uniform, x);
+        }
+        self.part(i, uniform, x, x.first, count, word_mark(x, false))
+    }
+
     /// What is seen of an access to an object of a number, in a launch that is uniform or not.
+    #[inline(always)]
     pub fn look(&self, uniform: bool, number: u32, x: &Access) -> Look
         requires { IsNear x.now }
         ensures place { MatchOption result.place ((b : ℕ) → at_key self.now (key_of number x.now.first) b ≡ untouched) (IsOwn self.now (key_of number x.now.first)) }

@@ -153,6 +153,7 @@ impl WordTrace {
     }
 
     /// Whether all accesses of the interval were of one sort, which doesn't conflict with an access to all of the word.
+    #[inline(always)]
     fn all_agree(self, uniform: bool, mark: WordMark) -> bool
         ensures alike { result ≡ true → (k : ℕ) → k < 4 → slice_index_or self.mixed k false ≡ false }
         ensures clear { result ≡ true → (k : ℕ) → mark_clash uniform (byte_mark self.mark k) (byte_mark mark k) ≡ None }
