@@ -5,10 +5,7 @@ use Rattle.std.specs.Fmt.{signed_decimal}
 use Rattle.std.specs.declared.alloc.Global.{Global}
 use Rattle.serde_json.specs.Data.{Data, null, boolean, number, unsigned, string, array, object, member, no_members}
 use Rattle.serde_json.specs.View.{items_of}
-use Rattle.clmodel.specs.declared.access.AccessKind.{AccessKind}
-use Rattle.clmodel.specs.declared.access.AccessKind.TheVariants as kind
-use Rattle.clmodel.specs.declared.access.Class.{Class}
-use Rattle.clmodel.specs.declared.access.Class.TheVariants as class
+use Rattle.access_words.specs.Words.{kind_text}
 use Rattle.explanation.specs.declared.places.CallSite.{CallSite}
 use Rattle.explanation.specs.declared.places.LoopSite.{LoopSite}
 use Rattle.explanation.specs.declared.places.NodeKind.{NodeKind}
@@ -44,24 +41,8 @@ list_data f xs = array (items_of (map f xs))
 
 -- Words.
 
-abbrev pub class_word : Class → List ℕ
-class_word class.Add = codes "add"
-class_word class.And = codes "and"
-class_word class.Or = codes "or"
-class_word class.Xor = codes "xor"
-class_word class.SignedMin = codes "smin"
-class_word class.UnsignedMin = codes "umin"
-class_word class.SignedMax = codes "smax"
-class_word class.UnsignedMax = codes "umax"
-
-abbrev pub kind_word : AccessKind → List ℕ
-kind_word kind.Load = codes "load"
-kind_word kind.Store = codes "store"
-kind_word (kind.Update of) = class_word of
-kind_word kind.Fetch = codes "fetch"
-
 abbrev pub does_word : Does → List ℕ
-does_word (does.Access kind) = kind_word kind
+does_word (does.Access kind) = kind_text kind
 does_word (does.Waits barrier turns) = codes "waits"
 does_word does.Ended = codes "ended"
 does_word does.Fails = codes "fails"
@@ -160,7 +141,7 @@ abbrev pub step_data : Step → Data
 step_data (step.Release group code) =
     object (member (codes "place") (or_null code_data code) (member (codes "release") (number_data group) no_members))
 step_data (step.Item item does memory byte bytes value left code) =
-    object (member (codes "byte") (number_data byte) (member (codes "bytes") (number_data bytes) (member (codes "does") (string (kind_word does))
+    object (member (codes "byte") (number_data byte) (member (codes "bytes") (number_data bytes) (member (codes "does") (string (kind_text does))
     (member (codes "item") (number_data item) (member (codes "left") (or_null value_data left) (member (codes "memory") (text_data memory)
     (member (codes "place") (or_null code_data code) (member (codes "value") (or_null value_data value) no_members))))))))
 

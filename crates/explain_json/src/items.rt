@@ -3,42 +3,14 @@
 
 ghost use Rattle.std.specs.Prelude.{◌≡◌, IfOk};
 ghost use Rattle.serde_json.specs.View.{view};
-ghost use Rattle.explain_json.specs.Members.{class_word, kind_word, does_word, barrier_data, item_data};
+ghost use Rattle.explain_json.specs.Members.{does_word, barrier_data, item_data};
 
 use crate::object::Object;
 use crate::values::ToJson;
-use clmodel::access::{AccessKind, Class};
+use access_words::kind_word;
 use explanation::{Does, NamedItem};
 use serde_json::Value;
 use std::alloc::{AllocError, Global};
-
-/// The word of the class of an update, as a reply has it.
-fn class_word(class: Class) -> &'static str
-    ensures { result.now ≡ class_word class }
-{
-    match class {
-        Class::Add => "add",
-        Class::And => "and",
-        Class::Or => "or",
-        Class::Xor => "xor",
-        Class::SignedMin => "smin",
-        Class::UnsignedMin => "umin",
-        Class::SignedMax => "smax",
-        Class::UnsignedMax => "umax",
-    }
-}
-
-/// The word of a kind of access, as a reply has it.
-pub(crate) fn kind_word(kind: AccessKind) -> &'static str
-    ensures { result.now ≡ kind_word kind }
-{
-    match kind {
-        AccessKind::Load => "load",
-        AccessKind::Store => "store",
-        AccessKind::Update(class) => class_word(class),
-        AccessKind::Fetch => "fetch",
-    }
-}
 
 /// The word of what an item does, which for an access is that of its kind.
 fn does_word(does: &Does) -> &'static str

@@ -5,9 +5,9 @@ ghost use Rattle.std.specs.Prelude.{◌≡◌, IfOk};
 ghost use Rattle.serde_json.specs.View.{view};
 ghost use Rattle.explain_json.specs.Members.{or_null, value_data, schedule_data, step_data};
 
-use crate::items::kind_word;
 use crate::object::Object;
 use crate::values::ToJson;
+use access_words::kind_word;
 use explanation::{ScheduleFacts, Step};
 use serde_json::Value;
 use std::alloc::{AllocError, Global};

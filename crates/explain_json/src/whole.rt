@@ -1,7 +1,7 @@
 //! An explanation as a whole.
 #![tactic(auto)]
 
-ghost use Rattle.std.specs.Prelude.{◌≡◌, ◌++◌, [], ◌∷◌, Some, List, ℕ, string_bytes, IfOk, OnOk};
+ghost use Rattle.std.specs.Prelude.{◌≡◌, ◌++◌, [], ◌∷◌, Some, List, ℕ, string_bytes, IfOk};
 ghost use Rattle.serde_json.specs.Read.{read};
 ghost use Rattle.serde_json.specs.View.{view};
 ghost use Rattle.explain_json.specs.Members.{launch_data, fault_data, explanation_data};
@@ -65,19 +65,12 @@ pub fn value_of(alloc: Global, whole: &Explanation) -> Result<Value, AllocError>
         .finish()
 }
 
-/// Puts a line feed behind a text.
-fn push_line_feed(text: &mut String) -> Result<(), AllocError>
-    ensures { OnOk result (string_bytes text.new ≡ string_bytes text.old ++ 10 ∷ []) }
-{
-    text.push('\n')
-}
-
 /// An explanation as one line of JSON, which reads back as its value.
 pub fn json_of(alloc: Global, whole: &Explanation) -> Result<String, AllocError>
     ensures { IfOk result (λ json. (line : List ℕ) × (string_bytes json ≡ line ++ 10 ∷ []) × (read line ≡ Some (explanation_data whole.now))) }
 {
     let value = value_of(alloc, whole)?;
     let mut text = value.to_string(alloc)?;
-    push_line_feed(&mut text)?;
+    text.push('\n')?;
     Ok(text)
 }

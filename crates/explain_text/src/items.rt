@@ -6,24 +6,11 @@ ghost use Rattle.explain_text.specs.Texts.{AreItems, IsItemText, IsLastPlace, Is
 
 use crate::lines::{ids_text, push_both};
 use crate::quotes::place_and_quote;
-use clmodel::access::{AccessKind, Class};
+use access_words::class_word;
+use clmodel::access::AccessKind;
 use explanation::{Does, Explanation, MemoryKind, NamedItem, Spot};
 use std::alloc::{AllocError, Global};
 use std::fmt::Write;
-
-/// The word of a class of atomic updates, as a reply has it.
-fn class_word(class: Class) -> &'static str {
-    match class {
-        Class::Add => "add",
-        Class::And => "and",
-        Class::Or => "or",
-        Class::Xor => "xor",
-        Class::SignedMin => "smin",
-        Class::UnsignedMin => "umin",
-        Class::SignedMax => "smax",
-        Class::UnsignedMax => "umax",
-    }
-}
 
 /// Adds what an item does to memory.
 pub fn push_verb(kind: AccessKind, out: &mut String) -> Result<(), AllocError> {
