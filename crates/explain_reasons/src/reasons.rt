@@ -205,21 +205,6 @@ fn bounds_reason(
     }
 }
 
-/// Whether two locations have one name and one group.
-pub(crate) fn is_same(location: &Location, other: &Location) -> bool {
-    match (location, other) {
-        (Location::Buffer(name), Location::Buffer(other)) => name == other,
-        (
-            Location::Local { group, name },
-            Location::Local {
-                group: other_group,
-                name: other,
-            },
-        ) => *group == *other_group && name == other,
-        _ => false,
-    }
-}
-
 /// Why a fault comes about whose reason needs no number.
 fn plain_reason(fault: &Fault) -> &'static str {
     match fault {

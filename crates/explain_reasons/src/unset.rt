@@ -1,11 +1,12 @@
 //! What was set beside an unset byte.
 #![tactic(auto)]
 
-use crate::reasons::{is_same, text_at};
+use crate::reasons::text_at;
 use clmodel::access::AccessKind;
 use clmodel::fault::Location;
 use explain_items::{Context, stand_at};
 use explain_play::{Played, Touch, event_of};
+use marked_play::same_location;
 use std::alloc::{AllocError, Global};
 
 /// A store, by its number, with its distance from a byte.
@@ -58,7 +59,7 @@ fn nearest_stores(touches: &[Touch], location: &Location, byte: u64) -> Nearest 
         above: None,
     };
     for (number, touch) in touches.iter().enumerate() {
-        if touch.kind == AccessKind::Store && is_same(&touch.location, location) {
+        if touch.kind == AccessKind::Store && same_location(&touch.location, location) {
             nearest = nearest.with(byte, touch.byte, number);
         }
     }

@@ -10,6 +10,6 @@ mod pairs;
 mod replica;
 
 pub use marks::{Mark, dividend_of, mark_schedule, stand_of};
-pub use pairs::{Pair, WantedPair, find_pair};
+pub use pairs::{Pair, WantedPair, find_pair, same_location};
 pub use replay::Stand;
 pub use replica::Replica;

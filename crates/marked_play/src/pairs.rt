@@ -3,17 +3,15 @@
 
 ghost use Rattle.std.specs.Prelude.{◌≡◌, true, IfOk, IfSome};
 ghost use Rattle.std.specs.Bool.{Decides};
-ghost use Rattle.clmodel.specs.Cells.{byte_count, covers};
 ghost use Rattle.marked_play.specs.Pairs.{IsTold, Clashes, IsPair, IsFoundPair};
 
 use clmodel::access::Access;
 use clmodel::fault::Location;
-use clmodel::text::Name;
 use launches::Described;
 use shadow_list::{left_at, object_number};
 use std::alloc::{AllocError, Global};
 use std::collections::HashMap;
-use told_conflicts::Partner;
+use told_conflicts::{Partner, is_on, same_name};
 
 /// A conflict, as a fault tells it; whether both items are of one group, whose barriers can order them; and whether the
 /// two have to leave different bytes.
@@ -49,16 +47,9 @@ struct Firsts {
     other: Option<usize>,
 }
 
-/// Whether two names are one.
-fn same_name(name: &Name, other: &Name) -> bool
-    ensures { Decides result (name.now ≡ other.now) }
-{
-    name == other
-}
-
 /// Whether two locations are one.
-fn is_same(location: &Location, other: &Location) -> bool
-    ensures { result ≡ true → location.now ≡ other.now }
+pub fn same_location(location: &Location, other: &Location) -> bool
+    ensures { Decides result (location.now ≡ other.now) }
 {
     match (location, other) {
         (Location::Buffer(name), Location::Buffer(other)) => same_name(name, other),
@@ -71,13 +62,6 @@ fn is_same(location: &Location, other: &Location) -> bool
         ) => *group == *other_group && same_name(name, other),
         _ => false,
     }
-}
-
-/// Whether an access is at this byte.
-fn is_on(access: &Access, byte: u64) -> bool
-    ensures { result ≡ covers access.now.first (byte_count access.now.width) byte }
-{
-    access.first <= byte && byte - access.first < access.width.bytes()
 }
 
 /// Whether an access is that of a partner. An error is out of memory.
@@ -93,7 +77,7 @@ fn is_told<D: Described>(
         return Ok(false);
     }
     let location = launches::location_of(launch, access.region)?;
-    Ok(is_same(&location, told.location))
+    Ok(same_location(&location, told.location))
 }
 
 /// Whether two accesses clash, where they are those of the partners.

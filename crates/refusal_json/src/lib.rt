@@ -2,7 +2,7 @@
 //! it writes reads back as the value that was made of the refusal, whose member `version` is 1.
 #![tactic(auto)]
 
-ghost use Rattle.std.specs.Prelude.{◌≡◌, ◌++◌, [], ◌∷◌, string_bytes, option_copied, IfOk, OnOk};
+ghost use Rattle.std.specs.Prelude.{◌≡◌, string_bytes, option_copied, IfOk};
 ghost use Rattle.serde_json.specs.View.{view};
 ghost use Rattle.refusal_json.specs.Members.{fault_data, spot_data, hints_data, refusal_data, IsRefusedLine};
 
@@ -61,13 +61,6 @@ pub fn value_of(alloc: Global, name: &str, refusal: &Refusal) -> Result<Value, A
     })
 }
 
-/// Puts a line feed behind a text.
-fn push_line_feed(text: &mut String) -> Result<(), AllocError>
-    ensures { OnOk result (string_bytes text.new ≡ string_bytes text.old ++ 10 ∷ []) }
-{
-    text.push('\n')
-}
-
 /// A fault of a source as one line of JSON. The source begins at this line of the file that is named. A place past the
 /// end stands for the end. An error is out of memory. It takes the time of the source.
 pub fn refused_json(
@@ -82,6 +75,6 @@ pub fn refused_json(
     let refusal = refusal_of(alloc, source, first_line, fault)?;
     let value = value_of(alloc, name, &refusal)?;
     let mut text = value.to_string(alloc)?;
-    push_line_feed(&mut text)?;
+    text.push('\n')?;
     Ok(text)
 }

@@ -92,7 +92,7 @@ fn number_in(location: &Location, region: Region) -> Option<u32>
 }
 
 /// Whether an access is at this byte.
-fn is_on(access: &Access, byte: u64) -> bool
+pub fn is_on(access: &Access, byte: u64) -> bool
     ensures { result ≡ covers access.now.first (byte_count access.now.width) byte }
 {
     access.first <= byte && byte - access.first < access.width.bytes()

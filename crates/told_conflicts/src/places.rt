@@ -15,7 +15,7 @@ use launches::Described;
 use std::alloc::AllocError;
 
 /// Whether two names are one.
-fn same_name(name: &Name, other: &Name) -> bool
+pub fn same_name(name: &Name, other: &Name) -> bool
     ensures { Decides result (name.now ≡ other.now) }
 {
     name == other

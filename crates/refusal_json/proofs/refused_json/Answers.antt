@@ -1,4 +1,4 @@
-use Rattle.std.proofs.Common.{◌≤◌, Some, arith, sym, ap, ◌∙◌, subst}
+use Rattle.std.proofs.Common.{◌≡◌, ◌≤◌, [], ◌∷◌, ◌++◌, string_bytes, rules, Some, arith, sym, ap, ◌∙◌, subst}
 use Rattle.serde_json.specs.Data.{depth}
 use Rattle.serde_json.specs.Read.{max_depth}
 use Rattle.refusal_json.specs.Members.{refusal_data}
@@ -10,10 +10,11 @@ returns c =
     let refusal = c.in_ok-refusal.refusal in
     let low : depth (refusal_data c.args.name.now refusal) ≤ max_depth = omega (arith, refusal_depth c.args.name.now refusal) in
     let back = c.in_ok-text.ensures.reads_back (subst (λ d. depth d ≤ max_depth) (sym c.in_ok-value.ensures) low) in
+    let ended : string_bytes c.push.new.self ≡ string_bytes c.in_ok-text.text ++ 10 ∷ [] = search rules in
     record {
       refusal = refusal;
       is = c.in_ok-refusal.ensures;
       line = _;
-      ended = c.in_ok-push_line_feed.ensures;
+      ended = ended;
       reads = back ∙ ap (λ d. Some d) c.in_ok-value.ensures;
     }
