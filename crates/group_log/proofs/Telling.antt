@@ -1,7 +1,6 @@
 -- Kept accesses tell what the whole list does, once one more is made and once a barrier is passed.
 use Rattle.std.proofs.Common.{◌≡◌, ℕ, zero, suc, ◌+◌, Bool, true, false, not, ◌&&◌, ◌==◌, Option, None, Some, List, [], ◌∷◌, ◌++◌, refl, sym, ap, ◌∙◌, subst, inl, inr, arith}
-use Rattle.std.specs.Prelude.{All, Result, Ok, Err}
-use Rattle.std.specs.declared.alloc.AllocError.{AllocError}
+use Rattle.std.specs.Prelude.{All, Ok}
 use Rattle.std.specs.Option.{option_map}
 use Rattle.std.proofs.lemmas.Bool.{false≢true, and_parts, ne_eqb}
 use Rattle.std.proofs.lemmas.List.Elements.{All-head, All-tail}
@@ -182,14 +181,6 @@ tells_new u b n kept whole e k w = subst (λ m. Tells u b m kept whole) (sym e) 
 pub logged_same : (a b : List Entry) (l l2 g g2 : ℕ) (u v : Bool) → a ≡ b → l ≡ l2 → g ≡ g2 → u ≡ v → logged a l g u ≡ logged b l2 g2 v
 logged_same a b l l2 g g2 u v p q r s = ap (λ z. logged z l g u) p ∙ ap (λ z. logged b z g u) q ∙ ap (λ z. logged b l2 z u) r ∙ ap (logged b l2 g2) s
 
--- an access that has the running interval is noted as it was before it had one
-pub noted_stamped : (old new : Log) (e x : Entry) (r : Result (Option Hit) AllocError) → x ≡ stamped old e → IsNoted old x new r → IsNoted old e new r
-noted_stamped old new e x r s h = go r (subst (λ z. IsNoted old z new r) s h)
-  where
-    go : (r : Result (Option Hit) AllocError) → IsNoted old (stamped old e) new r → IsNoted old e new r
-    go (Ok found) h = h
-    go (Err f) h = h
-
 -- an access is noted where it is put at the end
 pub noted_last : (old new : Log) (e x : Entry) (found : Option Hit) → x ≡ stamped old e → new ≡ with_last old x → found ≡ hit (within_group old.uniform) (stamped old e) old.accesses → IsNoted old e new (Ok found)
 noted_last old new e x found s n h = (
@@ -199,7 +190,3 @@ noted_last old new e x found s n h = (
   ap (λ (l : Log). l.global_interval) n,
   ap (λ (l : Log). l.uniform) n,
 )
-
--- an access that has the running interval, as a log gives it
-pub stamped_twice : (x : Entry) (n : ℕ) → x.access.interval ≡ n → x ≡ record x { access = record x.access { interval = n } }
-stamped_twice x n h = ap (λ i. record x { access = record x.access { interval = i } }) h

@@ -1,3 +1,4 @@
+pub mod Clear
 pub mod Covers
 pub mod Lasting
 pub mod Logged

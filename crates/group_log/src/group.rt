@@ -4,6 +4,7 @@ ghost use Rattle.std.specs.Prelude.{◌≡◌, ◌<◌, ◌-◌, ◌^◌, [], Li
 ghost use Rattle.clmodel.specs.declared.access.Access.{Access as TheAccess};
 ghost use Rattle.shadow.specs.Lasting.{StandsWith, Absorbed};
 ghost use Rattle.shadow_list.specs.Log.{IsPlaced, IsNoted, fresh_log, in_buffer};
+ghost use Rattle.group_log.specs.Clear.{IsNotedIfClear};
 ghost use Rattle.group_log.specs.Lasting.{all_of, short_of, last_of, made, LeavesOut};
 ghost use Rattle.group_log.specs.Covers.{Covers};
 ghost use Rattle.group_log.specs.Side.{TakesOf, IsKnown};
@@ -136,70 +137,92 @@ impl GroupLog {
         Ok(())
     }
 
-    /// Notes an access of local memory that has the running interval, where it may conflict.
-    #[cold]
-    #[inline(never)]
-    fn judge_local(&mut self, glance: Glance, entry: Entry) -> Result<Option<Hit>, AllocError>
-        requires placed { IsPlaced entry }
-        requires space { in_buffer entry.access.region ≡ false }
-        requires interval { entry.access.interval ≡ self.old.local.interval }
-        requires told { glance.look.sight.told ≡ true → Covers self.old.local.uniform self.old.local.kept.items entry.access }
-        requires known { IsKnown self.old.local entry.access glance }
-        ensures { IsNoted (log_of self.old) entry (log_of self.new) result }
-    {
-        let found = self.local.conflict(&entry);
-        self.take_local(glance, entry)?;
-        Ok(found)
-    }
-
-    /// Notes an access of a buffer that has the running interval, where it may conflict.
-    #[cold]
-    #[inline(never)]
-    fn judge_global(&mut self, glance: Glance, entry: Entry) -> Result<Option<Hit>, AllocError>
-        requires placed { IsPlaced entry }
-        requires space { in_buffer entry.access.region ≡ true }
-        requires interval { entry.access.interval ≡ self.old.global.interval }
-        requires told { glance.look.sight.told ≡ true → Covers self.old.global.uniform self.old.global.kept.items entry.access }
-        requires taken { glance.look.sight.taken ≡ true → (log : List TheAccess) → TakesOf self.old.global log → Absorbed log entry.access }
-        requires known { IsKnown self.old.global entry.access glance }
-        ensures { IsNoted (log_of self.old) entry (log_of self.new) result }
-    {
-        let found = self.global.conflict(&entry);
-        self.take_global(glance, entry)?;
-        Ok(found)
-    }
-
-    /// Notes an access of local memory, as `note` does.
+    /// Notes an access of local memory that is seen to conflict with none. False: it may conflict, and the log stays.
+    /// Where memory is refused the log stays.
     #[inline(always)]
-    fn note_local(&mut self, entry: Entry) -> Result<Option<Hit>, AllocError>
+    fn note_clear_local(&mut self, entry: Entry) -> Result<bool, AllocError>
         requires placed { IsPlaced entry }
         requires space { in_buffer entry.access.region ≡ false }
-        ensures { IsNoted (log_of self.old) entry (log_of self.new) result }
+        ensures { IsNotedIfClear (log_of self.old) entry (log_of self.new) result }
     {
         let entry = entry.with_interval(self.local.interval);
         let glance = self.local.look(&entry.access);
         if glance.look.sight.clear {
             self.take_local(glance, entry)?;
-            Ok(None)
+            Ok(true)
         } else {
-            self.judge_local(glance, entry)
+            Ok(false)
         }
     }
 
-    /// Notes an access of a buffer, as `note` does.
+    /// Notes an access of a buffer that is seen to conflict with none, as `note_clear_local` does.
     #[inline(always)]
-    fn note_global(&mut self, entry: Entry) -> Result<Option<Hit>, AllocError>
+    fn note_clear_global(&mut self, entry: Entry) -> Result<bool, AllocError>
         requires placed { IsPlaced entry }
         requires space { in_buffer entry.access.region ≡ true }
-        ensures { IsNoted (log_of self.old) entry (log_of self.new) result }
+        ensures { IsNotedIfClear (log_of self.old) entry (log_of self.new) result }
     {
         let entry = entry.with_interval(self.global.interval);
         let glance = self.global.look(&entry.access);
         if glance.look.sight.clear {
             self.take_global(glance, entry)?;
-            Ok(None)
+            Ok(true)
         } else {
-            self.judge_global(glance, entry)
+            Ok(false)
+        }
+    }
+
+    /// Notes an access that is seen to conflict with none. False: it may conflict, and the log stays. It gives no hit:
+    /// room for one would be cleared and moved for each access.
+    #[inline(always)]
+    fn note_clear(&mut self, entry: Entry) -> Result<bool, AllocError>
+        requires { IsPlaced entry }
+        ensures { IsNotedIfClear (log_of self.old) entry (log_of self.new) result }
+    {
+        match entry.access.region {
+            Region::Buffer(_) => self.note_clear_global(entry),
+            Region::Local { .. } => self.note_clear_local(entry),
+        }
+    }
+
+    /// Notes an access of local memory, as `note` does, where it may conflict.
+    #[cold]
+    fn judge_local(&mut self, entry: Entry) -> Result<Option<Hit>, AllocError>
+        requires placed { IsPlaced entry }
+        requires space { in_buffer entry.access.region ≡ false }
+        ensures { IsNoted (log_of self.old) entry (log_of self.new) result }
+    {
+        let made = entry.with_interval(self.local.interval);
+        let glance = self.local.look(&made.access);
+        let found = self.local.conflict(&made);
+        self.take_local(glance, made)?;
+        Ok(found)
+    }
+
+    /// Notes an access of a buffer, as `note` does, where it may conflict.
+    #[cold]
+    fn judge_global(&mut self, entry: Entry) -> Result<Option<Hit>, AllocError>
+        requires placed { IsPlaced entry }
+        requires space { in_buffer entry.access.region ≡ true }
+        ensures { IsNoted (log_of self.old) entry (log_of self.new) result }
+    {
+        let made = entry.with_interval(self.global.interval);
+        let glance = self.global.look(&made.access);
+        let found = self.global.conflict(&made);
+        self.take_global(glance, made)?;
+        Ok(found)
+    }
+
+    /// Notes an access, as `note` does, where it may conflict.
+    #[cold]
+    #[inline(never)]
+    fn judge(&mut self, entry: Entry) -> Result<Option<Hit>, AllocError>
+        requires { IsPlaced entry }
+        ensures { IsNoted (log_of self.old) entry (log_of self.new) result }
+    {
+        match entry.access.region {
+            Region::Buffer(_) => self.judge_global(entry),
+            Region::Local { .. } => self.judge_local(entry),
         }
     }
 }
@@ -233,9 +256,10 @@ impl GroupAccesses for GroupLog {
 impl AccessLog for GroupLog {
     #[inline(always)]
     fn note(&mut self, entry: Entry) -> Result<Option<Hit>, AllocError> {
-        match entry.access.region {
-            Region::Buffer(_) => self.note_global(entry),
-            Region::Local { .. } => self.note_local(entry),
+        match self.note_clear(entry) {
+            Ok(true) => Ok(None),
+            Ok(false) => self.judge(entry),
+            Err(error) => Err(error),
         }
     }
 

@@ -1,18 +1,20 @@
 use Rattle.std.proofs.Common.{◌≡◌, false, ap, ◌∙◌}
 use Rattle.clmodel.specs.Launch.{within_group}
-use Rattle.shadow_list.specs.Log.{stamped, hit}
+use Rattle.shadow_list.specs.Log.{stamped, in_buffer, hit}
 use Rattle.shadow_list.specs.declared.log.Entry.{Entry}
 use Rattle.group_log.specs.Lasting.{all_of}
 use Rattle.group_log.specs.declared.group.GroupLog.{GroupLog}
 use Rattle.group_log.proofs.Shortened.{log_of}
-use Rattle.group_log.proofs.Telling.{stamped_local, stamped_twice, told, noted_last}
+use Rattle.group_log.proofs.Telling.{stamped_local, told, noted_last}
 use Rattle.group_log.proofs.group.GroupLog.judge_local.Goals as goal
 
 pub returns : goal.returns
 returns c =
     let l : GroupLog = c.args.self.now in
-    let x : Entry = c.args.entry in
-    let same : x ≡ stamped (log_of l) x = stamped_local (log_of l) x x c.requires.space (stamped_twice x l.local.interval c.requires.interval) in
-    noted_last (log_of l) (log_of c.take_local.new.self) x x c.conflict-found.result same c.in_ok-take_local.ensures.taken
-    (told l.local.uniform false l.local.interval l.local.kept.items (all_of l.whole.items) (log_of l) x x c.conflict-found.result l.local_tells c.conflict-found.ensures same c.requires.space c.requires.interval
-    ∙ ap (λ u. hit (within_group u) (stamped (log_of l) x) (all_of l.whole.items)) l.one_launch)
+    let x : Entry = c.with_interval-made.result in
+    let space : in_buffer x.access.region ≡ false = ap (λ (z : Entry). in_buffer z.access.region) c.with_interval-made.ensures ∙ c.requires.space in
+    let same : x ≡ stamped (log_of l) c.args.entry = stamped_local (log_of l) c.args.entry x c.requires.space c.with_interval-made.ensures in
+    noted_last (log_of l) (log_of c.take_local.new.self) c.args.entry x c.conflict-found.result same c.in_ok-take_local.ensures.taken
+    (told l.local.uniform false l.local.interval l.local.kept.items (all_of l.whole.items) (log_of l) c.args.entry x c.conflict-found.result l.local_tells
+    c.conflict-found.ensures same space (ap (λ (z : Entry). z.access.interval) c.with_interval-made.ensures)
+    ∙ ap (λ u. hit (within_group u) (stamped (log_of l) c.args.entry) (all_of l.whole.items)) l.one_launch)

@@ -5,13 +5,8 @@ use Rattle.shadow_list.specs.declared.log.Entry.{Entry}
 use Rattle.group_log.specs.Lasting.{all_of}
 use Rattle.group_log.specs.declared.group.GroupLog.{GroupLog}
 use Rattle.group_log.proofs.Shortened.{log_of}
-use Rattle.group_log.proofs.Telling.{stamped_local, none_hit, told, noted_stamped, noted_last}
-use Rattle.group_log.proofs.group.GroupLog.note_local.Goals as goal
-
-pub returns-else-glance : goal.returns-else-glance
-returns-else-glance c =
-    let l : GroupLog = c.args.self.now in
-    noted_stamped (log_of l) (log_of c.judge_local.new.self) c.args.entry c.with_interval-entry.result c.judge_local.result (stamped_local (log_of l) c.args.entry c.with_interval-entry.result c.requires.space c.with_interval-entry.ensures) c.judge_local.ensures
+use Rattle.group_log.proofs.Telling.{stamped_local, none_hit, told, noted_last}
+use Rattle.group_log.proofs.group.GroupLog.note_clear_local.Goals as goal
 
 pub returns-in_ok-take_local : goal.returns-in_ok-take_local
 returns-in_ok-take_local c =

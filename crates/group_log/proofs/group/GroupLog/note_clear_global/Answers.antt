@@ -5,13 +5,8 @@ use Rattle.shadow_list.specs.declared.log.Entry.{Entry}
 use Rattle.group_log.specs.Lasting.{all_of}
 use Rattle.group_log.specs.declared.group.GroupLog.{GroupLog}
 use Rattle.group_log.proofs.Shortened.{log_of}
-use Rattle.group_log.proofs.Telling.{stamped_global, none_hit, told, noted_stamped, noted_last}
-use Rattle.group_log.proofs.group.GroupLog.note_global.Goals as goal
-
-pub returns-else-glance : goal.returns-else-glance
-returns-else-glance c =
-    let l : GroupLog = c.args.self.now in
-    noted_stamped (log_of l) (log_of c.judge_global.new.self) c.args.entry c.with_interval-entry.result c.judge_global.result (stamped_global (log_of l) c.args.entry c.with_interval-entry.result c.requires.space c.with_interval-entry.ensures) c.judge_global.ensures
+use Rattle.group_log.proofs.Telling.{stamped_global, none_hit, told, noted_last}
+use Rattle.group_log.proofs.group.GroupLog.note_clear_global.Goals as goal
 
 pub returns-in_ok-take_global : goal.returns-in_ok-take_global
 returns-in_ok-take_global c =
