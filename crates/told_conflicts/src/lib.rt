@@ -4,8 +4,8 @@
 //! `told_conflict` is the conflict of a fault that tells one. `shows_conflict` answers true exactly where each state
 //! with this log shows that conflict, with its items, kinds, place and byte (out of memory aside). It goes over the log
 //! twice, whatever conflicts there are. `is_at` and `is_fault_of` answer whether a region lies where a fault tells, and
-//! whether a fault is that of an item that can do nothing more for a cause; `same_name` and `is_on` compare a name and a
-//! byte. The crate knows a launch by what `launches` says of it, and plays no event.
+//! whether a fault is that of an item that can do nothing more for a cause; `same_name` and `is_on` compare a name and
+//! a byte. The crate knows a launch by what `launches` says of it, and plays no event.
 #![tactic(auto)]
 
 mod conflicts;
