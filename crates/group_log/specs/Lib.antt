@@ -1,4 +1,3 @@
-pub mod Clear
 pub mod Covers
 pub mod Lasting
 pub mod Logged

@@ -3,8 +3,8 @@
 ghost use Rattle.std.specs.Prelude.{◌≡◌, ◌<◌, ◌-◌, ◌^◌, [], List, IfOk, OnOk, OnErr, false, true};
 ghost use Rattle.clmodel.specs.declared.access.Access.{Access as TheAccess};
 ghost use Rattle.shadow.specs.Lasting.{StandsWith, Absorbed};
+ghost use Rattle.shadow_list.specs.Clear.{IsNotedIfClear};
 ghost use Rattle.shadow_list.specs.Log.{IsPlaced, IsNoted, fresh_log, in_buffer};
-ghost use Rattle.group_log.specs.Clear.{IsNotedIfClear};
 ghost use Rattle.group_log.specs.Lasting.{all_of, short_of, last_of, made, LeavesOut};
 ghost use Rattle.group_log.specs.Covers.{Covers};
 ghost use Rattle.group_log.specs.Side.{TakesOf, IsKnown};
@@ -137,10 +137,9 @@ impl GroupLog {
         Ok(())
     }
 
-    /// Notes an access of local memory that is seen to conflict with none. False: it may conflict, and the log stays.
-    /// Where memory is refused the log stays.
+    /// Notes an access of local memory, as `note_if_clear` does.
     #[inline(always)]
-    fn note_clear_local(&mut self, entry: Entry) -> Result<bool, AllocError>
+    fn note_local_if_clear(&mut self, entry: Entry) -> Result<bool, AllocError>
         requires placed { IsPlaced entry }
         requires space { in_buffer entry.access.region ≡ false }
         ensures { IsNotedIfClear (log_of self.old) entry (log_of self.new) result }
@@ -155,9 +154,9 @@ impl GroupLog {
         }
     }
 
-    /// Notes an access of a buffer that is seen to conflict with none, as `note_clear_local` does.
+    /// Notes an access of a buffer, as `note_if_clear` does.
     #[inline(always)]
-    fn note_clear_global(&mut self, entry: Entry) -> Result<bool, AllocError>
+    fn note_buffer_if_clear(&mut self, entry: Entry) -> Result<bool, AllocError>
         requires placed { IsPlaced entry }
         requires space { in_buffer entry.access.region ≡ true }
         ensures { IsNotedIfClear (log_of self.old) entry (log_of self.new) result }
@@ -169,19 +168,6 @@ impl GroupLog {
             Ok(true)
         } else {
             Ok(false)
-        }
-    }
-
-    /// Notes an access that is seen to conflict with none. False: it may conflict, and the log stays. It gives no hit:
-    /// room for one would be cleared and moved for each access.
-    #[inline(always)]
-    fn note_clear(&mut self, entry: Entry) -> Result<bool, AllocError>
-        requires { IsPlaced entry }
-        ensures { IsNotedIfClear (log_of self.old) entry (log_of self.new) result }
-    {
-        match entry.access.region {
-            Region::Buffer(_) => self.note_clear_global(entry),
-            Region::Local { .. } => self.note_clear_local(entry),
         }
     }
 
@@ -254,12 +240,19 @@ impl GroupAccesses for GroupLog {
 }
 
 impl AccessLog for GroupLog {
-    #[inline(always)]
     fn note(&mut self, entry: Entry) -> Result<Option<Hit>, AllocError> {
-        match self.note_clear(entry) {
+        match self.note_if_clear(entry) {
             Ok(true) => Ok(None),
             Ok(false) => self.judge(entry),
             Err(error) => Err(error),
+        }
+    }
+
+    #[inline(always)]
+    fn note_if_clear(&mut self, entry: Entry) -> Result<bool, AllocError> {
+        match entry.access.region {
+            Region::Buffer(_) => self.note_buffer_if_clear(entry),
+            Region::Local { .. } => self.note_local_if_clear(entry),
         }
     }
 

@@ -12,11 +12,13 @@ use std::alloc::{AllocError, Global};
 /// are the outermost `depth` of those of the item.
 #[derive(Clone, Copy)]
 pub enum BriefStop {
+    /// At a barrier, by its site in the kernel
     At { site: u32, depth: u32 },
+    /// At its end
     Ended,
 }
 
-/// The turns of the outermost loops.
+/// The turns of the `depth` outermost loops.
 fn outermost(turns: &[u32], depth: u32) -> &[u32]
     ensures { result.now ≡ take depth turns.now }
 {

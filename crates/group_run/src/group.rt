@@ -81,6 +81,25 @@ fn hit_fault<D: Described>(alloc: Global, launch: &D, hit: &Hit) -> Result<Box<F
     Ok(Box::new(alloc, fault)?)
 }
 
+/// Notes an access that may conflict, and answers the fault that it makes, if it does. An error is out of memory. It is
+/// no part of `judge`, where each access would have to make room for a hit.
+#[cold]
+#[inline(never)]
+fn judge_hit<D: Described, L: AccessLog>(
+    alloc: Global,
+    launch: &D,
+    log: &mut L,
+    entry: Entry,
+) -> Result<Report, AllocError>
+    requires { IsPlaced entry }
+    ensures { IfOk result (λ report. IsJudged (D.launch launch.now) (L.Logged.log log.old) entry (L.Logged.log log.new) (option_map box_value report)) }
+{
+    match log.note(entry)? {
+        Some(hit) => Ok(Some(hit_fault(alloc, launch, &hit)?)),
+        None => Ok(None),
+    }
+}
+
 /// Notes an access, and answers the fault that it makes, if it does. An error is out of memory.
 fn judge<D: Described, L: AccessLog>(
     alloc: Global,
@@ -91,14 +110,10 @@ fn judge<D: Described, L: AccessLog>(
     requires { IsPlaced entry }
     ensures { IfOk result (λ report. IsJudged (D.launch launch.now) (L.Logged.log log.old) entry (L.Logged.log log.new) (option_map box_value report)) }
 {
-    // Looked at where it lies, and no `?`: room for a hit would be cleared for each access, though hardly any makes
-    // one.
-    let noted = log.note(entry);
-    match &noted {
-        Ok(None) => Ok(None),
-        Ok(Some(hit)) => Ok(Some(hit_fault(alloc, launch, hit)?)),
-        Err(_) => Err(AllocError),
+    if log.note_if_clear(entry)? {
+        return Ok(None);
     }
+    judge_hit(alloc, launch, log, entry)
 }
 
 /// Begins the next interval of each address space that a barrier fences.

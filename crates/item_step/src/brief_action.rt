@@ -19,6 +19,8 @@ pub enum BriefAction {
         depth: u32,
         fences: Fences,
     },
+    /// It has come to its end
     End,
+    /// It fails
     Fault(Cause),
 }

@@ -84,7 +84,7 @@ impl<'a> Slot<'a> {
         }
     }
 
-    /// Gives the item's memory back, at its end. It is no part of `goes_on`, which mostly finds another action.
+    /// Gives the item's memory back, at its end. It is no part of `goes_on_brief`, which mostly finds another action.
     #[inline(never)]
     fn end(&mut self)
         ensures { self.new ≡ slot.Ended }

@@ -63,5 +63,5 @@ pub fn answer(slot: &mut Slot<'_>, answer: Answer)
     ensures runs { (start : Running) (answers : List Answer) → Runs start answers slot.old → Runs start (answers ++ answer ∷ []) slot.new }
 {
     slot.answer(answer);
-    slot.goes_on();
+    slot.goes_on_brief();
 }

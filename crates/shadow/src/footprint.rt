@@ -1,6 +1,6 @@
 //! What is kept of the accesses of work-groups.
 
-ghost use Rattle.std.specs.Prelude.{◌≡◌, ◌+◌, ◌<◌, ◌≤◌, ◌∷◌, ◌^◌, [], ℕ, List, length, false, true, IfOk, OnOk, OnErr};
+ghost use Rattle.std.specs.Prelude.{◌≡◌, ◌+◌, ◌<◌, ◌≤◌, ◌∷◌, ◌^◌, [], ℕ, List, None, length, false, true, IfOk, OnOk, OnErr};
 ghost use Rattle.clmodel.specs.Cells.{byte_count};
 ghost use Rattle.clmodel.specs.declared.access.Access.{Access as TheAccess};
 ghost use Rattle.clmodel.specs.declared.access.Region.TheVariants as region;
@@ -45,6 +45,22 @@ impl Footprint {
     {
         Footprint {
             buffers: Vec::new(alloc),
+        }
+    }
+
+    /// Whether an access of another group's item is seen to conflict with none of these. False: `meeting` tells whether
+    /// it does. It gives no conflict, for which room would be cleared for each access.
+    #[inline(always)]
+    pub fn is_clear(&self, uniform: bool, x: &Access) -> bool
+        requires { x.now.first + byte_count x.now.width < 2 ^ 64 }
+        ensures { result ≡ true → (log : List TheAccess) → IsFootprint self.now log → OfOthers x.now.item log → met_at uniform x.now.region x.now log ≡ None }
+    {
+        let Region::Buffer(number) = x.region else {
+            return true;
+        };
+        match self.buffers.get(number as usize) {
+            None => true,
+            Some(pages) => pages.is_clear(uniform, x),
         }
     }
 

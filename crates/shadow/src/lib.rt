@@ -18,4 +18,4 @@ mod words;
 pub use footprint::Footprint;
 pub use group_accesses::{AccessSummary, GroupAccesses};
 pub use seen::{Mark, Meeting, mark_clash, mark_of, one_sort};
-pub use words::{WordMark, agrees, byte_mark, is_one_sort, word_mark};
+pub use words::{WordMark, agrees, byte_mark, word_mark};

@@ -27,7 +27,7 @@ const PAGE_WORDS: usize = 64;
 /// How many bytes a page has.
 const PAGE_BYTES: usize = PAGE_WORDS * WORD_BYTES;
 
-/// The words of a buffer, in pages, of which those have words that were touched.
+/// The words of a buffer, in pages. A page has words once one of them was touched.
 #[derive(Drop)]
 pub(crate) struct Pages {
     pub(crate) pages: Vec<Vec<Word>>,
@@ -242,21 +242,32 @@ impl Pages {
         }
     }
 
+    /// Whether an access is to whole words and is seen to conflict with none.
+    pub(crate) fn is_clear(&self, uniform: bool, x: &Access) -> bool
+        requires { x.now.first + byte_count x.now.width < 2 ^ 64 }
+        ensures { result ≡ true → against_from uniform x.now (cell_in self.now.apart.items self.now.pages.items) x.now.first (byte_count x.now.width) ≡ None }
+    {
+        let first = x.first as usize;
+        let count = x.width.bytes() as usize;
+        self.passes_whole(uniform, x, first, count)
+    }
+
     /// The conflict of an access on the lowest of its bytes that has one, by whether the launch is uniform.
     pub(crate) fn meeting(&self, uniform: bool, x: &Access) -> Option<Meeting>
         requires { x.now.first + byte_count x.now.width < 2 ^ 64 }
         ensures { result ≡ against_from uniform x.now (cell_in self.now.apart.items self.now.pages.items) x.now.first (byte_count x.now.width) }
     {
-        let first = x.first as usize;
-        let count = x.width.bytes() as usize;
-        if self.passes_whole(uniform, x, first, count) {
+        if self.is_clear(uniform, x) {
             return None;
         }
+        let first = x.first as usize;
+        let count = x.width.bytes() as usize;
         self.against(uniform, x, first, count)
     }
 
-    /// The words of a page.
-    fn make(&mut self, alloc: Global, page: usize) -> Result<(), AllocError>
+    /// The words of a page that may lack some.
+    #[inline(never)]
+    fn make_page(&mut self, alloc: Global, page: usize) -> Result<(), AllocError>
         requires { page < 2 ^ 63 }
         ensures there { OnOk result (IsPage self.new.pages.items page) }
         ensures kept { (other : ℕ) → IsPage self.old.pages.items other → IsPage self.new.pages.items other }
@@ -264,6 +275,21 @@ impl Pages {
     {
         grow(alloc, &mut self.pages, page + 1)?;
         fill(&mut self.pages[page])
+    }
+
+    /// The words of a page.
+    // A call would cost each access more than the look at the page that it comes to.
+    #[inline(always)]
+    fn make(&mut self, alloc: Global, page: usize) -> Result<(), AllocError>
+        requires { page < 2 ^ 63 }
+        ensures there { OnOk result (IsPage self.new.pages.items page) }
+        ensures kept { (other : ℕ) → IsPage self.old.pages.items other → IsPage self.new.pages.items other }
+        ensures same { (byte : ℕ) → cell_in self.new.apart.items self.new.pages.items byte ≡ cell_in self.old.apart.items self.old.pages.items byte }
+    {
+        match self.pages.get(page) {
+            Some(row) if row.len() >= PAGE_WORDS => Ok(()),
+            _ => self.make_page(alloc, page),
+        }
     }
 
     /// The words of the pages of two bytes, which may be one page.

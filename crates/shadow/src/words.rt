@@ -122,7 +122,7 @@ fn leaves_same(left: u32, other: u32) -> bool
 }
 
 /// Whether two accesses to a word are of one sort at each byte.
-pub fn is_one_sort(a: WordMark, b: WordMark) -> bool
+fn is_one_sort(a: WordMark, b: WordMark) -> bool
     ensures same { result ≡ true → (k : ℕ) → k < 4 → one_sort (byte_mark a k) (byte_mark b k) ≡ true }
     ensures other { result ≡ false → (k : ℕ) × (k < 4) × (one_sort (byte_mark a k) (byte_mark b k) ≡ false) }
 {
@@ -204,6 +204,7 @@ pub(crate) fn mark_in(bytes: &mut [Seen; 4], k: usize, mark: Mark) -> bool
 }
 
 /// Whether accesses to all of a word with these marks don't conflict.
+#[inline(always)]
 pub fn agrees(uniform: bool, a: WordMark, b: WordMark) -> bool
     ensures { result ≡ true → (k : ℕ) → mark_clash uniform (byte_mark a k) (byte_mark b k) ≡ None }
 {

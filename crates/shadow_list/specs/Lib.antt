@@ -1,4 +1,5 @@
 pub mod Cells
+pub mod Clear
 pub mod Index
 pub mod Keys
 pub mod Kinds

@@ -2,6 +2,7 @@
 
 ghost use Rattle.std.specs.Prelude.{◌≡◌, ◌<◌, ◌+◌, ◌-◌, ◌^◌, ℕ, length, slice_index_or};
 ghost use Rattle.clmodel.specs.Run.{by_region};
+ghost use Rattle.shadow_list.specs.Clear.{IsNotedIfClear};
 ghost use Rattle.shadow_list.specs.Log.{Log, IsNoted, IsPlaced, entry_of, running, after_fence};
 
 use clmodel::access::{Access, Clash, Operation, Region};
@@ -100,6 +101,16 @@ pub trait AccessLog: Logged {
     fn note(&mut self, entry: Entry) -> Result<Option<Hit>, AllocError>
         requires { IsPlaced entry }
         ensures { IsNoted (Self.log self.old) entry (Self.log self.new) result };
+
+    /// Notes a new access, as `note` does, where the log sees at once that it conflicts with none. False: it may
+    /// conflict, and the log stays, as it does where memory is refused. It gives no hit, for which room would be
+    /// cleared and moved for each access. A log that sees nothing at once has this body.
+    fn note_if_clear(&mut self, entry: Entry) -> Result<bool, AllocError>
+        requires { IsPlaced entry }
+        ensures { IsNotedIfClear (Self.log self.old) entry (Self.log self.new) result }
+    {
+        Ok(false)
+    }
 
     /// Begins the next interval of an address space.
     fn fence(&mut self, space: Fenced)

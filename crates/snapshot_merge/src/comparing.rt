@@ -36,12 +36,14 @@ pub(crate) fn first_conflict<L: GroupAccesses>(
     let count = log.len();
     for place in 0..count {
         let entry = log.get(place);
-        if let Some(meeting) = footprint.meeting(uniform, &entry.access) {
-            return Some(FirstConflict {
-                entry,
-                meeting,
-                last: is_last(log, place),
-            });
+        if !footprint.is_clear(uniform, &entry.access) {
+            if let Some(meeting) = footprint.meeting(uniform, &entry.access) {
+                return Some(FirstConflict {
+                    entry,
+                    meeting,
+                    last: is_last(log, place),
+                });
+            }
         }
     }
     None
@@ -77,12 +79,14 @@ impl Before<'_, '_, '_, '_> {
         let mut updates = Vec::new(alloc);
         for place in 0..log.len() {
             let entry = log.get(place);
-            if let Some(meeting) = self.footprint.meeting(uniform, &entry.access) {
-                return Ok(Compared::Conflict(FirstConflict {
-                    entry,
-                    meeting,
-                    last: is_last(log, place),
-                }));
+            if !self.footprint.is_clear(uniform, &entry.access) {
+                if let Some(meeting) = self.footprint.meeting(uniform, &entry.access) {
+                    return Ok(Compared::Conflict(FirstConflict {
+                        entry,
+                        meeting,
+                        last: is_last(log, place),
+                    }));
+                }
             }
             let kept = self.kept_value(&entry.access);
             keep_update(&mut updates, place, kept)?;

@@ -96,9 +96,13 @@ impl GroupAccesses for HeapLog {
 }
 
 impl AccessLog for HeapLog {
-    #[inline(always)]
     fn note(&mut self, entry: Entry) -> Result<Option<Hit>, AllocError> {
         self.log.note(entry)
+    }
+
+    #[inline(always)]
+    fn note_if_clear(&mut self, entry: Entry) -> Result<bool, AllocError> {
+        self.log.note_if_clear(entry)
     }
 
     fn fence(&mut self, space: Fenced) {

@@ -1,5 +1,7 @@
 //! The log of a running group, called directly: which conflicts it tells, and which accesses last for other groups.
 
+ghost use Rattle.shadow_list.specs.Log.{IsPlaced};
+
 use crate::logs::STORES;
 use clmodel::access::{Operation, Region, Width};
 use group_log::GroupLog;
@@ -60,6 +62,20 @@ fn events_of<L: GroupAccesses>(alloc: Global, log: &L) -> Result<Vec<u32>, Alloc
     Ok(events)
 }
 
+/// Notes an access as a group does: `note` judges it where the log doesn't see at once that it conflicts with none. The
+/// answer is the byte of its conflict, if it has one.
+fn noted<L: AccessLog>(log: &mut L, entry: Entry) -> Result<Option<u64>, AllocError>
+    requires { IsPlaced entry }
+{
+    if log.note_if_clear(entry)? {
+        return Ok(None);
+    }
+    match log.note(entry)? {
+        Some(hit) => Ok(Some(hit.byte)),
+        None => Ok(None),
+    }
+}
+
 /// Shows which conflicts a running log tells, and which accesses it and its list keep for other groups.
 #[test]
 fn what_lasts_of_a_running_log(rt: HostRuntime) -> Result<(), Fail> {
@@ -70,10 +86,8 @@ fn what_lasts_of_a_running_log(rt: HostRuntime) -> Result<(), Fail> {
     let mut event = 0u32;
     for (item, region, first, operation, byte, lasts) in ROWS {
         event = event.wrapping_add(1);
-        let found = match log.note(Entry::of(item, region, first as u64, operation, event))? {
-            Some(hit) => Some(hit.byte),
-            None => None,
-        };
+        let entry = Entry::of(item, region, first as u64, operation, event);
+        let found = noted(&mut log, entry)?;
         assert_eq!(rt; found, byte, "{event}");
         assert_eq!(rt; log.has_last(), lasts, "{event}");
     }
@@ -94,10 +108,8 @@ fn what_lasts_of_a_list(rt: HostRuntime) -> Result<(), Fail> {
     let mut event = 0u32;
     for (item, region, first, operation, byte, _) in ROWS {
         event = event.wrapping_add(1);
-        let found = match log.note(Entry::of(item, region, first as u64, operation, event))? {
-            Some(hit) => Some(hit.byte),
-            None => None,
-        };
+        let entry = Entry::of(item, region, first as u64, operation, event);
+        let found = noted(&mut log, entry)?;
         assert_eq!(rt; found, byte, "{event}");
     }
     let list = AccessSummary::of(rt.alloc(), &log)?;
@@ -118,10 +130,7 @@ fn stores_of_the_same_byte_pass_in_a_uniform_launch(rt: HostRuntime) -> Result<(
         for _ in 0..2u32 {
             for (item, first, operation, with, without) in STORES {
                 let entry = Entry::of(item, BUFFER, first as u64, operation, 0);
-                let found = match log.note(entry)? {
-                    Some(hit) => Some(hit.byte),
-                    None => None,
-                };
+                let found = noted(&mut log, entry)?;
                 assert_eq!(rt; found, if uniform { with } else { without });
             }
             log = log.cleared(rt.alloc());

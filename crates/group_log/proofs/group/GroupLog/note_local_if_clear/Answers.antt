@@ -6,7 +6,7 @@ use Rattle.group_log.specs.Lasting.{all_of}
 use Rattle.group_log.specs.declared.group.GroupLog.{GroupLog}
 use Rattle.group_log.proofs.Shortened.{log_of}
 use Rattle.group_log.proofs.Telling.{stamped_local, none_hit, told, noted_last}
-use Rattle.group_log.proofs.group.GroupLog.note_clear_local.Goals as goal
+use Rattle.group_log.proofs.group.GroupLog.note_local_if_clear.Goals as goal
 
 pub returns-in_ok-take_local : goal.returns-in_ok-take_local
 returns-in_ok-take_local c =

@@ -1,6 +1,6 @@
 use Rattle.std.proofs.Common.{◌<◌, ◌∙◌, length, arith}
 use Rattle.shadow.proofs.Cells.{same_page, same_rows, filled_cell, filled_page, filled_kept, ok_then}
-use Rattle.shadow.proofs.pages.Pages.make.Goals as goal
+use Rattle.shadow.proofs.pages.Pages.make_page.Goals as goal
 
 pub returns-in_err-grow-clause-kept : goal.returns-in_err-grow-clause-kept
 returns-in_err-grow-clause-kept c other h = same_page c.args.self.now.pages.items c.grow.new.pages.items other (c.grow.ensures.same other) h

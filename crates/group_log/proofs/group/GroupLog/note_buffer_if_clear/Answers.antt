@@ -6,7 +6,7 @@ use Rattle.group_log.specs.Lasting.{all_of}
 use Rattle.group_log.specs.declared.group.GroupLog.{GroupLog}
 use Rattle.group_log.proofs.Shortened.{log_of}
 use Rattle.group_log.proofs.Telling.{stamped_global, none_hit, told, noted_last}
-use Rattle.group_log.proofs.group.GroupLog.note_clear_global.Goals as goal
+use Rattle.group_log.proofs.group.GroupLog.note_buffer_if_clear.Goals as goal
 
 pub returns-in_ok-take_global : goal.returns-in_ok-take_global
 returns-in_ok-take_global c =
