@@ -48,8 +48,8 @@ impl Footprint {
         }
     }
 
-    /// Whether an access of another group's item is seen to conflict with none of these. False: `meeting` tells whether
-    /// it does. It gives no conflict, for which room would be cleared for each access.
+    /// Whether an access of another group's item is seen to conflict with none of these, in a launch that is uniform or
+    /// not. False: `meeting` tells. No conflict is given, since room for one would be cleared for each access.
     #[inline(always)]
     pub fn is_clear(&self, uniform: bool, x: &Access) -> bool
         requires { x.now.first + byte_count x.now.width < 2 ^ 64 }

@@ -265,7 +265,7 @@ impl Pages {
         self.against(uniform, x, first, count)
     }
 
-    /// The words of a page that may lack some.
+    /// Gives a page the words that it lacks. An error is out of memory.
     #[inline(never)]
     fn make_page(&mut self, alloc: Global, page: usize) -> Result<(), AllocError>
         requires { page < 2 ^ 63 }
@@ -277,8 +277,8 @@ impl Pages {
         fill(&mut self.pages[page])
     }
 
-    /// The words of a page.
-    // A call would cost each access more than the look at the page that it comes to.
+    /// Gives a page its words, where it lacks some. An error is out of memory.
+    // A call would cost each access more than the test: nearly all pages have their words.
     #[inline(always)]
     fn make(&mut self, alloc: Global, page: usize) -> Result<(), AllocError>
         requires { page < 2 ^ 63 }

@@ -1,7 +1,9 @@
-use Rattle.std.proofs.Common.{◌≡◌, ℕ, ◌<◌, Some, length, sym, ◌∙◌, arith}
+use Rattle.std.proofs.Common.{◌≡◌, None, Some, sym, ◌∙◌, arith}
 use Rattle.std.specs.Prelude.{slice_get}
+use Rattle.shadow.specs.Seen.{met_at}
 use Rattle.snapshot_merge.proofs.Entries.{entry_at, miss_more}
 use Rattle.snapshot_merge.proofs.comparing.first_conflict.Goals as goal
+use Rattle.snapshot_merge.proofs.comparing.first_conflict.Goals.{then-not-is_clear+in_default, else-not-is_clear}
 
 pub loop-place-preserved : goal.loop-place-preserved
 loop-place-preserved g c = λ kept h others.
@@ -9,7 +11,13 @@ loop-place-preserved g c = λ kept h others.
     let i = c.loop-place.place in
     let x = c.get-entry.result in
     let at : slice_get entries i ≡ Some x = entry_at entries i x (omega (arith, c.loop-place-test.true, c.len-count.ensures)) c.get-entry.ensures.value in
-    miss_more c.args.uniform entries kept i x at (sym (c.meeting.ensures kept h (others i x at)) ∙ c.in_default.is) (c.loop-place.invariant kept h others)
+    let none : met_at c.args.uniform x.access.region x.access kept ≡ None =
+        elim c.if-not-is_clear.branch [
+            then-not-is_clear+in_default w ↦ sym (w.meeting.ensures kept h (others i x at)) ∙ w.in_default.is
+          | else-not-is_clear w ↦ c.is_clear.ensures w.if-not-is_clear.false kept h (others i x at)
+        ]
+    in
+    miss_more c.args.uniform entries kept i x at none (c.loop-place.invariant kept h others)
 
 pub returns-in-Some : goal.returns-in-Some
 returns-in-Some g c = λ kept h others.

@@ -1,4 +1,3 @@
-use denote.Param.Send.{IsSend}
 use denote.Param.SendFields.{declared_send}
 use Rattle.std.proofs.Crossing.{Box-send}
 use Rattle.group_log.specs.contracts.group.GroupLog as GroupLog

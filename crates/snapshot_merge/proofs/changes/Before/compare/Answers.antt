@@ -1,15 +1,18 @@
-use Rattle.std.proofs.Common.{◌≡◌, ℕ, ◌<◌, Some, List, length, map, sym, ◌∙◌, subst, arith}
+use Rattle.std.proofs.Common.{◌≡◌, ℕ, ◌<◌, None, Some, List, length, map, sym, ◌∙◌, subst, arith}
 use Rattle.std.specs.Prelude.{slice_get}
 use Rattle.std.proofs.lemmas.List.{take_all}
 use denote.Bor.{Bor}
 use Rattle.clmodel.specs.declared.access.Access.{Access}
 use Rattle.clmodel.specs.declared.access.Region.TheVariants as region
 use Rattle.joining.specs.Memory.{wrote}
+use Rattle.shadow.specs.Seen.{IsFootprint, met_at}
 use Rattle.spaces.specs.Overlay.{Overlaid}
 use Rattle.snapshot_merge.specs.Changes.{value_of, AreUpdates}
+use Rattle.snapshot_merge.specs.Meetings.{AreOthers}
 use Rattle.snapshot_merge.proofs.Entries.{entry_at, miss_more}
 use Rattle.snapshot_merge.proofs.Updates.{updates_more}
 use Rattle.snapshot_merge.proofs.changes.Before.compare.Goals as goal
+use Rattle.snapshot_merge.proofs.changes.Before.compare.Goals.{then-not-is_clear+in_default, else-not-is_clear}
 
 pub loop-place-preserved : goal.loop-place-preserved
 loop-place-preserved g c =
@@ -21,8 +24,15 @@ loop-place-preserved g c =
     let x = c.get-entry.result in
     let inside : i < length entries = omega (arith, c.loop-place-test.true, c.len-place-end.ensures) in
     let at : slice_get entries i ≡ Some x = entry_at entries i x inside c.get-entry.ensures.value in
+    let none : (kept : List Access) → IsFootprint c.args.self.now.footprint.now kept → AreOthers entries kept → met_at c.args.uniform x.access.region x.access kept ≡ None
+    = λ kept h others.
+        elim c.if-not-is_clear.branch [
+            then-not-is_clear+in_default w ↦ sym (w.meeting.ensures kept h (others i x at)) ∙ w.in_default.is
+          | else-not-is_clear w ↦ c.is_clear.ensures w.if-not-is_clear.false kept h (others i x at)
+        ]
+    in
     record {
-      miss = λ kept h others. miss_more c.args.uniform entries kept i x at (sym (c.meeting.ensures kept h (others i x at)) ∙ c.in_default.is) (c.loop-place.invariant.miss kept h others);
+      miss = λ kept h others. miss_more c.args.uniform entries kept i x at (none kept h others) (c.loop-place.invariant.miss kept h others);
       updates = λ kept h.
           updates_more (value kept) own entries i x c.loop-place.updates.items c.keep_update.new.updates.items c.kept_value-kept.result inside at c.in_ok-keep_update.ensures
           (c.kept_value-kept.ensures kept h) (c.loop-place.invariant.updates kept h);
