@@ -12,10 +12,10 @@ loop-place-preserved g c = λ kept h others.
     let x = c.get-entry.result in
     let at : slice_get entries i ≡ Some x = entry_at entries i x (omega (arith, c.loop-place-test.true, c.len-count.ensures)) c.get-entry.ensures.value in
     let none : met_at c.args.uniform x.access.region x.access kept ≡ None =
-        elim c.if-not-is_clear.branch [
-            then-not-is_clear+in_default w ↦ sym (w.meeting.ensures kept h (others i x at)) ∙ w.in_default.is
-          | else-not-is_clear w ↦ c.is_clear.ensures w.if-not-is_clear.false kept h (others i x at)
-        ]
+    elim c.if-not-is_clear.branch [
+      | then-not-is_clear+in_default w ↦ sym (w.meeting.ensures kept h (others i x at)) ∙ w.in_default.is
+      | else-not-is_clear w ↦ c.is_clear.ensures w.if-not-is_clear.false kept h (others i x at)
+    ]
     in
     miss_more c.args.uniform entries kept i x at none (c.loop-place.invariant kept h others)
 

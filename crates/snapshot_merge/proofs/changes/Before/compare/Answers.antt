@@ -26,10 +26,10 @@ loop-place-preserved g c =
     let at : slice_get entries i ≡ Some x = entry_at entries i x inside c.get-entry.ensures.value in
     let none : (kept : List Access) → IsFootprint c.args.self.now.footprint.now kept → AreOthers entries kept → met_at c.args.uniform x.access.region x.access kept ≡ None
     = λ kept h others.
-        elim c.if-not-is_clear.branch [
-            then-not-is_clear+in_default w ↦ sym (w.meeting.ensures kept h (others i x at)) ∙ w.in_default.is
-          | else-not-is_clear w ↦ c.is_clear.ensures w.if-not-is_clear.false kept h (others i x at)
-        ]
+    elim c.if-not-is_clear.branch [
+      | then-not-is_clear+in_default w ↦ sym (w.meeting.ensures kept h (others i x at)) ∙ w.in_default.is
+      | else-not-is_clear w ↦ c.is_clear.ensures w.if-not-is_clear.false kept h (others i x at)
+    ]
     in
     record {
       miss = λ kept h others. miss_more c.args.uniform entries kept i x at (none kept h others) (c.loop-place.invariant.miss kept h others);
