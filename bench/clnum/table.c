@@ -1,7 +1,7 @@
 // Writes the table that rows/numbers.py compares with: a line for each case, as
 //     OPERATOR TYPE NUMBER [TYPE NUMBER] : TYPE NUMBER
-// or with `zero` or `overflow` after the `:` for a division that has no result. Types are c, s, i and l for char, short,
-// int and long, in capitals for the unsigned ones. gcc computes each case by its own promotions, conversions and
+// or with `zero` or `overflow` after the `:` for a division that has no result. Types are c, s, i and l for char,
+// short, int and long, in capitals for the unsigned ones. gcc computes each case by its own promotions, conversions and
 // operators; only what C leaves undefined is written out here: divisions that fault, and shift counts modulo the width.
 //
 //     gcc -O1 -fwrapv -w -o table table.c && ./table
@@ -80,7 +80,8 @@ static uint64_t pick(int width) {
         BEGIN(name, a, b); \
         if (y == 0) \
             printf("zero"); \
-        else if ((__typeof__(x))-1 < 0 && y == (__typeof__(x))-1 && x == (__typeof__(x))((uint64_t)1 << (sizeof x * 8 - 1))) \
+        else if ((__typeof__(x))-1 < 0 && y == (__typeof__(x))-1 && \
+                 x == (__typeof__(x))((uint64_t)1 << (sizeof x * 8 - 1))) \
             printf("overflow"); \
         else \
             NUMBER((a) op (b)); \
@@ -158,7 +159,8 @@ static int clz(uint64_t bits, int width) {
             ONE("popcount", a, (T)__builtin_popcountll(bits)); \
             CASE("min", a, b, (T)(b < a ? b : a)); \
             CASE("max", a, b, (T)(a < b ? b : a)); \
-            CASE("rotate", a, b, (T)(count == 0 ? bits : (__typeof__(bits))(bits << count | bits >> (width - count)))); \
+            CASE("rotate", a, b, \
+                 (T)(count == 0 ? bits : (__typeof__(bits))(bits << count | bits >> (width - count)))); \
         } \
     }
 EACH_TYPE(SINGLE)

@@ -1,6 +1,6 @@
 #!/usr/bin/env python3
-"""Prints a script of 4 MiB of hexadecimal digits, the same each time: four writes of 512 KiB into a buffer of 1 MiB, and two reads that write 4 MiB of
-digits back."""
+"""Prints a script of 4 MiB of hexadecimal digits, the same each time: four writes of 512 KiB into a buffer of 1 MiB,
+and two reads that write 4 MiB of digits back."""
 import random
 
 HALF = 524288

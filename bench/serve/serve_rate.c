@@ -135,7 +135,8 @@ static void make_ways(const options *o, device *d, int *in, int *out) {
 }
 
 static void start(const options *o, device *d) {
-    char *words[] = {(char *)(o->empty ? "/proc/self/exe" : o->program), (char *)(o->empty ? "--answer" : "serve"), NULL};
+  char *words[] = {(char *)(o->empty ? "/proc/self/exe" : o->program),
+                   (char *)(o->empty ? "--answer" : "serve"), NULL};
     posix_spawn_file_actions_t actions;
     int in, out;
     make_ways(o, d, &in, &out);
@@ -302,7 +303,8 @@ int main(int count, char **words) {
     if (o.together && sched_setaffinity(0, sizeof one, &one)) fail("sched_setaffinity");
     start(&o, &d);
     prepare(&d);
-    printf("%-18s %8s %8s %8s %8s %8s %8s   microseconds\n", "", "least", "median", "sent", "first", "device", "client");
+  printf("%-18s %8s %8s %8s %8s %8s %8s   microseconds\n",
+         "", "least", "median", "sent", "first", "device", "client");
     measure_small(&d, "write of 4 bytes", 100 * o.times, "write b 0 01020304\n", "ok");
     measure_small(&d, "read of 4 bytes", 100 * o.times, "read b 0 4\n", "data 01020304");
     measure_small(&d, "argument", 100 * o.times, "arg k 1 value 7\n", "ok");

@@ -1,5 +1,5 @@
-// Where Linux puts threads that are started a moment ago: how long a round of four threads of some milliseconds each takes where one thread
-// starts all others ("flat"), and where a started thread starts one itself ("nested").
+// Where Linux puts threads that are started a moment ago: how long a round of four threads of some milliseconds each
+// takes where one thread starts all others ("flat"), and where a started thread starts one itself ("nested").
 //
 // usage: cc -O2 -pthread placement.c -o placement && ./placement
 #include <pthread.h>
@@ -57,7 +57,8 @@ static void measure(const char *name, void (*round)(void), double alone) {
     // two threads that share a processor for the whole round take twice the time
     shared += took > 1.6 * alone;
   }
-  printf("%-6s %5.1f ms a round, where one thread alone takes %.1f; above 1.6 times that in %d of %d rounds\n", name, total / ROUNDS, alone, shared, ROUNDS);
+  printf("%-6s %5.1f ms a round, where one thread alone takes %.1f; above 1.6 times that in %d of %d rounds\n",
+         name, total / ROUNDS, alone, shared, ROUNDS);
 }
 
 int main(void) {
