@@ -1,7 +1,8 @@
 #!/bin/sh
-# Runs each script that is named with $CLSIM, or with the clsim on the path, and shows the faults and refusals, each with its explanation.
-# Where $SARIF names a file, the explanations are written there as SARIF 2.1.0, which takes Python 3. Status 0 if there are none, else 1,
-# and 2 where there is no such program, no script is named, or the file can't be written.
+# Runs each script that is named with $CLSIM, or with the clsim on the path, and shows the faults and refusals, each
+# with its explanation. Where $SARIF names a file, the explanations are written there as SARIF 2.1.0, which takes
+# Python 3. Status 0 if there are none, else 1, and 2 where there is no such program, no script is named,
+# or the file can't be written.
 CLSIM=${CLSIM:-clsim}
 if ! command -v "$CLSIM" >/dev/null; then
     echo "ci.sh: no program: $CLSIM" >&2

@@ -3,10 +3,11 @@
 
     python3 examples/gallery/check.py [--write PROGRAM]
 
-Each script NAME.txt here has its session NAME.expected, which tools/docs runs. Here Clsim isn't run: from the bytes that a script writes into its
-buffers, a function of this file works out by the usual means of Python (sorted, hashlib, sum..) what its `read` lines have to show. A script with a
-fault stands in FAULTS, with what each launch has to show; its data are the bytes before the launch. `--write` writes the sessions anew, and takes
-from PROGRAM nothing but the lines of faults. The last line is `N passed, M failed`; the status is 0 where M is 0, else 1.
+Each script NAME.txt here has its session NAME.expected, which tools/docs runs. Here Clsim isn't run: from the bytes
+that a script writes into its buffers, a function of this file works out by the usual means of Python (sorted, hashlib,
+sum..) what its `read` lines have to show. A script with a fault stands in FAULTS, with what each launch has to show;
+its data are the bytes before the launch. `--write` writes the sessions anew, and takes from PROGRAM nothing but the
+lines of faults. The last line is `N passed, M failed`; the status is 0 where M is 0, else 1.
 """
 import functools
 import glob
@@ -20,7 +21,8 @@ import sys
 
 HERE = os.path.dirname(os.path.realpath(__file__))
 
-# What each launch of a script with a fault shows: `clean`, or the number and name of the fault, and words that its line has.
+# What each launch of a script with a fault shows: `clean`, or the number and name of the fault,
+# and words that its line has.
 FAULTS = {
     "binary_search_of_nothing": ["5 unset item 12 variable found"],
     "bitonic_sort_in_two_groups": ["1 race item buffer a"],
@@ -174,7 +176,8 @@ def floyd_warshall(script):
 
 def queens(_):
     placed = itertools.permutations(range(8))
-    return {"count": packed([sum(len({c + r for r, c in enumerate(it)}) == len({c - r for r, c in enumerate(it)}) == 8 for it in placed)])}
+    right = sum(len({c + r for r, c in enumerate(it)}) == len({c - r for r, c in enumerate(it)}) == 8 for it in placed)
+    return {"count": packed([right])}
 
 
 def sha256(script):
@@ -301,7 +304,8 @@ def means(script):
     near = [[] for _ in centres]
     for point in script.ints("points"):
         near[min(range(4), key=lambda it: abs(point - centres[it]))].append(point)
-    return {"centres": packed(sum(points) // len(points) if points else centre for points, centre in zip(near, centres))}
+    moved = (sum(points) // len(points) if points else centre for points, centre in zip(near, centres))
+    return {"centres": packed(moved)}
 
 
 def quotients(script):
@@ -313,7 +317,8 @@ def quotients(script):
 
 
 def session_of(name, script, written):
-    """The session of a script: the lines that Python works out, and those of faults as they are in the lines of `written`."""
+    """The session of a script: the lines that Python works out,
+    and those of faults as they are in the lines of `written`."""
     wanted = FAULTS.get(name, ["clean"] * script.launches())
     buffers = script.buffers if name in FAULTS else globals()[name](script)
     shown = iter(line for line in written if line == "clean" or line.startswith("fault "))
@@ -331,9 +336,10 @@ def session_of(name, script, written):
 
 
 def is_shown(expected, line):
-    """Whether a line of a fault begins with the number and name that are expected, and has the other words in their order."""
-    words = iter(line.split())
-    return line.startswith("fault " + " ".join(expected.split()[:2]) + " ") and all(word in words for word in expected.split())
+    """Whether a line of a fault begins with the number and name that are expected,
+    and has the other words in their order."""
+    words, wanted = iter(line.split()), expected.split()
+    return line.startswith("fault " + " ".join(wanted[:2]) + " ") and all(word in words for word in wanted)
 
 
 def lines_of(path):
