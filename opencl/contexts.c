@@ -94,9 +94,8 @@ CL_API_ENTRY cl_command_queue CL_API_CALL clCreateCommandQueue(cl_context c, cl_
     if (properties & ~(cl_command_queue_properties)(CL_QUEUE_OUT_OF_ORDER_EXEC_MODE_ENABLE | CL_QUEUE_PROFILING_ENABLE))
         return fail(errcode, CL_INVALID_VALUE);
     if ((properties & CL_QUEUE_OUT_OF_ORDER_EXEC_MODE_ENABLE) && !setting("CLSIM_OUT_OF_ORDER")) {
-        refuse(
-            c,
-            "an out-of-order queue is refused; with CLSIM_OUT_OF_ORDER=1 its commands are done in the order of the calls");
+        refuse(c, "an out-of-order queue is refused; "
+                  "with CLSIM_OUT_OF_ORDER=1 its commands are done in the order of the calls");
         return fail(errcode, CL_INVALID_QUEUE_PROPERTIES);
     }
     cl_command_queue q = make_object(sizeof *q, QUEUE);

@@ -182,8 +182,8 @@ cl_ulong now(void); // nanoseconds
 // What a wait list comes to: every command is done when its call returns, so it holds what is done, or a user event
 // that isn't.
 cl_int waits(cl_context c, cl_uint n, const cl_event *list);
-// The event of a command that begins, NULL where memory is refused. It is made before the command is done, which is left
-// undone then.
+// The event of a command that begins, NULL where memory is refused. It is made before the command is done,
+// which is left undone then.
 cl_event begun_event(cl_command_queue q, cl_ulong start);
 // Lets an event go that wasn't handed out.
 void drop_made(cl_event *made);

@@ -1,4 +1,5 @@
-"""Counts letters by pyopencl, on the first OpenCL device: with the argument `wrong` by a step that is no atomic function."""
+"""Counts letters by pyopencl, on the first OpenCL device: with the argument `wrong` by a step that is no atomic
+function."""
 import sys
 
 import numpy as np

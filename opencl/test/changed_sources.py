@@ -1,10 +1,12 @@
-"""Sources of clients with changes by chance, most of them no programs any more: words that are left out, doubled, repeated many times, moved, or others."""
+"""Sources of clients with changes by chance, most of them no programs any more: words that are left out, doubled,
+repeated many times, moved, or others."""
 import random
 import re
 
 WORDS = re.compile(r"\w+|\s+|[^\w\s]")
-OTHERS = ["0", "4294967296", "18446744073709551615", "-1", "(", "{", "}", "[", ";", ",", "\\\n", '"', "'", "'a'", "/*", "//", "#", "unsigned", "const", "__constant",
-          "*", "&", "?", ":", "sizeof", "switch", "case", "enum", "typedef", "\x80", "0x", "1e9"]
+OTHERS = ["0", "4294967296", "18446744073709551615", "-1", "(", "{", "}", "[", ";", ",", "\\\n", '"', "'", "'a'",
+          "/*", "//", "#", "unsigned", "const", "__constant", "*", "&", "?", ":", "sizeof", "switch", "case", "enum",
+          "typedef", "\x80", "0x", "1e9"]
 
 
 def change(numbers, words, all_words):

@@ -1,6 +1,8 @@
-"""Random kernels with what is rewritten by the tree: calls, assignments, steps and commas in expressions, arrays of two dimensions, tables, switch.
+"""Random kernels with what is rewritten by the tree: calls, assignments, steps and commas in expressions, arrays of two
+dimensions, tables, switch.
 
-No expression changes a variable twice, or changes one that it also reads, and nothing overflows as an int: so every compiler has to come to the same.
+No expression changes a variable twice, or changes one that it also reads, and nothing overflows as an int: so every
+compiler has to come to the same.
 """
 import random
 
@@ -29,7 +31,9 @@ class Kernel:
         if depth == 0 or r.random() < 0.15:
             return r.choice(read + [str(r.randint(0, 9)), f"{r.randint(0, 300)}u", "0x1fl", "'a'"])
         a, b = self.parts(changed, 2)
-        one, two, whole = (lambda: self.expression(depth - 1, a, read)), (lambda: self.expression(depth - 1, b, read)), (lambda: self.expression(depth - 1, changed, read))
+        one, two, whole = (lambda: self.expression(depth - 1, a, read),
+                           lambda: self.expression(depth - 1, b, read),
+                           lambda: self.expression(depth - 1, changed, read))
         forms = [
             lambda: f"((uint){one()} {r.choice('+*-^|&')} (uint){two()})",
             lambda: f"((uint){one()} {r.choice('+*-^|&')} (uint){two()})",
@@ -56,7 +60,8 @@ class Kernel:
         inner = self.expression(depth - 1, changed[1:], read)
         if name == "u":
             return f"(u[{inner} & 3] {r.choice(['=', '+=', '^='])} {r.randint(0, 9)})"
-        return r.choice([f"{name}++", f"--{name}", f"({name} = {inner})", f"({name} {r.choice(['^=', '|=', '&='])} {inner})"])
+        return r.choice([f"{name}++", f"--{name}", f"({name} = {inner})",
+                         f"({name} {r.choice(['^=', '|=', '&='])} {inner})"])
 
     def whole(self, depth):
         """A full expression."""
@@ -81,19 +86,26 @@ class Kernel:
             lambda: f"if ({test}) {body()}",
             lambda: f"if ({test}) {body()} else {body()}",
             lambda: f"{{ {body()} {body()} }}",
-            lambda: f"for (int {i} = 0, j{i} = 3; {i} < {r.randint(1, 3)} && ({test}, 1); {i}++, j{i}--) {{ {body()} if (j{i} == 2) continue; v0 += j{i}; {body()} }}",
-            lambda: f"{{ int {i} = 2; while ({i}-- && ({test}, 1)) {{ {body()} if ({self.whole(2)}) continue; {body()} }} }}",
+            lambda: f"for (int {i} = 0, j{i} = 3; {i} < {r.randint(1, 3)} && ({test}, 1); {i}++, j{i}--) "
+                    f"{{ {body()} if (j{i} == 2) continue; v0 += j{i}; {body()} }}",
+            lambda: f"{{ int {i} = 2; while ({i}-- && ({test}, 1)) "
+                    f"{{ {body()} if ({self.whole(2)}) continue; {body()} }} }}",
             lambda: f"{{ int {i} = 2; do {{ {body()} if (low({i}) == 9) break; }} while (--{i} > 0 && ({test}, 1)); }}",
-            lambda: f"switch ({test} & 3) {{ case 0: {body()} break; case 1: case 2: {{ {body()} break; }} default: {body()} }}",
+            lambda: f"switch ({test} & 3) "
+                    f"{{ case 0: {body()} break; case 1: case 2: {{ {body()} break; }} default: {body()} }}",
         ])()
 
     def source(self):
         declared = " ".join(f"{self.types[name]} {name} = {self.r.randint(0, 99)} + g;" for name in VARIABLES)
         body = "\n".join(self.statement(3) for _ in range(self.r.randint(2, 4)))
-        result = " ^ ".join([f"(int){name} * {2 * n + 1}" for n, name in enumerate(VARIABLES)] + [f"u[{n}] * {2 * n + 1}" for n in range(4)])
+        terms = [f"(int){name} * {2 * n + 1}" for n, name in enumerate(VARIABLES)]
+        terms += [f"u[{n}] * {2 * n + 1}" for n in range(4)]
+        result = " ^ ".join(terms)
         return (
             "__constant short TABLE[4] = {1, -2, 300, 4};\n"
             "int add(int x, int y) { return (uint)x + (uint)y * 3u; }\n"
             "uchar low(uint x) { if (x & 1) return x; return x >> 1; }\n"
-            f"__kernel void f(__global int *a) {{\nint g = get_global_id(0); int t[2][3] = {{{{1, 2, 3}}, {{g, 5}}}}; uint u[4] = {{g}}; {declared}\n{body}\na[g] = {result}; }}\n"
+            "__kernel void f(__global int *a) {\n"
+            f"int g = get_global_id(0); int t[2][3] = {{{{1, 2, 3}}, {{g, 5}}}}; uint u[4] = {{g}}; {declared}\n"
+            f"{body}\na[g] = {result}; }}\n"
         )
