@@ -1,6 +1,8 @@
-"""The scripts of worked.txt cut at each byte, read here by the grammar of docs/use/script.md. `rows` gives the rows to tools/rows.
+"""The scripts of worked.txt cut at each byte, read here by the grammar of docs/use/script.md.
+`rows` gives the rows to tools/rows.
 
-A cut that is a script has the first replies of the whole one, one for each of its commands; any other has the number of its lowest bad line."""
+A cut that is a script has the first replies of the whole one, one for each of its commands;
+any other has the number of its lowest bad line."""
 
 import os
 import re
@@ -17,8 +19,8 @@ WORDS = {
     "v": lambda word: WORDS["n"](word) or re.fullmatch("-[1-9][0-9]*", word) and int(word) >= -2**63,
     "l": lambda word: all(WORDS["n"](number) for number in word.split(",")),
 }
-FORMS = {"buffer": ["an"], "write": ["anh"], "fill": ["annh"], "copy": ["anann"], "release": ["a"], "program": ["an"], "kernel": ["aaa"],
-         "launch": ["all", "alll"], "read": ["ann"]}
+FORMS = {"buffer": ["an"], "write": ["anh"], "fill": ["annh"], "copy": ["anann"], "release": ["a"],
+         "program": ["an"], "kernel": ["aaa"], "launch": ["all", "alll"], "read": ["ann"]}
 ARGUMENTS = {"buffer": "a", "value": "v", "local": "n"}
 
 
@@ -31,7 +33,8 @@ def is_command(line, version):
     """Whether a line without its line feed is a command's."""
     name, *words = line.split(" ")
     if name == "arg":
-        return len(words) == 4 and is_form(words[:2], "an") and words[2] in ARGUMENTS and is_form(words[3:], ARGUMENTS[words[2]])
+        return (len(words) == 4 and is_form(words[:2], "an")
+                and words[2] in ARGUMENTS and is_form(words[3:], ARGUMENTS[words[2]]))
     if name == "launch" and version == 2 and words and words[-1] == "uniform":
         words.pop()
     return any(is_form(words, letters) for letters in FORMS.get(name, []))
@@ -70,7 +73,8 @@ def rows():
         replies = row.output.splitlines(keepends=True)
         for cut in range(len(row.text)):
             # one worker is asked for, so that the row isn't tried with other numbers of them
-            words = dict(title=f"{row.title}, cut at byte {cut}", text=row.text[:cut], command=row.command + " --workers 1")
+            words = dict(title=f"{row.title}, cut at byte {cut}", text=row.text[:cut],
+                         command=row.command + " --workers 1")
             commands, bad = read(row.text[:cut])
             if bad is not None:
                 yield dict(words, output=b"", error=b"clsim: line %d: bad line\n" % bad, status=2)

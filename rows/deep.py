@@ -1,5 +1,5 @@
-"""Sources at the limits, run, checked and dumped with a stack of 1 MiB: 20,000 nodes as chains of helpers, as many helpers and as
-blocks in each helper; everything that nests, 64 deep. `rows` gives the rows to tools/rows."""
+"""Sources at the limits, run, checked and dumped with a stack of 1 MiB: 20,000 nodes as chains of helpers, as many
+helpers and as blocks in each helper; everything that nests, 64 deep. `rows` gives the rows to tools/rows."""
 
 import os
 import runpy
@@ -51,14 +51,16 @@ def stored(name):
 
 
 def tried(title, source, data="07000000", code=None):
-    """A source that builds: it is checked, run on one item, and dumped; without `code` the text of its code isn't compared. Where it
-    stores nothing but the 7, it is also run by 64 groups on 16 workers, whose stores are all the same."""
+    """A source that builds: it is checked, run on one item, and dumped; without `code` the text of its code isn't
+    compared. Where it stores nothing but the 7, it is also run by 64 groups on 16 workers,
+    whose stores are all the same."""
     script = f"buffer a 4\nprogram p 1\n{source}\nkernel k p f\narg k 0 buffer a\nlaunch k 1 1\nread a 0 4\n"
     yield dict(title=f"{title}: check", text=source, output="ok\n", command=f"{STACK}clsim check FILE")
     yield dict(title=f"{title}: run", text=script, output=replies(data), command=f"{STACK}clsim run FILE")
     if data == "07000000":
         groups = "clsim 2\n" + script.replace("launch k 1 1", "launch k 64 1 uniform")
-        yield dict(title=f"{title}: 64 groups on 16 workers", text=groups, output=replies(data), command=f"{STACK}clsim run --workers 16 FILE")
+        yield dict(title=f"{title}: 64 groups on 16 workers", text=groups, output=replies(data),
+                   command=f"{STACK}clsim run --workers 16 FILE")
     if code is None:
         yield dict(title=f"{title}: dump", text=source, output="", command=f"{STACK}clsim dump FILE f > /dev/null")
     else:
@@ -70,13 +72,13 @@ def too_large(title, source):
     fault = f"type 11 TooLarge at {source.index('kernel void f(') + len('kernel void ')}\n"
     yield dict(title=f"{title}: check", text=source, output=fault, status=2, command=f"{STACK}clsim check FILE")
     yield dict(title=f"{title}: dump", text=source, output=fault, status=2, command=f"{STACK}clsim dump FILE f")
-    yield dict(title=f"{title}: run", text=f"program p 1\n{source}\n", output=f"refused 10 BuildFailed {fault}", status=2,
-               command=f"{STACK}clsim run FILE")
+    yield dict(title=f"{title}: run", text=f"program p 1\n{source}\n", output=f"refused 10 BuildFailed {fault}",
+               status=2, command=f"{STACK}clsim run FILE")
 
 
 def chain(length, first, further):
-    """Helpers of which each calls the one before: their text and the name of the last. `first` and `further` are patterns of a
-    helper's text, NAME its own name and LAST that of the one before."""
+    """Helpers of which each calls the one before: their text and the name of the last. `first` and `further` are
+    patterns of a helper's text, NAME its own name and LAST that of the one before."""
     text, last = "", None
     for name in islice(names(), length):
         text += (further if last else first).replace("NAME", name).replace("LAST", last or "")
@@ -91,11 +93,13 @@ def chains():
     yield from tried("a chain of 2,650 helpers, 20,000 nodes", filled(text, last + "();", 2650), code=stored(2651))
     yield from too_large("a chain of 2,650 helpers, 20,001 nodes", filled(text, last + "();", 2650, MOST_NODES + 1))
     text, last = chain(3600, "void NAME(){}", "void NAME(){LAST();}")
-    yield from tried("a chain of 3,600 helpers, which is about as many as a source holds", text + kernel(last + "();"), code=stored(3601))
+    yield from tried("a chain of 3,600 helpers, which is about as many as a source holds",
+                     text + kernel(last + "();"), code=stored(3601))
     # a call and six empty statements a helper
     text, last = chain(2650, "void NAME(){}", "void NAME(){LAST();;;;;;;}")
     body, nodes = last + "();", 1 + 2649 * 7
-    yield from tried("a chain of 2,650 helpers with six empty statements each, 20,000 nodes", filled(text, body, nodes), code=stored(2651))
+    yield from tried("a chain of 2,650 helpers with six empty statements each, 20,000 nodes",
+                     filled(text, body, nodes), code=stored(2651))
     yield from too_large("a chain of 2,650 helpers with six empty statements each, 20,001 nodes",
                          filled(text, body, nodes, MOST_NODES + 1))
     text, last = chain(2000, "int NAME(){return 7;}", "int NAME(){int x=LAST();return x;}")
@@ -112,7 +116,8 @@ def short_helpers():
     yield from too_large("2,650 short helpers, 20,001 nodes", filled(text, body, 2650 * 3, MOST_NODES + 1))
     # each calls the one before twice: 2, 6, 14, .. 16,382 nodes
     text, last = chain(14, "void NAME(){}", "void NAME(){LAST();LAST();}")
-    yield from tried("helpers that call the one before twice, 20,000 nodes", filled(text, last + "();", 2 ** 14 - 1), code=stored(15))
+    yield from tried("helpers that call the one before twice, 20,000 nodes",
+                     filled(text, last + "();", 2 ** 14 - 1), code=stored(15))
     yield from too_large("helpers that call the one before twice, 20,001 nodes",
                          filled(text, last + "();", 2 ** 14 - 1, MOST_NODES + 1))
 
@@ -120,7 +125,8 @@ def short_helpers():
 def nested_blocks():
     # the body, 62 blocks and the call's bracket are nested 64 deep: 63 nodes a helper
     text, last = chain(317, "void NAME(){}", "void NAME(){" + "{" * 62 + "LAST();" + "}" * 62 + "}")
-    yield from tried("62 blocks in each of 317 helpers, 20,000 nodes", filled(text, last + "();", 1 + 316 * 63), code=stored(318))
+    yield from tried("62 blocks in each of 317 helpers, 20,000 nodes",
+                     filled(text, last + "();", 1 + 316 * 63), code=stored(318))
     yield from too_large("62 blocks in each of 317 helpers, 20,001 nodes",
                          filled(text, last + "();", 1 + 316 * 63, MOST_NODES + 1))
     # with `if (1)` a controlled statement each: three nodes, the number among them

@@ -1,8 +1,10 @@
-"""Launches of two to four work-groups whose items do what chance says, with the reply that the canonical run on one memory comes to.
+"""Launches of two to four work-groups whose items do what chance says,
+with the reply that the canonical run on one memory comes to.
 
-The run is worked out here, from docs/promises/definitions.md alone: the groups in their order, in a group the lowest item that isn't at the stop of the first,
-each access done on one memory and compared with all accesses before it. `rows` gives the rows of the first 300 seeds to tools/rows, or of as many as
-the environment's SEEDS says, and half as many of uniform launches."""
+The run is worked out here, from docs/promises/definitions.md alone: the groups in their order, in a group the lowest
+item that isn't at the stop of the first, each access done on one memory and compared with all accesses before it.
+`rows` gives the rows of the first 300 seeds to tools/rows, or of as many as the environment's SEEDS says,
+and half as many of uniform launches."""
 import os
 import random
 
@@ -33,7 +35,8 @@ def signed(number):
 
 
 def clash(first, second, same=False):
-    """How two kinds of access conflict: not at all, as `order` or as `race`. `same` are stores that leave the same byte, in a uniform launch."""
+    """How two kinds of access conflict: not at all, as `order` or as `race`. `same` are stores that leave the same
+    byte, in a uniform launch."""
     if same and first == second == "store":
         return ""
     if first in CLASSES and second in CLASSES:
@@ -43,9 +46,10 @@ def clash(first, second, same=False):
     return "" if first == second == "load" else "race"
 
 
-# ---- what items do: lists of actions, each ("load", pointer, element), ("store", pointer, element, value), (CLASS, "", element, operand),
-# ("fetch", "", element, operation, operands..), the same with the pointer "t" to local memory, ("barrier", site, fences) or ("divide",).
-# What is loaded or fetched goes into a variable, whose low byte is what a store without a value leaves
+# ---- what items do: lists of actions, each ("load", pointer, element), ("store", pointer, element, value),
+# (CLASS, "", element, operand), ("fetch", "", element, operation, operands..), the same with the pointer "t" to local
+# memory, ("barrier", site, fences) or ("divide",). What is loaded or fetched goes into a variable, whose low byte is
+# what a store without a value leaves
 
 
 def width_of(pointer):
@@ -64,8 +68,8 @@ def fetch(rng, pointer, element):
 
 
 def some_access(rng, item, classes):
-    """An access that is likely to conflict with none: an update of the word's own class, a fetch of a word that only the item has, or a load or
-    a store of the item's own byte."""
+    """An access that is likely to conflict with none: an update of the word's own class, a fetch of a word that only
+    the item has, or a load or a store of the item's own byte."""
     if item < 2 and rng.random() < 0.4:
         return fetch(rng, "", 5 + item)
     if rng.random() < 0.5:
@@ -87,17 +91,21 @@ def any_access(rng):
 
 
 def uniform_access(rng, numbers):
-    """A store that is likely to leave what others leave there: one byte of a few, in as many bytes as the pointer has."""
+    """A store that is likely to leave what others leave there: one byte of a few,
+    in as many bytes as the pointer has."""
     pointer = rng.choice(list(POINTERS))
     width = width_of(pointer)
     element = rng.randrange(SIZE // width)
-    return ("store", pointer, element, int.from_bytes(bytes(numbers[byte] for byte in range(element * width, element * width + width)), "little"))
+    start = element * width
+    stored = bytes(numbers[byte] for byte in range(start, start + width))
+    return ("store", pointer, element, int.from_bytes(stored, "little"))
 
 
 def uniform_actions_of(rng, items, size):
     """The same of a uniform launch: most stores are of the bytes that all leave there, and the parts beside are few."""
     numbers = [rng.choice([0, 0, 1, 255]) for _ in range(SIZE)]
-    parts = [[[uniform_access(rng, numbers) for _ in range(rng.randrange(3))] for item in range(items)] for _ in range(rng.randrange(1, 3))]
+    parts = [[[uniform_access(rng, numbers) for _ in range(rng.randrange(3))] for item in range(items)]
+             for _ in range(rng.randrange(1, 3))]
     for _ in range(rng.choice([0, 0, 1, 1, 2])):
         does = rng.choice(rng.choice(parts))
         others = [rng.choice([number, number, number ^ 1]) for number in numbers]
@@ -119,12 +127,15 @@ def local_access(rng, size):
 
 
 def actions_of(rng, items, size):
-    """For each part of the kernel between two barriers, what each item does in it; most launches have one access or none that isn't harmless."""
+    """For each part of the kernel between two barriers, what each item does in it;
+    most launches have one access or none that isn't harmless."""
     classes = [rng.choice(list(CLASSES)), rng.choice(list(CLASSES))]
-    parts = [[[some_access(rng, item, classes) for _ in range(rng.randrange(3))] for item in range(items)] for _ in range(rng.randrange(1, 4))]
+    parts = [[[some_access(rng, item, classes) for _ in range(rng.randrange(3))] for item in range(items)]
+             for _ in range(rng.randrange(1, 4))]
     for _ in range(rng.choice([0, 1, 1, 2, 6])):
         does = rng.choice(rng.choice(parts))
-        what = any_access(rng) if rng.random() < 0.75 else rng.choice([local_access(rng, size), ("divide",), ("barrier", 0, "local")])
+        what = (any_access(rng) if rng.random() < 0.75
+                else rng.choice([local_access(rng, size), ("divide",), ("barrier", 0, "local")]))
         does.insert(rng.randrange(len(does) + 1), what)
     for part in parts:
         for item, does in enumerate(part):
@@ -163,7 +174,9 @@ def statement(action, sites):
     if kind in CLASSES:
         name, typed, _ = CLASSES[kind]
         return f"{name}(&{typed}[{element}], {value[0]});"
-    return f"x = {pointer}[{element}];" if kind == "load" else f"{pointer}[{element}] = {literal(value[0]) if value else 'x'};"
+    if kind == "load":
+        return f"x = {pointer}[{element}];"
+    return f"{pointer}[{element}] = {literal(value[0]) if value else 'x'};"
 
 
 def source_of(parts):
@@ -202,8 +215,10 @@ class Run:
         first = group * self.size
         at, interval, local = [0] * self.size, {"buffer": 0, "local": 0}, [None] * (4 * self.size)
         while True:
-            nexts = [self.items[first + k][at[k]] if at[k] < len(self.items[first + k]) else ("end",) for k in range(self.size)]
-            going = [k for k in range(self.size) if nexts[k][0] not in ("end", "barrier") or nexts[k][:2] != nexts[0][:2]]
+            nexts = [self.items[first + k][at[k]] if at[k] < len(self.items[first + k]) else ("end",)
+                     for k in range(self.size)]
+            going = [k for k in range(self.size)
+                     if nexts[k][0] not in ("end", "barrier") or nexts[k][:2] != nexts[0][:2]]
             if not going:
                 if nexts[0][0] == "end":
                     return None
@@ -292,11 +307,13 @@ def row(seed, uniform):
     run = Run(data, items, size, uniform)
     fault = next((fault for fault in map(run.group, range(groups)) if fault), None)
     pointers = "".join(f"arg k {index} buffer m\n" for index in range(5))
-    text = f"buffer m {SIZE}\nwrite m 0 {data.hex()}\nprogram p 1\n{source}\nkernel k p f\n{pointers}arg k 5 local {4 * size}\n"
+    text = f"buffer m {SIZE}\nwrite m 0 {data.hex()}\nprogram p 1\n{source}\nkernel k p f\n{pointers}"
+    text += f"arg k 5 local {4 * size}\n"
     text += f"launch k {size * groups} {size}{' uniform' if uniform else ''}\nread m 0 {SIZE}\n"
-    reply = f"fault {fault} schedule {run.schedule()}\ndata {data.hex()}\n" if fault else f"clean\ndata {run.buffer.hex()}\n"
-    return dict(title=f"{'uniform ' if uniform else ''}groups by chance {seed}", text="clsim 2\n" * uniform + text, output="ok\n" * 10 + reply,
-                status=1 if fault else 0)
+    reply = (f"fault {fault} schedule {run.schedule()}\ndata {data.hex()}\n" if fault
+             else f"clean\ndata {run.buffer.hex()}\n")
+    return dict(title=f"{'uniform ' if uniform else ''}groups by chance {seed}",
+                text="clsim 2\n" * uniform + text, output="ok\n" * 10 + reply, status=1 if fault else 0)
 
 
 def launches():

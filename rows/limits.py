@@ -1,4 +1,5 @@
-"""Sources and scripts at their limits, each with its neighbour behind the limit. `rows` gives the rows to tools/rows."""
+"""Sources and scripts at their limits, each with its neighbour behind the limit.
+`rows` gives the rows to tools/rows."""
 
 
 def built(title, source, fault=""):
@@ -11,14 +12,17 @@ def built(title, source, fault=""):
 
 def checked(title, source, line):
     """The row of a source that is checked."""
-    return dict(title=title, text=source, output=line + "\n", status=0 if line == "ok" else 2, command="clsim check FILE")
+    return dict(title=title, text=source, output=line + "\n", status=0 if line == "ok" else 2,
+                command="clsim check FILE")
 
 
 def nesting():
     yield built("64 blocks inside one another", "__kernel void f() " + "{" * 64 + ";" + "}" * 64)
-    yield built("65 blocks inside one another", "__kernel void f() " + "{" * 65 + ";" + "}" * 65, "syntax 4 TooDeep at 83")
+    yield built("65 blocks inside one another", "__kernel void f() " + "{" * 65 + ";" + "}" * 65,
+                "syntax 4 TooDeep at 83")
     yield built("8 loops inside one another", "__kernel void f() {" + "while (0) " * 8 + ";}")
-    yield built("9 loops inside one another", "__kernel void f() {" + "while (0) " * 9 + ";}", "type 10 TooManyLoops at 14")
+    yield built("9 loops inside one another", "__kernel void f() {" + "while (0) " * 9 + ";}",
+                "type 10 TooManyLoops at 14")
     yield checked("in a block, a square bracket and 63 round ones the last is nested 65 deep",
                   "__kernel void f(__global int *a) { a[" + "(" * 64, "syntax 4 TooDeep at 100")
     yield checked("in 64 blocks the length of an array is nested 65 deep",
@@ -46,14 +50,20 @@ def sizes():
 
 
 def scripts():
-    yield dict(title="4,096 commands, each refused", text="read a 0 1\n" * 4096, output="refused 2 NoSuchName\n" * 4096, status=2)
-    yield dict(title="4,097 commands", text="read a 0 4\n" * 4097, output="", error="clsim: line 4097: bad line\n", status=2)
-    yield dict(title="4,096 commands and an empty line", text="read a 0 4\n" * 4096 + "\n", output="", error="clsim: line 4097: bad line\n", status=2)
-    yield dict(title="4,096 commands and a letter", text="read a 0 4\n" * 4096 + "x", output="", error="clsim: line 4097: bad line\n", status=2)
+    yield dict(title="4,096 commands, each refused", text="read a 0 1\n" * 4096,
+               output="refused 2 NoSuchName\n" * 4096, status=2)
+    yield dict(title="4,097 commands", text="read a 0 4\n" * 4097, output="",
+               error="clsim: line 4097: bad line\n", status=2)
+    yield dict(title="4,096 commands and an empty line", text="read a 0 4\n" * 4096 + "\n", output="",
+               error="clsim: line 4097: bad line\n", status=2)
+    yield dict(title="4,096 commands and a letter", text="read a 0 4\n" * 4096 + "x", output="",
+               error="clsim: line 4097: bad line\n", status=2)
     yield dict(title="4,096 commands and a version", text="clsim 2\n" + "read a 0 4\n" * 4096 + "clsim 2\n", output="",
                error="clsim: line 4098: bad line\n", status=2)
-    yield dict(title="4,096 commands of version 2", text="clsim 2\n" + "read a 0 1\n" * 4096, output="refused 2 NoSuchName\n" * 4096, status=2)
-    yield dict(title="4,097 commands of version 2", text="clsim 2\n" + "read a 0 4\n" * 4097, output="", error="clsim: line 4098: bad line\n", status=2)
+    yield dict(title="4,096 commands of version 2", text="clsim 2\n" + "read a 0 1\n" * 4096,
+               output="refused 2 NoSuchName\n" * 4096, status=2)
+    yield dict(title="4,097 commands of version 2", text="clsim 2\n" + "read a 0 4\n" * 4097, output="",
+               error="clsim: line 4098: bad line\n", status=2)
     # two groups each change an int of their own
     kernel = "__kernel void f(__global int *a) { a[get_global_id(0)]++; }"
     head = f"buffer a 8\nprogram p 1\n{kernel}\nkernel k p f\narg k 0 buffer a\n"

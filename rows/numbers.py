@@ -1,7 +1,7 @@
-"""What operators, conversions and built-in functions give, on the built program. `numbers.table` is what gcc computes, written by
-bench/clnum/table.c, where the form of a line is described; `number_corners.table` was worked out by hand in the same form. There
-`bits` reads the bytes of a number as one of the type of what is wanted. `rows` gives the rows to tools/rows: one for each pair of types,
-with a kernel for each operator."""
+"""What operators, conversions and built-in functions give, on the built program. `numbers.table` is what gcc computes,
+written by bench/clnum/table.c, where the form of a line is described; `number_corners.table` was worked out by hand in
+the same form. There `bits` reads the bytes of a number as one of the type of what is wanted. `rows` gives the rows to
+tools/rows: one for each pair of types, with a kernel for each operator."""
 
 import os
 from itertools import groupby
@@ -27,7 +27,8 @@ def expression(word, wanted):
 
 
 def source(word, kinds, wanted):
-    """A kernel that stores what is given as 64 bits. `max` of it and of itself in the type that is wanted builds only if it has this type."""
+    """A kernel that stores what is given as 64 bits. `max` of it and of itself in the type that is wanted builds only
+    if it has this type."""
     head = ", ".join(["global ulong *r", *(f"{TYPES[kind]} {name}" for kind, name in zip(kinds, "xy"))])
     if word == "bits":
         return f"kernel void f({head}, global {TYPES[kinds[0]]} *b, global {TYPES[wanted]} *c) " \
@@ -52,7 +53,8 @@ def kernel_of(number, word, cases):
     kinds = cases[0][1]
     # of one word and one pair of types all values have one type, but for those of a conversion
     wanted = next((case[3][0] for case in cases if len(case[3]) == 2), None)
-    script = [f"program p{number} 1", source(word, kinds, wanted), f"kernel k{number} p{number} f", f"arg k{number} 0 buffer r"]
+    script = [f"program p{number} 1", source(word, kinds, wanted), f"kernel k{number} p{number} f",
+              f"arg k{number} 0 buffer r"]
     replies = ["ok"] * 3
     if word == "bits":
         script += [f"arg k{number} {index} buffer b" for index in (2, 3)]
@@ -82,5 +84,5 @@ def rows():
             script += more
             replies += answers
         faulted = any(reply.startswith("fault") for reply in replies)
-        yield dict(title=f"{len(cases)} lines of {' and '.join(TYPES[kind] for kind in kinds)}", text="\n".join(script) + "\n",
-                   output="\n".join(replies) + "\n", status=1 if faulted else 0)
+        yield dict(title=f"{len(cases)} lines of {' and '.join(TYPES[kind] for kind in kinds)}",
+                   text="\n".join(script) + "\n", output="\n".join(replies) + "\n", status=1 if faulted else 0)

@@ -1,9 +1,10 @@
-"""The fault replies of all other rows, replayed: each leads to its fault, and with one word changed to what the definition says. Schedule files cut at
-each byte are bad. `rows` gives the rows to tools/rows.
+"""The fault replies of all other rows, replayed: each leads to its fault, and with one word changed to what the
+definition says. Schedule files cut at each byte are bad. `rows` gives the rows to tools/rows.
 
-What a changed line comes to is worked out from docs/promises/definitions.md alone. For the launches of groups.py, whose items' actions are known, any schedule is
-played here by single events, and whether the state that it leads to shows the fault is read off the log. For all other scripts only changes are made
-that no kernel lets through: a fault names the one next action of an item, or two accesses of kinds that conflict in one way only."""
+What a changed line comes to is worked out from docs/promises/definitions.md alone. For the launches of groups.py, whose
+items' actions are known, any schedule is played here by single events, and whether the state that it leads to shows the
+fault is read off the log. For all other scripts only changes are made that no kernel lets through: a fault names the
+one next action of an item, or two accesses of kinds that conflict in one way only."""
 
 import os
 import random
@@ -11,7 +12,8 @@ import re
 import runpy
 
 HERE = os.path.dirname(os.path.abspath(__file__))
-OTHER_CLASS = {"add": "or", "and": "add", "or": "and", "xor": "add", "smin": "umin", "smax": "umax", "umin": "smin", "umax": "smax"}
+OTHER_CLASS = {"add": "or", "and": "add", "or": "and", "xor": "add",
+               "smin": "umin", "smax": "umax", "umin": "smin", "umax": "smax"}
 # an item and a group that no launch has, and a byte that no buffer has
 NOBODY, NOWHERE = 4_000_000_000, 2_000_000
 # changed lines of each launch of groups.py, at most
@@ -20,15 +22,16 @@ CHANGES = 6
 
 def answered(title, script, ticket, line, yes):
     """The row of a schedule file of a ticket and a fault's line."""
-    return dict(title=title, text=script, schedule=b"ticket %d\n%b\n" % (ticket, line), output="yes\n" if yes else "no\n",
-                status=0 if yes else 1, command="clsim replay FILE SCHEDULE")
+    return dict(title=title, text=script, schedule=b"ticket %d\n%b\n" % (ticket, line),
+                output="yes\n" if yes else "no\n", status=0 if yes else 1, command="clsim replay FILE SCHEDULE")
 
 
 # ---- the faults of other rows
 
 
 def faults():
-    """The scripts of all other rows that run with the default budget, each with its place, and with the ticket and the line of a fault of its replies."""
+    """The scripts of all other rows that run with the default budget, each with its place, and with the ticket and the
+    line of a fault of its replies."""
     tools = runpy.run_path(os.path.join(HERE, "..", "tools", "rows"))
     for name in sorted(os.listdir(HERE)):
         path = os.path.join(HERE, name)
@@ -69,7 +72,8 @@ def never(line):
     yield "another item", changed(4, NOBODY)
     if number in "12":
         kinds = words[5], words[8]
-        yield "the other sort of conflict", " ".join([words[0], *[["2", "order"], ["1", "race"]][int(number) - 1], *words[3:]]) + f" schedule {schedule}"
+        sort = [["2", "order"], ["1", "race"]][int(number) - 1]
+        yield "the other sort of conflict", " ".join([words[0], *sort, *words[3:]]) + f" schedule {schedule}"
         yield "another byte", changed(len(words) - 1, NOWHERE)
         yield "one item twice", changed(7, item)
         if "load" in kinds:
@@ -141,7 +145,8 @@ class Player:
         self.groups["Run"].write(self, item, kind, cells, touched, value)
         group = item // self.size
         left = {byte: cells[byte] for byte in touched}
-        self.log.append((item, kind, place, left, group, self.intervals[group]["local" if place[0] == "l" else "buffer"]))
+        interval = self.intervals[group]["local" if place[0] == "l" else "buffer"]
+        self.log.append((item, kind, place, left, group, interval))
         self.at[item] += 1
         return True
 
@@ -167,7 +172,8 @@ class Player:
         if item >= len(self.items):
             return False
         if name in ("race", "order"):
-            return self.has_conflict(name, item, words[2], int(words[4]), words[5], " ".join(words[6:-2]), int(words[-1]))
+            place, byte = " ".join(words[6:-2]), int(words[-1])
+            return self.has_conflict(name, item, words[2], int(words[4]), words[5], place, byte)
         if name == "divergence":
             return self.diverges(item, " ".join(words[2:]))
         if name == "divide_by_zero":
@@ -186,12 +192,14 @@ class Player:
     def has_conflict(self, name, item, kind, other, other_kind, place, byte):
         """Whether the log has two such accesses of different items, which nothing orders."""
         def of(who, what):
-            return [access for access in self.log if access[0] == who and access[1] == what and access[2] == place and byte in access[3]]
+            return [access for access in self.log
+                    if access[0] == who and access[1] == what and access[2] == place and byte in access[3]]
 
         def clash(one, two):
             return self.groups["clash"](kind, other_kind, self.uniform and one[3][byte] == two[3][byte])
         return item != other and any(
-            clash(one, two) == name and (one[4] != two[4] or one[5] == two[5]) for one in of(item, kind) for two in of(other, other_kind))
+            clash(one, two) == name and (one[4] != two[4] or one[5] == two[5])
+            for one in of(item, kind) for two in of(other, other_kind))
 
     def diverges(self, item, text):
         """Whether two items of a group stop so."""
@@ -200,7 +208,8 @@ class Player:
 
         def is_at(who, where):
             action = self.next(who)
-            return where == ("end" if action[0] == "end" else f"barrier {action[1]}" if action[0] == "barrier" else None)
+            reached = "end" if action[0] == "end" else f"barrier {action[1]}" if action[0] == "barrier" else None
+            return where == reached
         return (int(other) < len(self.items) and item // self.size == int(other) // self.size and stop != other_stop
                 and is_at(item, stop) and is_at(int(other), other_stop))
 
@@ -265,7 +274,8 @@ def played_of(groups, seed, uniform):
                 other = rng.choice([varied(rng, line, len(items)), varied(rng, other, len(items)), shuffled(rng, line)])
                 lines.add(other)
             for other in sorted(lines - {line}):
-                yield answered(f"{row['title']}: {other}", row["text"], ticket, other.encode(), says(groups, uniform, launch, other))
+                yes = says(groups, uniform, launch, other)
+                yield answered(f"{row['title']}: {other}", row["text"], ticket, other.encode(), yes)
 
 
 # ---- files that are cut
@@ -279,7 +289,8 @@ CUT = [
 
 
 def whole_files():
-    """Schedule files with a title and the script that is replayed: those above, and those of the rows of worked.txt whose script is one."""
+    """Schedule files with a title and the script that is replayed: those above,
+    and those of the rows of worked.txt whose script is one."""
     yield from ((f"schedule file {number}", "buffer a 4\n", text) for number, text in enumerate(CUT))
     tools = runpy.run_path(os.path.join(HERE, "..", "tools", "rows"))
     for row in tools["read_text"](os.path.join(HERE, "worked.txt")):

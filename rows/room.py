@@ -1,5 +1,5 @@
-"""Outputs that take a part of the text, files and pipes: of each that fails the bytes that it took are written; and schedule files that no
-single read gives whole. `rows` gives the rows to tools/rows."""
+"""Outputs that take a part of the text, files and pipes: of each that fails the bytes that it took are written; and
+schedule files that no single read gives whole. `rows` gives the rows to tools/rows."""
 
 FIRST_RUN = """buffer a 8
 program p 1
@@ -22,7 +22,8 @@ CODE = """0 argument r12, 0, __global int *
 """
 
 # two work-items that stop apart
-APART = "program p 1\n__kernel void f() { if (get_local_id(0) < 1) barrier(CLK_LOCAL_MEM_FENCE); }\nkernel k p f\nlaunch k 2 2\n"
+APART = ("program p 1\n__kernel void f() { if (get_local_id(0) < 1) barrier(CLK_LOCAL_MEM_FENCE); }\n"
+         "kernel k p f\nlaunch k 2 2\n")
 # two that end
 EMPTY = "program q 1\n__kernel void f() { }\nkernel k q f\nlaunch k 2 2\n"
 SCHEDULE = "ticket 2\nfault 3 divergence item 0 barrier 0 item 1 end schedule -\n"
@@ -65,12 +66,13 @@ def schedule_of(asked):
 def cut(asked, text, whole, room, end="ROOM"):
     """The row of an output that takes some bytes of the whole, and fails."""
     title = f"{asked} of {text.splitlines()[0][:80]}: {end} for {room} bytes of {len(whole)}"
-    return dict(title=title, text=text, schedule=schedule_of(asked), output=whole[:room], error="clsim: cannot write\n", status=2,
-                command=f"clsim {asked} > {end} {room}")
+    return dict(title=title, text=text, schedule=schedule_of(asked), output=whole[:room],
+                error="clsim: cannot write\n", status=2, command=f"clsim {asked} > {end} {room}")
 
 
 def schedules():
-    """Schedule files of 120,000 bytes: the second line is read to its last run, and what stands behind it is read too."""
+    """Schedule files of 120,000 bytes: the second line is read to its last run,
+    and what stands behind it is read too."""
     loads = 30_000
     source = f"__kernel void f(__global int *a) {{ int x; for (int j = 0; j < {loads}; j++) x = a[0]; a[1] = x; }}"
     text = f"buffer a 4\nprogram p 1\n{source}\nkernel k p f\narg k 0 buffer a\nlaunch k 1 1\n"
@@ -78,19 +80,19 @@ def schedules():
     asked, runs = "clsim replay FILE SCHEDULE", ["0*1"] * loads
     whole = f"{told}{' '.join(runs)}\n"
     yield dict(title=f"a schedule file of {loads} runs", text=text, schedule=whole, output="yes\n", command=asked)
-    yield dict(title=f"a schedule file of {loads} runs but one", text=text, schedule=f"{told}{' '.join(runs[1:])}\n", output="no\n", status=1,
-               command=asked)
+    yield dict(title=f"a schedule file of {loads} runs but one", text=text, schedule=f"{told}{' '.join(runs[1:])}\n",
+               output="no\n", status=1, command=asked)
     for title, behind in [("an empty line", "\n"), ("a letter", "x"), ("a line", "ticket 4\n")]:
-        yield dict(title=f"a schedule file of {loads} runs and {title} behind its last line", text=text, schedule=whole + behind, output="",
-                   error="clsim: bad schedule file\n", status=2, command=asked)
+        yield dict(title=f"a schedule file of {loads} runs and {title} behind its last line", text=text,
+                   schedule=whole + behind, output="", error="clsim: bad schedule file\n", status=2, command=asked)
 
 
 def rows():
     for asked, text, whole, status in ASKED:
         for room in range(len(whole)):
             yield cut(asked, text, whole, room)
-        yield dict(title=f"{asked} of {text.splitlines()[0]}: room for all", text=text, schedule=schedule_of(asked), output=whole,
-                   status=status, command=f"clsim {asked} > ROOM {len(whole)}")
+        yield dict(title=f"{asked} of {text.splitlines()[0]}: room for all", text=text, schedule=schedule_of(asked),
+                   output=whole, status=status, command=f"clsim {asked} > ROOM {len(whole)}")
     for asked, (text, whole) in [("run FILE", LONG), ("dump FILE f", LONG_DUMP)]:
         for room in [*range(0, len(whole), 997), len(whole) - 1]:
             yield cut(asked, text, whole, room)
@@ -100,6 +102,6 @@ def rows():
     yield dict(title="dump FILE f of a thousand barriers", text=text, output=whole, command="clsim dump FILE f")
     for asked, text, whole in TOLD:
         for room in range(len(whole) + 1):
-            yield dict(title=f"{asked}: room for {room} bytes of {len(whole)} on standard error", text=text, output="", error=whole[:room],
-                       status=2, command=f"clsim {asked} 2> ROOM {room}")
+            yield dict(title=f"{asked}: room for {room} bytes of {len(whole)} on standard error", text=text, output="",
+                       error=whole[:room], status=2, command=f"clsim {asked} 2> ROOM {room}")
     yield from schedules()

@@ -1,5 +1,5 @@
-"""Sources cut at each byte, those of worked.txt and of examples/, and checked: what comes is the first fault by the tokens and the grammar of
-docs/use/language.md, which are read here. `rows` gives the rows to tools/rows.
+"""Sources cut at each byte, those of worked.txt and of examples/, and checked: what comes is the first fault by the
+tokens and the grammar of docs/use/language.md, which are read here. `rows` gives the rows to tools/rows.
 
 A cut without such a fault is whole functions of its source, which builds."""
 
@@ -17,8 +17,9 @@ SPACES = set("__global global __local local __constant constant".split())
 LOCAL = {"__local", "local"}
 KERNEL = {"__kernel", "kernel"}
 RESERVED = TYPES | SPACES | KERNEL | set(
-    "const void if else while do for break continue return float double half bool unsigned signed struct union enum typedef switch case "
-    "default goto sizeof static extern inline volatile restrict register auto __private private".split())
+    "const void if else while do for break continue return float double half bool unsigned signed struct union enum "
+    "typedef switch case default goto sizeof static extern inline volatile restrict register auto "
+    "__private private".split())
 SYMBOLS = re.compile(r"<<=|>>=|<<|>>|<=|>=|==|!=|&&|\|\||[-+*/%&^|]=|\+\+|--|[-+*/%<>=&|^~!?:;,()\[\]{}]")
 ASSIGNMENTS = {"=", "+=", "-=", "*=", "/=", "%=", "<<=", ">>=", "&=", "^=", "|="}
 STEPS = {"++", "--"}
@@ -44,7 +45,11 @@ SUFFIX = re.compile("ul|UL|[uUlL]|")
 def number_end(text, place):
     """Where the number at a place ends."""
     found = NUMBER.match(text, place)
-    digits, base = (found["digits"], 16) if found["hex"] else (found["octal"], 8) if found["octal"] else (found["decimal"], 10)
+    digits, base = found["decimal"], 10
+    if found["hex"]:
+        digits, base = found["digits"], 16
+    elif found["octal"]:
+        digits, base = found["octal"], 8
     if not digits:
         raise Fault(1, place + 1)
     suffix = SUFFIX.match(text, found.end())
@@ -86,7 +91,8 @@ def tokens_of(text):
 # ---- the grammar
 
 class Reader:
-    """Reads tokens as a program. Each token is taken only where a program goes on with it, so that the first that isn't is the fault."""
+    """Reads tokens as a program. Each token is taken only where a program goes on with it,
+    so that the first that isn't is the fault."""
 
     def __init__(self, tokens):
         self.tokens, self.place = tokens, 0
@@ -353,13 +359,18 @@ def sources_of(script):
 def sources():
     """Each source once, with where it stands. Those that don't build stand in check's rows and in files .cl."""
     read_text = runpy.run_path(os.path.join(HERE, "..", "tools", "rows"))["read_text"]
-    texts = [(f"rows/worked.txt, {row.title}", row.text, row.command) for row in read_text(os.path.join(HERE, "worked.txt"))]
+    texts = [(f"rows/worked.txt, {row.title}", row.text, row.command)
+             for row in read_text(os.path.join(HERE, "worked.txt"))]
     for name in sorted(it for it in os.listdir(EXAMPLES) if os.path.isfile(os.path.join(EXAMPLES, it))):
         with open(os.path.join(EXAMPLES, name), "rb") as file:
-            texts.append((f"examples/{name}", file.read(), "clsim check FILE" if name.endswith(".cl") else "clsim run FILE"))
+            command = "clsim check FILE" if name.endswith(".cl") else "clsim run FILE"
+            texts.append((f"examples/{name}", file.read(), command))
     seen = set()
     for place, text, command in texts:
-        found = [text] if command == "clsim check FILE" else sources_of(text) if place.endswith(".txt") or place.startswith("rows") else []
+        if command == "clsim check FILE":
+            found = [text]
+        else:
+            found = sources_of(text) if place.endswith(".txt") or place.startswith("rows") else []
         for number, source in enumerate(found, 1):
             if source.rstrip() not in seen:
                 seen.add(source.rstrip())
@@ -371,5 +382,5 @@ def rows():
         # cuts that leave some of its text away
         for cut in range(len(source.rstrip())):
             line = fault_of(source[:cut]) or "ok"
-            yield dict(title=f"{place}, cut at byte {cut}", text=source[:cut], output=line + "\n", status=0 if line == "ok" else 2,
-                       command="clsim check FILE")
+            yield dict(title=f"{place}, cut at byte {cut}", text=source[:cut], output=line + "\n",
+                       status=0 if line == "ok" else 2, command="clsim check FILE")
