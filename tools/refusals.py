@@ -1,18 +1,19 @@
-"""Each request for memory refused in turn, and each read and write, for tools/rows: what `clsim` and the program of direct calls do then.
+"""Each request for memory refused in turn, and each read and write, for tools/rows:
+what `clsim` and the program of direct calls do then.
 
-refuse.c is built and preloaded. It runs a program once for each request that it makes, with that one refused, and tells what came of each run. Of
-a program that makes more than MOST requests, a sample is refused.
+refuse.c is built and preloaded. It runs a program once for each request that it makes, with that one refused, and tells
+what came of each run. Of a program that makes more than MOST requests, a sample is refused.
 
-A script gives each command twice, with the bytes of all buffers read behind it, so that the second has memory. What may come of a run with one
-request refused is one of these:
+A script gives each command twice, with the bytes of all buffers read behind it, so that the second has memory. What may
+come of a run with one request refused is one of these:
   - what comes of the run with none refused: the program does without that memory;
-  - nothing on standard output, and `clsim: out of memory`, or `error: out of memory` of the option reader: the script was being read, or the
-    program was starting;
-  - `refused 16 OutOfMemory` for one command whose row in docs/use/script.md lists it, and for all others what comes of the script without that
-    command: so it has changed nothing, and given again it is answered as if for the first time.
-`clsim serve` reads the same commands from standard input. There, `clsim: out of memory` may also end a talk, behind whole replies.
-A script's first launch and the commands before it have to be answered as its row says. No run may leave more blocks of memory than the run
-with none refused."""
+  - nothing on standard output, and `clsim: out of memory`, or `error: out of memory` of the option reader: the script
+    was being read, or the program was starting;
+  - `refused 16 OutOfMemory` for one command whose row in docs/use/script.md lists it, and for all others what comes of
+    the script without that command: so it has changed nothing, and given again it is answered as if for the first time.
+`clsim serve` reads the same commands from standard input. There, `clsim: out of memory` may also end a talk, behind
+whole replies. A script's first launch and the commands before it have to be answered as its row says. No run may leave
+more blocks of memory than the run with none refused."""
 
 import os
 import re
@@ -44,9 +45,10 @@ GROWING = {b"buffer", b"copy", b"program", b"kernel", b"arg", b"launch", b"read"
 
 # the program of direct calls, which is the crate of its name, and its calls that take memory
 CALLER = "refused_calls"
-CALLS = [b"passes lex", b"passes parse", b"passes check", b"passes lower", b"store", b"update", b"fetch", b"list note", b"list note of a conflict",
-         b"log note", b"log note of a conflict", b"pages note", b"pages note of a conflict", b"launches prepare", b"launches start",
-         b"launches run_group by one_group", b"launches merge", b"launches run_launch", b"launches replay", b"launches run_parallel", b"queue open",
+CALLS = [b"passes lex", b"passes parse", b"passes check", b"passes lower", b"store", b"update", b"fetch", b"list note",
+         b"list note of a conflict", b"log note", b"log note of a conflict", b"pages note",
+         b"pages note of a conflict", b"launches prepare", b"launches start", b"launches run_group by one_group",
+         b"launches merge", b"launches run_launch", b"launches replay", b"launches run_parallel", b"queue open",
          b"queue drive_one with memory", b"answer open"]
 # the call that takes memory while every request is refused
 REFUSABLE = b"queue drive_one where memory may be refused"
@@ -102,14 +104,16 @@ def runs_of(report):
 
 
 def each(library, command, folder, what="memory"):
-    """The runs of a command: none refused first, then each request in turn, or a sample of more than MOST. The last refuses none, since it makes
-    fewer, and comes to what the first came to: else the series ended before all were tried. A command of `clsim serve` reads FILE."""
+    """The runs of a command: none refused first, then each request in turn, or a sample of more than MOST. The last
+    refuses none, since it makes fewer, and comes to what the first came to: else the series ended before all were
+    tried. A command of `clsim serve` reads FILE."""
     report = os.path.join(folder, "REPORT")
-    environment = {**os.environ, "LD_PRELOAD": library, "WHAT": what, "REFUSE": "each", "REPORT": report, "SECONDS": str(LIMIT),
-                   "MOST": str(MOST), "FIRST": str(FIRST), "STEP": str(STEP), "LAST": str(LAST)}
+    environment = {**os.environ, "LD_PRELOAD": library, "WHAT": what, "REFUSE": "each", "REPORT": report,
+                   "SECONDS": str(LIMIT), "MOST": str(MOST), "FIRST": str(FIRST), "STEP": str(STEP), "LAST": str(LAST)}
     try:
         with input_of(command, folder) as read:
-            came = subprocess.run(command, cwd=folder, env=environment, stdin=read, capture_output=True, timeout=LIMIT_OF_ALL)
+            came = subprocess.run(command, cwd=folder, env=environment, stdin=read, capture_output=True,
+                                  timeout=LIMIT_OF_ALL)
     except subprocess.TimeoutExpired:
         raise BadReport(f"still running after {LIMIT_OF_ALL} s") from None
     if came.returncode != 0 or not os.path.exists(report):
@@ -131,11 +135,13 @@ def input_of(command, folder):
 
 def is_told(run, whole, error):
     """Whether a run ended with this line behind whole replies, with which the whole one begins."""
-    return (run.error, run.status) == (error, 2) and whole.output.startswith(run.output) and run.output[-1:] in (b"", b"\n")
+    return ((run.error, run.status) == (error, 2) and whole.output.startswith(run.output)
+            and run.output[-1:] in (b"", b"\n"))
 
 
 def left(whole, run, workers=1):
-    """What is to say of blocks of memory that a run leaves and the whole one doesn't: the C library keeps one for each thread that has ended."""
+    """What is to say of blocks of memory that a run leaves and the whole one doesn't:
+    the C library keeps one for each thread that has ended."""
     more = run.live - max(whole.live, workers - 1)
     return [f"request {run.number}: {more} blocks are left that the whole run gives back"] if more > 0 else []
 
@@ -144,7 +150,8 @@ def left(whole, run, workers=1):
 
 @dataclass
 class Piece:
-    """A command of a script with each command twice: its lines, and the reply that the row gives it, where the row decides it."""
+    """A command of a script with each command twice: its lines, and the reply that the row gives it,
+    where the row decides it."""
     text: bytes
     wanted: bytes = None
 
@@ -197,7 +204,8 @@ class Script:
     def written(self, left_out=None):
         """Writes the file of the script, without one of its commands."""
         with open(os.path.join(self.folder, "FILE"), "wb") as file:
-            file.write(self.head + b"".join(piece.text for number, piece in enumerate(self.pieces) if number != left_out))
+            texts = (piece.text for number, piece in enumerate(self.pieces) if number != left_out)
+            file.write(self.head + b"".join(texts))
 
     def replies_without(self, number):
         """The replies of a run with memory, of the script without one command."""
@@ -232,7 +240,8 @@ class Script:
         return None
 
     def ends(self, run, whole):
-        """Whether a run ends where it should for want of memory: at its start, or, where the script is served, behind any reply."""
+        """Whether a run ends where it should for want of memory: at its start, or, where the script is served,
+        behind any reply."""
         return run.came() in EARLY or self.command[1] == "serve" and is_told(run, whole, OUT_OF_MEMORY)
 
     def judged(self):
@@ -285,23 +294,26 @@ UNREAD_INPUT = b"clsim: cannot read standard input\n"
 
 
 def judged_reads(command, row, library, folder):
-    """What came of the runs in which a read fails: that a file can't be read, with nothing written, or standard input, behind whole replies."""
+    """What came of the runs in which a read fails: that a file can't be read, with nothing written, or standard input,
+    behind whole replies."""
     written(row, folder)
     whole, *runs = each(library, command, folder, "reads")
     wanted = [(b"", b"clsim: cannot read %b\n" % name, 2) for name in (b"FILE", b"SCHEDULE")]
     said = [] if whole.came() == (row.output, row.error, row.status) else [f"by pieces: {whole.came()!r}"]
     wrong = [run for run in runs[:-1] if run.came() not in wanted and not is_told(run, whole, UNREAD_INPUT)]
-    return whole.asked, Counter({"reads": len(runs) - 1}), said + [f"read {run.number}: {run.came()!r}" for run in wrong]
+    said += [f"read {run.number}: {run.came()!r}" for run in wrong]
+    return whole.asked, Counter({"reads": len(runs) - 1}), said
 
 
 def is_cut(run, whole):
-    """Whether a run told that it couldn't write, and wrote a beginning of what the whole one writes. (What is held back when the program ends is
-    written then, so that it may be all.)"""
+    """Whether a run told that it couldn't write, and wrote a beginning of what the whole one writes. (What is held back
+    when the program ends is written then, so that it may be all.)"""
     return run.error == b"clsim: cannot write\n" and run.status == 2 and whole.output.startswith(run.output)
 
 
 def judged_writes(command, row, library, folder):
-    """What came of the runs in which a write of the replies fails: that they couldn't be written, with a beginning of them written."""
+    """What came of the runs in which a write of the replies fails: that they couldn't be written,
+    with a beginning of them written."""
     written(row, folder)
     whole, *runs = each(library, command, folder, "writes")
     said = [] if whole.came() == (row.output, row.error, row.status) else [f"by pieces: {whole.came()!r}"]
@@ -320,8 +332,8 @@ def by_section(lines):
 
 
 def is_made_again(lines, wanted):
-    """Whether lines are wanted ones up to a call, then one that says that it was refused, and then the wanted ones from that call on, or from one
-    before it."""
+    """Whether lines are wanted ones up to a call, then one that says that it was refused, and then the wanted ones from
+    that call on, or from one before it."""
     place = next((place for place, line in enumerate(lines) if line not in wanted), len(lines))
     if lines[:place] != wanted[:place] or not b"".join(lines[place:place + 1]).endswith(b": out of memory"):
         return False
@@ -330,8 +342,8 @@ def is_made_again(lines, wanted):
 
 
 def wrong_call(whole, run):
-    """What is wrong with the lines of one run of the direct calls in which a request was refused, or nothing: one call answered so, or what it needs
-    couldn't be made. Then it was made again, and all lines came."""
+    """What is wrong with the lines of one run of the direct calls in which a request was refused, or nothing: one call
+    answered so, or what it needs couldn't be made. Then it was made again, and all lines came."""
     said = set(run.error.splitlines()) <= set(whole.error.splitlines())
     wanted, came = by_section(whole.output.splitlines()), by_section(run.output.splitlines())
     other = [section for section in {**wanted, **came} if came.get(section) != wanted.get(section)]
@@ -345,15 +357,17 @@ def wrong_call(whole, run):
 
 
 def judged_calls(command, output, library, folder):
-    """What came of the runs of the program of direct calls, and what is wrong. With no request refused its lines are those of its own crate, but for
-    the call that takes memory while every request is refused. Each of CALLS has to be met by a refusal in some run."""
+    """What came of the runs of the program of direct calls, and what is wrong. With no request refused its lines are
+    those of its own crate, but for the call that takes memory while every request is refused. Each of CALLS has to be
+    met by a refusal in some run."""
     whole, *runs = each(library, command, folder)
     wanted = output.replace(REFUSABLE + b": done\n", REFUSABLE + b": out of memory\n")
     if (whole.output, whole.status) != (wanted, 0):
         return whole.asked, Counter(), [f"with memory: {whole.came()!r}"]
     counts, said, met = Counter(), [], set()
     for run in runs[:-1]:
-        met.update(line.removesuffix(b": out of memory") for line in run.output.splitlines() if line.endswith(b": out of memory"))
+        met.update(line.removesuffix(b": out of memory") for line in run.output.splitlines()
+                   if line.endswith(b": out of memory"))
         counts["done without" if run.output == whole.output else "answered by a call"] += 1
         wrong = wrong_call(whole, run) if run.output != whole.output else None
         said += [f"request {run.number}: {wrong}"] if wrong else []
@@ -366,14 +380,16 @@ def judged_calls(command, output, library, folder):
 
 @dataclass
 class Task:
-    """What is tried: a title, and a function that gives how many requests it makes, what came of those that were refused, and what is wrong."""
+    """What is tried: a title, and a function that gives how many requests it makes, what came of those that were
+    refused, and what is wrong."""
     title: str
     judged: object
 
 
 @dataclass
 class Outcome:
-    """What came of all: how many tasks passed, what is to say of the others, those of which a sample was refused, and how many requests were."""
+    """What came of all: how many tasks passed, what is to say of the others, those of which a sample was refused,
+    and how many requests were."""
     passed: int
     failed: list
     sampled: list
@@ -381,13 +397,14 @@ class Outcome:
 
     def line(self):
         parts = ", ".join(f"{count:,} {name}" for name, count in sorted(self.refused.items()))
-        return f"requests refused: {self.refused.total():,} ({parts}) of {self.passed + len(self.failed)} command lines; " \
+        return f"requests refused: {self.refused.total():,} ({parts}) " \
+               f"of {self.passed + len(self.failed)} command lines; " \
                f"a sample of those that make more than {MOST:,}: {'; '.join(self.sampled) or 'none'}"
 
 
 def tasks(rows, program, library):
-    """What is tried of rows: scripts with a launch with some number of workers each, run and served, texts that are checked, replayed or explained,
-    and all of them with reads and writes that fail."""
+    """What is tried of rows: scripts with a launch with some number of workers each, run and served, texts that are
+    checked, replayed or explained, and all of them with reads and writes that fail."""
     for row in rows:
         words = [program, *row.command.split()[1:]]
         yield from ends(row, words, library)
@@ -400,7 +417,8 @@ def tasks(rows, program, library):
         if re.search(rb"^launch ", row.text, flags=re.M):
             for command, workers in [*((words, number) for number in WORKERS), (served, 1)]:
                 yield Task(f"{row.place}: {row.title} (a request is refused, {command[1]}, workers {workers})",
-                           lambda folder, row=row, workers=workers, command=command: Script(row, workers, command, library, folder).judged())
+                           lambda folder, row=row, workers=workers, command=command:
+                               Script(row, workers, command, library, folder).judged())
 
 
 def task(row, what, judge, words, library):

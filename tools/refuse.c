@@ -1,27 +1,28 @@
-/* Preloaded before a program, this refuses requests for memory: malloc, calloc, realloc and the aligned ones answer that none is left. Or
-   it fails calls of read or write. What is said of requests holds of these calls then.
+/* Preloaded before a program, this refuses requests for memory: malloc, calloc, realloc and the aligned ones answer
+   that none is left. Or it fails calls of read or write. What is said of requests holds of these calls then.
 
    WHAT=memory   requests for memory; so it is without WHAT
    WHAT=reads    reads from standard input and from files, each of at most 4 bytes
    WHAT=writes   writes to standard output, each of at most 4 bytes
    REFUSE=N      the program's Nth request is refused; with 0 none is
-   REFUSE=each   the program runs once with no request refused, and then with the Nth refused, for N = 1, 2, .., until a run makes fewer
-                 requests, so that the last run refuses none. Each run is a process of its own, forked before `main`, and reads standard
-                 input from its beginning where that is a file
+   REFUSE=each   the program runs once with no request refused, and then with the Nth refused, for N = 1, 2, .., until a
+                 run makes fewer requests, so that the last run refuses none. Each run is a process of its own, forked
+                 before `main`, and reads standard input from its beginning where that is a file
    REPORT=PATH   the file at the end of which each run is told (below)
-   MOST=N        with REFUSE=each, a sample is refused of the requests of a program that makes more than N; without it, all are
+   MOST=N        with REFUSE=each, a sample is refused of the requests of a program that makes more than N; without it,
+                 all are
    FIRST=N, STEP=N, LAST=N
-                 the sample: the first so many requests, each so-many-th, and the last so many of those that the run with none refused
-                 makes; without them, the first 1, each 1,000th and the last 1
+                 the sample: the first so many requests, each so-many-th, and the last so many of those that the run
+                 with none refused makes; without them, the first 1, each 1,000th and the last 1
    SECONDS=N     a run that takes longer is ended by a signal; without it, 60
 
-   While a program is between a line `refuse: all` and a line `refuse: none`, each of them one write to standard error, every request is
-   refused too.
+   While a program is between a line `refuse: all` and a line `refuse: none`, each of them one write to standard error,
+   every request is refused too.
 
-   A run is told by a line `run N status S asked A refused R live L output O error E`, and, where REFUSE is `each`, the O bytes of its
-   standard output and the E bytes of its standard error. S is the status, or 128 and the number of the signal that ended it; it is -1
-   where REFUSE is a number. A is how many requests it made, R whether the Nth was refused, and L how many blocks it took and didn't give
-   back. */
+   A run is told by a line `run N status S asked A refused R live L output O error E`, and, where REFUSE is `each`, the
+   O bytes of its standard output and the E bytes of its standard error. S is the status, or 128 and the number of the
+   signal that ended it; it is -1 where REFUSE is a number. A is how many requests it made, R whether the Nth was
+   refused, and L how many blocks it took and didn't give back. */
 #define _GNU_SOURCE
 #include <errno.h>
 #include <fcntl.h>
@@ -183,8 +184,9 @@ static void tell(int report, const char *bytes, size_t length) {
 
 static void tell_run(int report, unsigned long number, int status, size_t output, size_t error) {
     char line[200];
-    int length = snprintf(line, sizeof line, "run %lu status %d asked %lu refused %lu live %ld output %zu error %zu\n", number, status,
-                          atomic_load(&counts->asked), atomic_load(&counts->refused), atomic_load(&counts->live), output, error);
+    int length = snprintf(line, sizeof line, "run %lu status %d asked %lu refused %lu live %ld output %zu error %zu\n",
+                          number, status, atomic_load(&counts->asked), atomic_load(&counts->refused),
+                          atomic_load(&counts->live), output, error);
     tell(report, line, (size_t)length);
 }
 
@@ -302,8 +304,8 @@ struct sample {
     unsigned long most, first, step, last;
 };
 
-/* The request that is refused after one, of so many that the run with none refused makes. Behind the last of a sample comes one that no run
-   makes: where there are threads, a run may make some more requests than another. */
+/* The request that is refused after one, of so many that the run with none refused makes. Behind the last of a sample
+   comes one that no run makes: where there are threads, a run may make some more requests than another. */
 static unsigned long next(const struct sample *sample, unsigned long number, unsigned long asked) {
     if (asked <= sample->most || number < sample->first)
         return number + 1;
@@ -316,7 +318,8 @@ static unsigned long next(const struct sample *sample, unsigned long number, uns
 }
 
 static void run_each(unsigned seconds) {
-    const struct sample sample = {number_in("MOST", ULONG_MAX), number_in("FIRST", 1), number_in("STEP", 1000), number_in("LAST", 1)};
+    const struct sample sample = {number_in("MOST", ULONG_MAX), number_in("FIRST", 1), number_in("STEP", 1000),
+                                  number_in("LAST", 1)};
     if (sample.step == 0) {
         errno = EINVAL;
         fail("STEP");

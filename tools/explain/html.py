@@ -2,8 +2,8 @@
 """Turns explanations into one page: `clsim explain FILE --format json | tools/explain/html.py > explained.html`.
 
 Reads the files that are named, or standard input, with an explanation a line. The page is one file without script,
-link and network: the lines of the source that are meant, with those round them where the script can be read by its name,
-and a picture of the schedule, a lane a work-item. The status is 0, or 2 where the input is bad."""
+link and network: the lines of the source that are meant, with those round them where the script can be read by its
+name, and a picture of the schedule, a lane a work-item. The status is 0, or 2 where the input is bad."""
 
 import re
 from xml.sax.saxutils import escape
@@ -95,7 +95,8 @@ def event_dot(x, y, step, bad):
     tip = quoted(f"{place['text']} ({words})" if place else words)
     kind = "bad" if bad else "event"
     return (f'<circle class="{kind}" cx="{x}" cy="{y}" r="6"><title>{tip}</title></circle>'
-            f'<text x="{x + 11}" y="{y + 4}">{where} <tspan class="note">{step["does"]}</tspan><title>{tip}</title></text>')
+            f'<text x="{x + 11}" y="{y + 4}">{where} <tspan class="note">{step["does"]}</tspan>'
+            f'<title>{tip}</title></text>')
 
 
 def next_ring(x, y, item):
@@ -135,10 +136,12 @@ def step_mark(step, number, y, whole, lanes):
 
 
 def picture(whole):
-    """The schedule as SVG: a lane a work-item, events from top to bottom, the two accesses in red, a ring for what comes next."""
+    """The schedule as SVG: a lane a work-item, events from top to bottom, the two accesses in red,
+    a ring for what comes next."""
     lanes = {item: LEFT + LANE * place for place, item in enumerate(lanes_of(whole))}
     steps = shown_steps(whole)
-    going = [] if whole["steps_left"] else [item for item in whole["items"] if item["event"] is None and item["spot"] and item["item"] in lanes]
+    going = [] if whole["steps_left"] else [
+        item for item in whole["items"] if item["event"] is None and item["spot"] and item["item"] in lanes]
     wide, high = LEFT + LANE * max(1, len(lanes)) + 40, TOP + ROW * (len(steps) + bool(going))
     size = f'width="{wide}" height="{high}"'
     parts = [f'<svg {size} role="img" aria-label="schedule">']
@@ -165,7 +168,8 @@ def marked_text(raw, place):
 
 
 def places_of(whole):
-    """The places of the named items and of the calls of helpers round them, or that of a refusal, each with what is said of it."""
+    """The places of the named items and of the calls of helpers round them, or that of a refusal,
+    each with what is said of it."""
     if is_refusal(whole):
         yield whole["spot"], whole["fault"]["name"]
         return
@@ -188,11 +192,13 @@ def lines_round(lines, places):
 
 
 def source_table(whole):
-    """The lines of the named items, and those of the calls of helpers round them, with the lines round these where they are known."""
+    """The lines of the named items, and those of the calls of helpers round them,
+    with the lines round these where they are known."""
     lines, told = lines_of(whole), list(places_of(whole))
     marked = {place["script_line"] for place, _ in told}
     near = lines_round(lines, [place for place, _ in told])
-    rows = [(number, "", quoted(raw.decode(errors="replace")), "") for number, raw in near.items() if number not in marked]
+    rows = [(number, "", quoted(raw.decode(errors="replace")), "") for number, raw in near.items()
+            if number not in marked]
     for place, words in told:
         raw = lines[place["script_line"]]
         text = marked_text(raw, place) if place["length"] else quoted(raw.decode(errors="replace"))
@@ -210,7 +216,8 @@ def source_table(whole):
 
 def refusal_section(whole):
     """A source that doesn't build."""
-    parts = [f"<h1>{quoted(whole['title'])}</h1>", f'<p class="dim">{quoted(whole["script"])}:{whole["spot"]["script_line"]}</p>']
+    parts = [f"<h1>{quoted(whole['title'])}</h1>",
+             f'<p class="dim">{quoted(whole["script"])}:{whole["spot"]["script_line"]}</p>']
     parts += [f"<p><b>Hint:</b> {quoted(hint)}</p>" for hint in whole["hints"]]
     parts += ["<h2>Source</h2>", f'<div class="wide">{source_table(whole)}</div>']
     return "".join(parts)

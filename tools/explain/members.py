@@ -1,10 +1,10 @@
-"""What a log of SARIF 2.1.0 has to hold, as far as tools/explain writes it: the members of each object, by its standard (OASIS SARIF 2.1.0,
-sections 3.13 to 3.38, and its schema)."""
+"""What a log of SARIF 2.1.0 has to hold, as far as tools/explain writes it: the members of each object, by its standard
+(OASIS SARIF 2.1.0, sections 3.13 to 3.38, and its schema)."""
 
 import re
 
-# A member is a kind of object, a list of one (which isn't empty where it is marked by +), or a plain type. A mark ! means that the standard
-# requires the member, or that code hosts do.
+# A member is a kind of object, a list of one (which isn't empty where it is marked by +), or a plain type. A mark !
+# means that the standard requires the member, or that code hosts do.
 KINDS = {
     "log": {"$schema": str, "version!": str, "runs!": ["run"]},
     "run": {"tool!": "tool", "columnKind": str, "results!": ["result"]},
@@ -13,8 +13,8 @@ KINDS = {
     "rule": {"id!": str, "name": str, "shortDescription": "text"},
     "text": {"text!": str},
     "result": {
-        "message!": "text", "ruleId!": str, "level": str, "locations!": ["location", "+"], "relatedLocations": ["location"],
-        "partialFingerprints": dict, "codeFlows": ["flow"],
+        "message!": "text", "ruleId!": str, "level": str, "locations!": ["location", "+"],
+        "relatedLocations": ["location"], "partialFingerprints": dict, "codeFlows": ["flow"],
     },
     "location": {"id": int, "physicalLocation!": "physical", "message": "text"},
     "physical": {"artifactLocation!": "artifact", "region!": "region", "contextRegion": "region"},
@@ -24,7 +24,8 @@ KINDS = {
     "thread": {"id": str, "locations!": ["step", "+"]},
     "step": {"location": "location", "executionOrder": int},
 }
-VALUES = {"version": ["2.1.0"], "columnKind": ["utf16CodeUnits", "unicodeCodePoints"], "level": ["none", "note", "warning", "error"]}
+VALUES = {"version": ["2.1.0"], "columnKind": ["utf16CodeUnits", "unicodeCodePoints"],
+          "level": ["none", "note", "warning", "error"]}
 # a reference to a file by RFC 3986, without a scheme
 REFERENCE = r"(?:[\w.~!$&'()*+,;=@/-]|%[0-9A-Fa-f]{2})+"
 
@@ -34,7 +35,8 @@ def wrong_members(value, kind="log", name="log"):
     if isinstance(kind, list):
         if not isinstance(value, list) or (kind[1:] and not value):
             return [f"{name} is no list with something in it"]
-        return [words for number, part in enumerate(value) for words in wrong_members(part, kind[0], f"{name}[{number}]")]
+        return [words for number, part in enumerate(value)
+                for words in wrong_members(part, kind[0], f"{name}[{number}]")]
     if not isinstance(kind, str):
         if isinstance(value, bool) or not isinstance(value, kind):
             return [f"{name} is {value!r}"]
@@ -62,4 +64,6 @@ def wrong_place(value, name):
         right = value["startLine"] >= 1 and first >= 1 and (end is None or end > first)
         return [] if right else [f"{name} is {value!r}"]
     prints = value.get("partialFingerprints", {})
-    return [f"{name}.partialFingerprints is {prints!r}"] if not all(isinstance(part, str) for part in prints.values()) else []
+    if all(isinstance(part, str) for part in prints.values()):
+        return []
+    return [f"{name}.partialFingerprints is {prints!r}"]

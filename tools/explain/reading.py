@@ -96,7 +96,8 @@ def turns_text(item):
 
 
 def argument_texts(whole):
-    """The parameters of the kernel for which the memory of a fault is the argument, each with the element in which the byte lies."""
+    """The parameters of the kernel for which the memory of a fault is the argument,
+    each with the element in which the byte lies."""
     memory, found = whole["memory"] or {"parameters": []}, []
     for parameter in memory["parameters"]:
         inside = parameter["element"] is not None and memory["byte"] is not None
@@ -111,7 +112,8 @@ def place_of(item):
 
 
 def text_of(line):
-    """The bytes of a line as an explanation tells them: of a line that is no UTF-8 with `?` for each byte beyond ASCII."""
+    """The bytes of a line as an explanation tells them: of a line that is no UTF-8 with `?` for each byte beyond
+    ASCII."""
     try:
         return line.decode()
     except UnicodeDecodeError:
@@ -127,8 +129,8 @@ def told_places(whole):
 
 
 def lines_of(whole):
-    """The lines of an explanation's script as bytes, by their numbers: all where the file of its name is there and has the lines that the
-    explanation tells, else these alone."""
+    """The lines of an explanation's script as bytes, by their numbers: all where the file of its name is there and has
+    the lines that the explanation tells, else these alone."""
     told = {place["script_line"]: place["text"] for place in told_places(whole)}
     try:
         with open(whole["script"], "rb") as file:

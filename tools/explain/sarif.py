@@ -49,7 +49,8 @@ def units(raw):
 
 
 def column_of(line, column):
-    """The column in UTF-16 code units of a column of a line in bytes; both count from 1. Of a line that isn't known each byte is one."""
+    """The column in UTF-16 code units of a column of a line in bytes; both count from 1.
+    Of a line that isn't known each byte is one."""
     return column if line is None else units(line[: column - 1]) + 1
 
 
@@ -62,7 +63,8 @@ def location(whole, lines, place, words=None):
     start = column_of(line, column)
     physical = {
         "artifactLocation": {"uri": quote(whole["script"])},
-        "region": {"startLine": number, "startColumn": start, "endColumn": start + max(1, units(text.encode())), "snippet": {"text": text}},
+        "region": {"startLine": number, "startColumn": start, "endColumn": start + max(1, units(text.encode())),
+                   "snippet": {"text": text}},
     }
     if is_whole:
         physical["contextRegion"] = {"startLine": number, "snippet": {"text": line.decode(errors="replace")}}
