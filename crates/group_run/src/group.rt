@@ -85,7 +85,7 @@ fn hit_fault<D: Described>(alloc: Global, launch: &D, hit: &Hit) -> Result<Box<F
 /// no part of `judge`, where each access would have to make room for a hit.
 #[cold]
 #[inline(never)]
-fn judge_hit<D: Described, L: AccessLog>(
+fn judge_conflicting<D: Described, L: AccessLog>(
     alloc: Global,
     launch: &D,
     log: &mut L,
@@ -113,7 +113,7 @@ fn judge<D: Described, L: AccessLog>(
     if log.note_if_clear(entry)? {
         return Ok(None);
     }
-    judge_hit(alloc, launch, log, entry)
+    judge_conflicting(alloc, launch, log, entry)
 }
 
 /// Begins the next interval of each address space that a barrier fences.

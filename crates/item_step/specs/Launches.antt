@@ -1,4 +1,4 @@
--- A launch as plain data, and what its items run.
+-- A launch as plain data, and what its items run (own).
 use Rattle.std.specs.Prelude.{ℕ, length}
 use Rattle.clmodel.specs.Setup.{Setup}
 use Rattle.item_step.specs.Setups.{plain}

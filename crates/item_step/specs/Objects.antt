@@ -1,4 +1,4 @@
--- The local objects of a launch, as a program lists them.
+-- The local objects of a launch, as a program lists them (own, on OpenCL 1.2, 6.5.2).
 use Rattle.std.specs.Prelude.{◌≡◌, ℕ, ◌-◌, ◌^◌, Bool, nat_lt, Option, None, Some, List, [], ◌∷◌, map, min}
 use Rattle.std.specs.List.{sum_by}
 use Rattle.clmodel.specs.Setup.{LocalObject, local_limit}

@@ -1,4 +1,4 @@
--- What a launch runs, as plain data, and the code that may run it.
+-- What a launch runs, as plain data, and the code that may run it (own).
 use Rattle.std.specs.Prelude.{◌≡◌, ℕ, List}
 use Rattle.clmodel.specs.Next.{next}
 use Rattle.clmodel.specs.Setup as model

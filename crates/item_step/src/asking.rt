@@ -172,7 +172,8 @@ fn fetch_if_equal(
     })
 }
 
-/// What an instruction asks; an instruction that asks nothing has ended.
+/// What the instruction asks at which an item rests; `Finish` at the kernel's end, and where an operand is of a wrong
+/// kind.
 pub(crate) fn wanted(
     machine: &Machine<'_>,
     instruction: &Instruction,

@@ -7,7 +7,7 @@ use clmodel::action::{Cause, Fences};
 /// What an item does next. The turns of the loops round a barrier are the outermost `depth` of those of the item.
 #[derive(Clone, Copy)]
 pub enum BriefAction {
-    /// A load, a store or an atomic update of an element of an object
+    /// A load, a store, an atomic update or a fetch of an element of an object
     Access {
         object: Object,
         element: i64,

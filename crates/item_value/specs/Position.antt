@@ -1,4 +1,4 @@
--- The item that is evaluated.
+-- The item that is evaluated (OpenCL 1.2, 3.2).
 use Rattle.clmodel.specs.Next.{ItemPosition}
 use Rattle.item_value.specs.declared.position.ItemPosition as rust_position
 

@@ -1,4 +1,4 @@
--- How an operand is read.
+-- How an operand is read (own).
 use Rattle.std.specs.Prelude.{◌≡◌, ℕ, Option, None, Some, Result, Ok, Err, slice_get}
 use Rattle.clmodel.specs.Next.{Continuation, finish, known}
 use Rattle.register_values.specs.Leading.{Leads}

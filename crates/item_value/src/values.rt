@@ -26,8 +26,8 @@ use clmodel::setup::WorkItemFunction;
 use clmodel::tree::VariableType;
 use clnum::{BinaryOperator, Builtin, IntType, UnaryOperator};
 use register_values::kept_values::{
-    binary_operation_on_values, binary_result, common_value, converted_value, held, moved_value,
-    pointer_of, tested_value, unary_of,
+    binary_operation_on_values, common_value, converted_value, held, moved_value, pointer_of,
+    tested_value, unary_of,
 };
 use register_values::operators::{of_one, of_two};
 use register_values::pointers::{index_of, number};
@@ -71,22 +71,6 @@ pub(crate) fn assign(
     match kept_operand(registers, from) {
         Ok(value) => Ok(held(kind, value)),
         Err(termination) => Err(termination),
-    }
-}
-
-/// An operand as a variable of a type holds it, which mostly is of that type.
-#[inline(always)]
-pub fn assign_as(
-    registers: RegisterFile<'_>,
-    from: u32,
-    kind: IntType,
-) -> Result<RegisterValue, Termination>
-    ensures { (after : Option Operand → Continuation) → Leads result (reads registers.entry from (λ v. after (Some (next.held (variable_type.Integer kind) v)))) after }
-{
-    let value = kept(registers.values, from);
-    match value.bits_as(kind) {
-        Some(_) => Ok(value),
-        None => assign(registers, from, VariableType::Integer(kind)),
     }
 }
 
@@ -148,26 +132,6 @@ pub(crate) fn apply_binary(
             Err(termination) => Err(termination),
         },
         Err(termination) => Err(termination),
-    }
-}
-
-/// An operator on two values, which mostly are numbers of these types.
-#[inline(always)]
-pub fn apply_binary_to(
-    registers: RegisterFile<'_>,
-    operator: BinaryOperator,
-    kinds: (IntType, IntType),
-    left: u32,
-    right: u32,
-) -> Result<RegisterValue, Termination>
-    ensures { (after : Option Operand → Continuation) → Leads result (reads registers.entry left (λ v. reads registers.entry right (λ w. next.binary_operation operator v w (λ x. after (Some x))))) after }
-{
-    match kept(registers.values, left).bits_as(kinds.0) {
-        Some(v) => match kept(registers.values, right).bits_as(kinds.1) {
-            Some(w) => binary_result(operator, kinds.0, v, kinds.1, w),
-            None => apply_binary(registers, operator, left, right),
-        },
-        None => apply_binary(registers, operator, left, right),
     }
 }
 

@@ -1,15 +1,13 @@
 //! Logs: they keep what they kept where memory is refused. `len` of `GroupLog` is how many accesses it tells other
 //! groups, of the other two how many they have.
 
-ghost use Rattle.shadow_list.specs.Log.{IsPlaced};
-
 use crate::came::{Came, done_if, is_done};
 use clmodel::access::{Operation, Region, Width};
 use group_log::GroupLog;
 use page_log::PageLog;
 use shadow::GroupAccesses;
-use shadow_list::{AccessLog, Entry, Hit, ListLog};
-use std::alloc::{AllocError, Global};
+use shadow_list::{AccessLog, Entry, ListLog};
+use std::alloc::Global;
 
 /// How many items store. With so many, a note of a conflict takes memory in each log.
 const ITEMS: u8 = 6;
@@ -19,16 +17,6 @@ const OTHER: u8 = ITEMS;
 
 /// What each of them does to two words.
 const STORE: Operation = Operation::Store(Width::Eight, 7);
-
-/// Notes an access as a group does: `note` judges it where the log doesn't see at once that it conflicts with none.
-fn judged<L: AccessLog>(log: &mut L, entry: Entry) -> Result<Option<Hit>, AllocError>
-    requires { IsPlaced entry }
-{
-    if log.note_if_clear(entry)? {
-        return Ok(None);
-    }
-    log.note(entry)
-}
 
 /// What comes of noting an item's operation from a word of buffer 0 on, which meets another at its first byte or meets
 /// none: the log's `len` is one more, or, out of memory, what it was.
@@ -41,10 +29,13 @@ fn noted<L: AccessLog + GroupAccesses>(
 ) -> Came {
     let first = 4 * word as u64;
     let before = log.len();
-    let outcome = judged(
-        log,
-        Entry::of(item as u32, Region::Buffer(0), first, operation, 0),
-    );
+    let entry = Entry::of(item as u32, Region::Buffer(0), first, operation, 0);
+    // As a group does: `note` judges what the log doesn't see at once to conflict with none.
+    let outcome = match log.note_if_clear(entry) {
+        Ok(true) => Ok(None),
+        Ok(false) => log.note(entry),
+        Err(error) => Err(error),
+    };
     let after = log.len();
     let is_kept = after == before.wrapping_add(1);
     match outcome {

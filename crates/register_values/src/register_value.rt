@@ -151,7 +151,7 @@ impl RegisterValue {
 
     /// The low 64 bits of the number of a type that a register has, if it has one.
     #[inline(always)]
-    pub fn bits_as(self, kind: IntType) -> Option<u64>
+    pub(crate) fn bits_as(self, kind: IntType) -> Option<u64>
         ensures { IfSome result (λ bits. (self ≡ Some (operand.Integral (kept.integer kind bits))) × IsIn kind (kept.number_of kind bits)) }
     {
         match self.form {
