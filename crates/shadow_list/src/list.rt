@@ -6,7 +6,6 @@ ghost use Rattle.shadow_list.specs.Index.{IsIndexed};
 ghost use Rattle.shadow_list.specs.Log.{IsPlaced, IsNoted, IsKeptOnce, stamped, logged, fresh_log, in_buffer, across};
 ghost use Rattle.shadow_list.specs.Past.{IsBefore};
 
-use crate::access_list::AccessList;
 use crate::index::{Index, hit_from, is_there, keep};
 use crate::log::{AccessLog, Accesses, Entry, Fenced, Hit, Logged, stamped};
 use crate::search::hit;
@@ -90,23 +89,6 @@ impl ListLog {
         let mut log = self;
         log.clear();
         log
-    }
-
-    /// The accesses of the log alone, for a result that is kept and asked for all of them: the join of running groups
-    /// asks for fewer. The index is given back, and memory to spare too, where the smaller block isn't refused: nothing
-    /// is lost where it is.
-    pub fn into_list(self) -> AccessList
-        ensures { logged result.entries.items result.local_interval result.global_interval result.uniform ≡ logged self.entries.items self.local_interval self.global_interval self.uniform }
-    {
-        drop(self.index);
-        let mut entries = self.entries;
-        entries.shrink_to_fit();
-        AccessList {
-            entries,
-            local_interval: self.local_interval,
-            global_interval: self.global_interval,
-            uniform: self.uniform,
-        }
     }
 
     /// From where on the entries are that an access of a region can conflict with or be equal to: none before is of its
