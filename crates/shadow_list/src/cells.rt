@@ -37,15 +37,4 @@ impl Cells {
             apart: Vec::new(alloc),
         }
     }
-
-    /// Forgets all accesses, and keeps the memory.
-    pub fn clear(&mut self)
-        ensures starts { IsEmpty self.new.starts }
-        ensures words { self.new.words.items ≡ [] }
-        ensures apart { self.new.apart.items ≡ [] }
-    {
-        self.starts.clear();
-        self.words.clear();
-        self.apart.clear();
-    }
 }

@@ -39,18 +39,6 @@ impl Index {
         }
     }
 
-    /// Forgets all accesses, and keeps the memory.
-    pub(crate) fn clear(&mut self)
-        ensures indexed { IsIndexed [] self.new }
-        ensures newest { IsEmpty self.new.newest }
-        ensures starts { IsEmpty self.new.cells.starts }
-        ensures words { self.new.cells.words.items ≡ [] }
-        ensures apart { self.new.cells.apart.items ≡ [] }
-    {
-        self.newest.clear();
-        self.cells.clear();
-    }
-
     /// The place of the newest access of a key.
     fn newest(&self, key: AccessKey) -> usize
         ensures { result ≡ newest_of self.now.newest key }
