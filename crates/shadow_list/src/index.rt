@@ -1,6 +1,6 @@
 //! Where the accesses of a log are, and what of them is kept at each byte.
 
-ghost use Rattle.std.specs.Prelude.{◌≡◌, ◌+◌, ◌*◌, ◌<◌, ◌≤◌, ◌^◌, length, [], ◌∷◌, ◌++◌, if◌then◌else◌, All, IsTrue, is_ok, false, true, drop};
+ghost use Rattle.std.specs.Prelude.{◌≡◌, ◌≤◌, length, [], ◌∷◌, ◌++◌, if◌then◌else◌, All, IsTrue, is_ok, false, drop};
 ghost use Rattle.std.specs.HashMap.{get, IsEmpty};
 ghost use Rattle.clmodel.specs.Launch.{within_group};
 ghost use Rattle.shadow_list.specs.Index.{newest_of, IsIndexed};

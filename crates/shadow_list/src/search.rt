@@ -1,6 +1,6 @@
 //! The conflicts of an access with many.
 
-ghost use Rattle.std.specs.Prelude.{◌≡◌, ◌+◌, ◌<◌, ◌^◌, ℕ, false, None, All, IsTrue};
+ghost use Rattle.std.specs.Prelude.{◌≡◌, ℕ, false, None, All, IsTrue};
 ghost use Rattle.shadow_list.specs.Log.{IsPlaced, IsThere, hit_on, hit};
 
 use crate::compare::{hit_between, may_conflict};
