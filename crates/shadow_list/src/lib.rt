@@ -20,7 +20,6 @@ mod search;
 mod sizes;
 mod word;
 
-pub use cells::Cells;
 pub use compare::{hit_between, left_at};
 pub use keys::object_number;
 pub use kinds::{both_store, clash, kind_number};
