@@ -4,8 +4,7 @@ use Rattle.clmodel.specs.Launch.{class_number}
 use Rattle.clmodel.specs.declared.access.AccessKind.{AccessKind}
 use Rattle.clmodel.specs.declared.access.AccessKind.TheVariants as kind
 
--- a number for each kind: kinds that don't conflict with one another have the same, and of two fetches, which do, too
--- (own)
+-- the number of a kind: two kinds have one number only where they are equal (own)
 abbrev pub kind_number : AccessKind → ℕ
 kind_number kind.Load = 8
 kind_number kind.Store = 9

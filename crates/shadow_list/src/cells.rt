@@ -15,7 +15,7 @@ use std::collections::HashMap;
 /// What is kept of the accesses to each byte, in cells of eight bytes, which are two words of four: where the two words
 /// of a cell start, for those that were accessed.
 #[derive(Drop)]
-pub struct Cells {
+pub(crate) struct Cells {
     pub(crate) starts: HashMap<CellKey, usize>,
     pub(crate) words: Vec<Word>,
     /// What is kept of the bytes of those words that were not only accessed as a whole, four for each
@@ -26,7 +26,7 @@ pub struct Cells {
 
 impl Cells {
     /// No cells. It takes no memory.
-    pub fn new(alloc: Global) -> Self
+    pub(crate) fn new(alloc: Global) -> Self
         ensures starts { IsEmpty result.starts }
         ensures words { result.words.items ≡ [] }
         ensures apart { result.apart.items ≡ [] }
@@ -36,16 +36,5 @@ impl Cells {
             words: Vec::new(alloc),
             apart: Vec::new(alloc),
         }
-    }
-
-    /// Forgets all accesses, and keeps the memory.
-    pub fn clear(&mut self)
-        ensures starts { IsEmpty self.new.starts }
-        ensures words { self.new.words.items ≡ [] }
-        ensures apart { self.new.apart.items ≡ [] }
-    {
-        self.starts.clear();
-        self.words.clear();
-        self.apart.clear();
     }
 }

@@ -3,7 +3,7 @@
 ghost use Rattle.std.specs.Prelude.{◌≡◌, ◌+◌, ◌<◌, ◌^◌, ℕ, false, None};
 ghost use Rattle.clmodel.specs.Cells.{byte_count, byte_of, covers};
 ghost use Rattle.clmodel.specs.Launch.{unordered, share, same_region, left_at, same_store, clash_at, conflict_between};
-ghost use Rattle.shadow_list.specs.Log.{IsPlaced, hit_between};
+ghost use Rattle.shadow_list.specs.Log.{hit_between};
 
 use crate::kinds::{both_store, clash};
 use crate::log::{Entry, Hit};

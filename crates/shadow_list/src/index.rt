@@ -1,8 +1,7 @@
 //! Where the accesses of a log are, and what of them is kept at each byte.
 
-ghost use Rattle.std.specs.Prelude.{◌≡◌, ◌+◌, ◌*◌, ◌<◌, ◌≤◌, ◌^◌, ℕ, length, [], ◌∷◌, ◌++◌, if◌then◌else◌, All, IsTrue, is_ok, false, true, drop};
+ghost use Rattle.std.specs.Prelude.{◌≡◌, ◌≤◌, length, [], ◌∷◌, ◌++◌, if◌then◌else◌, All, IsTrue, is_ok, false, drop};
 ghost use Rattle.std.specs.HashMap.{get, IsEmpty};
-ghost use Rattle.clmodel.specs.Cells.{byte_count};
 ghost use Rattle.clmodel.specs.Launch.{within_group};
 ghost use Rattle.shadow_list.specs.Index.{newest_of, IsIndexed};
 ghost use Rattle.shadow_list.specs.Keys.{cell_key, same_cell};
@@ -37,18 +36,6 @@ impl Index {
             newest: HashMap::new(alloc),
             cells: Cells::new(alloc),
         }
-    }
-
-    /// Forgets all accesses, and keeps the memory.
-    pub(crate) fn clear(&mut self)
-        ensures indexed { IsIndexed [] self.new }
-        ensures newest { IsEmpty self.new.newest }
-        ensures starts { IsEmpty self.new.cells.starts }
-        ensures words { self.new.cells.words.items ≡ [] }
-        ensures apart { self.new.cells.apart.items ≡ [] }
-    {
-        self.newest.clear();
-        self.cells.clear();
     }
 
     /// The place of the newest access of a key.

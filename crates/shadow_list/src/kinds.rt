@@ -23,7 +23,7 @@ fn class_number(class: Class) -> u8
     }
 }
 
-/// The number of a kind: kinds that don't conflict with one another have the same, and of two fetches, which do, too.
+/// The number of a kind: two kinds have one number only where they are equal.
 pub fn kind_number(kind: AccessKind) -> u8
     ensures value { result ≡ kind_number kind }
     ensures small { result < 11 }

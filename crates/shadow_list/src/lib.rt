@@ -1,13 +1,12 @@
 //! Access logs of work-groups: which accesses conflict.
 //!
 //! `note` answers exactly the conflict of the canonical report (the lowest byte, there the earliest access), by the
-//! rule of the log's launch, uniform or not. An error leaves the log. `ListLog` keeps all accesses, each once;
-//! `into_list` gives them with the intervals and the flag. `conflicts_with` compares all pairs of two groups' accesses,
-//! and only tests use it. `Cells` keeps what is known of a word of four bytes, or of a byte where a word was accessed
-//! in part. `Entry::of` makes an access of an operation, in one place for all crates.
+//! rule of the log's launch, uniform or not. An error leaves the log. `ListLog` keeps all accesses, each once.
+//! `conflicts_with` compares all pairs of two groups' accesses, and only tests use it. `Cells` keeps what is known of a
+//! word of four bytes, or of a byte where a word was accessed in part. `Entry::of` makes an access of an operation, in
+//! one place for all crates.
 #![tactic(auto)]
 
-mod access_list;
 mod cells;
 mod compare;
 mod index;
@@ -21,8 +20,6 @@ mod search;
 mod sizes;
 mod word;
 
-pub use access_list::AccessList;
-pub use cells::Cells;
 pub use compare::{hit_between, left_at};
 pub use keys::object_number;
 pub use kinds::{both_store, clash, kind_number};

@@ -6,7 +6,6 @@ ghost use Rattle.shadow_list.specs.Index.{IsIndexed};
 ghost use Rattle.shadow_list.specs.Log.{IsPlaced, IsNoted, IsKeptOnce, stamped, logged, fresh_log, in_buffer, across};
 ghost use Rattle.shadow_list.specs.Past.{IsBefore};
 
-use crate::access_list::AccessList;
 use crate::index::{Index, hit_from, is_there, keep};
 use crate::log::{AccessLog, Accesses, Entry, Fenced, Hit, Logged, stamped};
 use crate::search::hit;
@@ -26,7 +25,7 @@ use std::alloc::{AllocError, Global};
 /// alone that tell other groups something new. This list, of all of them, is for results that are merged whole: `get`,
 /// `len` and `conflicts_with` ask it. `note` reads one entry of it at most, that of the same key: but where an access
 /// may conflict, all entries since the barrier are walked for the exact answer, which ends a launch where there is a
-/// conflict. `fence` and `cleared` read none.
+/// conflict. `fence` reads none.
 #[derive(Drop)]
 pub struct ListLog {
     entries: Vec<Entry>,
@@ -63,49 +62,6 @@ impl ListLog {
             local_first: 0,
             global_first: 0,
             index: Index::new(alloc),
-        }
-    }
-
-    /// Forgets all accesses, as `new` begins, and keeps the memory.
-    fn clear(&mut self)
-        ensures { logged self.new.entries.items self.new.local_interval self.new.global_interval self.new.uniform ≡ fresh_log self.old.uniform }
-    {
-        self.entries.clear();
-        self.local_interval = 0;
-        self.global_interval = 0;
-        self.local_first = 0;
-        self.global_first = 0;
-        self.index.clear();
-    }
-
-    /// A log without accesses, in the first interval of both address spaces, of the same launch and in the memory of
-    /// this one. The memory is given back where less than an eighth of it was in use: to clear it takes time in
-    /// proportion to all of it.
-    pub fn cleared(self, alloc: Global) -> Self
-        ensures { logged result.entries.items result.local_interval result.global_interval result.uniform ≡ fresh_log self.uniform }
-    {
-        if self.entries.len() < self.entries.capacity() / 8 {
-            return ListLog::new(alloc, self.uniform);
-        }
-        let mut log = self;
-        log.clear();
-        log
-    }
-
-    /// The accesses of the log alone, for a result that is kept and asked for all of them: the join of running groups
-    /// asks for fewer. The index is given back, and memory to spare too, where the smaller block isn't refused: nothing
-    /// is lost where it is.
-    pub fn into_list(self) -> AccessList
-        ensures { logged result.entries.items result.local_interval result.global_interval result.uniform ≡ logged self.entries.items self.local_interval self.global_interval self.uniform }
-    {
-        drop(self.index);
-        let mut entries = self.entries;
-        entries.shrink_to_fit();
-        AccessList {
-            entries,
-            local_interval: self.local_interval,
-            global_interval: self.global_interval,
-            uniform: self.uniform,
         }
     }
 

@@ -1,6 +1,6 @@
 //! What an access log is.
 
-ghost use Rattle.std.specs.Prelude.{◌≡◌, ◌<◌, ◌+◌, ◌-◌, ◌^◌, ℕ, length, slice_index_or};
+ghost use Rattle.std.specs.Prelude.{◌≡◌, ◌<◌, ◌-◌, ◌^◌, length, slice_index_or};
 ghost use Rattle.clmodel.specs.Run.{by_region};
 ghost use Rattle.shadow_list.specs.Clear.{IsNotedIfClear};
 ghost use Rattle.shadow_list.specs.Log.{Log, IsNoted, IsPlaced, entry_of, running, after_fence};

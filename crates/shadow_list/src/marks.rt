@@ -1,6 +1,6 @@
 //! How the bytes of each cell were accessed last: what is kept, and what it tells of a new access.
 
-ghost use Rattle.std.specs.Prelude.{◌≡◌, ◌+◌, ◌*◌, ◌/◌, ◌%◌, ◌<◌, ◌≤◌, ◌^◌, ℕ, true, length, None, Some, slice_index_or, IsTrue, OnOk, IfOk, IfSome};
+ghost use Rattle.std.specs.Prelude.{◌≡◌, ◌+◌, ◌%◌, ◌<◌, ◌≤◌, ◌^◌, ℕ, length, None, Some, slice_index_or, IsTrue, OnOk, IfOk};
 ghost use Rattle.std.specs.HashMap.{get};
 ghost use Rattle.clmodel.specs.Cells.{byte_count};
 ghost use Rattle.clmodel.specs.Launch.{within_group, conflict_between};
@@ -50,7 +50,7 @@ fn add_start(
 
 impl Cells {
     /// Where the words of the cell of a byte start, if it is there.
-    pub fn found(&self, region: Region, byte: u64) -> Option<usize>
+    pub(crate) fn found(&self, region: Region, byte: u64) -> Option<usize>
         ensures { result ≡ get same_cell self.now.starts (cell_key region byte) }
     {
         self.starts.get(&cell_key(region, byte)).copied()
@@ -90,7 +90,7 @@ impl Cells {
 
     /// Whether an access conflicts with none of those that are kept, by where the cell of its first byte starts, in a
     /// launch that is uniform or not.
-    pub fn is_clear(&self, cell: Option<usize>, uniform: bool, x: &Access) -> bool
+    pub(crate) fn is_clear(&self, cell: Option<usize>, uniform: bool, x: &Access) -> bool
         requires short { x.now.first + byte_count x.now.width < 2 ^ 64 }
         requires found { cell ≡ get same_cell self.now.starts (cell_key x.now.region x.now.first) }
         ensures { IsTrue result → (y : TheAccess) (byte : ℕ) → IsMarked self.now y → conflict_between (within_group uniform) y x.now byte ≡ None }
@@ -228,7 +228,7 @@ impl Cells {
     }
 
     /// Keeps an access, by where the cell of its first byte starts. Where memory is refused a part of it may be kept.
-    pub fn mark(&mut self, cell: Option<usize>, x: &Access) -> Result<(), AllocError>
+    pub(crate) fn mark(&mut self, cell: Option<usize>, x: &Access) -> Result<(), AllocError>
         requires short { x.now.first + byte_count x.now.width < 2 ^ 64 }
         requires found { cell ≡ get same_cell self.old.starts (cell_key x.now.region x.now.first) }
         ensures kept { (y : TheAccess) → IsMarked self.old y → IsMarked self.new y }

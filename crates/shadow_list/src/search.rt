@@ -1,8 +1,7 @@
 //! The conflicts of an access with many.
 
-ghost use Rattle.std.specs.Prelude.{◌≡◌, ◌+◌, ◌<◌, ◌^◌, ℕ, false, None, All, IsTrue};
-ghost use Rattle.clmodel.specs.Cells.{byte_count};
-ghost use Rattle.shadow_list.specs.Log.{IsPlaced, IsThere, hit_on, hit_from, hit};
+ghost use Rattle.std.specs.Prelude.{◌≡◌, ℕ, false, None, All, IsTrue};
+ghost use Rattle.shadow_list.specs.Log.{IsPlaced, IsThere, hit_on, hit};
 
 use crate::compare::{hit_between, may_conflict};
 use crate::log::{Entry, Hit};
