@@ -1,4 +1,5 @@
 mod Fours
+mod Kinds
 mod Keeping
 mod Looking
 mod Making
