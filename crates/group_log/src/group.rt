@@ -72,15 +72,6 @@ impl GroupLog {
         self.whole = Whole::new();
     }
 
-    /// A log without accesses, in the first interval of both address spaces, of the same launch: this one, cleared.
-    pub fn cleared(self, alloc: Global) -> Self
-        ensures { log_of result ≡ fresh_log self.global.uniform }
-    {
-        let mut log = self;
-        log.clear(alloc);
-        log
-    }
-
     /// Whether the launch is uniform.
     pub fn is_uniform(&self) -> bool
         ensures { result ≡ self.now.global.uniform }
