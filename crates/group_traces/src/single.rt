@@ -1,7 +1,6 @@
 //! What is kept of a word of which each byte was accessed once.
 
 ghost use Rattle.std.specs.Prelude.{◌≡◌, ◌<◌, ◌≤◌, ◌==◌, ◌+◌, ◌%◌, ◌^◌, ℕ, false, true, slice_index_or};
-ghost use Rattle.shadow.specs.Seen.{mark_of};
 ghost use Rattle.shadow_list.specs.Kinds.{kind_number};
 ghost use Rattle.group_traces.specs.Traces.{untouched, first_in, part_with, single_byte, HoldsByte, HoldsBytes};
 
