@@ -86,7 +86,9 @@ impl GroupLog {
 
     /// The accesses that tell other groups something new, in a block of their own size. An error is out of memory.
     pub fn list(&self, alloc: Global) -> Result<AccessSummary, AllocError>
-        ensures { IfOk result (λ list. StandsWith list.has_last list.entries.items (all_of self.now.whole.items)) }
+        ensures entries { IfOk result (λ list. list.entries.items ≡ self.now.lasting.entries.items) }
+        ensures has_last { IfOk result (λ list. list.has_last ≡ self.now.lasting.has_last) }
+        ensures stands { IfOk result (λ list. StandsWith list.has_last list.entries.items (all_of self.now.whole.items)) }
     {
         self.lasting.list(alloc)
     }
