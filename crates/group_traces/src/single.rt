@@ -1,7 +1,6 @@
 //! What is kept of a word of which each byte was accessed once.
 
-ghost use Rattle.std.specs.Prelude.{◌≡◌, ◌<◌, ◌≤◌, ◌==◌, ◌+◌, ◌%◌, ◌^◌, ℕ, false, true, slice_index_or};
-ghost use Rattle.shadow_list.specs.Kinds.{kind_number};
+ghost use Rattle.std.specs.Prelude.{◌≡◌, ◌<◌, ◌≤◌, ◌+◌, ◌%◌, ◌^◌, ℕ, false, true, slice_index_or};
 ghost use Rattle.group_traces.specs.Traces.{untouched, first_in, part_with, single_byte, HoldsByte, HoldsBytes};
 
 use crate::trace::Trace;
@@ -36,7 +35,7 @@ pub struct Singles {
 #[inline(always)]
 pub(crate) fn is_same(kind: AccessKind, other: AccessKind) -> bool
     ensures same { result ≡ true → kind ≡ other }
-    ensures other { result ≡ false → (kind_number kind == kind_number other) ≡ false }
+    ensures other { result ≡ false → kind ≡ other → ⊥ }
 {
     kind == other
 }
