@@ -1,6 +1,6 @@
 mod Fours
-mod Kinds
 mod Keeping
+mod KindNumbers
 mod Looking
 mod Making
 mod Once

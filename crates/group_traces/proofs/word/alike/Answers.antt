@@ -6,7 +6,7 @@ use Rattle.shadow.specs.declared.words.WordMark.{WordMark}
 use Rattle.shadow.proofs.Meetings.{sort_from}
 use Rattle.shadow_list.specs.Kinds.{kind_number}
 use Rattle.group_traces.proofs.Fours.{each_of_four}
-use Rattle.group_traces.proofs.Kinds.{same_kind}
+use Rattle.group_traces.proofs.KindNumbers.{same_kind}
 use Rattle.group_traces.proofs.word.alike.Goals as goal
 
 pub returns-then-not-is_same : goal.returns-then-not-is_same
@@ -17,12 +17,12 @@ returns-then-not-is_same c =
     let none : (k : ℕ) → false ≡ one_sort (byte_mark a k) (byte_mark b k) = λ k. sym (ap (λ q. q && ((byte_mark a k).left == (byte_mark b k).left)) other) in
     each_of_four (λ k. get_or (false ∷ false ∷ false ∷ false ∷ []) k false ≡ one_sort (byte_mark a k) (byte_mark b k)) (none 0) (none 1) (none 2) (none 3)
 
-pub returns-then-a-eq-b : goal.returns-then-a-eq-b
-returns-then-a-eq-b c =
+pub returns-then-a-b : goal.returns-then-a-b
+returns-then-a-b c =
     let a : WordMark = c.args.a in
     let b : WordMark = c.args.b in
     let all : (k : ℕ) → true ≡ one_sort (byte_mark a k) (byte_mark b k) =
-    λ k. sym (sort_from (byte_mark a k) (byte_mark b k) (ap kind_number (c.is_same.ensures.same c.if-not-is_same.false)) (ap (byte_of k) c.if-a-eq-b.true)) in
+    λ k. sym (sort_from (byte_mark a k) (byte_mark b k) (ap kind_number (c.is_same.ensures.same c.if-not-is_same.false)) (ap (byte_of k) c.if-a-b.true)) in
     each_of_four (λ k. get_or (true ∷ true ∷ true ∷ true ∷ []) k false ≡ one_sort (byte_mark a k) (byte_mark b k)) (all 0) (all 1) (all 2) (all 3)
 
 pub returns : goal.returns

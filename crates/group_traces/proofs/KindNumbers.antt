@@ -12,6 +12,7 @@ kind_of n =
     ∷ kind.Update class.UnsignedMax ∷ kind.Load ∷ kind.Store ∷ kind.Fetch ∷ []) n kind.Load
 
 kind_back : (k : AccessKind) → kind_of (kind_number k) ≡ k
+unfolding kind_of
 kind_back kind.Load = refl
 kind_back kind.Store = refl
 kind_back (kind.Update class.Add) = refl
