@@ -1,6 +1,6 @@
 //! The log of a group that is running.
 
-ghost use Rattle.std.specs.Prelude.{◌≡◌, ◌<◌, ◌-◌, ◌^◌, [], List, IfOk, OnOk, OnErr, false, true};
+ghost use Rattle.std.specs.Prelude.{◌≡◌, [], List, IfOk, OnOk, OnErr, false, true};
 ghost use Rattle.clmodel.specs.declared.access.Access.{Access as TheAccess};
 ghost use Rattle.shadow.specs.Lasting.{StandsWith, Absorbed};
 ghost use Rattle.shadow_list.specs.Clear.{IsNotedIfClear};
@@ -72,15 +72,6 @@ impl GroupLog {
         self.whole = Whole::new();
     }
 
-    /// A log without accesses, in the first interval of both address spaces, of the same launch: this one, cleared.
-    pub fn cleared(self, alloc: Global) -> Self
-        ensures { log_of result ≡ fresh_log self.global.uniform }
-    {
-        let mut log = self;
-        log.clear(alloc);
-        log
-    }
-
     /// Whether the launch is uniform.
     pub fn is_uniform(&self) -> bool
         ensures { result ≡ self.now.global.uniform }
@@ -95,7 +86,9 @@ impl GroupLog {
 
     /// The accesses that tell other groups something new, in a block of their own size. An error is out of memory.
     pub fn list(&self, alloc: Global) -> Result<AccessSummary, AllocError>
-        ensures { IfOk result (λ list. StandsWith list.has_last list.entries.items (all_of self.now.whole.items)) }
+        ensures entries { IfOk result (λ list. list.entries.items ≡ self.now.lasting.entries.items) }
+        ensures has_last { IfOk result (λ list. list.has_last ≡ self.now.lasting.has_last) }
+        ensures stands { IfOk result (λ list. StandsWith list.has_last list.entries.items (all_of self.now.whole.items)) }
     {
         self.lasting.list(alloc)
     }

@@ -3,7 +3,7 @@
 //!
 //! `note` answers exactly what the log of all accesses would, although only accesses are kept that tell a conflict
 //! anew. The list of all is there for proofs alone. What `list` copies for other groups stands for all accesses, and
-//! `cleared` leaves a log as a new one. A log may go from one thread to another. No clause says how much is kept. The
+//! `clear` leaves a log as a new one. A log may go from one thread to another. No clause says how much is kept. The
 //! crate knows no memory and no item.
 #![tactic(auto)]
 

@@ -1,15 +1,14 @@
 //! The accesses of the running interval of one address space.
 
-ghost use Rattle.std.specs.Prelude.{◌≡◌, ◌+◌, ◌-◌, ◌<◌, ◌^◌, ◌++◌, ◌∷◌, [], ℕ, Bool, List, Some, None, true, unwrap_or, All, IsTrue, IfSome, IfOk, OnOk, OnErr, MatchOption};
-ghost use Rattle.clmodel.specs.Cells.{byte_count, covers};
+ghost use Rattle.std.specs.Prelude.{◌≡◌, ◌+◌, ◌-◌, ◌<◌, ◌^◌, ◌++◌, ◌∷◌, [], ℕ, List, None, true, unwrap_or, All, OnOk, OnErr};
+ghost use Rattle.clmodel.specs.Cells.{byte_count};
 ghost use Rattle.clmodel.specs.Launch.{within_group, conflict_between};
 ghost use Rattle.clmodel.specs.declared.access.Access.{Access as TheAccess};
-ghost use Rattle.group_traces.specs.Cells.{IsNear};
 ghost use Rattle.shadow.specs.Lasting.{Absorbed};
 ghost use Rattle.shadow_list.specs.Log.{IsPlaced, hit, in_buffer};
 ghost use Rattle.shadow_list.specs.declared.log.Entry.{Entry as TheEntry};
 ghost use Rattle.group_log.specs.Covers.{Covers};
-ghost use Rattle.group_log.specs.Stands.{region_at, number_of, AllStand, AllTake};
+ghost use Rattle.group_log.specs.Stands.{region_at, number_of, AllStand};
 
 use clmodel::access::{Access, Region, Rule};
 use entry_lines::EntryLines;

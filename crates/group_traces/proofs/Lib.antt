@@ -1,5 +1,6 @@
 mod Fours
 mod Keeping
+mod KindNumbers
 mod Looking
 mod Making
 mod Once

@@ -42,7 +42,7 @@ Holds x first count (word.Whole w) = count ≡ 4
 Holds x first count (word.Single how who) = HoldsBytes (record { how = how; who = who }) x first count
 Holds x first count (word.Apart at) = ⊥
 
--- they are, at this place (own)
+-- the bytes of a word are kept apart, at this place (own)
 abbrev pub IsApart : Word → ℕ → Type 0
 IsApart w at = w ≡ word.Apart at
 

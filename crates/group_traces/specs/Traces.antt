@@ -51,7 +51,7 @@ abbrev pub word_byte : WordTrace → ℕ → Trace
 word_byte w k =
     record { interval = w.interval; mark = byte_mark w.mark k; touched = true; many = w.many; mixed = slice_index_or w.mixed k false; several = slice_index_or w.several k false }
 
--- where the bytes of an access begin in a word, and what they leave of byte k of it (own)
+-- what is kept of byte k of a word, with an access at so many of its bytes from the first on (own)
 abbrev pub part_with : Access → ℕ → ℕ → ℕ → Trace → Trace
 part_with x first count k t = if covers (first % 4) count k then trace_with t x.interval (mark_of x (first - first % 4 + k)) else t
 

@@ -1,7 +1,6 @@
 //! What is kept of a word of which each byte was accessed once.
 
 ghost use Rattle.std.specs.Prelude.{◌≡◌, ◌<◌, ◌≤◌, ◌+◌, ◌%◌, ◌^◌, ℕ, false, true, slice_index_or};
-ghost use Rattle.shadow.specs.Seen.{mark_of};
 ghost use Rattle.group_traces.specs.Traces.{untouched, first_in, part_with, single_byte, HoldsByte, HoldsBytes};
 
 use crate::trace::Trace;
@@ -35,7 +34,8 @@ pub struct Singles {
 /// Whether two kinds are one.
 #[inline(always)]
 pub(crate) fn is_same(kind: AccessKind, other: AccessKind) -> bool
-    ensures { result ≡ true → kind ≡ other }
+    ensures same { result ≡ true → kind ≡ other }
+    ensures other { result ≡ false → kind ≡ other → ⊥ }
 {
     kind == other
 }

@@ -7,7 +7,6 @@ ghost use Rattle.group_traces.specs.Traces.{first_in, trace_with, passes, tells,
 use crate::single::is_same;
 use crate::trace::{Sight, Trace, or};
 use shadow::{WordMark, agrees, byte_mark};
-use shadow_list::kind_number;
 
 /// How a group accessed a word, as a `Trace` says it of each byte.
 #[derive(Clone, Copy)]
@@ -35,6 +34,13 @@ fn either(a: [bool; 4], b: [bool; 4]) -> [bool; 4]
     ]
 }
 
+/// At which bytes it doesn't hold.
+fn negated(a: [bool; 4]) -> [bool; 4]
+    ensures { (k : ℕ) → k < 4 → slice_index_or result k false ≡ not (slice_index_or a k false) }
+{
+    [!a[0], !a[1], !a[2], !a[3]]
+}
+
 /// Whether it holds at every byte.
 fn is_all(a: [bool; 4]) -> bool
     ensures { result ≡ true → (k : ℕ) → k < 4 → slice_index_or a k false ≡ true }
@@ -57,25 +63,10 @@ fn leave_same(a: WordMark, b: WordMark, k: usize) -> bool
     byte_mark(a, k).left == byte_mark(b, k).left
 }
 
-/// At which bytes two accesses to all of a word are of different sorts: at all four where their kinds differ.
-fn differing(a: WordMark, b: WordMark) -> [bool; 4]
-    ensures { (k : ℕ) → k < 4 → slice_index_or result k false ≡ not (one_sort (byte_mark a k) (byte_mark b k)) }
-{
-    if kind_number(a.kind) != kind_number(b.kind) {
-        return [true; 4];
-    }
-    [
-        !leave_same(a, b, 0),
-        !leave_same(a, b, 1),
-        !leave_same(a, b, 2),
-        !leave_same(a, b, 3),
-    ]
-}
-
-/// At which bytes two accesses to all of a word are seen to be of one sort: at none where their kinds differ.
+/// At which bytes two accesses to all of a word are of one sort: at none where their kinds differ.
 #[inline(always)]
 fn alike(a: WordMark, b: WordMark) -> [bool; 4]
-    ensures { (k : ℕ) → k < 4 → slice_index_or result k false ≡ true → one_sort (byte_mark a k) (byte_mark b k) ≡ true }
+    ensures { (k : ℕ) → k < 4 → slice_index_or result k false ≡ one_sort (byte_mark a k) (byte_mark b k) }
 {
     if !is_same(a.kind, b.kind) {
         return [false; 4];
@@ -133,7 +124,7 @@ impl WordTrace {
     pub fn with(self, interval: u32, mark: WordMark) -> Self
         ensures { (k : ℕ) → k < 4 → word_byte result k ≡ trace_with (word_byte self k) interval (byte_mark mark k) }
     {
-        let differing = differing(self.mark, mark);
+        let differing = negated(alike(self.mark, mark));
         let several = either(self.several, differing);
         if self.interval == interval {
             return WordTrace {

@@ -133,7 +133,7 @@ fn stores_of_the_same_byte_pass_in_a_uniform_launch(rt: HostRuntime) -> Result<(
                 let found = noted(&mut log, entry)?;
                 assert_eq!(rt; found, if uniform { with } else { without });
             }
-            log = log.cleared(rt.alloc());
+            log.clear(rt.alloc());
             assert_eq!(rt; log.len(), 0);
         }
     }
