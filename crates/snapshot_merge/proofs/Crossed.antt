@@ -183,8 +183,8 @@ lower_report l c d f byte e h = go (cases_lt d.byte c.byte)
         ∙ ap Some h
         ∙ sym (ap (λ (z : Bool). if z then Some (conflict_fault l d) else Some f) (le-ltb d.byte byte (over b)))
 
--- c, or the conflict with the own group's accesses where that is of a lower byte, is reported: as f, or as the fault that
--- stopped the group where the access is the last one and that fault is of a lower byte
+-- c, or the conflict with the own group's accesses where that is of a lower byte, is reported: as f, or as the fault
+-- that stopped the group where the access is the last one and that fault is of a lower byte
 abbrev IsLowerReport : Launch → conflict_type.Conflict → Option conflict_type.Conflict → Bool → Option Fault → Fault → ℕ → Type 0
 IsLowerReport l c own last stopped f byte =
     option_map (conflict_fault l) (lower_first (Some c) own) ≡ (if last && is_below stopped byte then stopped else Some f)

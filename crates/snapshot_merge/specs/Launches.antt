@@ -55,7 +55,7 @@ AreResultsTo bytes listed has_last launch last group (came ∷ results) =
 abbrev pub list_log : ListLog → Log
 list_log l = logged l.entries.items l.local_interval l.global_interval l.uniform
 
--- the entries that it has for other groups, and whether the last of all is one of them (own)
+-- the entries that the log of a running group has for other groups, and whether the last of all is one of them (own)
 abbrev pub listed_of : GroupLog → List Entry
 listed_of l = l.lasting.entries.items
 

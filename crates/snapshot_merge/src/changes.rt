@@ -205,7 +205,7 @@ impl Before<'_, '_, '_, '_> {
         ensures { (log : List TheAccess) → IsFootprint self.now.footprint.now log → IfSome result (λ wrote. (byte : ℕ) → covers x.now.first (byte_count x.now.width) byte ≡ true → joining.wrote log (region.Buffer number) byte ≡ wrote) }
     {
         let wrote = self.footprint.is_written(number, x.first);
-        for byte in x.first..x.first + x.width.bytes() {
+        for byte in x.first + 1..x.first + x.width.bytes() {
             if self.footprint.is_written(number, byte) != wrote {
                 return None;
             }

@@ -1,17 +1,20 @@
 //! What a further group's accesses tell before any of its changes is made.
 
-ghost use Rattle.std.specs.Prelude.{◌≡◌, List, map, IfOk, OnOk};
+ghost use Rattle.std.specs.Prelude.{◌≡◌, ◌+◌, ◌<◌, ◌^◌, List, length, map, IfOk, OnOk};
+ghost use Rattle.clmodel.specs.Cells.{byte_count};
 ghost use Rattle.clmodel.specs.declared.access.Access.{Access as TheAccess};
 ghost use Rattle.clmodel.specs.declared.access.Region.TheVariants as region;
 ghost use Rattle.joining.specs.Memory as joining;
-ghost use Rattle.shadow.specs.Seen.{IsFootprint};
+ghost use Rattle.shadow.specs.Seen.{IsFootprint, OfOthers};
 ghost use Rattle.snapshot_merge.specs.Changes.{value_of};
 ghost use Rattle.snapshot_merge.specs.Comparing.{met_of, KeepsUpdates, with_update};
+ghost use Rattle.snapshot_merge.specs.Conflicts.{conflict_at};
 ghost use Rattle.snapshot_merge.specs.Meetings.{AreOthers, IsFirstMet};
 
 use crate::changes::{Before, JoinedUpdate};
 use crate::meetings::{FirstConflict, is_last};
 use shadow::{Footprint, GroupAccesses};
+use shadow_list::Entry;
 use std::alloc::{AllocError, Global};
 
 /// What one walk of a further group's accesses finds.
@@ -22,6 +25,29 @@ pub(crate) enum Compared {
     /// None conflicts. The updates of whose bytes lower groups wrote some, in their order, and what these bytes become:
     /// 16 bytes for each.
     Apart(Vec<JoinedUpdate>),
+}
+
+/// The conflict of the access at a place with those of lower groups, by whether the launch is uniform, if there is one.
+// A function apart, asked only where an access isn't seen to be clear: room for its answer would be cleared for each.
+#[cold]
+#[inline(never)]
+fn conflict_at<L: GroupAccesses>(
+    footprint: &Footprint,
+    uniform: bool,
+    log: &L,
+    place: usize,
+    entry: &Entry,
+) -> Option<FirstConflict>
+    requires inside { place < length (L.listed log.now) }
+    requires bound { entry.now.access.first + byte_count entry.now.access.width < 2 ^ 64 }
+    ensures { (kept : List TheAccess) → IsFootprint footprint.now kept → OfOthers entry.now.access.item kept → result ≡ conflict_at uniform (L.has_last log.now) (L.listed log.now) kept place entry.now }
+{
+    let meeting = footprint.meeting(uniform, &entry.access)?;
+    Some(FirstConflict {
+        entry: *entry,
+        meeting,
+        last: is_last(log, place),
+    })
 }
 
 /// The first access of a group that conflicts with those of lower groups, by whether the launch is uniform, if there is
@@ -37,12 +63,8 @@ pub(crate) fn first_conflict<L: GroupAccesses>(
     for place in 0..count {
         let entry = log.get(place);
         if !footprint.is_clear(uniform, &entry.access) {
-            if let Some(meeting) = footprint.meeting(uniform, &entry.access) {
-                return Some(FirstConflict {
-                    entry,
-                    meeting,
-                    last: is_last(log, place),
-                });
+            if let Some(met) = conflict_at(footprint, uniform, log, place, &entry) {
+                return Some(met);
             }
         }
     }
@@ -80,12 +102,8 @@ impl Before<'_, '_, '_, '_> {
         for place in 0..log.len() {
             let entry = log.get(place);
             if !self.footprint.is_clear(uniform, &entry.access) {
-                if let Some(meeting) = self.footprint.meeting(uniform, &entry.access) {
-                    return Ok(Compared::Conflict(FirstConflict {
-                        entry,
-                        meeting,
-                        last: is_last(log, place),
-                    }));
+                if let Some(met) = conflict_at(self.footprint, uniform, log, place, &entry) {
+                    return Ok(Compared::Conflict(met));
                 }
             }
             let kept = self.kept_value(&entry.access);

@@ -47,7 +47,9 @@ impl HeapLog {
 
     /// The accesses that tell other groups something new, in a block of their own size. An error is out of memory.
     pub fn list(&self, alloc: Global) -> Result<AccessSummary, AllocError>
-        ensures { IfOk result (λ list. StandsWith list.has_last list.entries.items (heap_log self.now).accesses) }
+        ensures entries { IfOk result (λ list. list.entries.items ≡ heap_listed self.now) }
+        ensures has_last { IfOk result (λ list. list.has_last ≡ heap_has_last self.now) }
+        ensures stands { IfOk result (λ list. StandsWith list.has_last list.entries.items (heap_log self.now).accesses) }
     {
         self.log.list(alloc)
     }

@@ -9,7 +9,7 @@ use Rattle.shadow.specs.Seen.{IsFootprint, met_at}
 use Rattle.spaces.specs.Overlay.{Overlaid}
 use Rattle.snapshot_merge.specs.Changes.{value_of, AreUpdates}
 use Rattle.snapshot_merge.specs.Meetings.{AreOthers}
-use Rattle.snapshot_merge.proofs.Entries.{entry_at, miss_more}
+use Rattle.snapshot_merge.proofs.Entries.{entry_at, miss_at, miss_more, first_at}
 use Rattle.snapshot_merge.proofs.Updates.{updates_more}
 use Rattle.snapshot_merge.proofs.changes.Before.compare.Goals as goal
 use Rattle.snapshot_merge.proofs.changes.Before.compare.Goals.{then-not-is_clear+in_default, else-not-is_clear}
@@ -17,6 +17,7 @@ use Rattle.snapshot_merge.proofs.changes.Before.compare.Goals.{then-not-is_clear
 pub loop-place-preserved : goal.loop-place-preserved
 loop-place-preserved g c =
     let entries = (g.L.GroupAccesses.listed c.args.log.now) in
+    let last = g.L.GroupAccesses.has_last c.args.log.now in
     let own = map (λ (space : Overlaid). space.bytes) c.args.self.now.own.now in
     let value : List Access → ℕ → Access → ℕ → ℕ
     = λ kept. value_of (map (λ (row : Bor (List ℕ)). row.now) c.args.self.now.first.now) c.args.self.now.lower.now (λ n b. wrote kept (region.Buffer n) b) own in
@@ -27,7 +28,7 @@ loop-place-preserved g c =
     let none : (kept : List Access) → IsFootprint c.args.self.now.footprint.now kept → AreOthers entries kept → met_at c.args.uniform x.access.region x.access kept ≡ None
     = λ kept h others.
     elim c.if-not-is_clear.branch [
-      | then-not-is_clear+in_default w ↦ sym (w.meeting.ensures kept h (others i x at)) ∙ w.in_default.is
+      | then-not-is_clear+in_default w ↦ miss_at c.args.uniform last entries kept i x (sym (w.conflict_at.ensures kept h (others i x at)) ∙ w.in_default.is)
       | else-not-is_clear w ↦ c.is_clear.ensures w.if-not-is_clear.false kept h (others i x at)
     ]
     in
@@ -41,15 +42,11 @@ loop-place-preserved g c =
 pub returns-in-Some-clause-met : goal.returns-in-Some-clause-met
 returns-in-Some-clause-met g c = λ kept h others.
     let entries = (g.L.GroupAccesses.listed c.args.log.now) in
+    let last = g.L.GroupAccesses.has_last c.args.log.now in
     let i = c.loop-place.place in
     let x = c.get-entry.result in
-    let at : slice_get entries i ≡ Some x = entry_at entries i x (omega (arith, c.loop-place-test.true, c.len-place-end.ensures)) c.get-entry.ensures.value in (
-      i,
-      at,
-      c.loop-place.invariant.miss kept h others,
-      sym (c.meeting.ensures kept h (others i x at)) ∙ c.in-Some.is,
-      c.is_last.ensures,
-    )
+    let at : slice_get entries i ≡ Some x = entry_at entries i x (omega (arith, c.loop-place-test.true, c.len-place-end.ensures)) c.get-entry.ensures.value in
+    first_at c.args.uniform last entries kept i x c.in-Some.met at (c.loop-place.invariant.miss kept h others) (sym (c.conflict_at.ensures kept h (others i x at)) ∙ c.in-Some.is)
 
 pub returns-clause-met : goal.returns-clause-met
 returns-clause-met g c = λ kept h others. λ k e b q. c.loop-place.invariant.miss kept h others k e (omega (arith, b, c.loop-place-test.false, c.len-place-end.ensures)) q
