@@ -2,3 +2,4 @@ pub mod Leading
 pub mod RegisterValues
 pub mod Kept
 pub mod Faultless
+pub mod Computing

@@ -95,7 +95,7 @@ pub fn unary_of(operator: UnaryOperator, value: RegisterValue) -> Result<Registe
 
 /// What an operator gives on two numbers of types.
 #[inline(always)]
-fn binary_result(
+pub(crate) fn binary_result(
     operator: BinaryOperator,
     left_kind: IntType,
     left: u64,
