@@ -87,10 +87,6 @@ value_of first lower wrote own number x byte =
 abbrev pub bytes_of : Change → List ByteChange
 bytes_of change = byte_changes change.buffer change.first (byte_count change.width) (λ byte. byte_of (byte - change.first) change.value)
 
--- the bytes of changes, one after another (own)
-abbrev pub all_bytes : List Change → List ByteChange
-all_bytes changes = flat_map bytes_of changes
-
 -- the bytes of a number, the lowest first, are what n bytes from one on become (own)
 pub record IsValue (first count : ℕ) (becomes : ℕ → ℕ) (value : ℕ) : Type 0 where
   pub each : (byte : ℕ) → covers first count byte ≡ true → byte_of (byte - first) value ≡ becomes byte
