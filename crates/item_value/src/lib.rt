@@ -3,8 +3,8 @@
 //!
 //! `value_of` gives the value of the defined machine, the fault with which the run fails there, or that the run is
 //! over. A register takes 16 bytes (`RegisterValue`); it gives back the value that was put there, or that there is
-//! none. `ItemPosition` answers each work-item function as defined, and `Counters` has the turns of its loops. The
-//! crate knows no place in the code, no ticks and no actions.
+//! none. `ItemPosition` answers each work-item function as defined. `Counters` counts the turns of loops. The crate
+//! knows no place in the code, no ticks and no actions.
 #![tactic(auto)]
 
 pub mod accesses;
