@@ -381,7 +381,7 @@ fn runs<'a>(alloc: Global) -> Result<Command<'a>, AllocError>
         .subcommand(run)
 }
 
-/// Forms with one more, where that one was made: `forms` would let go of its forms at an exit more for each.
+/// Forms with one more, where that one was made. In `forms` each `?` would add a path that drops the forms so far.
 fn with_form<'a>(
     forms: Command<'a>,
     form: Result<Command<'a>, AllocError>,

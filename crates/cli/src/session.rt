@@ -74,7 +74,7 @@ pub enum Reader {
     Second,
 }
 
-/// Why a run, a check, a dump or a replay came to no end.
+/// Why a run, a check, a dump or a replay failed.
 #[derive(Clone, Copy, Debug, PartialEq, Eq, Error)]
 pub enum RunFault {
     /// 1: this reader failed. Nothing was written

@@ -141,7 +141,7 @@ fn explain_fault<R: Files + Print + AllocGlobal>(
     )
 }
 
-/// Tells on standard error why a file came to no end. Where that fails too, the status alone tells it.
+/// Tells on standard error why a file came to no end. If standard error fails too, only the status shows it.
 fn tell(rt: &impl Eprint, fault: RunFault, file: &str) {
     let _ = match fault {
         RunFault::Read(_) => eprintln!(rt; "clsim: {fault} {file}"),

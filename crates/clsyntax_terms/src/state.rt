@@ -1,5 +1,5 @@
-//! What the parser holds between two tokens. A `nesting` is that of the next token, with something open that outside of
-//! it.
+//! What the parser holds between two tokens. A `nesting` is that of the next token, or, inside an open frame, the depth
+//! just outside it.
 #![tactic(auto)]
 
 ghost use Rattle.std.specs.Prelude.{◌≡◌, [], ◌∷◌, suc, IfOk, MatchOption};

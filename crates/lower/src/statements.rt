@@ -248,7 +248,7 @@ pub fn emit_body<'a>(
     Ok(())
 }
 
-/// Puts a choice without a second side before the code.
+/// Puts an `if` without `else` before the code.
 #[cycle(emission)]
 fn emit_if<'a>(
     context: &StatementContext<'a>,

@@ -71,7 +71,7 @@ pub(crate) fn moved_back(pointer: Operand, index: Operand) -> Result<Pointer, Te
     }
 }
 
-/// An index as the offset of a pointer would be it.
+/// An index as a signed 64-bit offset.
 pub fn index_of(index: Value) -> i64
     ensures { result ≡ next.index_of index }
 {

@@ -58,7 +58,7 @@ impl How {
         }
     }
 
-    /// The same with an access more, which leaves a number.
+    /// These after one more access, which leaves a number.
     fn with(self, x: &Access, left: u32) -> Self
         ensures kept { (part : ℕ → ℕ) (y : TheAccess) (at : ℕ) → is_how (how_part part self) y at ≡ true → is_how (how_part part result) y at ≡ true }
         ensures added { (part : ℕ → ℕ) (byte : ℕ) → left_at x.now byte ≡ part left → is_how (how_part part result) x.now byte ≡ true }

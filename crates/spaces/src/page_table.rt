@@ -51,7 +51,7 @@ impl PageTable {
         }
     }
 
-    /// Says the count of a page's copy. An error is out of memory, and nothing is changed.
+    /// Sets the index of a page's copy. An error is out of memory, and nothing is changed.
     pub(crate) fn set(&mut self, page: usize, copy: usize) -> Result<(), AllocError>
         requires { page + 1 < 2 ^ 64 }
         ensures here { OnOk result (copies self.new page ≡ copy) }
@@ -64,8 +64,8 @@ impl PageTable {
     }
 }
 
-/// Makes a row that tells of the pages from the first on tell of one more, and answers the first page that it then
-/// tells of.
+/// Extends a row that covers the pages from the first on so that it covers one more, and returns the first page that it
+/// then covers.
 fn reach(row: &mut Vec<usize>, first: usize, page: usize) -> Result<usize, AllocError>
     requires low { page + 1 < 2 ^ 64 }
     requires inside { first + length row.old.items < 2 ^ 64 }

@@ -29,8 +29,8 @@ use workers_draw::run::{run_groups, run_groups_after};
 /// The results of the groups of a round, in their order.
 pub(crate) type Results<'a> = Vec<GroupResult<Overlay<'a>, AccessSummary>>;
 
-/// Runs the groups from one on up to another, which isn't among them: the results of all of them, or up to and with one
-/// that stopped.
+/// Runs the groups `first..last` of a launch: the results of all of them, or of those up to one that stopped, its own
+/// the last.
 pub(crate) fn run_round<'a, G: Gate, R: Threads + Wait + Sync>(
     rt: &R,
     alloc: Global,

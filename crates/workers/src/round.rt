@@ -40,7 +40,7 @@ pub(crate) struct Round<'a, 's> {
 }
 
 impl<'a, 's> Round<'a, 's> {
-    /// The groups of a launch from one on up to another, which isn't among them.
+    /// The groups `first..last` of a launch.
     pub(crate) fn new(
         launch: &'a Launch<'a>,
         buffers: &'a Buffers,
