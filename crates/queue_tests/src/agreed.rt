@@ -1,64 +1,71 @@
 //! Two clients that draw tickets in threads of their own, and then agree.
-ghost use Rattle.std.specs.Prelude.{◌≡◌, ◌≢◌, IfOk};
+ghost use Rattle.std.specs.Prelude.{◌≡◌};
 
-use crate::pair::{boxed, open_two};
+use crate::pair::{Pair, number, open_two, submit};
 use crate::tally::Tally;
-use host_queue::{Client, Queue};
+use host_queue::{Client, Queue, TICKETS};
 use std::alloc::{AllocError, Global};
-use std::test::Fail;
-use std::thread;
+use std::thread::{Threads, join_mut};
 
 /// A client at the queue of a machine that adds.
 type Adder = Client<Tally, u32, u32>;
 
-/// Draws a hundred tickets: the client, and the last one's number.
-fn draw(
-    alloc: Global,
-    queue: &Queue<Tally, u32, u32>,
-    adder: Adder,
-) -> Result<(Adder, u64), AllocError>
-    requires one { adder.seat.table_id ≡ queue.now.table.shared.table_id }
-    ensures { IfOk result (λ r. (r.0.seat.table_id ≡ queue.now.table.shared.table_id) × (r.0.seat.me.0.name ≡ adder.seat.me.0.name)) }
+/// Draws a hundred tickets: the last one's number.
+fn draw(alloc: Global, queue: &Queue<Tally, u32, u32>, adder: &mut Adder) -> u64
+    requires one { adder.old.seat.table_id ≡ queue.now.table.shared.table_id }
+    ensures one { adder.new.seat.table_id ≡ adder.old.seat.table_id }
+    ensures name { adder.new.seat.me.0.name ≡ adder.old.seat.me.0.name }
 {
-    let mut adder = adder;
     let mut last = 0;
     for add in 0..100 {
-        if let Ok(ticket) = adder.submit(queue, boxed(alloc, add)?) {
-            last = ticket.number();
-        }
+        last = number(submit(alloc, queue, adder, Ok(add)));
     }
-    Ok((adder, last))
+    last
+}
+
+/// Lets both clients draw a hundred tickets, each in a thread of its own: the number of the last one.
+fn draw_both<W: Threads>(
+    rt: &W,
+    alloc: Global,
+    queue: &Queue<Tally, u32, u32>,
+    first: &mut Adder,
+    second: &mut Adder,
+) -> u64
+    requires one { (first.old.seat.table_id ≡ queue.now.table.shared.table_id) × (second.old.seat.table_id ≡ queue.now.table.shared.table_id) }
+    ensures one { (first.new.seat.table_id ≡ first.old.seat.table_id) × (second.new.seat.table_id ≡ second.old.seat.table_id) }
+    ensures names { (first.new.seat.me.0.name ≡ first.old.seat.me.0.name) × (second.new.seat.me.0.name ≡ second.old.seat.me.0.name) }
+{
+    let (low, high) = join_mut(
+        rt,
+        &mut || -> u64
+            requires { first.now.seat.table_id ≡ queue.now.table.shared.table_id }
+            ensures { (first.exit.now.seat.table_id ≡ first.entry.now.seat.table_id) × (first.exit.now.seat.me.0.name ≡ first.entry.now.seat.me.0.name) }
+        { draw(alloc, queue, first) },
+        &mut || -> u64
+            requires { second.now.seat.table_id ≡ queue.now.table.shared.table_id }
+            ensures { (second.exit.now.seat.table_id ≡ second.entry.now.seat.table_id) × (second.exit.now.seat.me.0.name ≡ second.entry.now.seat.me.0.name) }
+        { draw(alloc, queue, second) },
+    );
+    low.max(high)
+}
+
+/// Whether a ticket that either client draws once they agreed is above each one that they drew before.
+fn are_above<W: Threads>(rt: &W, alloc: Global, pair: &mut Pair<Tally, u32, u32>) -> bool {
+    let most = draw_both(rt, alloc, &pair.queue, &mut pair.first, &mut pair.second);
+    pair.first.agree(&pair.queue, &mut pair.second);
+    let second = number(submit(alloc, &pair.queue, &mut pair.second, Ok(1)));
+    let first = number(submit(alloc, &pair.queue, &mut pair.first, Ok(1)));
+    most < first.min(second) && first.max(second) < TICKETS as u64
+}
+
+/// The same of two clients of a new queue.
+fn are_above_both<W: Threads>(rt: &W, alloc: Global) -> Result<bool, AllocError> {
+    let mut pair = open_two(alloc, Tally { total: 0 })?;
+    Ok(are_above(rt, alloc, &mut pair))
 }
 
 /// Shows that a ticket which either client draws once they agreed is above each one that they drew before.
 #[test]
-fn tickets_after_agree_are_above_both(rt: HostRuntime) -> Result<(), Fail> {
-    let alloc: Global = rt.alloc();
-    let (queue, first, second, driver) = open_two(alloc, Tally { total: 0 })?;
-    let line = &queue;
-    let (one, two) = thread::join(
-        &rt,
-        move || -> Result<(Adder, u64), AllocError>
-            requires { first.seat.table_id ≡ line.now.table.shared.table_id }
-            ensures { IfOk result (λ r. (r.0.seat.table_id ≡ line.entry.now.table.shared.table_id) × (r.0.seat.me.0.name ≡ first.seat.me.0.name)) }
-        { draw(alloc, line, first) },
-        move || -> Result<(Adder, u64), AllocError>
-            requires { second.seat.table_id ≡ line.now.table.shared.table_id }
-            ensures { IfOk result (λ r. (r.0.seat.table_id ≡ line.entry.now.table.shared.table_id) × (r.0.seat.me.0.name ≡ second.seat.me.0.name)) }
-        { draw(alloc, line, second) },
-    );
-    let (mut first, low) = one?;
-    let (mut second, high) = two?;
-    let most = low.max(high);
-    first.agree(&queue, &mut second);
-    let Ok(next) = second.submit(&queue, boxed(alloc, 1)?) else {
-        panic!(rt; "full")
-    };
-    assert!(rt; next.number() > most);
-    let Ok(next) = first.submit(&queue, boxed(alloc, 1)?) else {
-        panic!(rt; "full")
-    };
-    assert!(rt; next.number() > most);
-    drop(driver);
-    Ok(())
+fn tickets_after_agree_are_above_both(rt: HostRuntime) {
+    assert!(rt; are_above_both(&rt, rt.alloc()) == Ok(true));
 }

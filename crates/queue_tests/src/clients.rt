@@ -5,6 +5,8 @@ ghost use Rattle.host_queue.specs.declared.view.Request.TheVariants.{Answered};
 ghost use Rattle.host_queue.specs.Clients.{IsOpen};
 ghost use Rattle.host_queue.specs.Opened.{Each};
 
+use crate::pair::{boxed, reply, submit};
+use crate::questions::Questions;
 use host_queue::{Client, Driver, Machine, Queue, Request, Ticket};
 use std::alloc::{AllocError, Global};
 use std::sync::Wait;
@@ -17,6 +19,14 @@ pub struct NumberedClient<'a, D: Machine<C, R>, C: Drop, R: Drop> {
     client: Client<D, C, R>,
     pub number: u8,
     ghost one: { client.seat.table_id ≡ queue.now.table.shared.table_id },
+}
+
+/// What was asked for under a ticket, and the sum that the reply says.
+#[derive(Drop)]
+pub struct Line {
+    pub ticket: u64,
+    pub add: u32,
+    pub sum: u32,
 }
 
 /// Polls until the reply is there.
@@ -43,31 +53,46 @@ fn wait<W: Wait, D: Machine<C, R>, C: Drop, R: Drop>(
     unreachable!()
 }
 
-impl<'a, D: Machine<C, R>, C: Drop, R: Drop> NumberedClient<'a, D, C, R> {
-    /// Submits a request and waits for its reply: the ticket's number, and the reply. Nothing where all tickets are
-    /// drawn.
-    pub fn ask<W: Wait>(
-        &mut self,
-        rt: &W,
-        alloc: Global,
-        question: C,
-    ) -> Result<Option<(u64, R)>, AllocError> {
-        let request = Box::new(alloc, Request::Asked(question))?;
-        let Ok(ticket) = self.client.submit(self.queue, request) else {
-            return Ok(None);
-        };
-        let number = ticket.number();
-        let request = wait(rt, self.queue, &mut self.client, ticket);
-        match Box::into_inner(request) {
-            Request::Answered(reply) => Ok(Some((number, reply))),
-            Request::Asked(_) => Ok(None),
-        }
+impl<'a, D: Machine<C, R> + Questions<C, R>, C: Drop, R: Drop> NumberedClient<'a, D, C, R> {
+    /// Asks its question at a place, and waits for the reply. Nothing where all tickets are drawn, where the reply is
+    /// wrong, or where there was no memory.
+    fn ask<W: Wait>(&mut self, rt: &W, alloc: Global, place: u32) -> Option<Line> {
+        let question = D::question(alloc, self.number, place);
+        let drawn = submit(alloc, self.queue, &mut self.client, question)?;
+        let ticket = drawn.number();
+        let request = wait(rt, self.queue, &mut self.client, drawn);
+        let (add, sum) = D::sum(self.number, place, reply(request)?)?;
+        Some(Line { ticket, add, sum })
     }
 
     /// Whether one more submit is answered by Full.
-    pub fn is_full(&mut self, alloc: Global, question: C) -> Result<bool, AllocError> {
-        let request = Box::new(alloc, Request::Asked(question))?;
-        Ok(self.client.submit(self.queue, request).is_err())
+    pub fn is_full(&mut self, alloc: Global) -> bool {
+        let Ok(question) = D::question(alloc, self.number, 2) else {
+            return false;
+        };
+        let Ok(request) = boxed(alloc, question) else {
+            return false;
+        };
+        self.client.submit(self.queue, request).is_err()
+    }
+
+    /// Asks 256 times.
+    pub fn ask_all<W: Wait>(&mut self, rt: &W, alloc: Global, lines: &mut Vec<Line>) {
+        for place in 0..256 {
+            if let Some(line) = self.ask(rt, alloc, place) {
+                if lines.push(line).is_err() {
+                    return;
+                }
+            }
+        }
+    }
+
+    /// Submits 256 requests, and collects none of their replies.
+    pub fn submit_all(&mut self, alloc: Global) {
+        for place in 0..256 {
+            let question = D::question(alloc, self.number, place);
+            drop(submit(alloc, self.queue, &mut self.client, question));
+        }
     }
 }
 
@@ -126,18 +151,16 @@ pub fn answered<D: Machine<C, R>, C: Drop, R: Drop>(
 pub fn drive<W: Wait, D: Machine<C, R>, C: Drop, R: Drop>(
     rt: &W,
     queue: &Queue<D, C, R>,
-    driver: Driver<D, C, R>,
+    driver: &mut Driver<D, C, R>,
     count: u64,
-) -> Driver<D, C, R>
-    requires one { driver.seat.table_id ≡ queue.now.table.shared.table_id }
-    ensures { result.seat.table_id ≡ queue.now.table.shared.table_id }
+)
+    requires one { driver.old.seat.table_id ≡ queue.now.table.shared.table_id }
+    ensures one { driver.new.seat.table_id ≡ driver.old.seat.table_id }
 {
-    let mut driver = driver;
     for _ in rt.forever() {
-        if answered(queue, &mut driver) >= count {
-            return driver;
+        if answered(queue, driver) >= count {
+            return;
         }
         thread::yield_now();
     }
-    unreachable!()
 }

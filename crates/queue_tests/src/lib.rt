@@ -14,6 +14,8 @@ mod many;
 #[cfg(test)]
 mod pair;
 #[cfg(test)]
+mod questions;
+#[cfg(test)]
 mod tally;
 #[cfg(test)]
 mod turns;

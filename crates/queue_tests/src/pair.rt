@@ -1,13 +1,14 @@
 //! One client, and two clients, on one thread.
-ghost use Rattle.std.specs.Prelude.{◌≡◌, ◌≢◌, IfOk};
+ghost use Rattle.std.specs.Prelude.{◌≡◌, ◌≢◌, IfOk, IfSome};
 ghost use Rattle.std.specs.Box.{box_value};
 ghost use Rattle.host_queue.specs.declared.view.Request.TheVariants.{Asked};
-ghost use Rattle.host_queue.specs.Clients.{IsOnly};
+ghost use Rattle.host_queue.specs.Clients.{IsOnly, IsOpen, StaysOpen, StaysOpenBut};
 
+use crate::clients::answered;
 use crate::tally::Tally;
-use host_queue::{Client, Driver, Machine, Queue, Request, close, open};
+use host_queue::{Client, Driver, Machine, Queue, Request, TICKETS, Ticket, close, open};
 use std::alloc::{AllocError, Global};
-use std::test::Fail;
+use std::sync::Wait;
 
 /// A queue of the machine that adds.
 type Tallies = Queue<Tally, u32, u32>;
@@ -32,25 +33,48 @@ pub fn open_one<D: Machine<C, R>, C: Drop, R: Drop>(
 }
 
 /// A queue with two clients.
+#[derive(Drop)]
+pub struct Pair<D: Machine<C, R>, C: Drop, R: Drop> {
+    pub queue: Queue<D, C, R>,
+    pub first: Client<D, C, R>,
+    pub second: Client<D, C, R>,
+    pub driver: Driver<D, C, R>,
+    ghost one: { (first.seat.table_id ≡ queue.table.shared.table_id) × (second.seat.table_id ≡ queue.table.shared.table_id) × (driver.seat.table_id ≡ queue.table.shared.table_id) },
+    ghost two: { first.seat.me.0.name ≢ second.seat.me.0.name },
+}
+
+/// Opens a queue with two clients.
 pub fn open_two<D: Machine<C, R>, C: Drop, R: Drop>(
     alloc: Global,
     machine: D,
-) -> Result<
-    (
-        Queue<D, C, R>,
-        Client<D, C, R>,
-        Client<D, C, R>,
-        Driver<D, C, R>,
-    ),
-    AllocError,
->
-    ensures one { IfOk result (λ r. (r.1.seat.table_id ≡ r.0.table.shared.table_id) × (r.2.seat.table_id ≡ r.0.table.shared.table_id) × (r.3.seat.table_id ≡ r.0.table.shared.table_id)) }
-    ensures two { IfOk result (λ r. r.1.seat.me.0.name ≢ r.2.seat.me.0.name) }
-{
+) -> Result<Pair<D, C, R>, AllocError> {
     let (queue, mut clients, driver) = open(alloc, machine, 2)?;
     let second = clients.pop().unwrap();
     let first = clients.pop().unwrap();
-    Ok((queue, first, second, driver))
+    Ok(Pair {
+        queue,
+        first,
+        second,
+        driver,
+    })
+}
+
+/// Closes a queue at which both clients remain.
+fn close_two<D: Machine<C, R>, C: Drop, R: Drop, W: Wait>(
+    rt: &W,
+    alloc: Global,
+    pair: Pair<D, C, R>,
+) -> D {
+    let Pair {
+        queue,
+        first,
+        second,
+        driver,
+    } = pair;
+    let machine = close(rt, queue, Vec::new(alloc), driver);
+    drop(first);
+    drop(second);
+    machine
 }
 
 /// A request in its box.
@@ -68,125 +92,224 @@ pub fn reply<C: Drop, R: Drop>(request: Box<Request<C, R>>) -> Option<R> {
     }
 }
 
-/// Asks for 0, 1 and so on, and counts the replies that are the sums.
-fn sums(
+/// Submits a request, if there is one: its ticket. Nothing where all tickets are drawn, or where there was no memory.
+pub fn submit<D: Machine<C, R>, C: Drop, R: Drop>(
     alloc: Global,
-    queue: &Tallies,
-    driver: &mut Runner,
-    client: &mut Member,
-    count: u32,
-) -> Result<usize, AllocError>
+    queue: &Queue<D, C, R>,
+    client: &mut Client<D, C, R>,
+    question: Result<C, AllocError>,
+) -> Option<Ticket>
+    requires one { client.old.seat.table_id ≡ queue.now.table.shared.table_id }
+    ensures one { client.new.seat.table_id ≡ client.old.seat.table_id }
+    ensures name { client.new.seat.me.0.name ≡ client.old.seat.me.0.name }
+    ensures open { IfSome result (λ t. IsOpen client.new.seat.me.0 t.number) }
+    ensures others { StaysOpen client.old.seat.me.0 client.new.seat.me.0 }
+{
+    let Ok(question) = question else {
+        return None;
+    };
+    let Ok(request) = boxed(alloc, question) else {
+        return None;
+    };
+    match client.submit(queue, request) {
+        Ok(ticket) => Some(ticket),
+        Err(_) => None,
+    }
+}
+
+/// The number of a ticket: 4,096, which no ticket has, where there is none.
+pub fn number(ticket: Option<Ticket>) -> u64 {
+    match ticket {
+        Some(ticket) => ticket.number,
+        None => TICKETS as u64,
+    }
+}
+
+/// A ticket's reply by `poll`.
+pub fn polled<D: Machine<C, R>, C: Drop, R: Drop>(
+    queue: &Queue<D, C, R>,
+    client: &mut Client<D, C, R>,
+    ticket: Ticket,
+) -> Option<R>
+    requires one { client.old.seat.table_id ≡ queue.now.table.shared.table_id }
+    requires own { IsOpen client.old.seat.me.0 ticket.number }
+    ensures one { client.new.seat.table_id ≡ client.old.seat.table_id }
+    ensures name { client.new.seat.me.0.name ≡ client.old.seat.me.0.name }
+    ensures others { StaysOpenBut ticket.number client.old.seat.me.0 client.new.seat.me.0 }
+{
+    match client.poll(queue, ticket) {
+        Ok(request) => reply(request),
+        Err(_) => None,
+    }
+}
+
+/// Asks for 0, 1 and so on, and tells how many were answered before the first that isn't: the whole count where a reply
+/// isn't the sum.
+fn sums(alloc: Global, queue: &Tallies, driver: &mut Runner, client: &mut Member, count: u32) -> u32
     requires one { (driver.old.seat.table_id ≡ queue.now.table.shared.table_id) × (client.old.seat.table_id ≡ queue.now.table.shared.table_id) }
     requires only { IsOnly driver.old.seat.me.0 client.old.seat.me.0 }
     ensures one { driver.new.seat.table_id ≡ driver.old.seat.table_id }
 {
-    let mut exact = Vec::new(alloc);
     let mut sum = 0u32;
     for add in 0..count {
-        let Ok(request) = driver.answer(queue, client, boxed(alloc, add)?) else {
-            return Ok(exact.len());
+        let Ok(request) = boxed(alloc, add) else {
+            return add;
+        };
+        let Ok(request) = driver.answer(queue, client, request) else {
+            return add;
         };
         sum = sum.wrapping_add(add);
-        if reply(request) == Some(sum) {
-            exact.push(sum)?;
+        if reply(request) != Some(sum) {
+            return count;
         }
     }
-    Ok(exact.len())
+    count
+}
+
+/// What `sums` says of 5,000 requests, and the sum of all.
+fn sums_at_once<W: Wait>(rt: &W, alloc: Global) -> Result<(u32, u32), AllocError> {
+    let (queue, mut client, mut driver) = open_one(alloc, Tally { total: 0 })?;
+    let exact = sums(alloc, &queue, &mut driver, &mut client, 5000);
+    let machine = close(rt, queue, Vec::new(alloc), driver);
+    Ok((exact, machine.total))
 }
 
 /// Shows that a lone client's first 4,096 requests are answered with the sums, and its next one is not.
 #[test]
-fn one_client_is_answered_at_once(rt: HostRuntime) -> Result<(), Fail> {
-    let alloc: Global = rt.alloc();
-    let (queue, mut client, mut driver) = open_one(alloc, Tally { total: 0 })?;
-    assert_eq!(rt; sums(alloc, &queue, &mut driver, &mut client, 5000)?, 4096);
-    let machine = close(&rt, queue, Vec::new(alloc), driver);
-    assert_eq!(rt; machine.total, 4095 * 2048);
-    Ok(())
+fn one_client_is_answered_at_once(rt: HostRuntime) {
+    assert!(rt; sums_at_once(&rt, rt.alloc()) == Ok((4096, 4095 * 2048)));
+}
+
+/// Submits three requests, where both clients agree in between, and tells whether their tickets rise.
+fn rises(alloc: Global, pair: &mut Pair<Tally, u32, u32>) -> bool {
+    let one = number(submit(alloc, &pair.queue, &mut pair.first, Ok(1)));
+    pair.first.agree(&pair.queue, &mut pair.second);
+    let two = number(submit(alloc, &pair.queue, &mut pair.second, Ok(2)));
+    pair.first.agree(&pair.queue, &mut pair.second);
+    let three = number(submit(alloc, &pair.queue, &mut pair.first, Ok(4)));
+    one < two && two < three && three < TICKETS as u64
+}
+
+/// Whether the tickets rise, and the sum.
+fn rises_to<W: Wait>(rt: &W, alloc: Global) -> Result<(bool, u32), AllocError> {
+    let mut pair = open_two(alloc, Tally { total: 0 })?;
+    let rises = rises(alloc, &mut pair);
+    Ok((rises, close_two(rt, alloc, pair).total))
 }
 
 /// Shows that the tickets of two clients rise from one to the other where they agree in between.
 #[test]
-fn agreed_tickets_rise(rt: HostRuntime) -> Result<(), Fail> {
-    let alloc: Global = rt.alloc();
-    let (queue, mut first, mut second, driver) = open_two(alloc, Tally { total: 0 })?;
-    let Ok(one) = first.submit(&queue, boxed(alloc, 1)?) else {
-        panic!(rt; "full")
+fn agreed_tickets_rise(rt: HostRuntime) {
+    assert!(rt; rises_to(&rt, rt.alloc()) == Ok((true, 7)));
+}
+
+/// Drives before a request is there and after, and polls before the reply is there and after: the reply, where nothing
+/// comes before its time.
+fn hands_back(
+    alloc: Global,
+    queue: &Tallies,
+    driver: &mut Runner,
+    client: &mut Member,
+) -> Option<u32>
+    requires one { (driver.old.seat.table_id ≡ queue.now.table.shared.table_id) × (client.old.seat.table_id ≡ queue.now.table.shared.table_id) }
+{
+    let before = answered(queue, driver);
+    let ticket = submit(alloc, queue, client, Ok(3))?;
+    let Err(ticket) = client.poll(queue, ticket) else {
+        return None;
     };
-    first.agree(&queue, &mut second);
-    let Ok(two) = second.submit(&queue, boxed(alloc, 2)?) else {
-        panic!(rt; "full")
-    };
-    assert!(rt; one.number() < two.number());
-    first.agree(&queue, &mut second);
-    let Ok(three) = first.submit(&queue, boxed(alloc, 4)?) else {
-        panic!(rt; "full")
-    };
-    assert!(rt; two.number() < three.number());
-    let machine = close(&rt, queue, Vec::new(alloc), driver);
-    assert_eq!(rt; machine.total, 7);
-    Ok(())
+    let after = answered(queue, driver);
+    if before != 0 || after == 0 {
+        return None;
+    }
+    polled(queue, client, ticket)
+}
+
+/// What `hands_back` says of a lone client.
+fn handed_back(alloc: Global) -> Result<Option<u32>, AllocError> {
+    let (queue, mut client, mut driver) = open_one(alloc, Tally { total: 0 })?;
+    Ok(hands_back(alloc, &queue, &mut driver, &mut client))
 }
 
 /// Neither `drive_one` nor `poll` puts off what is there.
 #[test]
-fn polls_hand_everything_back(rt: HostRuntime) -> Result<(), Fail> {
-    let alloc: Global = rt.alloc();
-    let (queue, mut client, mut driver) = open_one(alloc, Tally { total: 0 })?;
-    assert!(rt; driver.drive_one(&queue).is_none());
-    let Ok(ticket) = client.submit(&queue, boxed(alloc, 3)?) else {
-        panic!(rt; "full")
+fn polls_hand_everything_back(rt: HostRuntime) {
+    assert!(rt; handed_back(rt.alloc()) == Ok(Some(3)));
+}
+
+/// Drives twice, and polls: the count of answered tickets, and the reply.
+fn turned(
+    queue: &Tallies,
+    driver: &mut Runner,
+    client: &mut Member,
+    ticket: Ticket,
+) -> Option<(u64, u32)>
+    requires one { (driver.old.seat.table_id ≡ queue.now.table.shared.table_id) × (client.old.seat.table_id ≡ queue.now.table.shared.table_id) }
+    requires own { IsOpen client.old.seat.me.0 ticket.number }
+    ensures one { driver.new.seat.table_id ≡ driver.old.seat.table_id }
+{
+    if answered(queue, driver) == 0 {
+        return None;
+    }
+    let count = answered(queue, driver);
+    Some((count, polled(queue, client, ticket)?))
+}
+
+/// Drops the first client of two, which submitted the first request and the last: whether both were taken, what
+/// `turned` says of the second client's, and the sum.
+fn drop_first<W: Wait>(
+    rt: &W,
+    alloc: Global,
+) -> Result<(bool, Option<(u64, u32)>, u32), AllocError> {
+    let Pair {
+        queue,
+        mut first,
+        mut second,
+        mut driver,
+    } = open_two(alloc, Tally { total: 0 })?;
+    let low = number(submit(alloc, &queue, &mut first, Ok(1)));
+    let ticket = submit(alloc, &queue, &mut second, Ok(2));
+    let high = number(submit(alloc, &queue, &mut first, Ok(4)));
+    drop(first);
+    let turned = match ticket {
+        Some(ticket) => turned(&queue, &mut driver, &mut second, ticket),
+        None => None,
     };
-    let Err(ticket) = client.poll(&queue, ticket) else {
-        panic!(rt; "a reply before its time")
-    };
-    assert!(rt; driver.drive_one(&queue).is_some());
-    let Ok(request) = client.poll(&queue, ticket) else {
-        panic!(rt; "no reply")
-    };
-    assert_eq!(rt; reply(request), Some(3));
-    Ok(())
+    let machine = close(rt, queue, Vec::new(alloc), driver);
+    Ok((low < high && high < TICKETS as u64, turned, machine.total))
 }
 
 /// Shows that the other client is answered in its turn once one is dropped, whose requests are done all the same.
 #[test]
-fn a_dropped_client_loses_nobody_elses_tickets(rt: HostRuntime) -> Result<(), Fail> {
-    let alloc: Global = rt.alloc();
-    let (queue, mut first, mut second, mut driver) = open_two(alloc, Tally { total: 0 })?;
-    let Ok(_) = first.submit(&queue, boxed(alloc, 1)?) else {
-        panic!(rt; "full")
-    };
-    let Ok(ticket) = second.submit(&queue, boxed(alloc, 2)?) else {
-        panic!(rt; "full")
-    };
-    let Ok(_) = first.submit(&queue, boxed(alloc, 4)?) else {
-        panic!(rt; "full")
-    };
-    drop(first);
-    assert!(rt; driver.drive_one(&queue).is_some());
-    let Some(answered) = driver.drive_one(&queue) else {
-        panic!(rt; "no request")
-    };
-    assert_eq!(rt; answered.count(), 2);
-    let Ok(request) = second.poll(&queue, ticket) else {
-        panic!(rt; "no reply")
-    };
-    assert_eq!(rt; reply(request), Some(3));
-    let machine = close(&rt, queue, Vec::new(alloc), driver);
-    assert_eq!(rt; machine.total, 7);
-    Ok(())
+fn a_dropped_client_loses_nobody_elses_tickets(rt: HostRuntime) {
+    assert!(rt; drop_first(&rt, rt.alloc()) == Ok((true, Some((2, 3)), 7)));
+}
+
+/// Submits three requests, and drives once: whether all were taken, and one answered.
+fn leaves_two(alloc: Global, pair: &mut Pair<Tally, u32, u32>) -> bool {
+    let one = number(submit(alloc, &pair.queue, &mut pair.first, Ok(1)));
+    let two = number(submit(alloc, &pair.queue, &mut pair.second, Ok(2)));
+    let three = number(submit(alloc, &pair.queue, &mut pair.first, Ok(4)));
+    let count = answered(&pair.queue, &mut pair.driver);
+    one.max(two).max(three) < TICKETS as u64 && count > 0
+}
+
+/// Closes a queue with both clients: what `leaves_two` says, and the sum.
+fn close_with_both<W: Wait>(rt: &W, alloc: Global) -> Result<(bool, u32), AllocError> {
+    let mut pair = open_two(alloc, Tally { total: 0 })?;
+    let leaves_two = leaves_two(alloc, &mut pair);
+    let Pair {
+        queue,
+        first,
+        second,
+        driver,
+    } = pair;
+    let clients = vec![in alloc; first, second]?;
+    Ok((leaves_two, close(rt, queue, clients, driver).total))
 }
 
 /// Clients that are handed to `close` with requests that weren't driven: these are driven then.
 #[test]
-fn close_drives_what_remains(rt: HostRuntime) -> Result<(), Fail> {
-    let alloc: Global = rt.alloc();
-    let (queue, mut first, mut second, mut driver) = open_two(alloc, Tally { total: 0 })?;
-    assert!(rt; first.submit(&queue, boxed(alloc, 1)?).is_ok());
-    assert!(rt; second.submit(&queue, boxed(alloc, 2)?).is_ok());
-    assert!(rt; first.submit(&queue, boxed(alloc, 4)?).is_ok());
-    assert!(rt; driver.drive_one(&queue).is_some());
-    let machine = close(&rt, queue, vec![in alloc; first, second]?, driver);
-    assert_eq!(rt; machine.total, 7);
-    Ok(())
+fn close_drives_what_remains(rt: HostRuntime) {
+    assert!(rt; close_with_both(&rt, rt.alloc()) == Ok((true, 7)));
 }

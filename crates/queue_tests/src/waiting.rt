@@ -2,13 +2,13 @@
 ghost use Rattle.std.specs.Prelude.{◌≡◌};
 
 use crate::clients::drive;
-use crate::pair::{boxed, open_one};
+use crate::pair::{open_one, submit};
 use host_queue::{Client, Driver, Machine, Queue};
 use std::alloc::{AllocError, Global};
-use std::sync::Arc;
+use std::sync::Wait;
 use std::sync::atomic::{AtomicU64, Ordering};
-use std::test::Fail;
 use std::thread;
+use std::thread::{Threads, join_mut};
 
 /// How often a count is looked at.
 const TURNS: u32 = 10_000_000;
@@ -34,11 +34,11 @@ struct Counts {
 
 /// A machine whose command waits, a bounded number of turns, until as many submits have returned as it says.
 #[derive(Drop)]
-struct Waiting {
-    counts: Arc<Counts, Global>,
+struct Waiting<'a> {
+    counts: &'a Counts,
 }
 
-impl Machine<u64, ()> for Waiting {
+impl<'a> Machine<u64, ()> for Waiting<'a> {
     ghost step = { λ before _ _ after. after ≡ before };
 
     fn apply(&mut self, submits: u64) {
@@ -50,58 +50,61 @@ impl Machine<u64, ()> for Waiting {
 }
 
 /// Submits a command that waits for the next submit, and submits once more when it has begun.
-fn submit_twice(
+fn submit_twice<D: Machine<u64, ()>>(
     alloc: Global,
-    queue: &Queue<Waiting, u64, ()>,
-    client: Client<Waiting, u64, ()>,
+    queue: &Queue<D, u64, ()>,
+    client: &mut Client<D, u64, ()>,
     counts: &Counts,
-) -> Result<(), AllocError>
-    requires one { client.seat.table_id ≡ queue.now.table.shared.table_id }
+)
+    requires one { client.old.seat.table_id ≡ queue.now.table.shared.table_id }
 {
-    let mut client = client;
-    let low = boxed(alloc, 2)?;
-    let high = boxed(alloc, 2)?;
-    drop(client.submit(queue, low));
+    drop(submit(alloc, queue, client, Ok(2)));
     counts.returned.fetch_add(1, Ordering::SeqCst);
     comes_to(&counts.begun, 1);
-    drop(client.submit(queue, high));
+    drop(submit(alloc, queue, client, Ok(2)));
     counts.returned.fetch_add(1, Ordering::SeqCst);
-    Ok(())
 }
 
-/// A machine that wasn't given anything, and its counts.
-fn machine_of(alloc: Global) -> Result<(Waiting, Arc<Counts, Global>), AllocError> {
-    let counts = Arc::new(
-        alloc,
-        Counts {
-            begun: AtomicU64::new(0),
-            returned: AtomicU64::new(0),
-            met: AtomicU64::new(0),
-        },
-    )?;
-    let shared = Arc::try_clone(&counts)?;
-    Ok((Waiting { counts: shared }, counts))
+/// Submits in one thread, and drives in another.
+fn submit_and_drive<W: Threads + Wait + Sync, D: Machine<u64, ()> + Send>(
+    rt: &W,
+    alloc: Global,
+    queue: &Queue<D, u64, ()>,
+    client: &mut Client<D, u64, ()>,
+    driver: &mut Driver<D, u64, ()>,
+    counts: &Counts,
+)
+    requires one { (client.old.seat.table_id ≡ queue.now.table.shared.table_id) × (driver.old.seat.table_id ≡ queue.now.table.shared.table_id) }
+{
+    join_mut(
+        rt,
+        &mut ||
+            requires { client.now.seat.table_id ≡ queue.now.table.shared.table_id }
+        { submit_twice(alloc, queue, client, counts) },
+        &mut ||
+            requires { driver.now.seat.table_id ≡ queue.now.table.shared.table_id }
+        { drive(rt, queue, driver, 2) },
+    );
+}
+
+/// How many commands saw that a later submit had returned.
+fn met<W: Threads + Wait + Sync>(
+    rt: &W,
+    alloc: Global,
+    counts: &Counts,
+) -> Result<u64, AllocError> {
+    let (queue, mut client, mut driver) = open_one(alloc, Waiting { counts })?;
+    submit_and_drive(rt, alloc, &queue, &mut client, &mut driver, counts);
+    Ok(counts.met.load(Ordering::SeqCst))
 }
 
 /// Shows that a command which waits until a later submit has returned sees that it has.
 #[test]
-fn a_submit_returns_while_a_command_is_done(rt: HostRuntime) -> Result<(), Fail> {
-    let alloc: Global = rt.alloc();
-    let (machine, counts) = machine_of(alloc)?;
-    let (queue, client, driver) = open_one(alloc, machine)?;
-    let line = &queue;
-    let seen = &counts;
-    let (submitted, driver) = thread::join(
-        &rt,
-        move || -> Result<(), AllocError>
-            requires { client.seat.table_id ≡ line.now.table.shared.table_id }
-        { submit_twice(alloc, line, client, seen) },
-        move || -> Driver<Waiting, u64, ()>
-            requires { driver.seat.table_id ≡ line.now.table.shared.table_id }
-        { drive(&rt, line, driver, 2) },
-    );
-    submitted?;
-    drop(driver);
-    assert_eq!(rt; counts.met.load(Ordering::SeqCst), 2);
-    Ok(())
+fn a_submit_returns_while_a_command_is_done(rt: HostRuntime) {
+    let counts = Counts {
+        begun: AtomicU64::new(0),
+        returned: AtomicU64::new(0),
+        met: AtomicU64::new(0),
+    };
+    assert!(rt; met(&rt, rt.alloc(), &counts) == Ok(2));
 }
