@@ -1,5 +1,5 @@
 //! Gates that hold groups.
-use std::alloc::{AllocError, Global};
+use std::alloc::Global;
 use std::sync::atomic::{AtomicU64, Ordering};
 use std::thread;
 use workers_draw::gate::Gate;
@@ -139,41 +139,39 @@ impl Gate for HighFirst {
 /// Counts the calls for each of some groups, and those for others.
 #[derive(Drop)]
 pub struct Counting {
-    entered: Vec<AtomicU64>,
-    left: Vec<AtomicU64>,
+    /// Of each group how often it has entered, and then how often it has left
+    counts: Vec<AtomicU64>,
     others: AtomicU64,
 }
 
-/// So many counts of 0.
-fn counts(alloc: Global, count: u32) -> Result<Vec<AtomicU64>, AllocError> {
-    let mut counts = Vec::new(alloc);
-    for _ in 0..count {
-        counts.push(AtomicU64::new(0))?;
-    }
-    Ok(counts)
-}
-
 impl Counting {
-    /// A gate for so many groups that wasn't called.
-    pub fn new(alloc: Global, groups: u32) -> Result<Self, AllocError> {
-        Ok(Counting {
-            entered: counts(alloc, groups)?,
-            left: counts(alloc, groups)?,
+    /// A gate for so many groups that wasn't called. None where memory runs out.
+    pub fn new(alloc: Global, groups: u32) -> Option<Self> {
+        let mut counts = Vec::new(alloc);
+        for _ in 0..2 * u64::from(groups) {
+            if counts.push(AtomicU64::new(0)).is_err() {
+                return None;
+            }
+        }
+        Some(Counting {
+            counts,
             others: AtomicU64::new(0),
         })
     }
 
     /// Whether each of the groups has entered once and left once, and no other group has.
     pub fn has_each_once(&self) -> bool {
-        let once = |count: &AtomicU64| count.load(Ordering::SeqCst) == 1;
-        self.entered.iter().all(once)
-            && self.left.iter().all(once)
-            && self.others.load(Ordering::SeqCst) == 0
+        for count in &self.counts {
+            if count.load(Ordering::SeqCst) != 1 {
+                return false;
+            }
+        }
+        self.others.load(Ordering::SeqCst) == 0
     }
 
-    /// A call for a group.
-    fn count(&self, counts: &Vec<AtomicU64>, group: u32) {
-        match counts.get(group as usize) {
+    /// A call whose count is at a place. One that has none there is for another group.
+    fn count(&self, place: usize) {
+        match self.counts.get(place) {
             Some(count) => count.fetch_add(1, Ordering::SeqCst),
             None => self.others.fetch_add(1, Ordering::SeqCst),
         };
@@ -182,10 +180,10 @@ impl Counting {
 
 impl Gate for Counting {
     fn enter(&self, group: u32) {
-        self.count(&self.entered, group);
+        self.count(2 * group as usize);
     }
 
     fn leave(&self, group: u32) {
-        self.count(&self.left, group);
+        self.count(2 * group as usize + 1);
     }
 }

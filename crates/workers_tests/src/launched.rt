@@ -1,10 +1,13 @@
 //! Launches by `run_parallel`, at gates that count and hold groups.
+ghost use Rattle.std.specs.Prelude.{◌≤◌};
+
 use crate::gates::{Counting, HighFirst};
-use crate::scripts::all_but_the_last;
 use crate::two_workers::launched;
 use clmodel::fault::Fault;
 use clmodel::outcome::Outcome;
-use std::test::Fail;
+use std::alloc::Global;
+use std::sync::Wait;
+use std::thread::Threads;
 
 /// A hundred groups of 256 items.
 const HUNDRED: &str = "buffer a 102400
@@ -16,26 +19,31 @@ launch k 25600 256
 ";
 
 /// Whether an outcome has no report.
-fn is_clean(outcome: Option<Outcome>) -> bool {
+fn is_clean(outcome: &Outcome) -> bool {
     match outcome {
-        Some(Outcome::Clean(_)) => true,
+        Outcome::Clean(_) => true,
         _ => false,
+    }
+}
+
+/// Whether a launch of a hundred groups by so many workers is clean, and each group calls the gate with its own number.
+fn passes_once<W: Threads + Wait + Sync>(rt: &W, alloc: Global, workers: u32) -> bool
+    requires workers { (1 ≤ workers) × (workers ≤ 16) }
+{
+    let Some(gate) = Counting::new(alloc, 100) else {
+        return false;
+    };
+    match launched(rt, alloc, HUNDRED, workers, &gate) {
+        Some(outcome) => is_clean(&outcome) & gate.has_each_once(),
+        None => false,
     }
 }
 
 /// Each group calls the gate with its own number, however the launch is cut into rounds.
 #[test]
-fn each_group_passes_the_gate_once(rt: HostRuntime) -> Result<(), Fail> {
-    let Some((device, command)) = all_but_the_last(rt.alloc(), HUNDRED) else {
-        panic!(rt; "no script")
-    };
-    for workers in [1, 2] {
-        let gate = Counting::new(rt.alloc(), 100)?;
-        let outcome = launched(&rt, rt.alloc(), &device, &command, workers, &gate)?;
-        assert!(rt; is_clean(outcome));
-        assert!(rt; gate.has_each_once());
-    }
-    Ok(())
+fn each_group_passes_the_gate_once(rt: HostRuntime) {
+    let alloc = rt.alloc();
+    assert!(rt; passes_once(&rt, alloc, 1) & passes_once(&rt, alloc, 2));
 }
 
 /// Four groups, of which 1 and 3 divide by 0.
@@ -48,22 +56,24 @@ launch k 4 1
 ";
 
 /// Whether an outcome is a division by 0 of item 1.
-fn is_of_item_1(outcome: Option<Outcome>) -> bool {
+fn is_of_item_1(outcome: &Outcome) -> bool {
     match outcome {
-        Some(Outcome::Faulted(Fault::DivideByZero { item }, _)) => item == 1,
+        Outcome::Faulted(Fault::DivideByZero { item }, _) => *item == 1,
         _ => false,
+    }
+}
+
+/// Whether a launch in which group 3 is found to divide by 0 before group 1 is run comes to the fault of group 1.
+fn answers_the_lower<W: Threads + Wait + Sync>(rt: &W, alloc: Global) -> bool {
+    let gate = HighFirst::new(1, 3);
+    match launched(rt, alloc, ODD, 2, &gate) {
+        Some(outcome) => is_of_item_1(&outcome) & gate.has_waited(),
+        None => false,
     }
 }
 
 /// Group 3 is found to divide by 0 before group 1 is run: the answer is that of group 1.
 #[test]
-fn the_lower_group_is_answered(rt: HostRuntime) -> Result<(), Fail> {
-    let Some((device, command)) = all_but_the_last(rt.alloc(), ODD) else {
-        panic!(rt; "no script")
-    };
-    let gate = HighFirst::new(1, 3);
-    let outcome = launched(&rt, rt.alloc(), &device, &command, 2, &gate)?;
-    assert!(rt; gate.has_waited());
-    assert!(rt; is_of_item_1(outcome));
-    Ok(())
+fn the_lower_group_is_answered(rt: HostRuntime) {
+    assert!(rt; answers_the_lower(&rt, rt.alloc()));
 }

@@ -24,13 +24,23 @@ pub const SUMS: [u8; 16] = [
     3, 0, 0, 0, 0, 0, 0, 0x80, 0xfe, 0xff, 0xff, 0xff, 0x1e, 0, 0, 0,
 ];
 
-/// A device that has done all commands of a script but the last, and that one. None where it is no script.
-pub fn all_but_the_last(alloc: Global, script: &str) -> Option<(Device, Command)> {
-    let mut commands = read_script(alloc, script.as_bytes()).ok()?;
-    let last = commands.pop()?;
+/// A device that has done commands.
+fn done(alloc: Global, commands: Vec<Command>) -> Device {
     let mut device = Device::new(alloc, 1000000);
     for command in commands {
         device.apply(command);
     }
-    Some((device, last))
+    device
+}
+
+/// A device that has done all commands of a script but the last, and that one. None where it is no script.
+pub fn all_but_the_last(alloc: Global, script: &str) -> Option<(Device, Command)> {
+    let Ok(commands) = read_script(alloc, script.as_bytes()) else {
+        return None;
+    };
+    let mut commands = commands;
+    match commands.pop() {
+        Some(last) => Some((done(alloc, commands), last)),
+        None => None,
+    }
 }
