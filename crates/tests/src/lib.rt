@@ -6,10 +6,6 @@ mod code_sizes;
 #[cfg(test)]
 mod footprints;
 #[cfg(test)]
-mod hints;
-#[cfg(test)]
-mod json_refusals;
-#[cfg(test)]
 mod logs;
 #[cfg(test)]
 mod merges;
