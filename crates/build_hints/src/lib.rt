@@ -7,8 +7,6 @@
 mod faults;
 mod hints;
 mod refusals;
-#[cfg(test)]
-mod tests;
 mod titles;
 
 pub use faults::Refused;

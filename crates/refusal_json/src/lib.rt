@@ -6,9 +6,6 @@ ghost use Rattle.std.specs.Prelude.{◌≡◌, string_bytes, option_copied, IfOk
 ghost use Rattle.serde_json.specs.View.{view};
 ghost use Rattle.refusal_json.specs.Members.{fault_data, spot_data, hints_data, refusal_data, IsRefusedLine};
 
-#[cfg(test)]
-mod tests;
-
 use build_hints::{Refusal, Refused, refusal_of};
 use serde_json::{Value, json};
 use std::alloc::{AllocError, Global};

@@ -1,7 +1,6 @@
 //! Hints at what natural kernels write and the language lacks.
 
-use crate::faults::Refused;
-use crate::refusals::{refusal_of, refusal_text};
+use build_hints::{Refused, refusal_of, refusal_text};
 use clmodel::type_fault::TypeFault;
 use clsyntax_lex::token::SyntaxFault;
 use std::test::Fail;

@@ -1,8 +1,8 @@
 //! A refusal as JSON: that there is memory for it.
 
-use crate::refused_json;
 use build_hints::Refused;
 use clsyntax_lex::token::SyntaxFault;
+use refusal_json::refused_json;
 use std::test::Fail;
 
 /// A byte that begins no token is told in one line, with its place in the source and in the file, and a hint.
