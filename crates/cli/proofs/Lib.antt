@@ -1,4 +1,3 @@
-pub mod Sessions
 pub mod CommandLines
 pub mod Replays
 mod Servings

@@ -1,36 +1,35 @@
 -- A talk, turn by turn.
-use Rattle.std.proofs.Common.{◌≡◌, ℕ, ◌+◌, ◌-◌, ◌^◌, ◌≤◌, min, Option, None, Some, List, [], ◌∷◌, ◌++◌, length, refl, ap, sym, ◌∙◌, subst, arith, append_assoc}
+use Rattle.std.proofs.Common.{◌≡◌, ℕ, ◌+◌, ◌≤◌, Option, None, Some, List, [], ◌∷◌, ◌++◌, length, refl, ap, sym, ◌∙◌, subst, arith, append_assoc}
 use Rattle.std.proofs.lemmas.List.{append-nil}
 use Rattle.std.specs.Prelude.{IfSome}
 use Rattle.std.specs.Io.KnownBytes.{Consumes, IsAtEnd}
 use Rattle.device.specs.Machine.{Machine, Step, opening}
 use Rattle.host_commands.specs.declared.command.Command.{Command}
 use Rattle.host_commands.specs.declared.command.Reply.{Reply}
-use Rattle.cli.specs.declared.session.RunEnd.{RunEnd}
-use Rattle.cli.specs.declared.session.RunFault.{RunFault}
-use Rattle.cli.specs.Faults.{serve_fault}
-use Rattle.cli.specs.Session.{Plays, one_end, end_of, Answered, Ran}
-use Rattle.cli.specs.Serving.{Served, Begun, Misheard, ReplyUnwritten, ServeFailed}
+use Rattle.script_runs.specs.declared.session.RunEnd.{RunEnd}
+use Rattle.script_runs.specs.Faults.{serve_fault}
+use Rattle.script_runs.specs.Session.{Plays, one_end, end_of, Ran}
+use Rattle.cli.specs.Serving.{Served, Begun, ServeFailed}
 use Rattle.cli.specs.Serves.{Serves}
-use Rattle.cli.proofs.Sessions.{plays_more, lines-more, fold-more}
+use Rattle.script_runs.proofs.Sessions.{plays_more, lines-more, fold-more}
 use Rattle.counted_io.specs.Pieces.{joined}
-use Rattle.counted_io.specs.Sink.{Sink, Wrote, Stopped}
+use Rattle.counted_io.specs.Sink.{Wrote}
 use Rattle.counted_io.specs.Source.{Are}
 use Rattle.counted_io.proofs.Puts.{stopped_then}
-use Rattle.peers.specs.Talk.{Event, Heard, Told, heard_in, heard, told, hearing, Conversation, Said}
+use Rattle.peers.specs.Talk.{Event, Heard, Told, heard, told, hearing, Conversation, Said}
 use Rattle.peers.proofs.Talks.{said_then, heard-append, told-append, heard-hearing, told-hearing}
 use Rattle.serving.specs.declared.server.Server.{Server}
 use Rattle.serving.specs.declared.server.ServeFault.{ServeFault}
 use Rattle.serving.specs.declared.server.ServeFault.TheVariants as serve
-use Rattle.serving.specs.Hearing.{EndsWith, HearFails, NotHeard}
+use Rattle.serving.specs.Hearing.{HearFails, NotHeard}
 use Rattle.serving.specs.Turns.{greeting, AreTurns}
-use Rattle.serving.specs.Serving.{Opened, NotOpened, HeardNone, HeardCommand, HeardPart, HeardBad, NoCommand, ToldReply, ToldPart, NotTold, HeardNext, up_to_most}
+use Rattle.serving.specs.Serving.{Opened, NotOpened, HeardNone, HeardCommand, NoCommand, ToldReply, NotTold, HeardNext, up_to_most}
 use Rattle.serving.proofs.Sources.{fails_then}
 use Rattle.serving.proofs.Commands.{ends_then}
 use Rattle.simfile.specs.declared.lines.Version.{Version}
 use Rattle.simfile.specs.declared.lines.Version.TheVariants as version
 use Rattle.simfile.specs.Lines.{line, lines}
-use Rattle.simfile.specs.Script.{IsText, Begins, IsScript, head, line_feeds}
+use Rattle.simfile.specs.Script.{IsText, Begins, head, line_feeds}
 use Rattle.simfile.proofs.LineLaws.{feeds_append}
 
 pub is_none : {A : Type 0} (o : Option A) → ((a : A) → o ≡ Some a → ⊥) → o ≡ None

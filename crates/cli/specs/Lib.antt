@@ -1,6 +1,3 @@
-pub mod Session
-pub mod Faults
-pub mod Reading
 pub mod Checking
 pub mod Dumping
 pub mod Replaying
@@ -10,5 +7,7 @@ pub mod Serves
 pub use Rattle.counted_io.specs.Sink
 pub use Rattle.counted_io.specs.Source
 pub use Rattle.fault_lines.specs.ScheduleFile
+pub use Rattle.script_runs.specs.Session
+pub use Rattle.script_runs.specs.Reading
 pub use Rattle.simfile.specs.Script
 pub use Rattle.simfile.specs.Lines

@@ -3,13 +3,13 @@ use Rattle.std.specs.Prelude.{◌≡◌, ℕ, List, [], ◌∷◌, ◌++◌}
 use Rattle.device.specs.Machine.{Machine, opening}
 use Rattle.host_commands.specs.declared.command.Command.{Command}
 use Rattle.host_commands.specs.declared.command.Reply.{Reply}
-use Rattle.cli.specs.declared.session.RunEnd.{RunEnd}
-use Rattle.cli.specs.Session.{Plays, end_of}
+use Rattle.script_runs.specs.declared.session.RunEnd.{RunEnd}
+use Rattle.script_runs.specs.Session.{Plays, end_of}
 use Rattle.peers.specs.Talk.{Event, Heard, heard, Conversation, Said}
 use Rattle.serving.specs.declared.server.Server.{Server}
 use Rattle.serving.specs.Hearing.{EndsWith}
 use Rattle.serving.specs.Turns.{greeting, AreTurns}
-use Rattle.serving.specs.Serving.{HasLine, up_to_most}
+use Rattle.serving.specs.Serving.{up_to_most}
 use Rattle.simfile.specs.Script.{line_feeds}
 
 -- the commands so far were answered, and a first line of the next one was heard

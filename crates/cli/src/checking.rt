@@ -6,11 +6,11 @@ ghost use Rattle.counted_io.specs.Sink.{Puts};
 ghost use Rattle.simfile.specs.Lines.{check_line};
 ghost use Rattle.cli.specs.Checking.{Checked, Unchecked, source_status_of};
 
-use crate::reading::bytes_of;
-use crate::session::{Reader, RunFault};
 use counted_io::{Read, Write, WriteFailed};
 use host_commands::build::{NotBuilt, build};
 use host_commands::command::BuildFault;
+use script_runs::reading::bytes_of;
+use script_runs::session::{Reader, RunFault};
 use simfile::replies::write_check;
 use std::alloc::Global;
 

@@ -2,8 +2,8 @@
 //! n.
 
 use crate::scripts::{RACE, RACE_REPLIES, REFUSED, REFUSED_REPLIES, SUM, SUM_REPLIES};
-use cli::run;
-use cli::session::{Options, Reader, RunEnd, RunFault};
+use script_runs::run;
+use script_runs::session::{Options, Reader, RunEnd, RunFault};
 use std::alloc::Global;
 use std::io;
 use std::io::{BufWriter, Error, ErrorKind};

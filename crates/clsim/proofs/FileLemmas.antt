@@ -1,6 +1,6 @@
 -- The fault of an explanation as that of a command.
 use Rattle.std.proofs.Common.{◌≡◌, ℕ}
-use Rattle.cli.specs.declared.session.RunFault.{RunFault}
+use Rattle.script_runs.specs.declared.session.RunFault.{RunFault}
 use Rattle.counted_io.specs.Sink.{Sink}
 use Rattle.explaining.specs.Explaining.{Unwritten}
 use Rattle.explaining.specs.declared.facts.Given.{Given}

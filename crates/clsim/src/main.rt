@@ -6,9 +6,9 @@
 
 ghost use Rattle.std.specs.Prelude.{◌≡◌, ◌≤◌, IfOk};
 ghost use Rattle.std.specs.Process.{exit_status};
-ghost use Rattle.cli.specs.Session.{status_of};
 ghost use Rattle.cli.specs.Checking.{source_status_of};
 ghost use Rattle.cli.specs.Replaying.{replay_status_of};
+ghost use Rattle.script_runs.specs.Session.{status_of};
 
 mod explain_files;
 mod named_file;
@@ -20,10 +20,11 @@ use cli::command_line::{Invocation, command};
 use cli::dialogue::serve;
 use cli::dumping::dump_file;
 use cli::replaying::{replay_files, replay_status};
-use cli::session::{Options, Reader, RunEnd, RunFault, run, status};
 use cli::wish::ExplainWish;
+use cli::{run, status};
 use explaining::{ExplainOptions, Format};
 use peers::StreamPeer;
+use script_runs::session::{Options, Reader, RunEnd, RunFault};
 use std::env::Env;
 use std::io::{BufReader, BufWriter, Printer};
 use std::marker::Sync;

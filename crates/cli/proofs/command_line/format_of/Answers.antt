@@ -1,5 +1,5 @@
 use Rattle.std.proofs.Common.{rules, ◌≡◌, ◌∙◌, ap, sym, subst, refl, inl, inr, false, true, codes, option_map, Option, None, Some}
-use Rattle.clap.specs.Words.{Text, Row, found_of, rows_of, first_of}
+use Rattle.clap.specs.Words.{Text, found_of, rows_of, first_of}
 use Rattle.clap.proofs.WalkLemmas.{first_value-rows}
 use Rattle.cli.specs.CommandLine.{IsFormat}
 use Rattle.cli.proofs.CommandLines.{no_format}

@@ -2,8 +2,8 @@ use Rattle.std.proofs.Common.{◌≡◌, [], ◌∷◌, ◌++◌, ap, sym, ◌�
 use Rattle.std.specs.Vec.Iter.{into_iter_items}
 use Rattle.std.proofs.lemmas.List.{append-nil, nil_from_length}
 use Rattle.std.proofs.lemmas.Result.{err_from_is_err_and}
-use Rattle.cli.proofs.Sessions.{answered_none, answered_more, broken_at, answered_all, broken_last}
-use Rattle.cli.proofs.session.answer_all.Goals as goal
+use Rattle.script_runs.proofs.Sessions.{answered_none, answered_more, broken_at, answered_all, broken_last}
+use Rattle.script_runs.proofs.session.answer_all.Goals as goal
 
 pub loop-command-init : goal.loop-command-init
 loop-command-init g c = record { split = search rules; counts = search rules; answered = λ budget first. answered_none budget _ _ first }

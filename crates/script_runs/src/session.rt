@@ -7,7 +7,7 @@ ghost use Rattle.host_commands.specs.declared.command.Reply.{Reply as ReplyOf};
 ghost use Rattle.host_queue.specs.declared.view.Request.TheVariants.{Answered as AnsweredBy};
 ghost use Rattle.counted_io.specs.Sink.{Wrote, Stopped};
 ghost use Rattle.simfile.specs.Lines.{line};
-ghost use Rattle.cli.specs.Session.{one_end, Answered, Broken, Unanswered, Ran, Failed, status_of};
+ghost use Rattle.script_runs.specs.Session.{one_end, Answered, Broken, Unanswered, Ran, Failed, status_of};
 
 use crate::only_client::OnlyClient;
 use crate::reading::commands_of;
@@ -105,7 +105,7 @@ pub enum RunFault {
 
 impl From<AllocError> for RunFault {
     ghost use Rattle.std.specs.Prelude.{◌≡◌};
-    ghost use Rattle.cli.specs.declared.session.RunFault.TheVariants as run_fault;
+    ghost use Rattle.script_runs.specs.declared.session.RunFault.TheVariants as run_fault;
 
     ghost from_gives = { λ _ made. made ≡ run_fault.OutOfMemory };
 
@@ -116,7 +116,7 @@ impl From<AllocError> for RunFault {
 
 impl<T: Drop> From<AllocFailed<T>> for RunFault {
     ghost use Rattle.std.specs.Prelude.{◌≡◌};
-    ghost use Rattle.cli.specs.declared.session.RunFault.TheVariants as run_fault;
+    ghost use Rattle.script_runs.specs.declared.session.RunFault.TheVariants as run_fault;
 
     ghost from_gives = { λ _ made. made ≡ run_fault.OutOfMemory };
 
@@ -127,7 +127,7 @@ impl<T: Drop> From<AllocFailed<T>> for RunFault {
 
 impl From<WriteFailed> for RunFault {
     ghost use Rattle.std.specs.Prelude.{◌≡◌};
-    ghost use Rattle.cli.specs.declared.session.RunFault.TheVariants as run_fault;
+    ghost use Rattle.script_runs.specs.declared.session.RunFault.TheVariants as run_fault;
 
     ghost from_gives = { λ _ made. made ≡ run_fault.Write };
 
@@ -138,7 +138,7 @@ impl From<WriteFailed> for RunFault {
 
 impl From<ScriptFault> for RunFault {
     ghost use Rattle.std.specs.Prelude.{◌≡◌};
-    ghost use Rattle.cli.specs.Faults.{script_fault};
+    ghost use Rattle.script_runs.specs.Faults.{script_fault};
 
     ghost from_gives = { λ fault made. made ≡ script_fault fault };
 
@@ -152,7 +152,7 @@ impl From<ScriptFault> for RunFault {
 
 impl From<FileFault> for RunFault {
     ghost use Rattle.std.specs.Prelude.{◌≡◌};
-    ghost use Rattle.cli.specs.Faults.{file_fault};
+    ghost use Rattle.script_runs.specs.Faults.{file_fault};
 
     ghost from_gives = { λ fault made. made ≡ file_fault fault };
 
@@ -166,7 +166,7 @@ impl From<FileFault> for RunFault {
 
 impl From<LowerFault> for RunFault {
     ghost use Rattle.std.specs.Prelude.{◌≡◌};
-    ghost use Rattle.cli.specs.Faults.{lower_fault};
+    ghost use Rattle.script_runs.specs.Faults.{lower_fault};
 
     ghost from_gives = { λ fault made. made ≡ lower_fault fault };
 
@@ -180,7 +180,7 @@ impl From<LowerFault> for RunFault {
 
 impl From<DumpFault> for RunFault {
     ghost use Rattle.std.specs.Prelude.{◌≡◌};
-    ghost use Rattle.cli.specs.declared.session.RunFault.TheVariants as run_fault;
+    ghost use Rattle.script_runs.specs.declared.session.RunFault.TheVariants as run_fault;
 
     ghost from_gives = { λ _ made. made ≡ run_fault.Write };
 
@@ -193,7 +193,7 @@ impl From<DumpFault> for RunFault {
 
 impl From<ServeFault> for RunFault {
     ghost use Rattle.std.specs.Prelude.{◌≡◌};
-    ghost use Rattle.cli.specs.Faults.{serve_fault};
+    ghost use Rattle.script_runs.specs.Faults.{serve_fault};
 
     ghost from_gives = { λ fault made. made ≡ serve_fault fault };
 
@@ -208,7 +208,7 @@ impl From<ServeFault> for RunFault {
 }
 
 /// What the replies come to with one more.
-pub(crate) fn one_end(reply: &Reply, end: RunEnd) -> RunEnd
+pub fn one_end(reply: &Reply, end: RunEnd) -> RunEnd
     ensures { result ≡ one_end reply.now end }
 {
     match reply {

@@ -1,8 +1,8 @@
 use Rattle.std.proofs.Common.{◌≡◌, ℕ, ◌++◌, length}
 use Rattle.std.specs.Vec.Iter.{into_iter_items}
 use Rattle.device.specs.Machine.{machine_of, opening}
-use Rattle.cli.proofs.Sessions.{HasAnswered}
-use Rattle.cli.proofs.session.answer_all.Given as goal
+use Rattle.script_runs.proofs.Sessions.{HasAnswered}
+use Rattle.script_runs.proofs.session.answer_all.Given as goal
 
 abbrev pub invariant-loop-command : goal.invariant-loop-command
 invariant-loop-command g l = record {

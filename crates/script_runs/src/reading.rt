@@ -3,7 +3,7 @@
 
 ghost use Rattle.std.specs.Prelude.{IfOk, IfErr};
 ghost use Rattle.counted_io.specs.Source.{Are};
-ghost use Rattle.cli.specs.Reading.{ReadFails, ReadsScript, ScriptFails};
+ghost use Rattle.script_runs.specs.Reading.{ReadFails, ReadsScript, ScriptFails};
 
 use crate::session::{Reader, RunFault};
 use counted_io::{Read, ReadFault};
@@ -24,7 +24,7 @@ pub fn bytes_of<R: Read>(alloc: Global, reader: &mut R, named: Reader) -> Result
 }
 
 /// Reads a script.
-pub(crate) fn commands_of<R: Read>(alloc: Global, reader: &mut R) -> Result<Vec<Command>, RunFault>
+pub fn commands_of<R: Read>(alloc: Global, reader: &mut R) -> Result<Vec<Command>, RunFault>
     ensures read { IfOk result (λ commands. ReadsScript (R.rest reader.old) commands.items) }
     ensures failed { IfErr result (ScriptFails (R.rest reader.old) (R.failures reader.old) (R.failures reader.new)) }
 {

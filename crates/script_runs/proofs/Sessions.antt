@@ -6,10 +6,10 @@ use Rattle.std.specs.List.{fold}
 use Rattle.device.specs.Machine.{Machine, Step, opening}
 use Rattle.host_commands.specs.declared.command.Command.{Command}
 use Rattle.host_commands.specs.declared.command.Reply.{Reply}
-use Rattle.cli.specs.declared.session.RunEnd.{RunEnd}
+use Rattle.script_runs.specs.declared.session.RunEnd.{RunEnd}
 use Rattle.counted_io.specs.Sink.{Sink, Wrote, Stopped}
 use Rattle.simfile.specs.Lines.{line, lines}
-use Rattle.cli.specs.Session.{Plays, one_end, end_of, Answered, Broken}
+use Rattle.script_runs.specs.Session.{Plays, one_end, end_of, Answered, Broken}
 use Rattle.counted_io.proofs.Puts.{wrote_none, wrote_then, stopped_then}
 
 -- a command was answered: the machine made a step, and the reply's line was written

@@ -2,7 +2,7 @@ use Rattle.std.proofs.Common.{◌≡◌, List, [], ◌∷◌, refl, sym, ap, ◌
 use Rattle.std.specs.Option.{option_to_list}
 use mathlib.Core.Option.{some, some-ne-none}
 use lib.ListN.{get_elem?}
-use Rattle.cli.proofs.only_client.OnlyClient.open.Goals as goal
+use Rattle.script_runs.proofs.only_client.OnlyClient.open.Goals as goal
 
 at_last : {A : Type 0} (xs : List A) (x : A) → get_elem? (xs ++ x ∷ []) (length xs) ≡ some x
 at_last [] x = refl

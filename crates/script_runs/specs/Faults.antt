@@ -1,11 +1,11 @@
 -- Which fault of a command an error below it is.
-use Rattle.cli.specs.declared.session.RunFault.{RunFault}
-use Rattle.cli.specs.declared.session.RunFault.TheVariants as fault
+use Rattle.script_runs.specs.declared.session.RunFault.{RunFault}
+use Rattle.script_runs.specs.declared.session.RunFault.TheVariants as fault
 use Rattle.lower.specs.declared.lowering.LowerFault.{LowerFault}
 use Rattle.lower.specs.declared.lowering.LowerFault.TheVariants as lowering
 use Rattle.fault_lines.specs.declared.reading.ReadFault.{ReadFault}
 use Rattle.fault_lines.specs.declared.reading.ReadFault.TheVariants as file
-use Rattle.cli.specs.declared.session.Reader.TheVariants as reader
+use Rattle.script_runs.specs.declared.session.Reader.TheVariants as reader
 use Rattle.serving.specs.declared.server.ServeFault.{ServeFault}
 use Rattle.serving.specs.declared.server.ServeFault.TheVariants as serve
 use Rattle.simfile.specs.declared.script.ScriptFault.{ScriptFault}
