@@ -1,15 +1,18 @@
 //! Clients of a device: two on one thread, and sixteen in threads of their own with a driver in another. The sixteen
 //! give 4,096 commands, all that a queue takes.
+ghost use Rattle.std.specs.Prelude.{◌≡◌, IfOk};
 
-use crate::many::serve;
+use crate::clients::{NumberedClient, drive, numbered_clients};
+use crate::many::{Report, counted, work};
 use crate::questions::Questions;
 use crate::turns::{notes_are_right, polls_are_right};
 use clmodel::text::{Bytes, Name};
 use device::{Command, Device, Reply};
-use host_queue::{close, open};
+use host_queue::{Driver, Queue, close, open};
 use spaces_base::Buffers;
 use std::alloc::{AllocError, Global};
 use std::sync::Wait;
+use std::thread;
 use std::thread::Threads;
 
 /// The name of a client's buffer: b with the client's number.
@@ -94,6 +97,35 @@ fn written(alloc: Global, buffers: &Buffers) -> Result<u8, AllocError> {
     Ok(written)
 }
 
+/// A client after its thread's work.
+type DeviceReport<'a> = Report<'a, Device, Command, Reply>;
+
+/// Lets all clients work, each in a thread of its own, while another drives.
+fn serve<'a, W: Threads + Wait + Sync>(
+    rt: &W,
+    alloc: Global,
+    queue: &'a Queue<Device, Command, Reply>,
+    clients: Vec<NumberedClient<'a, Device, Command, Reply>>,
+    driver: Driver<Device, Command, Reply>,
+) -> Result<(Vec<DeviceReport<'a>>, Driver<Device, Command, Reply>), AllocError>
+    requires one { driver.seat.table_id ≡ queue.now.table.shared.table_id }
+    ensures { IfOk result (λ r. r.1.seat.table_id ≡ queue.now.table.shared.table_id) }
+{
+    let (reports, driver) = thread::join(
+        rt,
+        || thread::map_vec(rt, clients, &|client| work(rt, alloc, client, 0)),
+        move || -> Driver<Device, Command, Reply>
+            requires { driver.seat.table_id ≡ queue.now.table.shared.table_id }
+            ensures { result.seat.table_id ≡ queue.entry.now.table.shared.table_id }
+        {
+            let mut driver = driver;
+            drive(rt, queue, &mut driver, 4096);
+            driver
+        },
+    );
+    Ok((reports?, driver))
+}
+
 /// Sixteen clients of a device: how many replies were right, how many clients were answered Full, how many buffers
 /// there are, and how many hold what their clients wrote.
 fn sixteen<W: Threads + Wait + Sync>(
@@ -101,10 +133,15 @@ fn sixteen<W: Threads + Wait + Sync>(
     alloc: Global,
 ) -> Result<(usize, usize, usize, u8), AllocError> {
     let (queue, clients, driver) = open(alloc, Device::new(alloc, 1000000), 16)?;
-    let (exact, full, driver) = serve(rt, alloc, &queue, clients, driver, 0, 4096)?;
+    let numbered = numbered_clients(alloc, &queue, clients)?;
+    let (reports, driver) = serve(rt, alloc, &queue, numbered, driver)?;
+    let counts = counted(alloc, Ok(reports), 0, 4096);
     let device = close(rt, queue, Vec::new(alloc), driver);
-    let buffers = device.buffers();
-    Ok((exact, full, buffers.len(), written(alloc, buffers)?))
+    let buffers = device.buffers().len();
+    let written = written(alloc, device.buffers());
+    drop(device);
+    let (exact, full) = counts?;
+    Ok((exact, full, buffers, written?))
 }
 
 /// Shows that each of 4,096 commands has the right reply and a ticket of its own, and that each client is then

@@ -14,14 +14,14 @@ use std::thread::Threads;
 
 /// A client after its thread's work.
 #[derive(Drop)]
-struct Report<'a, D: Machine<C, R>, C: Drop, R: Drop> {
+pub struct Report<'a, D: Machine<C, R>, C: Drop, R: Drop> {
     /// None where it left
     client: Option<NumberedClient<'a, D, C, R>>,
     lines: Vec<Line>,
 }
 
 /// Asks 256 times. The client that leaves collects none of the replies.
-fn work<'a, W: Wait, D: Machine<C, R> + Questions<C, R>, C: Drop, R: Drop>(
+pub fn work<'a, W: Wait, D: Machine<C, R> + Questions<C, R>, C: Drop, R: Drop>(
     rt: &W,
     alloc: Global,
     client: NumberedClient<'a, D, C, R>,
@@ -111,7 +111,7 @@ fn full<D: Machine<C, R> + Questions<C, R>, C: Drop, R: Drop>(
 
 /// How many replies are the sums up to them, of so many tickets, and how many clients are answered Full where these are
 /// all tickets.
-fn counted<D: Machine<C, R> + Questions<C, R>, C: Drop, R: Drop>(
+pub fn counted<D: Machine<C, R> + Questions<C, R>, C: Drop, R: Drop>(
     alloc: Global,
     reports: Result<Vec<Report<'_, D, C, R>>, AllocError>,
     leaver: u8,
@@ -127,7 +127,7 @@ fn counted<D: Machine<C, R> + Questions<C, R>, C: Drop, R: Drop>(
 
 /// Lets all clients work, each in a thread of its own, while another drives until so many tickets are answered. One
 /// client may leave. How many replies were the sums, how many clients were answered Full, and the driver.
-pub fn serve<
+fn serve<
     W: Threads + Wait + Sync,
     D: Machine<C, R> + Questions<C, R> + Send,
     C: Drop + Send,
