@@ -1,78 +1,83 @@
 //! How many instructions and registers the code of kernels has.
 
-use host_commands::build::{NotBuilt, build};
+use crate::merges::checked;
+use cltypes::Checked;
 use lower::lower_kernel;
 use renumbering::renumber;
-use std::alloc::{AllocError, Global};
-use std::test::Fail;
+use std::alloc::Global;
 
-/// The instructions and the registers of a kernel's code.
+/// The instructions and the registers of a kernel's code, as it is lowered and as a launch runs it.
 #[derive(Clone, Copy)]
-struct Size {
+struct Sizes {
     count: usize,
     registers: usize,
+    run_count: usize,
+    run_registers: usize,
 }
 
-/// Those of the kernel `k` of a source, as it is lowered and as a launch runs it. None where it can't be built.
-fn sizes(alloc: Global, source: &str) -> Result<Option<(Size, Size)>, AllocError> {
-    let checked = match build(alloc, source.as_bytes()) {
-        Ok(checked) => checked,
-        Err(NotBuilt::Fault(_)) => return Ok(None),
-        Err(NotBuilt::OutOfMemory) => return Err(AllocError),
-    };
-    let Some(found) = checked.kernel(b"k") else {
-        return Ok(None);
-    };
-    let code = lower_kernel(alloc, &checked, found)?;
-    let lowered = Size {
-        count: code.count(),
-        registers: code.registers(),
-    };
-    let code = renumber(alloc, code)?;
-    let run = Size {
-        count: code.count(),
-        registers: code.registers(),
-    };
-    Ok(Some((lowered, run)))
+/// Those of the kernel `k` of a program. None where there is none, or memory runs out.
+fn sizes_of_program(alloc: Global, program: &Checked) -> Option<Sizes> {
+    let code = lower_kernel(alloc, program, program.kernel(b"k")?).ok()?;
+    let (count, registers) = (code.count(), code.registers());
+    let code = renumber(alloc, code).ok()?;
+    Some(Sizes {
+        count,
+        registers,
+        run_count: code.count(),
+        run_registers: code.registers(),
+    })
+}
+
+/// Those of the kernel `k` of a source. None where it can't be built.
+fn sizes_of(alloc: Global, source: &str) -> Option<Sizes> {
+    let program = checked(alloc, source)?;
+    sizes_of_program(alloc, &program)
 }
 
 /// A constant expression takes as many instructions as a number.
 #[test]
-fn constants_are_numbers(rt: HostRuntime) -> Result<(), Fail> {
-    let long = sizes(
-        rt.alloc(),
+fn constants_are_numbers(rt: HostRuntime) {
+    let alloc = rt.alloc();
+    let long = sizes_of(
+        alloc,
         "__kernel void k(__global int *a) { a[0] = 2 * 3 + 1; }",
-    )?;
-    let short = sizes(rt.alloc(), "__kernel void k(__global int *a) { a[0] = 7; }")?;
-    let (Some((long, long_run)), Some((short, short_run))) = (long, short) else {
+    );
+    let short = sizes_of(alloc, "__kernel void k(__global int *a) { a[0] = 7; }");
+    let (Some(long), Some(short)) = (long, short) else {
         panic!(rt; "not built")
     };
-    assert_eq!(rt; long.count, short.count);
-    assert_eq!(rt; long_run.count, short_run.count);
-    Ok(())
+    assert!(rt; (long.count == short.count) & (long.run_count == short.run_count));
 }
 
-/// A kernel whose body is so many statements `a[0] = n + 1;`.
-fn sums(alloc: Global, count: usize) -> Result<String, AllocError> {
+/// A kernel whose body is so many statements `a[0] = n + 1;`. None where memory runs out.
+fn sums(alloc: Global, count: usize) -> Option<String> {
     let mut source = String::new(alloc);
-    source.push_str("__kernel void k(__global int *a, int n) { ")?;
+    source
+        .push_str("__kernel void k(__global int *a, int n) { ")
+        .ok()?;
     for _ in 0..count {
-        source.push_str("a[0] = n + 1; ")?;
+        source.push_str("a[0] = n + 1; ").ok()?;
     }
-    source.push_str("}")?;
-    Ok(source)
+    source.push_str("}").ok()?;
+    Some(source)
+}
+
+/// The sizes of such a kernel.
+fn sizes_of_sums(alloc: Global, count: usize) -> Option<Sizes> {
+    let source = sums(alloc, count)?;
+    sizes_of(alloc, source.as_str())
 }
 
 /// The registers of a statement serve the next one again.
 #[test]
-fn registers_are_used_again(rt: HostRuntime) -> Result<(), Fail> {
-    let one = sizes(rt.alloc(), sums(rt.alloc(), 1)?.as_str())?;
-    let many = sizes(rt.alloc(), sums(rt.alloc(), 200)?.as_str())?;
-    let (Some((one, one_run)), Some((many, many_run))) = (one, many) else {
+fn registers_are_used_again(rt: HostRuntime) {
+    let alloc = rt.alloc();
+    let (Some(one), Some(many)) = (sizes_of_sums(alloc, 1), sizes_of_sums(alloc, 200)) else {
         panic!(rt; "not built")
     };
-    assert_eq!(rt; many.registers, one.registers);
-    assert_eq!(rt; many_run.registers, one_run.registers);
-    assert!(rt; one.count < many.count);
-    Ok(())
+    assert!(rt;
+        (many.registers == one.registers)
+            & (many.run_registers == one.run_registers)
+            & (one.count < many.count)
+    );
 }

@@ -5,13 +5,13 @@ ghost use Rattle.clmodel.specs.Cells.{byte_count};
 
 use clmodel::access::{Access, AccessKind, Class, Region, Width};
 use shadow::Footprint;
-use std::test::Fail;
+use std::alloc::Global;
 
 /// An item, a buffer, the first of four bytes, and the kind of an access.
 type Row = (u32, u32, u16, AccessKind);
 
 /// An atomic addition.
-const ADD: AccessKind = AccessKind::Update(Class::Add);
+pub(crate) const ADD: AccessKind = AccessKind::Update(Class::Add);
 
 /// The accesses that a footprint is given, in their order.
 const KEPT: [Row; 4] = [
@@ -49,31 +49,31 @@ fn access(row: Row) -> Access
     }
 }
 
-/// Shows that an access meets the lowest byte that conflicts, and there the access that was added first.
-#[test]
-fn the_lowest_byte_and_there_the_earliest(rt: HostRuntime) -> Result<(), Fail> {
-    let mut footprint = Footprint::new(rt.alloc());
+/// What is kept of the accesses that a footprint is given. None where memory runs out.
+fn kept(alloc: Global) -> Option<Footprint> {
+    let mut footprint = Footprint::new(alloc);
     for row in KEPT {
-        footprint.add(rt.alloc(), &access(row))?;
+        footprint.add(alloc, &access(row)).ok()?;
     }
-    for (row, expected) in ASKED {
-        let met = match footprint.meeting(false, &access(row)) {
-            Some(meeting) => Some((meeting.mark.item, meeting.byte)),
-            None => None,
-        };
-        assert_eq!(rt; met, expected);
-    }
-    Ok(())
+    Some(footprint)
 }
 
-/// Shows that an access to a local object meets none of those to the buffer of the same number.
+/// The item that an access meets, and the byte where.
+fn met(footprint: &Footprint, uniform: bool, access: &Access) -> Option<(u32, u64)>
+    requires { access.now.first + byte_count access.now.width < 2 ^ 64 }
+{
+    let meeting = footprint.meeting(uniform, access)?;
+    Some((meeting.mark.item, meeting.byte))
+}
+
+/// Shows that an access meets the lowest byte that conflicts, and there the access that was added first; and that an
+/// access to a local object meets none of those to the buffer of the same number.
 // A local object has the number of a buffer that was touched: no other group shares it.
 #[test]
-fn a_local_object_meets_nothing(rt: HostRuntime) -> Result<(), Fail> {
-    let mut footprint = Footprint::new(rt.alloc());
-    for row in KEPT {
-        footprint.add(rt.alloc(), &access(row))?;
-    }
+fn the_lowest_byte_and_there_the_earliest(rt: HostRuntime) {
+    let Some(footprint) = kept(rt.alloc()) else {
+        panic!(rt; "out of memory")
+    };
     let local = Access {
         region: Region::Local {
             group: 1,
@@ -82,7 +82,9 @@ fn a_local_object_meets_nothing(rt: HostRuntime) -> Result<(), Fail> {
         ..access((9, 3, 600, AccessKind::Store))
     };
     assert!(rt; footprint.meeting(false, &local).is_none());
-    Ok(())
+    for (row, expected) in ASKED {
+        assert!(rt; met(&footprint, false, &access(row)) == expected);
+    }
 }
 
 /// A store by an item to buffer 0: its first byte, its width and its value.
@@ -111,24 +113,26 @@ const STORES: [(u8, Width, u64, Option<(u32, u64)>); 6] = [
     (9, Width::One, 7, None),
 ];
 
+/// What is kept of three stores. None where memory runs out.
+fn kept_stores(alloc: Global) -> Option<Footprint> {
+    let mut footprint = Footprint::new(alloc);
+    footprint.add(alloc, &store(0, 0, Width::Four, 7)).ok()?;
+    footprint.add(alloc, &store(1, 8, Width::One, 6)).ok()?;
+    footprint.add(alloc, &store(2, 8, Width::One, 7)).ok()?;
+    Some(footprint)
+}
+
 /// Shows that in a uniform launch alone a store passes where each byte was left as it leaves it.
 #[test]
-fn stores_of_the_same_byte_pass(rt: HostRuntime) -> Result<(), Fail> {
-    let mut footprint = Footprint::new(rt.alloc());
-    footprint.add(rt.alloc(), &store(0, 0, Width::Four, 7))?;
-    footprint.add(rt.alloc(), &store(1, 8, Width::One, 6))?;
-    footprint.add(rt.alloc(), &store(2, 8, Width::One, 7))?;
+fn stores_of_the_same_byte_pass(rt: HostRuntime) {
+    let Some(footprint) = kept_stores(rt.alloc()) else {
+        panic!(rt; "out of memory")
+    };
     for (first, width, value, expected) in STORES {
-        let met = match footprint.meeting(true, &store(9, first, width, value)) {
-            Some(meeting) => Some((meeting.mark.item, meeting.byte)),
-            None => None,
-        };
-        assert_eq!(rt; met, expected);
+        assert_eq!(rt;
+            met(&footprint, true, &store(9, first, width, value)),
+            expected
+        );
     }
-    assert!(rt;
-        footprint
-            .meeting(false, &store(9, 0, Width::Four, 7))
-            .is_some()
-    );
-    Ok(())
+    assert!(rt; met(&footprint, false, &store(9, 0, Width::Four, 7)).is_some());
 }

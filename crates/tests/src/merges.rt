@@ -11,30 +11,31 @@ use clmodel::outcome::Outcome;
 use clmodel::schedule::EventRun;
 use clmodel::setup::{Argument, Range};
 use clmodel::text::{Bytes, Name, Numbers};
-use host_commands::build::{NotBuilt, build};
+use cltypes::Checked;
+use host_commands::build::build;
 use host_commands::ranges::{group_items, is_bad_dimension, is_bad_group, is_too_many};
 use item_step::{Launch, Setup, is_local_too_large};
+use launches::group_count;
 use lower::lower_kernel;
 use shadow_list::ListLog;
 use snapshot_merge::{has_stopped, merge, one_group, run_launch};
 use spaces_base::Buffers;
 use std::alloc::{AllocError, Global};
-use std::test::Fail;
 
 /// What a launch comes to: the bytes of its buffer, or a fault after these runs.
 enum Expected {
     Clean([u8; 4]),
-    Race {
-        item: u32,
-        other_item: u32,
-        byte: u64,
-        /// The items, each with how many events it makes in a row
-        runs: [(u32, u64); 2],
-    },
-    DivideByZero {
-        item: u32,
-        runs: [(u32, u64); 2],
-    },
+    /// The runs are the items, each with how many events it makes in a row
+    Faulted(What, [(u32, u64); 2]),
+}
+
+/// What a fault is.
+#[derive(Clone, Copy)]
+enum What {
+    /// Of two items, on a byte
+    Race(u32, u32, u64),
+    /// Of an item
+    DivideByZero(u32),
 }
 
 /// A kernel `k` with a buffer of four bytes, which three groups of one item run, and what it comes to.
@@ -50,21 +51,13 @@ const ROWS: [(&str, [u8; 4], Expected); 4] = [
     (
         "__kernel void k(__global uchar *a) { if (get_group_id(0) == 0) a[0] = 1; else a[1] = 6 / a[0]; }",
         [0, 0, 0, 0],
-        Expected::Race {
-            item: 0,
-            other_item: 1,
-            byte: 0,
-            runs: [(0, 1), (1, 1)],
-        },
+        Expected::Faulted(What::Race(0, 1, 0), [(0, 1), (1, 1)]),
     ),
     // Group 1 loads the 0, and group 2 isn't run.
     (
         "__kernel void k(__global uchar *a) { int i = get_group_id(0); a[i] = 6 / a[i]; }",
         [2, 0, 3, 9],
-        Expected::DivideByZero {
-            item: 1,
-            runs: [(0, 2), (1, 1)],
-        },
+        Expected::Faulted(What::DivideByZero(1), [(0, 2), (1, 1)]),
     ),
     (
         "__kernel void k(__global uchar *a) { int i = get_group_id(0); a[i] = 6 / a[i]; }",
@@ -102,113 +95,140 @@ fn merged(
     merge(alloc, launch, buffers, results)
 }
 
-/// What the kernel `k` of a source, over this many groups of one item, comes to on a buffer of these bytes: run whole,
-/// and merged. None where it can't be launched.
-fn outcomes(
-    alloc: Global,
-    source: &str,
-    bytes: &[u8],
-    groups: u32,
-) -> Result<Option<(Outcome, Outcome)>, AllocError> {
-    let checked = match build(alloc, source.as_bytes()) {
-        Ok(checked) => checked,
-        Err(NotBuilt::Fault(_)) => return Ok(None),
-        Err(NotBuilt::OutOfMemory) => return Err(AllocError),
-    };
-    let Some(found) = checked.kernel(b"k") else {
-        return Ok(None);
-    };
-    let number = found.function.name;
-    let code = lower_kernel(alloc, &checked, found)?;
-    let range = Range {
-        global: Numbers::new(vec![in alloc; groups as u64]?),
-        local: Numbers::new(vec![in alloc; 1]?),
-        offset: Numbers::new(vec![in alloc; 0]?),
-        uniform: false,
-    };
-    if is_bad_dimension(&range) || is_bad_group(&range) || is_too_many(&range) {
-        return Ok(None);
+/// A source's program. None where it isn't built.
+pub(crate) fn checked(alloc: Global, source: &str) -> Option<Checked> {
+    build(alloc, source.as_bytes()).ok()
+}
+
+/// Whether a run makes this item do so many events.
+fn is_run(run: &EventRun, expected: (u32, u64)) -> bool {
+    match run {
+        EventRun::Item { item, count } => (*item == expected.0) & (*count == expected.1),
+        EventRun::Release { .. } => false,
     }
-    let group_size = group_items(&range);
-    let mut buffers = Buffers::new(alloc);
-    buffers.insert(Name::copy_of(alloc, b"a")?, Bytes::copy_of(alloc, bytes)?)?;
-    let arguments = vec![in alloc; Some(Argument::Buffer(Name::copy_of(alloc, b"a")?))]?;
-    if is_local_too_large(&checked.tree, number, arguments.as_slice()) {
-        return Ok(None);
-    }
-    let setup = Setup {
-        tree: &checked.tree,
-        kernel: number,
-        range: &range,
-        arguments: arguments.as_slice(),
-        budget: 100,
-    };
-    let launch = Launch::new(alloc, setup, group_size, &code)?;
-    let whole = run_launch(alloc, &launch, &buffers)?;
-    let merged = merged(alloc, &launch, &buffers, groups)?;
-    Ok(Some((whole, merged)))
 }
 
 /// Whether a schedule has these runs of items, and no others.
-fn are_runs(schedule: &[EventRun], runs: &[(u32, u64)]) -> bool {
-    schedule.len() == runs.len()
-        && schedule.iter().zip(runs).all(|(run, (of, times))| match run {
-            EventRun::Item { item, count } => item == of && count == times,
-            EventRun::Release { .. } => false,
-        })
+fn are_runs(schedule: &[EventRun], runs: [(u32, u64); 2]) -> bool {
+    schedule.len() == 2 && is_run(&schedule[0], runs[0]) && is_run(&schedule[1], runs[1])
 }
 
-/// Whether an outcome is the one that was expected.
-fn is_as(outcome: &Outcome, expected: &Expected) -> bool {
-    match (outcome, expected) {
-        (Outcome::Clean(contents), Expected::Clean(bytes)) => {
-            contents.len() == 1 && contents[0].as_slice() == bytes.as_slice()
-        }
-        (
-            Outcome::Faulted(Fault::DivideByZero { item }, schedule),
-            Expected::DivideByZero {
-                item: expected,
-                runs,
-            },
-        ) => item == expected && are_runs(schedule.as_slice(), runs.as_slice()),
-        (
-            Outcome::Faulted(
-                Fault::Conflict {
-                    clash: Clash::Race,
-                    item,
-                    other_item,
-                    byte,
-                    ..
-                },
-                schedule,
-            ),
-            Expected::Race {
-                item: first,
-                other_item: second,
-                byte: at,
-                runs,
-            },
-        ) => {
-            item == first
-                && other_item == second
-                && byte == at
-                && are_runs(schedule.as_slice(), runs.as_slice())
-        }
+/// Whether a fault is the one that was expected.
+fn is_fault(fault: &Fault, expected: What) -> bool {
+    match fault {
+        Fault::DivideByZero { item } => match expected {
+            What::DivideByZero(expected) => *item == expected,
+            What::Race(..) => false,
+        },
+        Fault::Conflict {
+            clash: Clash::Race,
+            item,
+            other_item,
+            byte,
+            ..
+        } => match expected {
+            What::Race(one, other, at) => (*item == one) & (*other_item == other) & (*byte == at),
+            What::DivideByZero(_) => false,
+        },
         _ => false,
     }
 }
 
+/// Whether an outcome is the one that was expected, which it isn't where memory runs out.
+fn is_as(outcome: Result<Outcome, AllocError>, expected: &Expected) -> bool {
+    match outcome {
+        Ok(Outcome::Clean(contents)) => match expected {
+            Expected::Clean(bytes) => {
+                contents.len() == 1 && contents[0].as_slice() == bytes.as_slice()
+            }
+            Expected::Faulted(..) => false,
+        },
+        Ok(Outcome::Faulted(fault, schedule)) => match expected {
+            Expected::Faulted(what, runs) => {
+                is_fault(&fault, *what) & are_runs(schedule.as_slice(), *runs)
+            }
+            Expected::Clean(_) => false,
+        },
+        Err(_) => false,
+    }
+}
+
+/// The range of three groups of one item. None where memory runs out.
+fn three_groups(alloc: Global) -> Option<Range> {
+    let global = vec![in alloc; 3].ok()?;
+    let local = vec![in alloc; 1].ok()?;
+    Some(Range {
+        global: Numbers::new(global),
+        local: Numbers::new(local),
+        offset: Numbers::new(vec![in alloc; 0].ok()?),
+        uniform: false,
+    })
+}
+
+/// Buffers of which `a` holds these bytes, and there are no others. None where memory runs out.
+fn one_buffer(alloc: Global, bytes: &[u8]) -> Option<Buffers> {
+    let bytes = Bytes::copy_of(alloc, bytes).ok()?;
+    let name = Name::copy_of(alloc, b"a").ok()?;
+    let mut buffers = Buffers::new(alloc);
+    buffers.insert(name, bytes).ok()?;
+    Some(buffers)
+}
+
+/// Whether three groups of the kernel `k`, with a buffer as its argument, come to what is expected, both run whole and
+/// run group by group and merged. None where they can't be launched.
+fn comes_to(
+    alloc: Global,
+    program: &Checked,
+    range: &Range,
+    buffers: &Buffers,
+    buffer: Name,
+    expected: &Expected,
+) -> Option<bool> {
+    let found = program.kernel(b"k")?;
+    if is_bad_dimension(range) || is_bad_group(range) || is_too_many(range) {
+        return None;
+    }
+    let arguments = [Some(Argument::Buffer(buffer))];
+    let kernel = found.function.name;
+    if is_local_too_large(&program.tree, kernel, &arguments) {
+        return None;
+    }
+    let code = lower_kernel(alloc, program, found).ok()?;
+    let setup = Setup {
+        tree: &program.tree,
+        kernel,
+        range,
+        arguments: &arguments,
+        budget: 100,
+    };
+    let launch = Launch::new(alloc, setup, group_items(range), &code).ok()?;
+    let groups = group_count(&launch);
+    Some(
+        is_as(run_launch(alloc, &launch, buffers), expected)
+            & is_as(merged(alloc, &launch, buffers, groups), expected),
+    )
+}
+
+/// Whether a row comes to what it says, run whole, and run group by group and merged. None where it can't be launched.
+fn is_merged_as_run_whole(
+    alloc: Global,
+    source: &str,
+    bytes: &[u8],
+    expected: &Expected,
+) -> Option<bool> {
+    let range = three_groups(alloc)?;
+    let buffers = one_buffer(alloc, bytes)?;
+    let program = checked(alloc, source)?;
+    let buffer = Name::copy_of(alloc, b"a").ok()?;
+    comes_to(alloc, &program, &range, &buffers, buffer, expected)
+}
+
 /// Shows that each row comes to what it says, both run whole and run group by group and merged.
 #[test]
-fn merged_as_run_whole(rt: HostRuntime) -> Result<(), Fail> {
+fn merged_as_run_whole(rt: HostRuntime) {
+    let alloc = rt.alloc();
     for (source, bytes, expected) in &ROWS {
-        let found = outcomes(rt.alloc(), source, bytes.as_slice(), 3)?;
-        let Some((whole, merged)) = found else {
-            assert!(rt; false, "{source}");
-            return Ok(());
-        };
-        assert!(rt; is_as(&whole, expected), "{source}");
-        assert!(rt; is_as(&merged, expected), "{source}");
+        let is_merged = is_merged_as_run_whole(alloc, source, bytes.as_slice(), expected);
+        assert!(rt; is_merged == Some(true), "{source}");
     }
-    Ok(())
 }

@@ -4,8 +4,7 @@ use clnum::{IntType, UnaryOperator, Value};
 use regcode::Instruction::{Constant, End, Unary};
 use regcode::{Code, Instruction, Register, RegisterKind, Tables, verify};
 use renumbering::renumber;
-use std::alloc::{AllocError, Global};
-use std::test::Fail;
+use std::alloc::Global;
 
 /// The kind of a register of `int`.
 const INT: RegisterKind = RegisterKind::Integer(IntType::Int);
@@ -13,28 +12,27 @@ const INT: RegisterKind = RegisterKind::Integer(IntType::Int);
 /// The kind of a register of `ulong`.
 const ULONG: RegisterKind = RegisterKind::Integer(IntType::Ulong);
 
-/// Tables with a hundred registers of int, and behind them one of ulong; each has its own number as its name.
-fn tables(alloc: Global) -> Result<Tables, AllocError> {
+/// A hundred registers of int, and behind them one of ulong, each with its own number as its name.
+fn registers(alloc: Global) -> Option<Vec<Register>> {
     let mut registers = Vec::new(alloc);
-    for name in 0..100 {
-        registers.push(Register { kind: INT, name })?;
+    for name in 0..101 {
+        let kind = if name < 100 { INT } else { ULONG };
+        registers.push(Register { kind, name }).ok()?;
     }
-    registers.push(Register {
-        kind: ULONG,
-        name: 100,
-    })?;
-    Ok(Tables {
-        registers,
+    Some(registers)
+}
+
+/// Code that names three registers, the last, which is of ulong, and 70 and 7, which are of int, once its registers are
+/// numbered anew. None where it is rejected.
+fn renumbered(alloc: Global) -> Option<Code> {
+    let tables = Tables {
+        registers: registers(alloc)?,
         arrays: Vec::new(alloc),
         objects: 0,
         names: 101,
         parameters: Vec::new(alloc),
-        loops: vec![in alloc; 0, 0, 0, 0]?,
-    })
-}
-
-/// Code that names three registers: the last, which is of ulong, and 70 and 7, which are of int.
-fn code(alloc: Global) -> Result<Option<Code>, AllocError> {
+        loops: vec![in alloc; 0, 0, 0, 0].ok()?,
+    };
     let instructions = vec![in alloc;
         Constant {
             to: 100,
@@ -50,8 +48,9 @@ fn code(alloc: Global) -> Result<Option<Code>, AllocError> {
             operand: 70
         },
         End,
-    ]?;
-    Ok(verify(instructions, tables(alloc)?).ok())
+    ];
+    let code = verify(instructions.ok()?, tables).ok()?;
+    renumber(alloc, code).ok()
 }
 
 /// The register that an instruction writes, and the one that it reads, if it is a constant or an operator on one
@@ -64,22 +63,25 @@ fn registers_of(instruction: &Instruction) -> Option<(u32, Option<u32>)> {
     }
 }
 
+/// Whether the code's registers are numbered in the order in which instructions name them first.
+fn are_in_order(code: &Code) -> bool {
+    let instructions = code.instructions();
+    let registers = &code.tables().registers;
+    instructions.len() == 4
+        && registers.len() == 3
+        && registers_of(&instructions[0]) == Some((0, None))
+        && registers_of(&instructions[1]) == Some((1, None))
+        && registers_of(&instructions[2]) == Some((2, Some(1)))
+        && (registers[0].kind == ULONG && registers[0].name == 100)
+        && (registers[1].kind == INT && registers[1].name == 70)
+        && (registers[2].kind == INT && registers[2].name == 7)
+}
+
 /// Registers are numbered in the order in which instructions name them first, which no clause says.
 #[test]
-fn named_registers_alone(rt: HostRuntime) -> Result<(), Fail> {
-    let Some(code) = code(rt.alloc())? else {
+fn named_registers_alone(rt: HostRuntime) {
+    let Some(same) = renumbered(rt.alloc()) else {
         panic!(rt; "rejected")
     };
-    let same = renumber(rt.alloc(), code)?;
-    let instructions = same.instructions();
-    assert_eq!(rt; instructions.len(), 4);
-    assert_eq!(rt; registers_of(&instructions[0]), Some((0, None)));
-    assert_eq!(rt; registers_of(&instructions[1]), Some((1, None)));
-    assert_eq!(rt; registers_of(&instructions[2]), Some((2, Some(1))));
-    let registers = &same.tables().registers;
-    assert_eq!(rt; registers.len(), 3);
-    assert!(rt; registers[0].kind == ULONG && registers[0].name == 100);
-    assert!(rt; registers[1].kind == INT && registers[1].name == 70);
-    assert!(rt; registers[2].kind == INT && registers[2].name == 7);
-    Ok(())
+    assert!(rt; are_in_order(&same));
 }

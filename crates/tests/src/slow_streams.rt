@@ -1,10 +1,9 @@
 //! The program's reader and writer over streams that are slow, that are interrupted, and that fail.
 
-use counted_io::{Read, ReadFault, Write, WriteFailed};
-use std::alloc::{AllocError, Global};
+use counted_io::{Read, ReadFault, Write};
+use std::alloc::Global;
 use std::io;
 use std::io::{BufWriter, Error, ErrorKind};
-use std::test::Fail;
 use streams::{Input, Output};
 
 /// The nine bytes that are written and read.
@@ -64,57 +63,55 @@ impl io::Read for Slow {
     }
 }
 
-/// Writes the text in two pieces over a buffer of a few bytes, and lets go of it.
-fn write_over(alloc: Global, slow: Slow) -> Result<(Result<(), WriteFailed>, Slow), Fail> {
-    let mut output = Output::new(BufWriter::with_capacity(alloc, 4, slow)?);
+/// Whether the text is written in two pieces, and flushed.
+fn writes(output: &mut Output<Slow>) -> bool {
     let (front, back) = TEXT.as_bytes().split_at(2);
-    let mut answer = output.write(front);
-    if answer.is_ok() {
-        answer = output.write(back);
-    }
-    if answer.is_ok() {
-        answer = output.flush();
-    }
-    Ok((answer, output.into_inner()))
+    output.write(front).is_ok() && output.write(back).is_ok() && output.flush().is_ok()
+}
+
+/// Whether the text is written over a small buffer and a stream that takes so many calls, or its start if that fails.
+fn is_written(alloc: Global, calls: u32) -> Option<bool> {
+    let slow = Slow {
+        bytes: Vec::new(alloc),
+        calls,
+    };
+    let mut output = Output::new(BufWriter::with_capacity(alloc, 4, slow).ok()?);
+    let is_whole = writes(&mut output);
+    let slow = output.into_inner();
+    Some(
+        (is_whole == (calls > 18))
+            & (slow.bytes.len() == TEXT.len().min((calls as usize + 1) / 2))
+            & TEXT.as_bytes().starts_with(&slow.bytes),
+    )
 }
 
 /// Shows that a text is written over a slow stream, or its beginning where the stream fails.
 // Two calls a byte, and a flush: of each stream that fails at a call before, what it took has come out.
 #[test]
-fn writing(rt: HostRuntime) -> Result<(), Fail> {
+fn writing(rt: HostRuntime) {
+    let alloc = rt.alloc();
     for calls in 0..22u32 {
-        let slow = Slow {
-            bytes: Vec::new(rt.alloc()),
-            calls,
-        };
-        let (answer, slow) = write_over(rt.alloc(), slow)?;
-        assert_eq!(rt; answer.is_ok(), calls > 18, "{calls}");
-        assert_eq!(rt;
-            slow.bytes.len(),
-            TEXT.len().min((calls as usize + 1) / 2),
-            "{calls}"
-        );
-        assert!(rt; TEXT.as_bytes().starts_with(&slow.bytes), "{calls}");
+        assert!(rt; is_written(alloc, calls) == Some(true), "{calls}");
     }
-    Ok(())
+}
+
+/// Whether the text is read from a stream that takes so many calls, and the reader fails where the stream does.
+fn is_read(alloc: Global, calls: u32) -> Option<bool> {
+    let mut bytes = TEXT.as_bytes().to_vec(alloc).ok()?;
+    bytes.reverse();
+    match Input::new(Slow { bytes, calls }).read_all(alloc) {
+        Ok(text) => Some((calls > 18) & (text.as_slice() == TEXT.as_bytes())),
+        Err(ReadFault::Failed) => Some(calls <= 18),
+        Err(ReadFault::OutOfMemory) => None,
+    }
 }
 
 /// Shows that a text is read from a slow stream, and that the reader fails where the stream does.
 // Two calls a byte, and those at the end of the text.
 #[test]
-fn reading(rt: HostRuntime) -> Result<(), AllocError> {
+fn reading(rt: HostRuntime) {
+    let alloc = rt.alloc();
     for calls in 0..22u32 {
-        let mut bytes = TEXT.as_bytes().to_vec(rt.alloc())?;
-        bytes.reverse();
-        let answer = Input::new(Slow { bytes, calls }).read_all(rt.alloc());
-        if calls > 18 {
-            assert!(rt;
-                matches!(&answer, Ok(text) if text.as_slice() == TEXT.as_bytes()),
-                "{calls}"
-            );
-        } else {
-            assert!(rt; matches!(&answer, Err(ReadFault::Failed)), "{calls}");
-        }
+        assert!(rt; is_read(alloc, calls) == Some(true), "{calls}");
     }
-    Ok(())
 }

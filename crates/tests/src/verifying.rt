@@ -9,9 +9,8 @@ use regcode::Instruction::{
     JumpIfZero, Load, Local, Move, MovePointer, Offset, PrivateLoad, PrivateStore, Query, Store,
     Turn, Unary, Unset, UnsetArray, Update, UsualConversion,
 };
-use regcode::{Instruction, Register, RegisterKind, Tables, VerifyFault, verify};
-use std::alloc::{AllocError, Global};
-use std::test::Fail;
+use regcode::{Instruction, Register, RegisterKind, Tables, verify};
+use std::alloc::Global;
 
 /// The type `int`.
 const INT: VariableType = VariableType::Integer(IntType::Int);
@@ -29,31 +28,32 @@ fn register(kind: RegisterKind) -> Register {
 }
 
 /// Registers of int, uint, a pointer to int, ulong, and a pointer to long; a private array of four elements; three
-/// local objects; six names; an int and a pointer as parameters.
-fn tables(alloc: Global, loops: &[usize]) -> Result<Tables, AllocError> {
-    Ok(Tables {
-        registers: vec![in alloc;
-            register(RegisterKind::Integer(IntType::Int)),
-            register(RegisterKind::Integer(IntType::Uint)),
-            register(RegisterKind::Pointer(IntType::Int)),
-            register(RegisterKind::Integer(IntType::Ulong)),
-            register(RegisterKind::Pointer(IntType::Long)),
-        ]?,
-        arrays: vec![in alloc; 4]?,
+/// local objects; six names; an int and a pointer as parameters. None where memory runs out.
+fn tables(alloc: Global, loops: Vec<usize>) -> Option<Tables> {
+    let arrays = vec![in alloc; 4].ok()?;
+    let parameters = vec![in alloc; INT, POINTER].ok()?;
+    let registers = vec![in alloc;
+        register(RegisterKind::Integer(IntType::Int)),
+        register(RegisterKind::Integer(IntType::Uint)),
+        register(RegisterKind::Pointer(IntType::Int)),
+        register(RegisterKind::Integer(IntType::Ulong)),
+        register(RegisterKind::Pointer(IntType::Long)),
+    ]
+    .ok()?;
+    Some(Tables {
+        registers,
+        arrays,
         objects: 3,
         names: 6,
-        parameters: vec![in alloc; INT, POINTER]?,
-        loops: loops.to_vec(alloc)?,
+        parameters,
+        loops,
     })
 }
 
-/// Why code isn't verified.
-fn fault_of(
-    alloc: Global,
-    code: &[Instruction],
-    loops: &[usize],
-) -> Result<Option<VerifyFault>, Fail> {
-    Ok(verify(code.to_vec(alloc)?, tables(alloc, loops)?).err())
+/// Whether a code is verified, or rejected. None where memory runs out.
+fn is_verified(alloc: Global, code: Vec<Instruction>, loops: Vec<usize>) -> Option<bool> {
+    let tables = tables(alloc, loops)?;
+    Some(verify(code, tables).is_ok())
 }
 
 /// A barrier in a loop.
@@ -117,37 +117,44 @@ fn instruction_of(word: &str) -> Option<Instruction> {
     }
 }
 
-/// Whether the code of a row of the table is verified; `None` where the row can't be read.
-fn is_verified(alloc: Global, row: &str) -> Result<Option<bool>, Fail> {
+/// The instructions of a row of the table; `None` where they can't be read.
+fn code_of(alloc: Global, words: &str) -> Option<Vec<Instruction>> {
     let mut code = Vec::new(alloc);
-    let mut loops = Vec::new(alloc);
-    let Some((words, numbers)) = row.split_once('|') else {
-        return Ok(None);
-    };
     for word in words.split_whitespace() {
-        let Some(instruction) = instruction_of(word) else {
-            return Ok(None);
-        };
-        code.push(instruction)?;
+        code.push(instruction_of(word)?).ok()?;
     }
+    Some(code)
+}
+
+/// The depths of loops of a row of the table; `None` where they can't be read.
+fn loops_of(alloc: Global, numbers: &str) -> Option<Vec<usize>> {
+    let mut loops = Vec::new(alloc);
     for number in numbers.split_whitespace() {
-        let Ok(number) = number.parse::<usize>() else {
-            return Ok(None);
-        };
-        loops.push(number)?;
+        loops.push(number.parse::<usize>().ok()?).ok()?;
     }
-    Ok(Some(fault_of(alloc, &code, &loops)?.is_none()))
+    Some(loops)
+}
+
+/// Whether the code of a row of the table is verified; `None` where the row can't be read.
+fn is_row_verified(alloc: Global, row: &str) -> Option<bool> {
+    let (words, numbers) = row.split_once('|')?;
+    let loops = loops_of(alloc, numbers)?;
+    is_verified(alloc, code_of(alloc, words)?, loops)
+}
+
+/// Whether the code of a row of the table is verified or rejected as the row says.
+fn is_as_said(alloc: Global, row: &str) -> bool {
+    let (wanted, code) = row.split_once(' ').unwrap_or((row, ""));
+    is_row_verified(alloc, code) == Some(wanted == "verified")
 }
 
 /// Shows that the code of each row of the table is verified or rejected as the row says.
 #[test]
-fn ways(rt: HostRuntime) -> Result<(), Fail> {
+fn ways(rt: HostRuntime) {
+    let alloc = rt.alloc();
     for row in WAYS.lines() {
-        let (wanted, code) = row.split_once(' ').unwrap_or((row, ""));
-        let is_verified = is_verified(rt.alloc(), code)?;
-        assert_eq!(rt; is_verified, Some(wanted == "verified"), "{row}");
+        assert!(rt; is_as_said(alloc, row), "{row}");
     }
-    Ok(())
 }
 
 /// Instructions each of which names a register or an entry of a table that isn't there, or one of a kind that it
@@ -274,36 +281,38 @@ const MISFITS: [Instruction; 27] = [
     JumpIfZero { test: 2, by: 0 },
 ];
 
-/// Shows that each of the misfits makes a code rejected.
-#[test]
-fn operands(rt: HostRuntime) -> Result<(), Fail> {
-    for (row, instruction) in MISFITS.into_iter().enumerate() {
-        let fault = fault_of(rt.alloc(), &[instruction, End], &[0, 0])?;
-        assert_eq!(rt; fault, Some(VerifyFault::Rejected), "{row}");
-    }
-    Ok(())
+/// Whether the code of an instruction and the end is verified. None where memory runs out.
+fn is_one_verified(alloc: Global, instruction: Instruction) -> Option<bool> {
+    let code = vec![in alloc; instruction, End].ok()?;
+    is_verified(alloc, code, vec![in alloc; 0, 0].ok()?)
 }
 
-/// Shows that a code is rejected where a constant isn't of its register's type.
+/// Shows that each of the misfits makes a code rejected, and so does a constant that isn't of its register's type.
 // A number of `int` in a register of `uint`.
 #[test]
-fn a_constant_of_another_type(rt: HostRuntime) -> Result<(), Fail> {
+fn operands(rt: HostRuntime) {
+    let alloc = rt.alloc();
     let constant = Constant {
         to: 1,
         value: Value::new(IntType::Int, -7),
     };
-    let fault = fault_of(rt.alloc(), &[constant, End], &[0, 0])?;
-    assert_eq!(rt; fault, Some(VerifyFault::Rejected));
-    Ok(())
+    assert!(rt; is_one_verified(alloc, constant) == Some(false));
+    for (row, instruction) in MISFITS.into_iter().enumerate() {
+        assert!(rt; is_one_verified(alloc, instruction) == Some(false), "{row}");
+    }
+}
+
+/// Whether a code that is only the end is verified, where there are so many names. None where memory runs out.
+fn is_end_verified(alloc: Global, names: usize) -> Option<bool> {
+    let mut tables = tables(alloc, vec![in alloc; 0].ok()?)?;
+    tables.names = names;
+    let code = vec![in alloc; End].ok()?;
+    Some(verify(code, tables).is_ok())
 }
 
 /// Shows that a code is rejected where a register has a name that isn't there.
 // The registers' names are the last of six, so that five are too few.
 #[test]
-fn a_register_of_a_missing_name(rt: HostRuntime) -> Result<(), Fail> {
-    let mut tables = tables(rt.alloc(), &[0])?;
-    tables.names = 5;
-    let fault = verify(vec![in rt.alloc(); End]?, tables).err();
-    assert_eq!(rt; fault, Some(VerifyFault::Rejected));
-    Ok(())
+fn a_register_of_a_missing_name(rt: HostRuntime) {
+    assert!(rt; is_end_verified(rt.alloc(), 5) == Some(false));
 }
