@@ -160,7 +160,7 @@ fn three_groups(alloc: Global) -> Option<Range> {
     Some(Range {
         global: Numbers::new(global),
         local: Numbers::new(local),
-        offset: Numbers::new(Vec::new(alloc)),
+        offset: Numbers::new(vec![in alloc; 0].ok()?),
         uniform: false,
     })
 }
