@@ -63,6 +63,7 @@ impl Lasting {
     }
 
     /// Keeps an access, for which there is room, where it may tell something new.
+    #[inline(always)]
     pub(crate) fn note(&mut self, entry: Entry, news: bool)
         requires placed { IsPlaced entry }
         requires room { news ≡ true → self.old.entries.has_room ≡ true }
@@ -71,7 +72,9 @@ impl Lasting {
     {
         self.has_last = news;
         if news {
-            self.entries.push_reserved(entry);
+            // a copy, as in `Side::take`
+            let kept = entry;
+            self.entries.push_reserved(kept);
         }
     }
 

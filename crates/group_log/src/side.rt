@@ -230,6 +230,9 @@ impl Side {
         if glance.look.sight.told {
             return Ok(());
         }
-        self.keep(glance, entry)
+        // copies, so that accesses of which nothing is kept needn't lie in memory
+        let seen = glance;
+        let kept = entry;
+        self.keep(seen, kept)
     }
 }

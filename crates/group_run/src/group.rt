@@ -101,6 +101,7 @@ fn judge_conflicting<D: Described, L: AccessLog>(
 }
 
 /// Notes an access, and answers the fault that it makes, if it does. An error is out of memory.
+#[inline(always)]
 fn judge<D: Described, L: AccessLog>(
     alloc: Global,
     launch: &D,
@@ -113,7 +114,9 @@ fn judge<D: Described, L: AccessLog>(
     if log.note_if_clear(entry)? {
         return Ok(None);
     }
-    judge_conflicting(alloc, launch, log, entry)
+    // a copy, so that other accesses needn't lie in memory
+    let met = entry;
+    judge_conflicting(alloc, launch, log, met)
 }
 
 /// Begins the next interval of each address space that a barrier fences.

@@ -219,7 +219,16 @@ impl Word {
                 taken: count == 0,
             },
             Word::Whole(whole) if count == WORD_BYTES => whole.sight(uniform, x.interval, mark),
-            _ => self.bytes_sight(apart, key, n, uniform, x, first, count),
+            _ => {
+                // a copy, so that other accesses needn't lie in memory
+                let part = *x;
+                let seen = self.bytes_sight(apart, key, n, uniform, &part, first, count);
+                Sight {
+                    clear: seen.clear,
+                    told: seen.told,
+                    taken: seen.taken,
+                }
+            }
         }
     }
 }

@@ -181,7 +181,14 @@ impl Traces {
     {
         let count = x.width.bytes();
         if count > WORD_BYTES {
-            return self.pair_sight(i, uniform, x);
+            // a copy, so that other accesses needn't lie in memory
+            let wide = *x;
+            let seen = self.pair_sight(i, uniform, &wide);
+            return Sight {
+                clear: seen.clear,
+                told: seen.told,
+                taken: seen.taken,
+            };
         }
         self.part(i, uniform, x, x.first, count, word_mark(x, false))
     }

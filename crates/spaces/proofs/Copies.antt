@@ -1,12 +1,12 @@
 -- A buffer's bytes where pages are copied and copies are changed.
-use Rattle.std.proofs.Common.{◌≡◌, ℕ, zero, suc, ◌+◌, ◌-◌, ◌*◌, ◌/◌, ◌%◌, ◌<◌, ◌≤◌, ◌==◌, ◌⊎◌, Bool, if◌then◌else◌, List, ◌++◌, Some, length, map, set, take, drop, min, le_trans, refl, sym, ap, ap₂, ◌∙◌, subst, inl, inr, arith}
+use Rattle.std.proofs.Common.{◌≡◌, ℕ, zero, suc, ◌+◌, ◌-◌, ◌*◌, ◌/◌, ◌%◌, ◌<◌, ◌≤◌, ◌==◌, ◌⊎◌, Bool, if◌then◌else◌, List, ◌++◌, Some, length, set, take, drop, min, le_trans, refl, sym, ap, ap₂, ◌∙◌, subst, inl, inr, arith}
 use Rattle.std.specs.Prelude.{◌≢◌, slice_index}
 use Rattle.std.proofs.lemmas.Bool.{cases_eq, cases_lt, ne_eqb}
-use Rattle.std.proofs.lemmas.List.{get_or-set_same, get_or-set_other, get_or_past, get_or-take, get_or-drop, take_all, drop_all, append-nil, length-take, length-take-le, length-drop}
+use Rattle.std.proofs.lemmas.List.{get_or-set_same, get_or-set_other, get_or-take, get_or-drop, take_all, drop_all, append-nil, length-take, length-take-le, length-drop}
 use Rattle.std.proofs.Math.Nat.{min-le_left}
-use Rattle.clmodel.specs.Cells.{Cells, cells_of, byte_of, joined, number, covers, written}
+use Rattle.clmodel.specs.Cells.{Cells, byte_of, joined, number, covers, written}
 use Rattle.clmodel.proofs.Steps.{some_inj}
-use Rattle.spaces_base.proofs.Rows.{row_at, written_in, written_out}
+use Rattle.spaces_base.proofs.Rows.{written_in, written_out}
 use Rattle.spaces.specs.Overlay.{overlaid_byte, overlaid_cells, row_cells, IsCopied, AreNumbered}
 
 -- a page has no copy, or one
@@ -161,34 +161,15 @@ pub written_same : (c d : Cells) (first count value byte : ℕ) → c byte ≡ d
 unfolding written
 written_same c d first count value byte h = ap (λ z. if covers first count byte then Some (byte_of (byte - first) value) else z) h
 
--- a row into which a number is put
-row_put :
-    (cells more : List ℕ) (place count value : ℕ) → place + count ≤ length cells → length more ≡ length cells
-    → ((k : ℕ) → cells_of (map Some more) k ≡ written (cells_of (map Some cells)) place count value k) → (k : ℕ) → row_cells more k ≡ written (row_cells cells) place count value k
-row_put cells more place count value inside same h k = go (cases_lt k (length cells))
-  where
-    go : (k < length cells) ⊎ (length cells ≤ k) → row_cells more k ≡ written (row_cells cells) place count value k
-    go (inl there) =
-        sym (row_at Some more k 0 (omega (arith, there, same)))
-        ∙ h k
-        ∙ written_same (cells_of (map Some cells)) (row_cells cells) place count value k (row_at Some cells k 0 there)
-    go (inr out) =
-        ap Some (get_or_past more k 0 (omega (arith, out, same)) ∙ sym (get_or_past cells k 0 out))
-        ∙ sym (written_out (row_cells cells) place count value k (λ a b. omega (arith, b, out, inside)))
-
 -- what is put into the copy of a page is put into the page
 pub put_in_copy :
     (base : List ℕ) (copies : ℕ → ℕ) (numbers cells more : List ℕ) (at copy count value : ℕ) → AreNumbered copies numbers → copies (at / 256) ≡ copy → 0 < copy → at % 256 + count ≤ 256
-    → (copy - 1) * 256 + at % 256 + count ≤ length cells → length more ≡ length cells
-    → ((k : ℕ) → cells_of (map Some more) k ≡ written (cells_of (map Some cells)) ((copy - 1) * 256 + at % 256) count value k)
+    → ((k : ℕ) → row_cells more k ≡ written (row_cells cells) ((copy - 1) * 256 + at % 256) count value k)
     → (byte : ℕ) → overlaid_cells base copies more byte ≡ written (overlaid_cells base copies cells) at count value byte
-put_in_copy base copies numbers cells more at copy count value numbered is some inside there same h byte = go (cases_lt byte at) (cases_lt byte (at + count))
+put_in_copy base copies numbers cells more at copy count value numbered is some inside rows byte = go (cases_lt byte at) (cases_lt byte (at + count))
   where
     place : ℕ
     place = (copy - 1) * 256 + at % 256
-
-    rows : (k : ℕ) → row_cells more k ≡ written (row_cells cells) place count value k
-    rows = row_put cells more place count value there same h
 
     within : at ≤ byte → byte < at + count → overlaid_cells base copies more byte ≡ written (overlaid_cells base copies cells) at count value byte
     within a b =

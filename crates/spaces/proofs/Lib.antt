@@ -1,3 +1,4 @@
 pub mod Copies
+pub mod Puts
 pub mod Rows
 pub mod Tables

@@ -5,10 +5,9 @@ ghost use Rattle.clmodel.specs.Cells.{byte_count, cells_of, number, written};
 ghost use Rattle.spaces.specs.Overlay.{copies, overlaid_byte, overlaid_cells, overlaid, IsCopied, AreNumbered};
 ghost use Rattle.spaces_base.specs.Space.{Becomes};
 
-use crate::element::number_in;
+use crate::element::{number_in, put_in};
 use crate::page_table::PageTable;
 use clmodel::access::Width;
-use spaces_base::cells::put;
 use std::alloc::{AllocError, Global};
 
 /// The bytes of a page, a power of two: an aligned element lies on one page.
@@ -153,8 +152,10 @@ impl Pages {
         Ok(count + 1)
     }
 
-    /// Puts the low bytes of a value in place of those of an element.
-    pub(crate) fn change(
+    /// Puts the low bytes of a value in place of those of an element that is of two pages, or of one without a copy.
+    #[cold]
+    #[inline(never)]
+    fn change_new(
         &mut self,
         base: &[u8],
         at: usize,
@@ -174,7 +175,30 @@ impl Pages {
             return Ok(());
         }
         let place = (copy - 1) * PAGE + at % PAGE;
-        put(self.cells.as_mut_slice(), place, count, value);
+        put_in(self.cells.as_mut_slice(), place, width, value);
         Ok(())
+    }
+
+    /// Puts the low bytes of a value in place of those of an element. It looks once at the table where they are of one
+    /// page that has a copy.
+    pub(crate) fn change(
+        &mut self,
+        base: &[u8],
+        at: usize,
+        width: Width,
+        value: u64,
+    ) -> Result<(), AllocError>
+        requires { at + byte_count width ≤ length base.now }
+        ensures changed { OnOk result (Becomes (overlaid base.now (copies self.old.table) self.old.cells.items) (overlaid base.now (copies self.new.table) self.new.cells.items) (written (cells_of (overlaid base.now (copies self.old.table) self.old.cells.items)) at (byte_count width) value)) }
+        ensures same { OnErr result (overlaid base.now (copies self.new.table) self.new.cells.items ≡ overlaid base.now (copies self.old.table) self.old.cells.items) }
+    {
+        let count = width.bytes() as usize;
+        let copy = self.table.copy_of(at / PAGE);
+        if copy > 0 && at % PAGE + count <= PAGE {
+            let place = (copy - 1) * PAGE + at % PAGE;
+            put_in(self.cells.as_mut_slice(), place, width, value);
+            return Ok(());
+        }
+        self.change_new(base, at, width, value)
     }
 }
