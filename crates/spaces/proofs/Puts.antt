@@ -21,6 +21,31 @@ byte_over : (n k m value : ℕ) → m ≡ n + k → byte_of k (value / 256 ^ n) 
 byte_over n k m value e =
     ap (λ z. z % 256) (div-div-eq-div-mul value (256 ^ n) (256 ^ k) ∙ ap (λ z. value / z) (sym (pow-add 256 n k))) ∙ ap (λ z. byte_of z value) (sym e)
 
+-- m bytes first, and then the n lowest
+pub put_below :
+    (c d : Cells) (first n m value byte : ℕ) → d byte ≡ written c (first + n) m (value / 256 ^ n) byte → written d first n value byte ≡ written c first (n + m) value byte
+put_below c d first n m value byte high = go (cases_lt byte first) (cases_lt byte (first + n)) (cases_lt byte (first + n + m))
+  where
+    go : (byte < first) ⊎ (first ≤ byte) → (byte < first + n) ⊎ (first + n ≤ byte) → (byte < first + n + m) ⊎ (first + n + m ≤ byte)
+        → written d first n value byte ≡ written c first (n + m) value byte
+    go (inl a) b e =
+        written_out d first n value byte (λ p q. omega (arith, a, p))
+        ∙ high
+        ∙ written_out c (first + n) m (value / 256 ^ n) byte (λ p q. omega (arith, a, p))
+        ∙ sym (written_out c first (n + m) value byte (λ p q. omega (arith, a, p)))
+    go (inr a) (inl b) e = written_in d first n value byte a b ∙ sym (written_in c first (n + m) value byte a (omega (arith, b)))
+    go (inr a) (inr b) (inl e) =
+        written_out d first n value byte (λ p q. omega (arith, b, q))
+        ∙ high
+        ∙ written_in c (first + n) m (value / 256 ^ n) byte b e
+        ∙ ap Some (byte_over n (byte - (first + n)) (byte - first) value (omega (arith, b)))
+        ∙ sym (written_in c first (n + m) value byte a (omega (arith, e)))
+    go (inr a) (inr b) (inr e) =
+        written_out d first n value byte (λ p q. omega (arith, b, q))
+        ∙ high
+        ∙ written_out c (first + n) m (value / 256 ^ n) byte (λ p q. omega (arith, q, e))
+        ∙ sym (written_out c first (n + m) value byte (λ p q. omega (arith, e, q)))
+
 -- the n lowest bytes first, and then m others
 pub put_parts :
     (c d : Cells) (first n m value byte : ℕ) → d byte ≡ written c first n value byte → written d (first + n) m (value / 256 ^ n) byte ≡ written c first (n + m) value byte

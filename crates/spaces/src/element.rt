@@ -39,18 +39,19 @@ fn put_one(row: &mut [u8], at: usize, value: u64)
     row[at] = (value % 256) as u8;
 }
 
-/// Puts the two lowest bytes of a value into a row, the lowest first.
+/// Puts the two lowest bytes of a value into a row, the lowest at the lower place.
 #[inline(always)]
 fn put_two(row: &mut [u8], at: usize, value: u64)
     requires { at + 2 ≤ length row.old }
     ensures same_length { length row.new ≡ length row.old }
     ensures bytes { (byte : ℕ) → row_cells row.new byte ≡ written (row_cells row.old) at 2 value byte }
 {
-    put_one(row, at, value);
+    // the high byte first, since LLVM would take a first store that all widths share out of their branches
     put_one(row, at + 1, value >> 8);
+    put_one(row, at, value);
 }
 
-/// Puts the four lowest bytes of a value into a row, the lowest first.
+/// Puts the four lowest bytes of a value into a row, the lowest at the lowest place.
 #[inline(always)]
 fn put_four(row: &mut [u8], at: usize, value: u64)
     requires { at + 4 ≤ length row.old }
@@ -61,7 +62,7 @@ fn put_four(row: &mut [u8], at: usize, value: u64)
     put_two(row, at + 2, value >> 16);
 }
 
-/// Puts the bytes of a value into a row, the lowest first.
+/// Puts the bytes of a value into a row, the lowest at the lowest place.
 #[inline(always)]
 fn put_eight(row: &mut [u8], at: usize, value: u64)
     requires { at + 8 ≤ length row.old }
