@@ -184,6 +184,7 @@ impl Traces {
             // a copy, so that other accesses needn't lie in memory
             let wide = *x;
             let seen = self.pair_sight(i, uniform, &wide);
+            // made anew of its parts, so that what is seen of other accesses doesn't lie where a call answers
             return Sight {
                 clear: seen.clear,
                 told: seen.told,

@@ -4,6 +4,7 @@ pub mod Objects
 pub mod Running
 pub mod Accessing
 pub mod Asking
+pub mod Dividing
 pub mod BriefActions
 pub mod Waiting
 pub use Rattle.item_state.specs.Sound

@@ -7,10 +7,12 @@
 //! It goes by prepared steps. The crate knows no memory: an item hands out an access as an action, and takes its
 //! answer. Sizes and names of local objects are those defined, and so is whether they pass 32,768 bytes together. A
 //! launch asks for fewer than 2^32 buffers, and tests no count.
+#![tactic(auto)]
 
 mod accessing;
 mod asking;
 mod brief_action;
+mod dividing;
 mod item;
 mod launch;
 mod local_objects;

@@ -1,5 +1,5 @@
 -- The arguments of a kernel (OpenCL 1.2, 5.7.2).
-use Rattle.std.specs.Prelude.{ℕ, Option, None, Some, List}
+use Rattle.std.specs.Prelude.{ℕ, Option, Some, List}
 use Rattle.clmodel.specs.Setup.{place_of}
 use Rattle.clmodel.specs.declared.setup.Argument.{Argument}
 use Rattle.clmodel.specs.declared.setup.Argument.TheVariants as argument

@@ -11,7 +11,7 @@ use Rattle.clmodel.specs.declared.action.Action.TheVariants as action
 use Rattle.clmodel.specs.declared.action.Answer.{Answer}
 use Rattle.clmodel.specs.declared.schedule.Event.{Event}
 use Rattle.clmodel.specs.declared.schedule.Event.TheVariants as event
-use Rattle.item_state.specs.Dividing.{dividend_of}
+use Rattle.item_step.specs.Dividing.{dividend_of}
 use Rattle.item_step.specs.Running.{Running, Arrives, Makes, action_of}
 use Rattle.replay.specs.States.{IsAt}
 use Rattle.replay.specs.declared.player.Player.{Player}

@@ -72,12 +72,7 @@ fn integral(value: Value) -> RegisterValue
 {
     // Asked for what it ensures: the number is in its type's range.
     let _number = value.number();
-    RegisterValue {
-        bits: value.bits_in(IntType::Ulong),
-        form: Form::Integral,
-        kind: value.kind(),
-        number: 0,
-    }
+    RegisterValue::of_bits(value.kind(), value.bits_in(IntType::Ulong))
 }
 
 /// A pointer as a register has it.

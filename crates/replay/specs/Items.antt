@@ -7,7 +7,7 @@ use Rattle.clmodel.specs.declared.action.Action.{Action}
 use Rattle.clmodel.specs.declared.action.Answer.{Answer}
 use Rattle.clmodel.specs.declared.action.Stop.{Stop}
 use Rattle.clnum.specs.Integer.{Integer}
-use Rattle.item_state.specs.Dividing.{dividend_of}
+use Rattle.item_step.specs.Dividing.{dividend_of}
 use Rattle.item_step.specs.Running.{Running}
 use Rattle.launches.specs.Items.{IsAsked, Runs, Stands, acts_of}
 use Rattle.launches.specs.declared.slot.Slot.{Slot}

@@ -73,7 +73,7 @@ fn put_eight(row: &mut [u8], at: usize, value: u64)
     put_four(row, at + 4, value >> 32);
 }
 
-/// Puts the low bytes of a value in place of those of an element. They are written together.
+/// Puts the low bytes of a value in place of those of an element. The compiler makes one store of them.
 #[inline(always)]
 pub(crate) fn put_in(row: &mut [u8], at: usize, width: Width, value: u64)
     requires { at + byte_count width ≤ length row.old }

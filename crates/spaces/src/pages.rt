@@ -152,7 +152,8 @@ impl Pages {
         Ok(count + 1)
     }
 
-    /// Puts the low bytes of a value in place of those of an element that is of two pages, or of one without a copy.
+    /// Does what `change` does, whatever pages the element is of. `change` calls it for one of two pages, or of one
+    /// without a copy: it is a function of its own, so that `change` stays small.
     #[cold]
     #[inline(never)]
     fn change_new(
