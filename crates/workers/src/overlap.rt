@@ -29,6 +29,15 @@ use workers_draw::run::{run_groups, run_groups_after};
 /// The results of the groups of a round, in their order.
 pub(crate) type Results<'a> = Vec<GroupResult<Overlay<'a>, AccessSummary>>;
 
+/// How many workers have something to do: no more than there are parts of the work, and at least one. A thread that
+/// finds no group would be started and waited for in vain.
+fn busy_workers(workers: u32, parts: u32) -> usize
+    requires { (1 ≤ workers) × (workers ≤ 16) }
+    ensures { (0 < result) × (result ≤ 16) }
+{
+    workers.min(parts).max(1) as usize
+}
+
 /// Runs the groups `first..last` of a launch: the results of all of them, or of those up to one that stopped, its own
 /// the last.
 pub(crate) fn run_round<'a, G: Gate, R: Threads + Wait + Sync>(
@@ -52,13 +61,14 @@ pub(crate) fn run_round<'a, G: Gate, R: Threads + Wait + Sync>(
     rounds_are_shared();
     let round = Round::new(launch, buffers, spares, first, last);
     let gate = RoundGate { gate, first };
-    let results = run_groups(rt, alloc, &round, workers as usize, &gate)?;
+    let workers = busy_workers(workers, last - first);
+    let results = run_groups(rt, alloc, &round, workers, &gate)?;
     Ok(results)
 }
 
 /// Joins a round, whose groups are those from `first` up to `last`, to what is joined so far, while the other workers
 /// run the next, whose groups are those from `last` up to `end`. The calling thread joins, and then runs groups of the
-/// next round with the others.
+/// next round with the others: so a round of few groups has a worker for each, beside the one that joins.
 pub(crate) fn join_and_run<'a, 'b, G: Gate, R: Threads + Wait + Sync>(
     rt: &R,
     alloc: Global,
@@ -89,11 +99,12 @@ pub(crate) fn join_and_run<'a, 'b, G: Gate, R: Threads + Wait + Sync>(
     rounds_are_shared();
     let round = Round::new(launch, buffers, spares, last, end);
     let gate = RoundGate { gate, first: last };
+    let workers = busy_workers(workers, (end - last).saturating_add(1));
     run_groups_after(
         rt,
         alloc,
         &round,
-        workers as usize,
+        workers,
         &gate,
         move || -> Result<JoinEnd<JoinedGroups<'_>>, AllocError>
             requires { HasGroups (setup_of launch.now) × (first ≤ last) × HoldsGroups (launch_of (setup_of launch.now) (bytes_in buffers.now)) first so_far × AreOfRound (launch_of (setup_of launch.now) (bytes_in buffers.now)) last first results.items }
