@@ -1,6 +1,7 @@
 // Faults in the client's terms.
 #define _GNU_SOURCE
 #include "digits.h"
+#include "json.h"
 #include "objects.h"
 #include <stdio.h>
 #include <stdlib.h>
@@ -161,8 +162,9 @@ static void add_sizes(text *t, const launch_sizes *s) {
 
 // A buffer with what it holds: a launch that faults has changed nothing.
 static bool add_buffer(text *t, cl_context c, unsigned number, size_t size) {
+    if (t->length + 2 * size > MAX_EXPLAINED_BYTES) return false;
     char *bytes = take(t->arena, size);
-    if (t->length > MAX_EXPLAINED_BYTES || ask_read(c, number, 0, bytes, size)) return false;
+    if (ask_read(c, number, 0, bytes, size)) return false;
     char *hex = take(t->arena, 2 * size + 1);
     put_digits(hex, (const unsigned char *)bytes, size);
     addf(t, "buffer b%u %zu\nwrite b%u 0 ", number, size, number);
@@ -196,36 +198,65 @@ static bool add_script(text *t, cl_kernel k, const launch_sizes *s) {
     return true;
 }
 
-static bool number_behind(const char *json, const char *key, const char *end, unsigned long *n) {
-    const char *at = strstr(json, key);
-    if (!at || at >= end) return false;
-    *n = strtoul(at + strlen(key), NULL, 10);
+// Tells where something stands that an explanation has, behind words about it. False where that isn't known.
+static bool tell_at(const prepared *source, const char *words, json site) {
+    char place[512];
+    unsigned long offset;
+    if (!json_number(json_member(site, "offset"), &offset) || !place_of(source, offset, place, sizeof place))
+        return false;
+    tell("%s at %s", words, place);
     return true;
 }
 
-// Tells the spots of an explanation, each `"spot":{"offset":N,..,"calls":[{"offset":N,..},..]` behind its item's number
-// and what it does.
-static void tell_spots(cl_kernel k, const char *json) {
-    const prepared *source = &k->program->form;
-    const char *items = strstr(json, "\"items\":["), *end = items ? strstr(items, "\"schedule\":") : NULL;
-    if (!items) return;
-    if (!end) end = items + strlen(items);
-    for (const char *at = strstr(items, "\"item\":"); at && at < end; at = strstr(at + 1, "\"item\":")) {
-        unsigned long item = strtoul(at + 7, NULL, 10), offset;
-        const char *next = strstr(at + 1, "\"item\":"), *spot = strstr(at, "\"spot\":{"),
-                   *does = strstr(at, "\"does\":\"");
-        if (!next || next > end) next = end;
-        if (!spot || spot > next || !number_behind(spot, "\"offset\":", next, &offset)) continue;
-        char place[512], what[32] = "is";
-        if (does && does < next) snprintf(what, sizeof what, "%.*s", (int)strcspn(does + 8, "\""), does + 8);
-        if (!place_of(source, offset, place, sizeof place)) continue;
-        tell("  item %lu: %s at %s", item, what, place);
-        const char *calls = strstr(spot, "\"calls\":[");
-        const char *shut = calls ? strchr(calls, ']') : NULL;
-        for (const char *c = calls && shut && calls < next ? strstr(calls, "\"offset\":") : NULL; c && c < shut;
-             c = strstr(c + 1, "\"offset\":"))
-            if (place_of(source, strtoul(c + 9, NULL, 10), place, sizeof place)) tell("    called at %s", place);
+// Tells the calls of helpers round a place, the innermost first. The explanation has the outermost first.
+static void tell_calls(const prepared *source, json calls) {
+    size_t n = 0;
+    for (json c = json_first(calls); c.at; c = json_next(calls, c)) n++;
+    json *all = malloc((n + 1) * sizeof *all);
+    if (!all) return;
+    n = 0;
+    for (json c = json_first(calls); c.at; c = json_next(calls, c)) all[n++] = c;
+    while (n) tell_at(source, "    called", all[--n]);
+    free(all);
+}
+
+// Tells the loops round a place with their turns, the outermost first.
+static void tell_loops(const prepared *source, json loops) {
+    for (json l = json_first(loops); l.at; l = json_next(loops, l)) {
+        char words[64] = "    in the loop";
+        unsigned long turn;
+        bool known = json_number(json_member(l, "turn"), &turn);
+        if (known && turn) snprintf(words, sizeof words, "    in turn %lu of the loop", turn);
+        else if (known) snprintf(words, sizeof words, "    before the first turn of the loop");
+        tell_at(source, words, l);
     }
+}
+
+// Tells what an item of an explanation does, and where. One that has ended is told with its last access.
+static void tell_spot(const prepared *source, json item) {
+    unsigned long number;
+    char does[32], words[96];
+    if (!json_number(json_member(item, "item"), &number) || !json_word(json_member(item, "does"), does, sizeof does))
+        return;
+    bool ended = !strcmp(does, "ended");
+    json spot = json_member(item, ended ? "last_access" : "spot");
+    if (ended) {
+        tell("  item %lu: has ended", number);
+        tell_at(source, "    its last access is", spot);
+    } else {
+        snprintf(words, sizeof words, "  item %lu: %s", number, strcmp(does, "waits") ? does : "waits at the barrier");
+        if (!tell_at(source, words, spot)) tell("%s, its place isn't known", words);
+    }
+    tell_calls(source, json_member(spot, "calls"));
+    tell_loops(source, json_member(spot, "loops"));
+}
+
+// Tells the items of an explanation, whose members docs/use/explain.md has.
+static void tell_spots(const prepared *source, const char *explanation) {
+    json whole = json_text(explanation, strlen(explanation)), items = json_member(whole, "items");
+    unsigned long version;
+    if (json_number(json_member(whole, "version"), &version) && version != 1) return;
+    for (json i = json_first(items); i.at; i = json_next(items, i)) tell_spot(source, i);
 }
 
 static void explain(cl_kernel k, const launch_sizes *s) {
@@ -240,11 +271,11 @@ static void explain(cl_kernel k, const launch_sizes *s) {
         return;
     }
     session_record(k->context->session, false); // reading changes nothing
-    bool whole = add_script(&script, k, s);
+    bool whole = add_script(&script, k, s) && script.length <= MAX_EXPLAINED_BYTES;
     session_record(k->context->session, true);
-    char *json = whole ? explain_script(script.at, script.length) : NULL;
-    if (json) tell_spots(k, json);
-    free(json);
+    char *explanation = whole ? explain_script(script.at, script.length) : NULL;
+    if (explanation) tell_spots(&k->program->form, explanation);
+    free(explanation);
     free_arena(&a);
 }
 

@@ -1,0 +1,191 @@
+#include "json.h"
+#include <limits.h>
+#include <stdint.h>
+#include <string.h>
+
+enum { MAX_DEPTH = 64 }; // each level is a bit of a number
+
+static const json nothing = {NULL, NULL};
+
+// ---- steps over what is left of a text. Each says whether it stood in front; where not, the rest is of no use ----
+
+// Whether a byte is the first one.
+static bool is_next(const json *rest, char c) { return rest->at < rest->end && *rest->at == c; }
+
+// One of several bytes. Where none is in front, the rest stays.
+static bool skip_any(json *rest, const char *bytes) {
+    if (rest->at >= rest->end || !*rest->at || !strchr(bytes, *rest->at)) return false;
+    rest->at++;
+    return true;
+}
+
+// The same of one byte.
+static bool skip_byte(json *rest, char c) {
+    if (!is_next(rest, c)) return false;
+    rest->at++;
+    return true;
+}
+
+// White space, if there is any.
+static void skip_space(json *rest) {
+    while (skip_any(rest, " \t\n\r")) {}
+}
+
+// Digits, at least one.
+static bool skip_digits(json *rest) {
+    if (!skip_any(rest, "0123456789")) return false;
+    while (skip_any(rest, "0123456789")) {}
+    return true;
+}
+
+// A number: perhaps a sign, then 0 or digits that don't begin with 0, perhaps a fraction, perhaps an exponent.
+static bool skip_number(json *rest) {
+    skip_byte(rest, '-');
+    if (!skip_byte(rest, '0') && !skip_digits(rest)) return false;
+    if (skip_byte(rest, '.') && !skip_digits(rest)) return false;
+    if (!skip_any(rest, "eE")) return true;
+    skip_any(rest, "+-");
+    return skip_digits(rest);
+}
+
+// What stands behind the backslash of an escape.
+static bool skip_escape(json *rest) {
+    if (!skip_byte(rest, 'u')) return skip_any(rest, "\"\\/bfnrt");
+    for (int i = 0; i < 4; i++)
+        if (!skip_any(rest, "0123456789abcdefABCDEF")) return false;
+    return true;
+}
+
+// A string with its quotes.
+static bool skip_string(json *rest) {
+    if (!skip_byte(rest, '"')) return false;
+    while (rest->at < rest->end && (unsigned char)*rest->at >= ' ') {
+        char c = *rest->at++;
+        if (c == '"') return true;
+        if (c == '\\' && !skip_escape(rest)) return false;
+    }
+    return false;
+}
+
+// The bytes of a word. What may follow it is for others to say.
+static bool skip_word(json *rest, const char *word) {
+    size_t n = strlen(word);
+    if ((size_t)(rest->end - rest->at) < n || memcmp(rest->at, word, n)) return false;
+    rest->at += n;
+    return true;
+}
+
+// A value that has no values in it.
+static bool skip_plain(json *rest) {
+    if (rest->at >= rest->end) return false;
+    switch (*rest->at) {
+    case '"': return skip_string(rest);
+    case 't': return skip_word(rest, "true");
+    case 'f': return skip_word(rest, "false");
+    case 'n': return skip_word(rest, "null");
+    default: return skip_number(rest);
+    }
+}
+
+// The name of a member, with its quotes, and the colon behind it.
+static bool skip_name(json *rest, json *name) {
+    skip_space(rest);
+    name->at = rest->at;
+    if (!skip_string(rest)) return false;
+    name->end = rest->at;
+    skip_space(rest);
+    return skip_byte(rest, ':');
+}
+
+// The bracket that ends an object or a list.
+static bool skip_end(json *rest, bool is_object) {
+    skip_space(rest);
+    return skip_byte(rest, is_object ? '}' : ']');
+}
+
+// A value with all that is in it. Each open level is a bit of `objects`, the innermost one the lowest: 1 of an object,
+// 0 of a list.
+static bool skip_value(json *rest) {
+    uint64_t objects = 0;
+    unsigned depth = 0;
+    json name;
+    for (;;) {
+        if (objects & 1 && !skip_name(rest, &name)) return false;
+        skip_space(rest);
+        bool is_object = is_next(rest, '{');
+        if (is_object || is_next(rest, '[')) {
+            if (depth++ == MAX_DEPTH) return false;
+            objects = objects << 1 | is_object;
+            rest->at++;
+            skip_space(rest);
+            if (!is_next(rest, is_object ? '}' : ']')) continue; // with what stands in it first
+        } else if (!skip_plain(rest)) return false;
+        for (; depth && skip_end(rest, objects & 1); depth--) objects >>= 1;
+        if (!depth) return true;
+        if (!skip_byte(rest, ',')) return false;
+    }
+}
+
+// ---- values and their parts ----
+
+// The value in front, over which it steps.
+static json take_value(json *rest) {
+    skip_space(rest);
+    const char *at = rest->at;
+    return skip_value(rest) ? (json){at, rest->at} : nothing;
+}
+
+// What stands behind the bracket with which a value begins. Nothing where it begins with another byte.
+static json inside(json v, char bracket) { return is_next(&v, bracket) ? (json){v.at + 1, v.end} : nothing; }
+
+json json_text(const char *text, size_t length) {
+    json rest = {text, text + length}, v = take_value(&rest);
+    skip_space(&rest);
+    return rest.at == rest.end ? v : nothing;
+}
+
+json json_member(json object, const char *name) {
+    json rest = inside(object, '{'), called;
+    size_t n = strlen(name);
+    while (skip_name(&rest, &called)) {
+        json v = take_value(&rest);
+        bool is_it = (size_t)(called.end - called.at) == n + 2 && !memcmp(called.at + 1, name, n);
+        skip_space(&rest);
+        if (is_it || !v.at) return v;
+        if (!skip_byte(&rest, ',')) break;
+    }
+    return nothing;
+}
+
+json json_first(json list) {
+    json rest = inside(list, '[');
+    return take_value(&rest);
+}
+
+json json_next(json list, json element) {
+    json rest = {element.end, inside(list, '[').end};
+    if (!rest.at || !rest.end) return nothing;
+    skip_space(&rest);
+    return skip_byte(&rest, ',') ? take_value(&rest) : nothing;
+}
+
+bool json_number(json v, unsigned long *n) {
+    unsigned long sum = 0;
+    for (const char *c = v.at; c < v.end; c++) {
+        unsigned digit = (unsigned)(*c - '0');
+        if (digit > 9 || sum > (ULONG_MAX - digit) / 10) return false;
+        sum = sum * 10 + digit;
+    }
+    if (v.at == v.end) return false;
+    *n = sum;
+    return true;
+}
+
+bool json_word(json v, char *room, size_t n) {
+    if (!is_next(&v, '"')) return false;
+    size_t length = (size_t)(v.end - v.at) - 2;
+    if (length >= n || memchr(v.at, '\\', length + 1)) return false;
+    memcpy(room, v.at + 1, length);
+    room[length] = 0;
+    return true;
+}
