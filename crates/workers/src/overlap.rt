@@ -1,6 +1,6 @@
 //! The run of a round of groups beside the join of the round before it.
 
-ghost use Rattle.std.specs.Prelude.{◌≡◌, ◌*◌, ◌<◌, ◌≤◌, IfOk};
+ghost use Rattle.std.specs.Prelude.{◌≡◌, ◌*◌, ◌<◌, ◌≤◌, max, min, IfOk};
 ghost use Rattle.clmodel.specs.Next.{launch_of};
 ghost use Rattle.clmodel.specs.Setup.{item_count, group_items};
 ghost use Rattle.item_step.specs.Launches.{setup_of};
@@ -29,11 +29,12 @@ use workers_draw::run::{run_groups, run_groups_after};
 /// The results of the groups of a round, in their order.
 pub(crate) type Results<'a> = Vec<GroupResult<Overlay<'a>, AccessSummary>>;
 
-/// How many workers have something to do: no more than there are parts of the work, and at least one. A thread that
-/// finds no group would be started and waited for in vain.
+/// How many workers have something to do: no more than there are parts of the work, and at least one. A thread for which
+/// there is no group would be started and waited for in vain.
 fn busy_workers(workers: u32, parts: u32) -> usize
     requires { (1 ≤ workers) × (workers ≤ 16) }
-    ensures { (0 < result) × (result ≤ 16) }
+    ensures value { result ≡ max 1 (min workers parts) }
+    ensures bounds { (0 < result) × (result ≤ 16) }
 {
     workers.min(parts).max(1) as usize
 }
