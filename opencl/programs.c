@@ -394,7 +394,25 @@ CL_API_ENTRY cl_int CL_API_CALL clSetKernelArg(cl_kernel k, cl_uint index, size_
     free(a->command);
     a->command = command;
     a->memory = m;
+    a->local = q->type.pointer && q->type.space == LOCAL_SPACE ? n : 0;
     return CL_SUCCESS;
+}
+
+cl_ulong local_bytes(cl_kernel k, const symbol *y) {
+    cl_ulong n = size_of(y->type.base);
+    for (unsigned d = 0; d < y->type.dimensions; d++) n *= y->type.lengths[d];
+    if (!y->type.pointer) return n;
+    for (unsigned i = 0; i < k->form->count; i++)
+        if (k->form->parameters[i].name == y->name) return k->arguments[i].local; // a name is one token's alone
+    return 0;
+}
+// All local memory of a kernel: what it declares, and what its arguments were given.
+static cl_ulong all_local_bytes(cl_kernel k) {
+    cl_ulong n = 0;
+    for (unsigned i = 0; i < k->form->local_count; i++)
+        if (!k->form->locals[i]->type.pointer) n += local_bytes(k, k->form->locals[i]);
+    for (unsigned i = 0; i < k->form->count; i++) n += k->arguments[i].local;
+    return n;
 }
 CL_API_ENTRY cl_int CL_API_CALL clGetKernelInfo(cl_kernel k, cl_kernel_info name, size_t room, void *to, size_t *size) {
     LOCKED;
@@ -443,7 +461,7 @@ CL_API_ENTRY cl_int CL_API_CALL clGetKernelWorkGroupInfo(cl_kernel k, cl_device_
     switch (name) {
     case CL_KERNEL_WORK_GROUP_SIZE: GIVE(size_t, MAX_GROUP);
     case CL_KERNEL_COMPILE_WORK_GROUP_SIZE: return give(k->form->group, sizeof k->form->group, room, to, size);
-    case CL_KERNEL_LOCAL_MEM_SIZE:
+    case CL_KERNEL_LOCAL_MEM_SIZE: GIVE(cl_ulong, all_local_bytes(k));
     case CL_KERNEL_PRIVATE_MEM_SIZE: GIVE(cl_ulong, 0);
     case CL_KERNEL_PREFERRED_WORK_GROUP_SIZE_MULTIPLE: GIVE(size_t, 1);
     default: return CL_INVALID_VALUE;
