@@ -428,6 +428,15 @@ CL_API_ENTRY cl_int CL_API_CALL clGetKernelInfo(cl_kernel k, cl_kernel_info name
     default: return CL_INVALID_VALUE;
     }
 }
+// What qualifies a pointer and what it points to (OpenCL 1.2, table 5.21). Of a value nothing is told.
+static cl_kernel_arg_type_qualifier qualifiers_of(const type *t) {
+    cl_kernel_arg_type_qualifier q = CL_KERNEL_ARG_TYPE_NONE;
+    if (!t->pointer) return q;
+    if (t->is_const || t->space == CONSTANT_SPACE) q |= CL_KERNEL_ARG_TYPE_CONST;
+    if (t->is_volatile) q |= CL_KERNEL_ARG_TYPE_VOLATILE;
+    if (t->is_restrict) q |= CL_KERNEL_ARG_TYPE_RESTRICT;
+    return q;
+}
 CL_API_ENTRY cl_int CL_API_CALL clGetKernelArgInfo(cl_kernel k, cl_uint index, cl_kernel_arg_info name, size_t room,
                                                    void *to, size_t *size) {
     LOCKED;
@@ -438,7 +447,6 @@ CL_API_ENTRY cl_int CL_API_CALL clGetKernelArgInfo(cl_kernel k, cl_uint index, c
     static const cl_kernel_arg_address_qualifier spaces[] = {
         CL_KERNEL_ARG_ADDRESS_PRIVATE, CL_KERNEL_ARG_ADDRESS_GLOBAL, CL_KERNEL_ARG_ADDRESS_CONSTANT,
         CL_KERNEL_ARG_ADDRESS_LOCAL};
-    bool is_const = q->type.pointer && (q->type.is_const || q->type.space == CONSTANT_SPACE);
     char type[32];
     switch (name) {
     case CL_KERNEL_ARG_ADDRESS_QUALIFIER:
@@ -447,8 +455,7 @@ CL_API_ENTRY cl_int CL_API_CALL clGetKernelArgInfo(cl_kernel k, cl_uint index, c
     case CL_KERNEL_ARG_TYPE_NAME:
         snprintf(type, sizeof type, "%s%s", name_of(q->type.base), q->type.pointer ? "*" : "");
         return give_text(type, room, to, size);
-    case CL_KERNEL_ARG_TYPE_QUALIFIER:
-        GIVE(cl_kernel_arg_type_qualifier, is_const ? CL_KERNEL_ARG_TYPE_CONST : CL_KERNEL_ARG_TYPE_NONE);
+    case CL_KERNEL_ARG_TYPE_QUALIFIER: GIVE(cl_kernel_arg_type_qualifier, qualifiers_of(&q->type));
     case CL_KERNEL_ARG_NAME: return give_text(q->name, room, to, size);
     default: return CL_INVALID_VALUE;
     }

@@ -310,6 +310,15 @@ static void read_attribute(parser *p, specifiers *s) {
     }
 }
 
+// Whether a word qualifies a type. What is said of a pointer itself is left out, but for `restrict`.
+static bool read_qualifier(parser *p, type *t) {
+    if (sees(p, "restrict") || sees(p, "__restrict")) t->is_restrict = true;
+    else if (sees(p, "const")) t->is_const |= !t->pointer;
+    else if (sees(p, "volatile")) t->is_volatile |= !t->pointer;
+    else return false;
+    return true;
+}
+
 static bool read_specifier(parser *p, specifiers *s, unsigned *words) {
     enum { UNSIGNED = 1, SIGNED = 2, CHAR = 4, SHORT = 8, INT = 16, LONG = 32 };
     static const struct {
@@ -328,8 +337,8 @@ static bool read_specifier(parser *p, specifiers *s, unsigned *words) {
     } spaces[] = {{"global", GLOBAL_SPACE},   {"__global", GLOBAL_SPACE},   {"local", LOCAL_SPACE},
                   {"__local", LOCAL_SPACE},   {"constant", CONSTANT_SPACE}, {"__constant", CONSTANT_SPACE},
                   {"private", PRIVATE_SPACE}, {"__private", PRIVATE_SPACE}};
-    static const char *const dropped[] = {"volatile", "restrict", "__restrict", "inline", "__inline", "__inline__",
-                                          "static",   "extern",   "register",   "auto",   NULL};
+    static const char *const dropped[] = {"inline", "__inline", "__inline__", "static",
+                                          "extern", "register", "auto",       NULL};
     const char *w = now(p)->text;
     if (now(p)->kind != NAME_TOKEN) return false;
     for (size_t i = 0; i < sizeof parts / sizeof *parts; i++)
@@ -360,10 +369,7 @@ static bool read_specifier(parser *p, specifiers *s, unsigned *words) {
             s->type.space = spaces[i].space;
             return true;
         }
-    if (!strcmp(w, "const")) {
-        s->type.is_const = true;
-        return true;
-    }
+    if (read_qualifier(p, &s->type)) return true;
     if (!strcmp(w, "kernel") || !strcmp(w, "__kernel")) {
         s->is_kernel = true;
         return true;
@@ -377,9 +383,12 @@ static bool read_specifier(parser *p, specifiers *s, unsigned *words) {
     symbol *y = s->has_type ? NULL : find(p, w);
     if (!y || y->kind != TYPE_NAME) return false;
     if (y->type.pointer && (s->has_space || s->type.is_const)) complain_at(p, p->at, "Clsim has no such pointer");
-    if (y->type.is_const) s->type.is_const = true;
+    type before = s->type;
     s->type.base = y->type.base;
+    s->type.is_const |= y->type.is_const;
+    s->type.is_volatile |= y->type.is_volatile;
     if (y->type.pointer) s->type = y->type;
+    s->type.is_restrict |= before.is_restrict;
     s->has_type = true;
     return true;
 }
@@ -425,8 +434,9 @@ static type read_pointer(parser *p, const specifiers *s) {
         if (!s->has_space || t.space == PRIVATE_SPACE) complain_at(p, p->at, "Clsim has no pointers to private memory");
         if (t.base == VOID_TYPE) complain_at(p, p->at, "Clsim has no pointers to void");
         t.pointer = true;
+        t.is_restrict = false;
         p->at++;
-        while (sees(p, "const") || sees(p, "restrict") || sees(p, "__restrict") || sees(p, "volatile")) p->at++;
+        while (read_qualifier(p, &t)) p->at++;
     }
     return t;
 }
