@@ -268,12 +268,26 @@ static void tell_calls(const prepared *source, json calls) {
     free(all);
 }
 
-// Tells the loops round a place with their turns, the outermost first.
-static void tell_loops(const prepared *source, json loops) {
+// Whether a place, or a call of a helper round it, is a part of the turn before in the client's source. (A function is
+// called once at most round a place, so that it is the call in the function of the loop.)
+static bool is_before(const prepared *source, json spot, json loop) {
+    json calls = json_member(spot, "calls");
+    unsigned long begin, at;
+    if (!json_number(json_member(loop, "offset"), &begin)) return false;
+    if (json_number(json_member(spot, "offset"), &at) && is_of_turn_before(source, at, begin)) return true;
+    for (json c = json_first(calls); c.at; c = json_next(calls, c))
+        if (json_number(json_member(c, "offset"), &at) && is_of_turn_before(source, at, begin)) return true;
+    return false;
+}
+
+// Tells the loops round a place with the turns that they have in the client's source, the outermost first.
+static void tell_loops(const prepared *source, json spot) {
+    json loops = json_member(spot, "loops");
     for (json l = json_first(loops); l.at; l = json_next(loops, l)) {
         char words[64] = "    in the loop";
         unsigned long turn;
         bool known = json_number(json_member(l, "turn"), &turn);
+        if (known && turn && is_before(source, spot, l)) turn--;
         if (known && turn) snprintf(words, sizeof words, "    in turn %lu of the loop", turn);
         else if (known) snprintf(words, sizeof words, "    before the first turn of the loop");
         tell_at(source, words, l);
@@ -296,7 +310,7 @@ static void tell_spot(const prepared *source, json item) {
         if (!tell_at(source, words, spot)) tell("%s, its place isn't known", words);
     }
     tell_calls(source, json_member(spot, "calls"));
-    tell_loops(source, json_member(spot, "loops"));
+    tell_loops(source, spot);
 }
 
 // Tells the items of an explanation, whose members docs/use/explain.md has.
