@@ -8,7 +8,7 @@
 #include <string.h>
 #include <unistd.h>
 
-enum { MAX_EXPLAINED = 16, MAX_EXPLAINED_BYTES = 8 << 20 };
+enum { MAX_EXPLAINED = 16, MAX_EXPLAINED_BYTES = 32 << 20 };
 
 static unsigned faults;
 
