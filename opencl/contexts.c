@@ -24,9 +24,12 @@ clCreateContext(const cl_context_properties *properties, cl_uint n, const cl_dev
     LOCKED;
     size_t count = 0;
     if (properties) {
-        for (; properties[count]; count += 2)
+        for (; properties[count]; count += 2) {
+            if (properties[count] != CL_CONTEXT_PLATFORM && properties[count] != CL_CONTEXT_INTEROP_USER_SYNC)
+                return fail(errcode, CL_INVALID_PROPERTY);
             if (properties[count] == CL_CONTEXT_PLATFORM && (cl_platform_id)properties[count + 1] != &the_platform)
                 return fail(errcode, CL_INVALID_PLATFORM);
+        }
         count++;
     }
     if (!devices || !n || (!notify && user)) return fail(errcode, CL_INVALID_VALUE);

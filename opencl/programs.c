@@ -79,6 +79,10 @@ CL_API_ENTRY cl_program CL_API_CALL clCreateProgramWithBinary(cl_context c, cl_u
     if (n != 1 || !devices || !lengths || !binaries || !binaries[0]) return fail(errcode, CL_INVALID_VALUE);
     if (devices[0] != &the_device) return fail(errcode, CL_INVALID_DEVICE);
     size_t head = sizeof binary_head - 1;
+    if (!lengths[0]) {
+        if (states) states[0] = CL_INVALID_VALUE;
+        return fail(errcode, CL_INVALID_VALUE);
+    }
     bool good = lengths[0] >= head && !memcmp(binaries[0], binary_head, head);
     if (states) states[0] = good ? CL_SUCCESS : CL_INVALID_BINARY;
     if (!good) return fail(errcode, CL_INVALID_BINARY);
