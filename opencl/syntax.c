@@ -95,7 +95,7 @@ static bool binary_value(const char *op, base_type t, base_type left, uint64_t l
 bool constant_value(const expression *e, uint64_t *value) {
     uint64_t l, r;
     const char *op;
-    if (!e || e->type.pointer || e->type.dimensions) return false;
+    if (!e || e->type.pointer || e->type.dimensions || e->type.base == VOID_TYPE) return false;
     switch (e->kind) {
     case NUMBER: *value = e->value; return true;
     case NAME:
@@ -442,13 +442,16 @@ static type read_pointer(parser *p, const specifiers *s) {
 }
 
 static void read_lengths(parser *p, type *t) {
-    uint64_t lengths[8];
+    enum { MOST = 1 << 20 }; // of the elements of an array: those of the largest buffer
+    uint64_t lengths[8], all = 1;
     while (accept(p, "[")) {
         if (t->dimensions == 8) complain_at(p, p->at, "Clsim has no arrays of more than eight dimensions");
         size_t at = p->at;
         uint64_t n = 0;
-        if (sees(p, "]") ? t->dimensions != 0 : (!known_value(p, read_assignment(p), &n) || !n || n > 1u << 20))
+        if (sees(p, "]") ? t->dimensions != 0 : (!known_value(p, read_assignment(p), &n) || !n || n > MOST))
             complain_at(p, at, "the length of an array is a number from 1 on");
+        all *= n ? n : 1;
+        if (all > MOST) complain_at(p, at, "an array is too large");
         lengths[t->dimensions++] = n; // 0: told by the initialiser
         expect(p, "]");
     }
@@ -507,7 +510,7 @@ static void read_number(parser *p, expression *e) {
 static void read_character(parser *p, expression *e) {
     const char *s = now(p)->text;
     static const char escapes[] = "n\nt\tr\r0\0a\ab\bf\fv\v\\\\''\"\"??";
-    long value = -1;
+    long value = -1000;
     if (s[1] == '\\' && s[2] && s[3] == '\'' && !s[4]) {
         for (size_t i = 0; i + 1 < sizeof escapes; i += 2)
             if (escapes[i] == s[2]) value = (unsigned char)escapes[i + 1];
@@ -517,7 +520,6 @@ static void read_character(parser *p, expression *e) {
         if (value > 127) value -= 256; // a char is signed
         if (strcmp(end, "'") || end == s + 3 || end > s + 5) value = -1000;
     } else if (s[1] && s[1] != '\\' && s[1] > 0 && s[2] == '\'' && !s[3]) value = (unsigned char)s[1];
-    else value = -1000;
     if (value == -1000) complain_at(p, p->at, "Clsim has no such character");
     e->type = number_type(INT_TYPE);
     e->value = (uint64_t)value;
@@ -952,9 +954,10 @@ static size_t read_list(parser *p, declaration *d, unsigned dimension, size_t pl
 }
 
 static void read_elements(parser *p, declaration *d) {
+    static const char too_many[] = "an array with an initialiser has at most 32768 elements";
     type t = d->symbol->type;
     uint64_t all = elements_from(t, 0), part = elements_from(t, 1);
-    if (all > MAX_ELEMENTS) complain_at(p, p->at, "an array with an initialiser has at most 32768 elements");
+    if (all > MAX_ELEMENTS) complain_at(p, p->at, too_many);
     d->elements = take(p->unit->arena, (size_t)(all ? all : MAX_ELEMENTS + part) * sizeof *d->elements);
     size_t end = read_list(p, d, 0, 0);
     if (!all) {
@@ -962,6 +965,7 @@ static void read_elements(parser *p, declaration *d) {
         if (!end) complain_at(p, d->token, "an array has an element");
     }
     d->length = (size_t)(t.lengths[0] * part);
+    if (d->length > MAX_ELEMENTS) complain_at(p, d->token, too_many);
 }
 
 // A number or an array of numbers in constant memory: it is known when the source is built.
