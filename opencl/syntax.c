@@ -1056,6 +1056,12 @@ static declaration *read_declarators(parser *p, const specifiers *s) {
     return first;
 }
 
+// Whether two types that have names are the same one.
+static bool is_type(type a, type b) {
+    return a.base == b.base && a.pointer == b.pointer && a.space == b.space && a.is_const == b.is_const &&
+           a.is_volatile == b.is_volatile && a.is_restrict == b.is_restrict;
+}
+
 static void read_typedef(parser *p, const specifiers *s) {
     do {
         type t = read_pointer(p, s);
@@ -1063,7 +1069,7 @@ static void read_typedef(parser *p, const specifiers *s) {
         size_t at = p->at++;
         if (sees(p, "[") || sees(p, "(")) complain_at(p, p->at, "Clsim has no such typedef");
         symbol *same = find(p, name);
-        if (same && same->kind == TYPE_NAME && same->type.base == t.base && same->type.pointer == t.pointer) continue;
+        if (same && same->kind == TYPE_NAME && is_type(same->type, t)) continue;
         declare(p, TYPE_NAME, name, at)->type = t;
     } while (accept(p, ","));
     expect(p, ";");
