@@ -138,6 +138,10 @@ CL_API_ENTRY cl_int CL_API_CALL clSetMemObjectDestructorCallback(cl_mem m, void(
     return CL_SUCCESS;
 }
 
+// Whether the host may not read, or write, a buffer by its flags.
+static bool no_reading(cl_mem m) { return (m->flags & (CL_MEM_HOST_NO_ACCESS | CL_MEM_HOST_WRITE_ONLY)) != 0; }
+static bool no_writing(cl_mem m) { return (m->flags & (CL_MEM_HOST_NO_ACCESS | CL_MEM_HOST_READ_ONLY)) != 0; }
+
 CL_API_ENTRY cl_int CL_API_CALL clEnqueueReadBuffer(cl_command_queue q, cl_mem m, cl_bool blocking, size_t offset,
                                                     size_t n, void *to, cl_uint wait_count, const cl_event *wait_list,
                                                     cl_event *event) {
@@ -145,7 +149,7 @@ CL_API_ENTRY cl_int CL_API_CALL clEnqueueReadBuffer(cl_command_queue q, cl_mem m
     (void)blocking;
     MEMBER(m);
     if (!to || !n || is_outside(m, offset, n)) return CL_INVALID_VALUE;
-    if (m->flags & (CL_MEM_HOST_NO_ACCESS | CL_MEM_HOST_WRITE_ONLY)) return CL_INVALID_OPERATION;
+    if (no_reading(m)) return CL_INVALID_OPERATION;
     return finish(&made, CL_COMMAND_READ_BUFFER, ask_read(m->context, m->number, offset, to, n), event);
 }
 CL_API_ENTRY cl_int CL_API_CALL clEnqueueWriteBuffer(cl_command_queue q, cl_mem m, cl_bool blocking, size_t offset,
@@ -155,7 +159,7 @@ CL_API_ENTRY cl_int CL_API_CALL clEnqueueWriteBuffer(cl_command_queue q, cl_mem 
     (void)blocking;
     MEMBER(m);
     if (!from || !n || is_outside(m, offset, n)) return CL_INVALID_VALUE;
-    if (m->flags & (CL_MEM_HOST_NO_ACCESS | CL_MEM_HOST_READ_ONLY)) return CL_INVALID_OPERATION;
+    if (no_writing(m)) return CL_INVALID_OPERATION;
     return finish(&made, CL_COMMAND_WRITE_BUFFER, error_of(ask_write(m->context, m->number, offset, from, n)), event);
 }
 CL_API_ENTRY cl_int CL_API_CALL clEnqueueFillBuffer(cl_command_queue q, cl_mem m, const void *pattern, size_t length,
@@ -250,6 +254,7 @@ CL_API_ENTRY cl_int CL_API_CALL clEnqueueReadBufferRect(cl_command_queue q, cl_m
     BEGIN;
     (void)blocking;
     MEMBER(m);
+    if (no_reading(m)) return CL_INVALID_OPERATION;
     return finish(&made, CL_COMMAND_READ_BUFFER_RECT,
                   to ? rect(m, NULL, o, h, r, row, slice, hrow, hslice, to, NULL) : CL_INVALID_VALUE, event);
 }
@@ -261,6 +266,7 @@ CL_API_ENTRY cl_int CL_API_CALL clEnqueueWriteBufferRect(cl_command_queue q, cl_
     BEGIN;
     (void)blocking;
     MEMBER(m);
+    if (no_writing(m)) return CL_INVALID_OPERATION;
     return finish(&made, CL_COMMAND_WRITE_BUFFER_RECT,
                   from ? rect(m, NULL, o, h, r, row, slice, hrow, hslice, NULL, from) : CL_INVALID_VALUE, event);
 }
@@ -273,6 +279,14 @@ CL_API_ENTRY cl_int CL_API_CALL clEnqueueCopyBufferRect(cl_command_queue q, cl_m
     MEMBER(target);
     return finish(&made, CL_COMMAND_COPY_BUFFER_RECT, rect(m, target, o, p, r, row, slice, row2, slice2, NULL, NULL),
                   event);
+}
+
+// Whether a buffer may be mapped so (OpenCL 1.2, 5.2.3).
+static cl_int judge_mapping(cl_mem m, cl_map_flags flags) {
+    bool writes = flags & (CL_MAP_WRITE | CL_MAP_WRITE_INVALIDATE_REGION);
+    if (flags & ~(cl_map_flags)(CL_MAP_READ | CL_MAP_WRITE | CL_MAP_WRITE_INVALIDATE_REGION)) return CL_INVALID_VALUE;
+    if (flags & CL_MAP_WRITE_INVALIDATE_REGION && flags & (CL_MAP_READ | CL_MAP_WRITE)) return CL_INVALID_VALUE;
+    return (flags & CL_MAP_READ && no_reading(m)) || (writes && no_writing(m)) ? CL_INVALID_OPERATION : CL_SUCCESS;
 }
 
 // A mapped region is a copy: it is filled at the mapping, and written back where it was mapped for writing.
@@ -288,6 +302,8 @@ CL_API_ENTRY void *CL_API_CALL clEnqueueMapBuffer(cl_command_queue q, cl_mem m, 
     cl_int fault = waits(q->context, wait_count, wait_list);
     if (fault) return fail(errcode, fault);
     if (!n || is_outside(m, offset, n)) return fail(errcode, CL_INVALID_VALUE);
+    fault = judge_mapping(m, flags);
+    if (fault) return fail(errcode, fault);
     __attribute__((cleanup(drop_made))) cl_event made = event ? begun_event(q, start) : NULL;
     if (event && !made) return fail(errcode, CL_OUT_OF_HOST_MEMORY);
     mapping *map = calloc(1, sizeof *map);
@@ -330,8 +346,8 @@ CL_API_ENTRY cl_int CL_API_CALL clEnqueueMigrateMemObjects(cl_command_queue q, c
                                                            cl_mem_migration_flags flags, cl_uint wait_count,
                                                            const cl_event *wait_list, cl_event *event) {
     BEGIN;
-    (void)flags;
-    if (!n || !list) return CL_INVALID_VALUE;
+    cl_mem_migration_flags known = CL_MIGRATE_MEM_OBJECT_HOST | CL_MIGRATE_MEM_OBJECT_CONTENT_UNDEFINED;
+    if (!n || !list || flags & ~known) return CL_INVALID_VALUE;
     for (cl_uint i = 0; i < n; i++) MEMBER(list[i]);
     return finish(&made, CL_COMMAND_MIGRATE_MEM_OBJECTS, CL_SUCCESS, event);
 }

@@ -24,9 +24,12 @@ clCreateContext(const cl_context_properties *properties, cl_uint n, const cl_dev
     LOCKED;
     size_t count = 0;
     if (properties) {
-        for (; properties[count]; count += 2)
+        for (; properties[count]; count += 2) {
+            if (properties[count] != CL_CONTEXT_PLATFORM && properties[count] != CL_CONTEXT_INTEROP_USER_SYNC)
+                return fail(errcode, CL_INVALID_PROPERTY);
             if (properties[count] == CL_CONTEXT_PLATFORM && (cl_platform_id)properties[count + 1] != &the_platform)
                 return fail(errcode, CL_INVALID_PLATFORM);
+        }
         count++;
     }
     if (!devices || !n || (!notify && user)) return fail(errcode, CL_INVALID_VALUE);
@@ -140,7 +143,7 @@ CL_API_ENTRY cl_int CL_API_CALL clFinish(cl_command_queue q) {
 // ---- events ----
 
 void drop_event(cl_event e) {
-    if (e->references) return;
+    if (e->references || e->uses) return;
     cl_context c = e->context;
     if (e->queue) {
         e->queue->uses--;
@@ -200,21 +203,32 @@ cl_int waits(cl_context c, cl_uint n, const cl_event *list) {
     }
     return CL_SUCCESS;
 }
+// An event is used while a call has let the lock go, so that it stays when another thread releases it.
+static void use_event(cl_event e) { e->uses++; }
+static void leave_event(cl_event e) {
+    e->uses--;
+    drop_event(e);
+}
 CL_API_ENTRY cl_int CL_API_CALL clWaitForEvents(cl_uint n, const cl_event *list) {
     LOCKED;
+    cl_int fault = CL_SUCCESS;
     if (!n || !list) return CL_INVALID_VALUE;
-    for (cl_uint i = 0; i < n; i++)
-        if (!is_a(list[i], EVENT)) return CL_INVALID_EVENT;
     for (cl_uint i = 0; i < n; i++) {
-        while (list[i]->status > CL_COMPLETE) { // a user event that another thread sets
+        if (!is_a(list[i], EVENT)) return CL_INVALID_EVENT;
+        if (list[i]->context != list[0]->context) return CL_INVALID_CONTEXT;
+    }
+    for (cl_uint i = 0; i < n; i++) use_event(list[i]);
+    for (cl_uint i = 0; i < n; i++) {
+        while (list[i]->status > CL_COMPLETE && list[i]->references) { // a user event that another thread sets
             unlock();
             usleep(1000);
             lock();
-            if (!is_a(list[i], EVENT)) return CL_INVALID_EVENT;
         }
-        if (list[i]->status < 0) return CL_EXEC_STATUS_ERROR_FOR_EVENTS_IN_WAIT_LIST;
+        if (list[i]->status > CL_COMPLETE) fault = CL_INVALID_EVENT; // it was released, and nobody sets it
+        else if (list[i]->status < 0 && !fault) fault = CL_EXEC_STATUS_ERROR_FOR_EVENTS_IN_WAIT_LIST;
     }
-    return CL_SUCCESS;
+    for (cl_uint i = 0; i < n; i++) leave_event(list[i]);
+    return fault;
 }
 CL_API_ENTRY cl_int CL_API_CALL clGetEventInfo(cl_event e, cl_event_info name, size_t room, void *to, size_t *size) {
     LOCKED;
@@ -232,7 +246,8 @@ CL_API_ENTRY cl_int CL_API_CALL clGetEventProfilingInfo(cl_event e, cl_profiling
                                                         size_t *size) {
     LOCKED;
     if (!is_a(e, EVENT)) return CL_INVALID_EVENT;
-    if (!e->queue || !(e->queue->properties & CL_QUEUE_PROFILING_ENABLE)) return CL_PROFILING_INFO_NOT_AVAILABLE;
+    if (!e->queue || !(e->queue->properties & CL_QUEUE_PROFILING_ENABLE) || e->status != CL_COMPLETE)
+        return CL_PROFILING_INFO_NOT_AVAILABLE;
     switch (name) {
     case CL_PROFILING_COMMAND_QUEUED:
     case CL_PROFILING_COMMAND_SUBMIT:
@@ -279,6 +294,7 @@ CL_API_ENTRY cl_int CL_API_CALL clSetUserEventStatus(cl_event e, cl_int status) 
         e->status = status;
         ends = e->ends;
         e->ends = NULL;
+        use_event(e);
     }
     while (ends) {
         event_end *end = ends;
@@ -286,5 +302,7 @@ CL_API_ENTRY cl_int CL_API_CALL clSetUserEventStatus(cl_event e, cl_int status) 
         end->call(e, status < 0 ? status : end->when, end->user);
         free(end);
     }
+    LOCKED;
+    leave_event(e);
     return CL_SUCCESS;
 }

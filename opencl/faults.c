@@ -8,7 +8,7 @@
 #include <string.h>
 #include <unistd.h>
 
-enum { MAX_EXPLAINED = 16, MAX_EXPLAINED_BYTES = 8 << 20 };
+enum { MAX_EXPLAINED = 16, MAX_EXPLAINED_BYTES = 32 << 20 };
 
 static unsigned faults;
 
@@ -80,61 +80,109 @@ static void tell_item(unsigned long item, const launch_sizes *s) {
 
 // ---- memory ----
 
-static void tell_element(unsigned number, const char *what, const char *name, size_t bytes, size_t width,
-                         const char *rest) {
-    const char *b = strstr(rest, " byte ");
-    if (!b || (strstr(rest, " schedule ") && b > strstr(rest, " schedule "))) {
-        tell("  buffer b%u has %zu bytes and is %s %s, %zu elements", number, bytes, what, name, bytes / width);
-        return;
+// Where in an object of memory a fault lies, as its line has it: at a byte, or at an element, which may be outside.
+typedef struct {
+    const char *name; // of the buffer or the local object
+    size_t length;    // of the name
+    bool is_local;
+    unsigned long group, byte;
+    const char *element; // its number as text, NULL where it is a byte
+} memory_place;
+
+// Reads it from a fault's line. False where the line has none.
+static bool read_place(const char *line, memory_place *m) {
+    const char *buffer = strstr(line, " buffer "), *local = strstr(line, " local ");
+    bool is_local = local && (!buffer || local < buffer);
+    const char *at = is_local ? local + 7 : buffer ? buffer + 8 : NULL;
+    char *end;
+    if (!at) return false;
+    *m = (memory_place){.is_local = is_local};
+    if (is_local) {
+        m->group = strtoul(at, &end, 10);
+        if (end == at || *end != ' ') return false;
+        at = end + 1;
     }
-    unsigned long byte = strtoul(b + 6, NULL, 10);
-    tell("  buffer b%u has %zu bytes and is %s %s: %s[%lu]%s", number, bytes, what, name, name, byte / width,
-         byte % width ? ", not its first byte" : "");
+    m->name = at;
+    m->length = strcspn(at, " ");
+    at += m->length;
+    if (!strncmp(at, " byte ", 6)) m->byte = strtoul(at + 6, NULL, 10);
+    else if (!strncmp(at, " element ", 9)) m->element = at + 9;
+    else return false;
+    return true;
 }
 
-// The arguments, or the table, that a buffer of the reply is.
-static void tell_buffer(cl_kernel k, const char *reply) {
+// The number of an element as the line has it, with how many there are.
+static void put_element(char *room, size_t n, const memory_place *m, const char *before, const char *behind,
+                        uint64_t count) {
+    snprintf(room, n, "%s%.*s%s, of %llu element%s", before, (int)strcspn(m->element, " "), m->element, behind,
+             (unsigned long long)count, count == 1 ? "" : "s");
+}
+
+// An argument, or a table, that the buffer of a fault is. An element is told only where it is one of this width.
+static void tell_element(const memory_place *m, const char *what, const char *name, size_t bytes, size_t width,
+                         bool is_of_width) {
+    char place[96] = "";
+    if (!m->element)
+        snprintf(place, sizeof place, "[%lu]%s", m->byte / width, m->byte % width ? ", not its first byte" : "");
+    else if (is_of_width) put_element(place, sizeof place, m, "[", "]", bytes / width);
+    if (*place)
+        tell("  buffer %.*s has %zu bytes and is %s %s: %s%s", (int)m->length, m->name, bytes, what, name, name, place);
+    else
+        tell("  buffer %.*s has %zu bytes and is %s %s, %zu elements", (int)m->length, m->name, bytes, what, name,
+             bytes / width);
+}
+
+// The arguments, or the table, that the buffer of a fault is.
+static void tell_buffer(cl_kernel k, const memory_place *m) {
     const kernel_form *form = k->form;
-    const char *at = strstr(reply, " buffer b");
-    if (!at) return;
-    unsigned number = (unsigned)strtoul(at + 9, NULL, 10);
+    unsigned number = *m->name == 'b' ? (unsigned)strtoul(m->name + 1, NULL, 10) : 0;
+    unsigned widths = 0; // of all these arguments, a bit for each
     char what[32];
+    for (unsigned i = 0; i < form->count; i++)
+        if (k->arguments[i].memory && k->arguments[i].memory->number == number)
+            widths |= size_of(form->parameters[i].type.base);
+    bool is_one = !(widths & (widths - 1)); // else it isn't known which of them the element is one of
     for (unsigned i = 0; i < form->count; i++) {
-        cl_mem m = k->arguments[i].memory;
-        if (!m || m->number != number) continue;
+        cl_mem b = k->arguments[i].memory;
+        if (!b || b->number != number) continue;
         snprintf(what, sizeof what, "argument %u,", i);
-        tell_element(number, what, form->parameters[i].name, m->size, size_of(form->parameters[i].type.base), at);
+        tell_element(m, what, form->parameters[i].name, b->size, size_of(form->parameters[i].type.base), is_one);
     }
     for (unsigned i = 0; i < form->table_count; i++) {
-        unsigned t = form->tables[i];
-        if (k->program->tables[t] == number)
-            tell_element(number, "the table", k->program->form.tables[t].name, k->program->form.tables[t].size,
-                         k->program->form.tables[t].width, at);
+        const table *t = &k->program->form.tables[form->tables[i]];
+        if (k->program->tables[form->tables[i]] == number)
+            tell_element(m, "the table", t->name, t->size, t->width, true);
     }
 }
 
-// The element of an object in local memory, in the dimensions that the source gives it.
-static void tell_local(cl_kernel k, const char *reply) {
-    unsigned long group, byte;
-    char name[128], place[256];
+// An element of an object in local memory in the dimensions that the source gives it. Of one variable nothing.
+static void put_indexes(char *room, size_t n, const symbol *y, uint64_t element) {
+    uint64_t part = 1;
     size_t at = 0;
-    const char *local = strstr(reply, " local "), *schedule = strstr(reply, " schedule ");
-    if (!local || (schedule && local > schedule) ||
-        sscanf(local, " local %lu %127s byte %lu", &group, name, &byte) != 3)
-        return;
+    *room = 0;
+    for (unsigned d = 1; d < y->type.dimensions; d++) part *= y->type.lengths[d];
+    for (unsigned d = 0; !y->is_scalar && d < (y->type.dimensions ? y->type.dimensions : 1); d++) {
+        if (at < n) at += (size_t)snprintf(room + at, n - at, "[%llu]", (unsigned long long)(element / part));
+        element %= part;
+        if (d + 1 < y->type.dimensions) part /= y->type.lengths[d + 1];
+    }
+}
+
+// The byte of an object in local memory in the dimensions of the source. An element is outside of them: it is told by
+// its number.
+static void tell_local(cl_kernel k, const memory_place *m) {
+    char place[256];
     for (unsigned i = 0; i < k->form->local_count; i++) {
         const symbol *y = k->form->locals[i];
-        if (strcmp(y->written, name)) continue;
-        uint64_t element = byte / size_of(y->type.base), part = 1;
-        for (unsigned d = 1; d < y->type.dimensions; d++) part *= y->type.lengths[d];
-        for (unsigned d = 0; !y->is_scalar && d < (y->type.dimensions ? y->type.dimensions : 1); d++) {
-            if (at < sizeof place)
-                at += (size_t)snprintf(place + at, sizeof place - at, "[%llu]", (unsigned long long)(element / part));
-            element %= part;
-            if (d + 1 < y->type.dimensions) part /= y->type.lengths[d + 1];
-        }
-        tell("  %s of group %lu: %s%s%s", y->name, group, y->name, at ? place : "",
-             byte % size_of(y->type.base) ? ", not its first byte" : "");
+        unsigned width = size_of(y->type.base);
+        bool is_row = !y->is_scalar && y->type.dimensions < 2;
+        if (strlen(y->written) != m->length || strncmp(y->written, m->name, m->length)) continue;
+        if (m->element)
+            put_element(place, sizeof place, m, is_row ? "[" : "element ", is_row ? "]" : "",
+                        local_bytes(k, y) / width);
+        else put_indexes(place, sizeof place, y, m->byte / width);
+        tell("  %s of group %lu: %s%s%s", y->name, m->group, m->element && !is_row ? "" : y->name, place,
+             !m->element && m->byte % width ? ", not its first byte" : "");
     }
 }
 
@@ -220,12 +268,26 @@ static void tell_calls(const prepared *source, json calls) {
     free(all);
 }
 
-// Tells the loops round a place with their turns, the outermost first.
-static void tell_loops(const prepared *source, json loops) {
+// Whether a place, or a call of a helper round it, is a part of the turn before in the client's source. (A function is
+// called once at most round a place, so that it is the call in the function of the loop.)
+static bool is_before(const prepared *source, json spot, json loop) {
+    json calls = json_member(spot, "calls");
+    unsigned long begin, at;
+    if (!json_number(json_member(loop, "offset"), &begin)) return false;
+    if (json_number(json_member(spot, "offset"), &at) && is_of_turn_before(source, at, begin)) return true;
+    for (json c = json_first(calls); c.at; c = json_next(calls, c))
+        if (json_number(json_member(c, "offset"), &at) && is_of_turn_before(source, at, begin)) return true;
+    return false;
+}
+
+// Tells the loops round a place with the turns that they have in the client's source, the outermost first.
+static void tell_loops(const prepared *source, json spot) {
+    json loops = json_member(spot, "loops");
     for (json l = json_first(loops); l.at; l = json_next(loops, l)) {
         char words[64] = "    in the loop";
         unsigned long turn;
         bool known = json_number(json_member(l, "turn"), &turn);
+        if (known && turn && is_before(source, spot, l)) turn--;
         if (known && turn) snprintf(words, sizeof words, "    in turn %lu of the loop", turn);
         else if (known) snprintf(words, sizeof words, "    before the first turn of the loop");
         tell_at(source, words, l);
@@ -248,7 +310,7 @@ static void tell_spot(const prepared *source, json item) {
         if (!tell_at(source, words, spot)) tell("%s, its place isn't known", words);
     }
     tell_calls(source, json_member(spot, "calls"));
-    tell_loops(source, json_member(spot, "loops"));
+    tell_loops(source, spot);
 }
 
 // Tells the items of an explanation, whose members docs/use/explain.md has.
@@ -284,6 +346,7 @@ static void explain(cl_kernel k, const launch_sizes *s) {
 // Tells what a fault's line, which goes with the next command, means to the client.
 static void tell_fault(cl_kernel k, const char *reply, const launch_sizes *s) {
     char global[80], local[80], *line = strdup(reply);
+    memory_place place;
     unsigned long last = 0;
     bool first = true;
     if (!line) return;
@@ -291,8 +354,7 @@ static void tell_fault(cl_kernel k, const char *reply, const launch_sizes *s) {
     sizes_text(local, sizeof local, s->dimensions, s->local);
     tell("  kernel %s, launch %u of its context, global size %s, local size %s", k->form->name, k->context->launches,
          global, local);
-    tell_buffer(k, line);
-    tell_local(k, line);
+    if (read_place(line, &place)) (place.is_local ? tell_local : tell_buffer)(k, &place);
     tell_name(k, line);
     const char *schedule = strstr(line, " schedule ");
     for (const char *at = strstr(line, " item "); at && (!schedule || at < schedule); at = strstr(at + 1, " item ")) {

@@ -60,9 +60,10 @@ static const char *ask_launch(cl_kernel k, const launch_sizes *s) {
 // again after those.
 #define FAULTED CL_INVALID_OPERATION
 
-CL_API_ENTRY cl_int CL_API_CALL clEnqueueNDRangeKernel(cl_command_queue q, cl_kernel k, cl_uint dimensions,
-                                                       const size_t *offset, const size_t *global, const size_t *local,
-                                                       cl_uint wait_count, const cl_event *wait_list, cl_event *event) {
+// Launches a kernel by the call that the type of its event names.
+static cl_int launch(cl_command_queue q, cl_kernel k, cl_uint dimensions, const size_t *offset, const size_t *global,
+                     const size_t *local, cl_command_type type, cl_uint wait_count, const cl_event *wait_list,
+                     cl_event *event) {
     BEGIN;
     launch_sizes sizes = {.dimensions = dimensions, .uniform = setting("CLSIM_UNIFORM") != NULL};
     if (!is_a(k, KERNEL)) return CL_INVALID_KERNEL;
@@ -74,7 +75,7 @@ CL_API_ENTRY cl_int CL_API_CALL clEnqueueNDRangeKernel(cl_command_queue q, cl_ke
     if (fault) return fault;
     const char *reply = ask_launch(k, &sizes);
     if (!reply) return CL_DEVICE_NOT_AVAILABLE;
-    if (!strcmp(reply, "clean")) return finish(&made, CL_COMMAND_NDRANGE_KERNEL, CL_SUCCESS, event);
+    if (!strcmp(reply, "clean")) return finish(&made, type, CL_SUCCESS, event);
     if (strncmp(reply, "fault ", 6)) {
         refuse(q->context, "kernel %s: %s", k->form->name, reply);
         return error_of(reply);
@@ -82,13 +83,18 @@ CL_API_ENTRY cl_int CL_API_CALL clEnqueueNDRangeKernel(cl_command_queue q, cl_ke
     report_fault(k, reply, &sizes);
     const char *then = setting("CLSIM_ON_FAULT");
     if (!then || strcmp(then, "go")) return FAULTED;
-    give_event(&made, CL_COMMAND_NDRANGE_KERNEL, FAULTED, event);
+    give_event(&made, type, FAULTED, event);
     return CL_SUCCESS;
+}
+CL_API_ENTRY cl_int CL_API_CALL clEnqueueNDRangeKernel(cl_command_queue q, cl_kernel k, cl_uint dimensions,
+                                                       const size_t *offset, const size_t *global, const size_t *local,
+                                                       cl_uint wait_count, const cl_event *wait_list, cl_event *event) {
+    return launch(q, k, dimensions, offset, global, local, CL_COMMAND_NDRANGE_KERNEL, wait_count, wait_list, event);
 }
 CL_API_ENTRY cl_int CL_API_CALL clEnqueueTask(cl_command_queue q, cl_kernel k, cl_uint wait_count,
                                               const cl_event *wait_list, cl_event *event) {
     size_t one = 1;
-    return clEnqueueNDRangeKernel(q, k, 1, NULL, &one, &one, wait_count, wait_list, event);
+    return launch(q, k, 1, NULL, &one, &one, CL_COMMAND_TASK, wait_count, wait_list, event);
 }
 CL_API_ENTRY cl_int CL_API_CALL clEnqueueNativeKernel(cl_command_queue q, void(CL_CALLBACK *f)(void *), void *a,
                                                       size_t n, cl_uint m, const cl_mem *ms, const void **ps, cl_uint w,

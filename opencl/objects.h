@@ -84,9 +84,10 @@ struct _cl_program {
 };
 
 typedef struct {
-    char *command;
+    char *command; // that gave it, NULL before
     cl_mem memory;
-} argument; // the command that gave it, NULL before
+    size_t local; // how many bytes of local memory it was given
+} argument;
 
 struct _cl_kernel {
     HEAD;
@@ -210,6 +211,10 @@ cl_int finish(cl_event *made, cl_command_type type, cl_int status, cl_event *eve
 // Writes bytes into a buffer of a context by its number; the line of the reply.
 const char *ask_write(cl_context c, unsigned buffer, size_t offset, const void *from, size_t n);
 cl_int ask_read(cl_context c, unsigned buffer, size_t offset, void *to, size_t n);
+
+// ---- kernels ----
+// The bytes of an object of a kernel in local memory. Of an argument those that it was given, 0 before.
+cl_ulong local_bytes(cl_kernel k, const symbol *y);
 
 // ---- faults ----
 typedef struct {

@@ -79,6 +79,10 @@ CL_API_ENTRY cl_program CL_API_CALL clCreateProgramWithBinary(cl_context c, cl_u
     if (n != 1 || !devices || !lengths || !binaries || !binaries[0]) return fail(errcode, CL_INVALID_VALUE);
     if (devices[0] != &the_device) return fail(errcode, CL_INVALID_DEVICE);
     size_t head = sizeof binary_head - 1;
+    if (!lengths[0]) {
+        if (states) states[0] = CL_INVALID_VALUE;
+        return fail(errcode, CL_INVALID_VALUE);
+    }
     bool good = lengths[0] >= head && !memcmp(binaries[0], binary_head, head);
     if (states) states[0] = good ? CL_SUCCESS : CL_INVALID_BINARY;
     if (!good) return fail(errcode, CL_INVALID_BINARY);
@@ -394,7 +398,25 @@ CL_API_ENTRY cl_int CL_API_CALL clSetKernelArg(cl_kernel k, cl_uint index, size_
     free(a->command);
     a->command = command;
     a->memory = m;
+    a->local = q->type.pointer && q->type.space == LOCAL_SPACE ? n : 0;
     return CL_SUCCESS;
+}
+
+cl_ulong local_bytes(cl_kernel k, const symbol *y) {
+    cl_ulong n = size_of(y->type.base);
+    for (unsigned d = 0; d < y->type.dimensions; d++) n *= y->type.lengths[d];
+    if (!y->type.pointer) return n;
+    for (unsigned i = 0; i < k->form->count; i++)
+        if (k->form->parameters[i].name == y->name) return k->arguments[i].local; // a name is one token's alone
+    return 0;
+}
+// All local memory of a kernel: what it declares, and what its arguments were given.
+static cl_ulong all_local_bytes(cl_kernel k) {
+    cl_ulong n = 0;
+    for (unsigned i = 0; i < k->form->local_count; i++)
+        if (!k->form->locals[i]->type.pointer) n += local_bytes(k, k->form->locals[i]);
+    for (unsigned i = 0; i < k->form->count; i++) n += k->arguments[i].local;
+    return n;
 }
 CL_API_ENTRY cl_int CL_API_CALL clGetKernelInfo(cl_kernel k, cl_kernel_info name, size_t room, void *to, size_t *size) {
     LOCKED;
@@ -410,6 +432,15 @@ CL_API_ENTRY cl_int CL_API_CALL clGetKernelInfo(cl_kernel k, cl_kernel_info name
     default: return CL_INVALID_VALUE;
     }
 }
+// What qualifies a pointer and what it points to (OpenCL 1.2, table 5.21). Of a value nothing is told.
+static cl_kernel_arg_type_qualifier qualifiers_of(const type *t) {
+    cl_kernel_arg_type_qualifier q = CL_KERNEL_ARG_TYPE_NONE;
+    if (!t->pointer) return q;
+    if (t->is_const || t->space == CONSTANT_SPACE) q |= CL_KERNEL_ARG_TYPE_CONST;
+    if (t->is_volatile) q |= CL_KERNEL_ARG_TYPE_VOLATILE;
+    if (t->is_restrict) q |= CL_KERNEL_ARG_TYPE_RESTRICT;
+    return q;
+}
 CL_API_ENTRY cl_int CL_API_CALL clGetKernelArgInfo(cl_kernel k, cl_uint index, cl_kernel_arg_info name, size_t room,
                                                    void *to, size_t *size) {
     LOCKED;
@@ -420,7 +451,6 @@ CL_API_ENTRY cl_int CL_API_CALL clGetKernelArgInfo(cl_kernel k, cl_uint index, c
     static const cl_kernel_arg_address_qualifier spaces[] = {
         CL_KERNEL_ARG_ADDRESS_PRIVATE, CL_KERNEL_ARG_ADDRESS_GLOBAL, CL_KERNEL_ARG_ADDRESS_CONSTANT,
         CL_KERNEL_ARG_ADDRESS_LOCAL};
-    bool is_const = q->type.pointer && (q->type.is_const || q->type.space == CONSTANT_SPACE);
     char type[32];
     switch (name) {
     case CL_KERNEL_ARG_ADDRESS_QUALIFIER:
@@ -429,8 +459,7 @@ CL_API_ENTRY cl_int CL_API_CALL clGetKernelArgInfo(cl_kernel k, cl_uint index, c
     case CL_KERNEL_ARG_TYPE_NAME:
         snprintf(type, sizeof type, "%s%s", name_of(q->type.base), q->type.pointer ? "*" : "");
         return give_text(type, room, to, size);
-    case CL_KERNEL_ARG_TYPE_QUALIFIER:
-        GIVE(cl_kernel_arg_type_qualifier, is_const ? CL_KERNEL_ARG_TYPE_CONST : CL_KERNEL_ARG_TYPE_NONE);
+    case CL_KERNEL_ARG_TYPE_QUALIFIER: GIVE(cl_kernel_arg_type_qualifier, qualifiers_of(&q->type));
     case CL_KERNEL_ARG_NAME: return give_text(q->name, room, to, size);
     default: return CL_INVALID_VALUE;
     }
@@ -443,7 +472,7 @@ CL_API_ENTRY cl_int CL_API_CALL clGetKernelWorkGroupInfo(cl_kernel k, cl_device_
     switch (name) {
     case CL_KERNEL_WORK_GROUP_SIZE: GIVE(size_t, MAX_GROUP);
     case CL_KERNEL_COMPILE_WORK_GROUP_SIZE: return give(k->form->group, sizeof k->form->group, room, to, size);
-    case CL_KERNEL_LOCAL_MEM_SIZE:
+    case CL_KERNEL_LOCAL_MEM_SIZE: GIVE(cl_ulong, all_local_bytes(k));
     case CL_KERNEL_PRIVATE_MEM_SIZE: GIVE(cl_ulong, 0);
     case CL_KERNEL_PREFERRED_WORK_GROUP_SIZE_MULTIPLE: GIVE(size_t, 1);
     default: return CL_INVALID_VALUE;

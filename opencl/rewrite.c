@@ -3,11 +3,11 @@
 #include <stdio.h>
 #include <string.h>
 
-// A piece of text that is written: a word, with the token that it stands for.
+// A piece of text that is written: a word, with the token that it stands for, and the loop as a place has it.
 typedef struct piece {
     struct piece *next;
     const char *text, *space;
-    size_t token;
+    size_t token, loop;
 } piece;
 
 typedef struct {
@@ -21,6 +21,7 @@ typedef struct {
     unsigned statements; // how many of them
     unsigned temporaries;
     size_t token; // the one that new words stand for
+    size_t loop;  // that of what is written now
     const function *function;
 } writer;
 
@@ -28,7 +29,7 @@ typedef struct {
 
 static void put_piece(writer *w, pieces *to, const char *word, const char *space, size_t token) {
     piece *p = take(w->unit->arena, sizeof *p);
-    *p = (piece){NULL, word, space, token};
+    *p = (piece){NULL, word, space, token, w->loop};
     if (to->last) to->last->next = p;
     else to->first = p;
     to->last = p;
@@ -729,13 +730,16 @@ static void write_declaration(writer *w, const declaration *d) {
     end_statement(w);
 }
 
-// The condition of a loop, in front of its body where it is hard: the loop is left there.
-static void leave_unless(writer *w, const expression *test) {
-    pieces p = value(w, test);
+// The condition of a loop, in front of its body where it is hard: the loop is left there. In the source it is a part of
+// the turn before.
+static void leave_unless(writer *w, const statement *s) {
+    w->loop = s->token + 1;
+    pieces p = value(w, s->test);
     put_apart(w, w->out, "if (!(");
     put_all(w->out, p);
     put(w, w->out, ")) break");
     end_statement(w);
+    w->loop = 0;
 }
 
 static void write_while(writer *w, const statement *s) {
@@ -749,7 +753,7 @@ static void write_while(writer *w, const statement *s) {
         part p;
         put(w, w->out, "1)");
         begin_part(w, &p);
-        leave_unless(w, s->test);
+        leave_unless(w, s);
         write_statement(w, s->first);
         put_all(p.out, end_part(w, &p, true));
     }
@@ -815,6 +819,23 @@ static pieces simple(writer *w, const expression *e, const statement *s) {
     return whole;
 }
 
+// The third part of a `for` in front of its condition, in all turns but the first. In the source it is a part of the
+// turn before.
+static void step_if_turned(writer *w, const statement *s, const char *turned) {
+    part p;
+    w->loop = s->token + 1;
+    put_apart(w, w->out, "if (");
+    put(w, w->out, turned);
+    put(w, w->out, ")");
+    begin_part(w, &p);
+    effect(w, s->step);
+    put_all(p.out, end_part(w, &p, true));
+    w->loop = 0;
+    put_apart(w, w->out, turned);
+    put(w, w->out, " = 1");
+    end_statement(w);
+}
+
 static void write_for(writer *w, const statement *s) {
     bool begin = is_simple_begin(s->begin), stepping = is_simple(s->step), testing = !s->test || !s->test->hard;
     part block, body;
@@ -841,19 +862,8 @@ static void write_for(writer *w, const statement *s) {
     if (stepping && s->step) put_all(w->out, simple(w, s->step, NULL));
     put(w, w->out, ")");
     begin_part(w, &body);
-    if (turned) {
-        put_apart(w, w->out, "if (");
-        put(w, w->out, turned);
-        put(w, w->out, ")");
-        part p;
-        begin_part(w, &p);
-        effect(w, s->step);
-        put_all(p.out, end_part(w, &p, true));
-        put_apart(w, w->out, turned);
-        put(w, w->out, " = 1");
-        end_statement(w);
-    }
-    if (s->test && (!testing || turned)) leave_unless(w, s->test);
+    if (turned) step_if_turned(w, s, turned);
+    if (s->test && (!testing || turned)) leave_unless(w, s);
     write_statement(w, s->first);
     if (!stepping && !turned) effect(w, s->step);
     put_all(body.out, end_part(w, &body, false));
@@ -1115,7 +1125,7 @@ static judged_text print(writer *w, pieces all) {
     for (piece *p = all.first; p; p = p->next) {
         add_space(&t, p->space);
         if (*p->text && t.length && would_join(t.at[t.length - 1], *p->text)) add(&t, " ");
-        if (*p->text) j.places[j.place_count++] = (place){t.length, p->token};
+        if (*p->text) j.places[j.place_count++] = (place){t.length, p->token, p->loop};
         add(&t, p->text);
     }
     add(&t, "\n");

@@ -7,6 +7,7 @@
 typedef struct {
     size_t offset; // in the text
     size_t token;  // that stands there, or that is written there in another form
+    size_t loop;   // 1 above the token of a loop where it is a part of the turn before in the source, else 0
 } place;
 
 typedef struct {

@@ -22,7 +22,7 @@ struct session {
     bool gone, recording;
     bool looks;            // whether the child may answer while this thread looks for the reply
     unsigned misses, skip; // how many looks in a row found nothing, and how many replies aren't looked for therefore
-    char *in; // what came of a reply
+    char *in;              // what came of a reply
     size_t end, room;
     FILE *record;
 };
@@ -323,11 +323,13 @@ char *explain_script(const char *script, size_t length) {
         close(ends[1]);
         if (!fault) {
             read = read_all(ends[0]);
+            close(ends[0]); // so that a child that still writes ends, where memory was refused
+            ends[0] = -1;
             pid_t ended;
             while ((ended = waitpid(child, &status, 0)) < 0 && errno == EINTR) {}
             if (ended < 0) status = 0; // a client that ignores the ends of its children took it along
         }
-        close(ends[0]);
+        if (ends[0] >= 0) close(ends[0]);
     }
     if (fd >= 0) close(fd);
     if (nothing >= 0) close(nothing);

@@ -80,15 +80,25 @@ static void add_remarks(prepared *p, text *log, const remark *r) {
     for (; r; r = r->next) add_message_at(p, log, &p->tokens.at[r->token], r->behind, r->message);
 }
 
-// The token that an offset of the judged text stands for.
-static const token *token_at(const prepared *p, size_t offset) {
+// What is known of an offset of the judged text.
+static const place *place_at(const prepared *p, size_t offset) {
     size_t low = 0, high = p->place_count;
     while (low < high) {
         size_t middle = (low + high) / 2;
         if (p->places[middle].offset <= offset) low = middle + 1;
         else high = middle;
     }
-    return low ? &p->tokens.at[p->places[low - 1].token] : NULL;
+    return low ? &p->places[low - 1] : NULL;
+}
+// The token that it stands for.
+static const token *token_at(const prepared *p, size_t offset) {
+    const place *at = place_at(p, offset);
+    return at ? &p->tokens.at[at->token] : NULL;
+}
+
+bool is_of_turn_before(const prepared *p, size_t offset, size_t loop) {
+    const place *at = place_at(p, offset), *begin = place_at(p, loop);
+    return at && begin && at->loop == begin->token + 1;
 }
 
 bool place_of(const prepared *p, size_t offset, char *room, size_t n) {
@@ -216,7 +226,7 @@ static void keep_text(prepared *p, char *judged) {
     p->length = strlen(judged);
     p->places = take(&p->arena, t.count * sizeof *p->places);
     for (size_t i = 0; i < t.count && i < p->tokens.count; i++)
-        p->places[p->place_count++] = (place){t.at[i].offset, i};
+        p->places[p->place_count++] = (place){t.at[i].offset, i, 0};
 }
 
 // ---- the whole ----

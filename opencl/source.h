@@ -52,4 +52,7 @@ void free_prepared(prepared *p);
 const char *build_log(prepared *p, const char *reply);
 // Where a byte of the text that is judged comes from, as FILE:LINE:COLUMN; false where that isn't known.
 bool place_of(const prepared *p, size_t offset, char *room, size_t n);
+// Whether what stands at a byte of that text is a part of the turn before in the client's source, of the loop that
+// begins at another byte.
+bool is_of_turn_before(const prepared *p, size_t offset, size_t loop);
 #endif

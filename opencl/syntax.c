@@ -95,7 +95,7 @@ static bool binary_value(const char *op, base_type t, base_type left, uint64_t l
 bool constant_value(const expression *e, uint64_t *value) {
     uint64_t l, r;
     const char *op;
-    if (!e || e->type.pointer || e->type.dimensions) return false;
+    if (!e || e->type.pointer || e->type.dimensions || e->type.base == VOID_TYPE) return false;
     switch (e->kind) {
     case NUMBER: *value = e->value; return true;
     case NAME:
@@ -310,6 +310,15 @@ static void read_attribute(parser *p, specifiers *s) {
     }
 }
 
+// Whether a word qualifies a type. What is said of a pointer itself is left out, but for `restrict`.
+static bool read_qualifier(parser *p, type *t) {
+    if (sees(p, "restrict") || sees(p, "__restrict")) t->is_restrict = true;
+    else if (sees(p, "const")) t->is_const |= !t->pointer;
+    else if (sees(p, "volatile")) t->is_volatile |= !t->pointer;
+    else return false;
+    return true;
+}
+
 static bool read_specifier(parser *p, specifiers *s, unsigned *words) {
     enum { UNSIGNED = 1, SIGNED = 2, CHAR = 4, SHORT = 8, INT = 16, LONG = 32 };
     static const struct {
@@ -328,8 +337,8 @@ static bool read_specifier(parser *p, specifiers *s, unsigned *words) {
     } spaces[] = {{"global", GLOBAL_SPACE},   {"__global", GLOBAL_SPACE},   {"local", LOCAL_SPACE},
                   {"__local", LOCAL_SPACE},   {"constant", CONSTANT_SPACE}, {"__constant", CONSTANT_SPACE},
                   {"private", PRIVATE_SPACE}, {"__private", PRIVATE_SPACE}};
-    static const char *const dropped[] = {"volatile", "restrict", "__restrict", "inline", "__inline", "__inline__",
-                                          "static",   "extern",   "register",   "auto",   NULL};
+    static const char *const dropped[] = {"inline", "__inline", "__inline__", "static",
+                                          "extern", "register", "auto",       NULL};
     const char *w = now(p)->text;
     if (now(p)->kind != NAME_TOKEN) return false;
     for (size_t i = 0; i < sizeof parts / sizeof *parts; i++)
@@ -360,10 +369,7 @@ static bool read_specifier(parser *p, specifiers *s, unsigned *words) {
             s->type.space = spaces[i].space;
             return true;
         }
-    if (!strcmp(w, "const")) {
-        s->type.is_const = true;
-        return true;
-    }
+    if (read_qualifier(p, &s->type)) return true;
     if (!strcmp(w, "kernel") || !strcmp(w, "__kernel")) {
         s->is_kernel = true;
         return true;
@@ -377,9 +383,12 @@ static bool read_specifier(parser *p, specifiers *s, unsigned *words) {
     symbol *y = s->has_type ? NULL : find(p, w);
     if (!y || y->kind != TYPE_NAME) return false;
     if (y->type.pointer && (s->has_space || s->type.is_const)) complain_at(p, p->at, "Clsim has no such pointer");
-    if (y->type.is_const) s->type.is_const = true;
+    type before = s->type;
     s->type.base = y->type.base;
+    s->type.is_const |= y->type.is_const;
+    s->type.is_volatile |= y->type.is_volatile;
     if (y->type.pointer) s->type = y->type;
+    s->type.is_restrict |= before.is_restrict;
     s->has_type = true;
     return true;
 }
@@ -425,20 +434,24 @@ static type read_pointer(parser *p, const specifiers *s) {
         if (!s->has_space || t.space == PRIVATE_SPACE) complain_at(p, p->at, "Clsim has no pointers to private memory");
         if (t.base == VOID_TYPE) complain_at(p, p->at, "Clsim has no pointers to void");
         t.pointer = true;
+        t.is_restrict = false;
         p->at++;
-        while (sees(p, "const") || sees(p, "restrict") || sees(p, "__restrict") || sees(p, "volatile")) p->at++;
+        while (read_qualifier(p, &t)) p->at++;
     }
     return t;
 }
 
 static void read_lengths(parser *p, type *t) {
-    uint64_t lengths[8];
+    enum { MOST = 1 << 20 }; // of the elements of an array: those of the largest buffer
+    uint64_t lengths[8], all = 1;
     while (accept(p, "[")) {
         if (t->dimensions == 8) complain_at(p, p->at, "Clsim has no arrays of more than eight dimensions");
         size_t at = p->at;
         uint64_t n = 0;
-        if (sees(p, "]") ? t->dimensions != 0 : (!known_value(p, read_assignment(p), &n) || !n || n > 1u << 20))
+        if (sees(p, "]") ? t->dimensions != 0 : (!known_value(p, read_assignment(p), &n) || !n || n > MOST))
             complain_at(p, at, "the length of an array is a number from 1 on");
+        all *= n ? n : 1;
+        if (all > MOST) complain_at(p, at, "an array is too large");
         lengths[t->dimensions++] = n; // 0: told by the initialiser
         expect(p, "]");
     }
@@ -497,7 +510,7 @@ static void read_number(parser *p, expression *e) {
 static void read_character(parser *p, expression *e) {
     const char *s = now(p)->text;
     static const char escapes[] = "n\nt\tr\r0\0a\ab\bf\fv\v\\\\''\"\"??";
-    long value = -1;
+    long value = -1000;
     if (s[1] == '\\' && s[2] && s[3] == '\'' && !s[4]) {
         for (size_t i = 0; i + 1 < sizeof escapes; i += 2)
             if (escapes[i] == s[2]) value = (unsigned char)escapes[i + 1];
@@ -507,7 +520,6 @@ static void read_character(parser *p, expression *e) {
         if (value > 127) value -= 256; // a char is signed
         if (strcmp(end, "'") || end == s + 3 || end > s + 5) value = -1000;
     } else if (s[1] && s[1] != '\\' && s[1] > 0 && s[2] == '\'' && !s[3]) value = (unsigned char)s[1];
-    else value = -1000;
     if (value == -1000) complain_at(p, p->at, "Clsim has no such character");
     e->type = number_type(INT_TYPE);
     e->value = (uint64_t)value;
@@ -942,9 +954,10 @@ static size_t read_list(parser *p, declaration *d, unsigned dimension, size_t pl
 }
 
 static void read_elements(parser *p, declaration *d) {
+    static const char too_many[] = "an array with an initialiser has at most 32768 elements";
     type t = d->symbol->type;
     uint64_t all = elements_from(t, 0), part = elements_from(t, 1);
-    if (all > MAX_ELEMENTS) complain_at(p, p->at, "an array with an initialiser has at most 32768 elements");
+    if (all > MAX_ELEMENTS) complain_at(p, p->at, too_many);
     d->elements = take(p->unit->arena, (size_t)(all ? all : MAX_ELEMENTS + part) * sizeof *d->elements);
     size_t end = read_list(p, d, 0, 0);
     if (!all) {
@@ -952,6 +965,7 @@ static void read_elements(parser *p, declaration *d) {
         if (!end) complain_at(p, d->token, "an array has an element");
     }
     d->length = (size_t)(t.lengths[0] * part);
+    if (d->length > MAX_ELEMENTS) complain_at(p, d->token, too_many);
 }
 
 // A number or an array of numbers in constant memory: it is known when the source is built.
@@ -1042,6 +1056,12 @@ static declaration *read_declarators(parser *p, const specifiers *s) {
     return first;
 }
 
+// Whether two types that have names are the same one.
+static bool is_type(type a, type b) {
+    return a.base == b.base && a.pointer == b.pointer && a.space == b.space && a.is_const == b.is_const &&
+           a.is_volatile == b.is_volatile && a.is_restrict == b.is_restrict;
+}
+
 static void read_typedef(parser *p, const specifiers *s) {
     do {
         type t = read_pointer(p, s);
@@ -1049,7 +1069,7 @@ static void read_typedef(parser *p, const specifiers *s) {
         size_t at = p->at++;
         if (sees(p, "[") || sees(p, "(")) complain_at(p, p->at, "Clsim has no such typedef");
         symbol *same = find(p, name);
-        if (same && same->kind == TYPE_NAME && same->type.base == t.base && same->type.pointer == t.pointer) continue;
+        if (same && same->kind == TYPE_NAME && is_type(same->type, t)) continue;
         declare(p, TYPE_NAME, name, at)->type = t;
     } while (accept(p, ","));
     expect(p, ";");

@@ -24,7 +24,8 @@ typedef struct {
     base_type base;
     space space;
     bool pointer;
-    bool is_const; // of what is pointed to, or of the value itself
+    bool is_const, is_volatile; // of what is pointed to, or of the value itself
+    bool is_restrict;           // of a pointer
     unsigned dimensions;
     uint64_t *lengths; // of an array
 } type;

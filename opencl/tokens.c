@@ -17,10 +17,6 @@ static bool is_word_byte(char c) { return isalnum((unsigned char)c) || c == '_';
 
 // ---- the preprocessor ----
 
-bool needs_preprocessor(const char *source, const char *options) {
-    return strchr(source, '#') || strstr(source, "\\\n") || (options && strstr(options, "-D"));
-}
-
 // The words of a build's options, quotes and backslashes taken off.
 static char **split_options(arena *a, const char *s, size_t *count) {
     char **words = take(a, (strlen(s) / 2 + 2) * sizeof *words), *store = take(a, 2 * strlen(s) + 2);
@@ -94,6 +90,13 @@ static const char *const macros[] = {"__OPENCL_VERSION__=120",
                                      "LONG_MAX=0x7fffffffffffffffl",
                                      "LONG_MIN=(-0x7fffffffffffffffl-1)",
                                      "ULONG_MAX=0xfffffffffffffffful"};
+bool needs_preprocessor(const char *source, const char *options) {
+    if (strchr(source, '#') || strstr(source, "\\\n") || (options && strstr(options, "-D"))) return true;
+    for (size_t i = 0; i < sizeof macros / sizeof *macros; i++)
+        if (memmem(source, strlen(source), macros[i], strcspn(macros[i], "="))) return true;
+    return strstr(source, "__LINE__");
+}
+
 static const char *const of_cpp[] = {"-undef", "-nostdinc", "-std=c99", "-x", "c"};
 static const char *const of_mcpp[] = {"-N", "-I-", "-W", "0"};
 

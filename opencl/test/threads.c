@@ -1,8 +1,9 @@
 // Eight threads on one context, each with a queue, a kernel and a buffer of its own, by map and unmap; a buffer goes
-// before its kernel.
+// before its kernel. Events that one thread waits for and another lets go.
 #include "host.h"
 #include <pthread.h>
 #include <stdint.h>
+#include <unistd.h>
 
 enum { THREADS = 8, ITEMS = 64, TURNS = 20 };
 static host h;
@@ -153,6 +154,55 @@ static void failures(void) {
     OK(clReleaseMemObject(m));
 }
 
+static void *wait_for_two(void *list) { return (void *)(intptr_t)clWaitForEvents(2, list); }
+
+// One thread waits for two events. Another lets the second one go meanwhile, and sets the first one then.
+static void released_meanwhile(void) {
+    intptr_t got = CL_INVALID_EVENT;
+    // (a thread that begins too late finds an event that is gone: then once more, with more time)
+    for (useconds_t time = 10000; got == CL_INVALID_EVENT && time < 10000000; time *= 4) {
+        pthread_t thread;
+        void *status;
+        cl_int fault;
+        cl_event list[2] = {clCreateUserEvent(h.context, &fault), NULL};
+        OK(fault);
+        OK(clEnqueueMarkerWithWaitList(h.queue, 0, NULL, &list[1]));
+        pthread_create(&thread, NULL, wait_for_two, list);
+        usleep(time);
+        OK(clReleaseEvent(list[1]));
+        OK(clSetUserEventStatus(list[0], CL_COMPLETE));
+        pthread_join(thread, &status);
+        got = (intptr_t)status;
+        OK(clReleaseEvent(list[0]));
+    }
+    if (got) exit(23);
+}
+
+static void CL_CALLBACK release(cl_event e, cl_int status, void *unused) {
+    (void)status;
+    (void)unused;
+    OK(clReleaseEvent(e));
+}
+static void CL_CALLBACK look(cl_event e, cl_int status, void *unused) {
+    cl_command_type type = 0;
+    (void)status;
+    (void)unused;
+    OK(clGetEventInfo(e, CL_EVENT_COMMAND_TYPE, sizeof type, &type, NULL));
+    if (type != CL_COMMAND_USER) exit(24);
+}
+
+// A callback lets its event go, in front of another one or behind it.
+static void released_in_callback(void) {
+    for (int first = 0; first < 2; first++) {
+        cl_int fault;
+        cl_event e = clCreateUserEvent(h.context, &fault);
+        OK(fault);
+        OK(clSetEventCallback(e, CL_COMPLETE, first ? release : look, NULL));
+        OK(clSetEventCallback(e, CL_COMPLETE, first ? look : release, NULL));
+        OK(clSetUserEventStatus(e, CL_COMPLETE));
+    }
+}
+
 int main(void) {
     pthread_t threads[THREADS];
     h = open_host();
@@ -164,6 +214,8 @@ int main(void) {
     rectangles();
     zeros();
     failures();
+    released_meanwhile();
+    released_in_callback();
     OK(clReleaseProgram(program));
     close_host(&h);
     puts("8 threads are right");

@@ -1,0 +1,193 @@
+// What calls answer by OpenCL 1.2, each value worked out by hand from its tables. Status 0: all of it.
+#include "host.h"
+#include <stdint.h>
+
+#define WANT(CONDITION) \
+    do { \
+        if (!(CONDITION)) { \
+            fprintf(stderr, "line %d: not so: %s\n", __LINE__, #CONDITION); \
+            exit(4); \
+        } \
+    } while (0)
+
+static host h;
+
+static cl_kernel kernel_of(cl_program p, const char *name) {
+    cl_int fault;
+    cl_kernel k = clCreateKernel(p, name, &fault);
+    OK(fault);
+    return k;
+}
+
+static cl_mem buffer_with(cl_mem_flags flags) {
+    cl_int fault;
+    cl_mem m = clCreateBuffer(h.context, flags, 64, NULL, &fault);
+    OK(fault);
+    return m;
+}
+
+// Table 5.22: what a kernel declares in local memory, and what its arguments were given.
+static void local_memory(void) {
+    static const char source[] = "__kernel void f(__global int *a, __local short *s, __local uchar *t) {\n"
+                                 "    __local int grid[3][4];\n"
+                                 "    __local ulong one;\n"
+                                 "    grid[0][0] = 1; one = 2; s[0] = 3; t[0] = 4;\n"
+                                 "    a[0] = grid[0][0] + (int)one + s[0] + t[0];\n"
+                                 "}\n"
+                                 "__kernel void none(__global int *a) { a[0] = 1; }\n";
+    cl_program p = build_program(&h, source, "");
+    cl_kernel k = kernel_of(p, "f"), none = kernel_of(p, "none");
+    cl_ulong n = 7;
+    OK(clGetKernelWorkGroupInfo(none, h.device, CL_KERNEL_LOCAL_MEM_SIZE, sizeof n, &n, NULL));
+    WANT(n == 0);
+    OK(clGetKernelWorkGroupInfo(k, h.device, CL_KERNEL_LOCAL_MEM_SIZE, sizeof n, &n, NULL));
+    WANT(n == 3 * 4 * 4 + 8);
+    OK(clSetKernelArg(k, 1, 20, NULL));
+    OK(clSetKernelArg(k, 2, 5, NULL));
+    OK(clGetKernelWorkGroupInfo(k, NULL, CL_KERNEL_LOCAL_MEM_SIZE, sizeof n, &n, NULL));
+    WANT(n == 3 * 4 * 4 + 8 + 20 + 5);
+    OK(clSetKernelArg(k, 1, 2, NULL));
+    OK(clGetKernelWorkGroupInfo(k, h.device, CL_KERNEL_LOCAL_MEM_SIZE, sizeof n, &n, NULL));
+    WANT(n == 3 * 4 * 4 + 8 + 2 + 5);
+    OK(clReleaseKernel(k));
+    OK(clReleaseKernel(none));
+    OK(clReleaseProgram(p));
+}
+
+// Table 5.21: `const` and `volatile` of what is pointed to, `restrict` of the pointer, and nothing of a value.
+static void qualifiers(void) {
+    static const char source[] =
+        "typedef volatile int changing;\n"
+        "typedef __global int *restrict alone;\n"
+        "typedef __global int *plain;\n"
+        "__kernel void f(__global int *a0, __global const int *a1, __global int const *restrict a2,\n"
+        "                volatile __global uint *a3, __global int *const a4, __global int *volatile a5,\n"
+        "                __constant int *a6, __global const volatile int *restrict a7, __local int volatile *a8,\n"
+        "                const int a9, volatile int a10, __global changing *a11, alone a12, plain const a13,\n"
+        "                volatile plain a14, __global const int a15[], __constant int *restrict a16) {\n"
+        "    a0[0] = 1;\n"
+        "}\n";
+    enum { C = CL_KERNEL_ARG_TYPE_CONST, V = CL_KERNEL_ARG_TYPE_VOLATILE, R = CL_KERNEL_ARG_TYPE_RESTRICT };
+    static const cl_kernel_arg_type_qualifier wanted[] = {0, C, C | R, V, 0, 0, C, C | V | R, V,
+                                                          0, 0, V,     R, 0, 0, C, C | R};
+    cl_program p = build_program(&h, source, "");
+    cl_kernel k = kernel_of(p, "f");
+    for (cl_uint i = 0; i < sizeof wanted / sizeof *wanted; i++) {
+        cl_kernel_arg_type_qualifier got = 99;
+        OK(clGetKernelArgInfo(k, i, CL_KERNEL_ARG_TYPE_QUALIFIER, sizeof got, &got, NULL));
+        if (got != wanted[i])
+            fprintf(stderr, "argument %u: %u in place of %u\n", i, (unsigned)got, (unsigned)wanted[i]);
+        WANT(got == wanted[i]);
+    }
+    OK(clReleaseKernel(k));
+    OK(clReleaseProgram(p));
+}
+
+// Events: the type of a task's (table 5.18), and no times of a command that failed (5.12).
+static void events(void) {
+    cl_program p = build_program(&h, "__kernel void f(__global int *a, int i) { a[i] = 1; }", "");
+    cl_kernel k = kernel_of(p, "f");
+    cl_mem m = buffer_with(CL_MEM_READ_WRITE);
+    cl_int fault, at = 0;
+    cl_command_queue q = clCreateCommandQueue(h.context, h.device, CL_QUEUE_PROFILING_ENABLE, &fault);
+    OK(fault);
+    cl_event e;
+    cl_command_type type;
+    cl_ulong time;
+    OK(clSetKernelArg(k, 0, sizeof m, &m));
+    OK(clSetKernelArg(k, 1, sizeof at, &at));
+    OK(clEnqueueTask(q, k, 0, NULL, &e));
+    OK(clGetEventInfo(e, CL_EVENT_COMMAND_TYPE, sizeof type, &type, NULL));
+    WANT(type == CL_COMMAND_TASK);
+    OK(clGetEventProfilingInfo(e, CL_PROFILING_COMMAND_END, sizeof time, &time, NULL));
+    OK(clReleaseEvent(e));
+    at = 16; // behind the end
+    OK(clSetKernelArg(k, 1, sizeof at, &at));
+    OK(clEnqueueTask(q, k, 0, NULL, &e)); // by CLSIM_ON_FAULT=go
+    WANT(clGetEventProfilingInfo(e, CL_PROFILING_COMMAND_END, sizeof time, &time, NULL) ==
+         CL_PROFILING_INFO_NOT_AVAILABLE);
+    WANT(clWaitForEvents(1, &e) == CL_EXEC_STATUS_ERROR_FOR_EVENTS_IN_WAIT_LIST);
+    OK(clReleaseEvent(e));
+    OK(clReleaseCommandQueue(q));
+    OK(clReleaseMemObject(m));
+    OK(clReleaseKernel(k));
+    OK(clReleaseProgram(p));
+}
+
+// Events of two contexts aren't waited for in one call (5.9).
+static void two_contexts(void) {
+    host other = open_host();
+    cl_int fault;
+    cl_event list[2] = {clCreateUserEvent(h.context, &fault), clCreateUserEvent(other.context, &fault)};
+    for (int i = 0; i < 2; i++) OK(clSetUserEventStatus(list[i], CL_COMPLETE));
+    WANT(clWaitForEvents(2, list) == CL_INVALID_CONTEXT);
+    OK(clWaitForEvents(1, &list[1]));
+    for (int i = 0; i < 2; i++) OK(clReleaseEvent(list[i]));
+    close_host(&other);
+}
+
+static cl_int rectangle(cl_mem m, int writes) {
+    static const size_t zero[3], region[] = {4, 1, 1};
+    unsigned char bytes[4] = {0};
+    return writes ? clEnqueueWriteBufferRect(h.queue, m, CL_TRUE, zero, zero, region, 0, 0, 0, 0, bytes, 0, NULL, NULL)
+                  : clEnqueueReadBufferRect(h.queue, m, CL_TRUE, zero, zero, region, 0, 0, 0, 0, bytes, 0, NULL, NULL);
+}
+static cl_int map(cl_mem m, cl_map_flags flags) {
+    cl_int fault;
+    void *at = clEnqueueMapBuffer(h.queue, m, CL_TRUE, flags, 0, 4, 0, NULL, NULL, &fault);
+    if (at) OK(clEnqueueUnmapMemObject(h.queue, m, at, 0, NULL, NULL));
+    WANT(!at == (fault != CL_SUCCESS));
+    return fault;
+}
+
+// What the host may do with a buffer by its flags (5.2.2, 5.2.3), and flags that aren't known.
+static void host_access(void) {
+    static const struct {
+        cl_mem_flags flags;
+        cl_int read, write;
+    } of[] = {{CL_MEM_READ_WRITE, CL_SUCCESS, CL_SUCCESS},
+              {CL_MEM_HOST_READ_ONLY, CL_SUCCESS, CL_INVALID_OPERATION},
+              {CL_MEM_HOST_WRITE_ONLY, CL_INVALID_OPERATION, CL_SUCCESS},
+              {CL_MEM_HOST_NO_ACCESS, CL_INVALID_OPERATION, CL_INVALID_OPERATION}};
+    for (size_t i = 0; i < sizeof of / sizeof *of; i++) {
+        cl_mem m = buffer_with(of[i].flags);
+        WANT(rectangle(m, 0) == of[i].read && rectangle(m, 1) == of[i].write);
+        WANT(map(m, CL_MAP_READ) == of[i].read && map(m, CL_MAP_WRITE) == of[i].write);
+        WANT(map(m, CL_MAP_WRITE_INVALIDATE_REGION) == of[i].write);
+        WANT(map(m, CL_MAP_READ | CL_MAP_WRITE) == (i ? CL_INVALID_OPERATION : CL_SUCCESS));
+        OK(clReleaseMemObject(m));
+    }
+    cl_mem m = buffer_with(CL_MEM_READ_WRITE);
+    WANT(map(m, CL_MAP_READ | CL_MAP_WRITE_INVALIDATE_REGION) == CL_INVALID_VALUE && map(m, 8) == CL_INVALID_VALUE);
+    OK(clEnqueueMigrateMemObjects(h.queue, 1, &m, CL_MIGRATE_MEM_OBJECT_HOST, 0, NULL, NULL));
+    WANT(clEnqueueMigrateMemObjects(h.queue, 1, &m, 4, 0, NULL, NULL) == CL_INVALID_VALUE);
+    OK(clReleaseMemObject(m));
+}
+
+// A property that isn't known (4.4), and a binary without a byte (5.6.1).
+static void made_of_nothing(void) {
+    cl_context_properties properties[] = {CL_CONTEXT_INTEROP_USER_SYNC, CL_TRUE, 0}, wrong[] = {12345, 1, 0};
+    cl_int fault = CL_SUCCESS, state = CL_SUCCESS;
+    const unsigned char *binary = (const unsigned char *)"";
+    size_t none = 0;
+    cl_context c = clCreateContext(properties, 1, &h.device, NULL, NULL, &fault);
+    OK(fault);
+    OK(clReleaseContext(c));
+    WANT(!clCreateContext(wrong, 1, &h.device, NULL, NULL, &fault) && fault == CL_INVALID_PROPERTY);
+    WANT(!clCreateProgramWithBinary(h.context, 1, &h.device, &none, &binary, &state, &fault));
+    WANT(fault == CL_INVALID_VALUE && state == CL_INVALID_VALUE);
+}
+
+int main(int count, char **words) {
+    static const struct {
+        const char *name;
+        void (*call)(void);
+    } all[] = {{"local", local_memory},    {"qualifiers", qualifiers}, {"events", events},
+               {"contexts", two_contexts}, {"access", host_access},    {"nothing", made_of_nothing}};
+    h = open_host();
+    for (size_t i = 0; i < sizeof all / sizeof *all; i++)
+        if (count < 2 || !strcmp(words[1], all[i].name)) all[i].call();
+    close_host(&h);
+    puts("infos are right");
+    return 0;
+}
