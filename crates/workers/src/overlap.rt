@@ -29,8 +29,8 @@ use workers_draw::run::{run_groups, run_groups_after};
 /// The results of the groups of a round, in their order.
 pub(crate) type Results<'a> = Vec<GroupResult<Overlay<'a>, AccessSummary>>;
 
-/// How many workers have something to do: no more than there are parts of the work, and at least one. A thread for which
-/// there is no group would be started and waited for in vain.
+/// How many workers have something to do: no more than there are parts of the work, and at least one. A further thread
+/// would be started and waited for in vain.
 fn busy_workers(workers: u32, parts: u32) -> usize
     requires { (1 ≤ workers) × (workers ≤ 16) }
     ensures value { result ≡ max 1 (min workers parts) }
