@@ -428,7 +428,7 @@ CL_API_ENTRY cl_int CL_API_CALL clGetKernelInfo(cl_kernel k, cl_kernel_info name
     case CL_KERNEL_REFERENCE_COUNT: GIVE(cl_uint, k->references);
     case CL_KERNEL_CONTEXT: GIVE(cl_context, k->context);
     case CL_KERNEL_PROGRAM: GIVE(cl_program, k->program);
-    case CL_KERNEL_ATTRIBUTES: return give_text("", room, to, size);
+    case CL_KERNEL_ATTRIBUTES: return give_text(form->attributes, room, to, size);
     default: return CL_INVALID_VALUE;
     }
 }

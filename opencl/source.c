@@ -165,6 +165,14 @@ const char *build_log(prepared *p, const char *reply) {
 
 // ---- kernels ----
 
+// The attributes of a function in one text.
+static const char *attributes_of(arena *a, const function *f) {
+    text words = {.arena = a};
+    add(&words, "");
+    for (const attribute *t = f->attributes; t; t = t->next) addf(&words, "%s%s", words.length ? " " : "", t->text);
+    return words.at;
+}
+
 static void list_kernels(prepared *p, const unit *u) {
     arena *a = &p->arena;
     unsigned n = 0;
@@ -177,7 +185,8 @@ static void list_kernels(prepared *p, const unit *u) {
                            .parameters = take(a, (f->parameter_count + 1) * sizeof(parameter)),
                            .count = f->parameter_count,
                            .tables = take(a, (u->table_count + 1) * sizeof(unsigned)),
-                           .group = {f->group[0], f->group[1], f->group[2]}};
+                           .group = {f->group[0], f->group[1], f->group[2]},
+                           .attributes = attributes_of(a, f)};
         unsigned i = 0, locals = f->parameter_count;
         for (const struct use *l = f->locals; l; l = l->next) locals++;
         k->locals = take(a, (locals + 1) * sizeof *k->locals);

@@ -17,7 +17,8 @@ typedef struct {
     unsigned table_count;
     const symbol **locals; // its objects in local memory
     unsigned local_count;
-    size_t group[3]; // reqd_work_group_size, or zeros
+    size_t group[3];        // reqd_work_group_size, or zeros
+    const char *attributes; // those of its function, with a space between each two
 } kernel_form;
 
 typedef struct {

@@ -286,14 +286,51 @@ typedef struct {
     type type;
     bool is_typedef, is_kernel, is_static, has_space, has_type;
     uint64_t group[3];
+    attribute *attributes;
 } specifiers;
 
 static expression *read_assignment(parser *p);
 static expression *read_expression(parser *p);
 
+// Adds an attribute to others, if it isn't among them.
+static void add_attribute(parser *p, attribute **link, const char *words) {
+    for (; *link; link = &(*link)->next)
+        if (!strcmp((*link)->text, words)) return;
+    *link = take(p->unit->arena, sizeof **link);
+    (*link)->text = words;
+}
+
+// What stands between two tokens of an attribute: no line feed (OpenCL 1.2, table 5.20), a space where the text goes
+// on behind some, or where two words would be one.
+static const char *space_between(const token *before, const token *t) {
+    bool words = before->kind != SYMBOL_TOKEN && t->kind != SYMBOL_TOKEN;
+    return !*t->space || (!strcmp(t->space, "\n") && !words) ? "" : " ";
+}
+
+// Keeps the attributes between two places of the source, with commas between them, as they are declared there.
+static void note_attributes(parser *p, specifiers *s, size_t at, size_t end) {
+    text words = {.arena = p->unit->arena};
+    unsigned depth = 0;
+    for (; at < end; at++) {
+        const token *t = &p->unit->tokens.at[at];
+        if (!depth && is(t, ",")) {
+            if (words.length) add_attribute(p, &s->attributes, words.at);
+            words = (text){.arena = p->unit->arena};
+            continue;
+        }
+        depth += is(t, "(");
+        depth -= is(t, ")") && depth;
+        if (words.length) add(&words, space_between(t - 1, t));
+        add(&words, t->text);
+    }
+    if (words.length) add_attribute(p, &s->attributes, words.at);
+}
+
+// Reads what stands behind the word __attribute__. The one size that the driver holds a launch to is worked out.
 static void read_attribute(parser *p, specifiers *s) {
     expect(p, "(");
     expect(p, "(");
+    size_t begin = p->at;
     for (unsigned depth = 2; depth; p->at++) {
         if (now(p)->kind == END_TOKEN) complain(p);
         if ((sees(p, "reqd_work_group_size") || sees(p, "__reqd_work_group_size__")) && is(ahead(p, 1), "(")) {
@@ -308,6 +345,7 @@ static void read_attribute(parser *p, specifiers *s) {
         depth += sees(p, "(");
         depth -= sees(p, ")");
     }
+    note_attributes(p, s, begin, p->at - 2);
 }
 
 // Whether a word qualifies a type. What is said of a pointer itself is left out, but for `restrict`.
@@ -1340,6 +1378,12 @@ static bool are_alike(const declaration *a, const declaration *b) {
     return !a && !b;
 }
 
+// Gives a function what the attributes of one of its declarations say.
+static void take_attributes(parser *p, function *f, const specifiers *s) {
+    if (s->group[0]) memcpy(f->group, s->group, sizeof f->group);
+    for (const attribute *a = s->attributes; a; a = a->next) add_attribute(p, &f->attributes, a->text);
+}
+
 // A function behind its specifiers and its type: a definition, or a prototype.
 static void read_function(parser *p, const specifiers *s, type result) {
     unit *u = p->unit;
@@ -1364,7 +1408,7 @@ static void read_function(parser *p, const specifiers *s, type result) {
     f->result = result;
     f->result.is_const = false;
     f->is_kernel |= s->is_kernel;
-    if (s->group[0]) memcpy(f->group, s->group, sizeof f->group);
+    take_attributes(p, f, s);
     if (f->is_kernel && strlen(word) > 63) complain_at(p, name, "the name of a kernel has at most 63 letters");
     if (f->is_kernel && (result.base != VOID_TYPE)) complain_at(p, name, "a kernel gives no value");
     open_scope(p);
@@ -1374,7 +1418,7 @@ static void read_function(parser *p, const specifiers *s, type result) {
         specifiers behind = {0};
         p->at++;
         read_attribute(p, &behind);
-        if (behind.group[0]) memcpy(f->group, behind.group, sizeof f->group);
+        take_attributes(p, f, &behind);
     }
     if (sees(p, "{")) {
         function **link = &u->functions;

@@ -126,6 +126,12 @@ struct statement {
     bool has_break;    // a switch with a `break` of its own
 };
 
+// An attribute of a declaration, as it stands in its `__attribute__((..))`.
+typedef struct attribute {
+    struct attribute *next;
+    const char *text;
+} attribute;
+
 struct function {
     function *next;
     symbol *symbol;
@@ -135,7 +141,8 @@ struct function {
     declaration *parameters;
     unsigned parameter_count;
     statement *body;
-    uint64_t group[3]; // reqd_work_group_size, or zeros
+    uint64_t group[3];     // reqd_work_group_size, or zeros
+    attribute *attributes; // of all its declarations, each once
     struct call {
         struct call *next;
         function *callee;

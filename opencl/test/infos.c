@@ -83,6 +83,73 @@ static void qualifiers(void) {
     OK(clReleaseProgram(p));
 }
 
+// What a kernel answers for its attributes.
+static void want_attributes(cl_program p, const char *name, const char *wanted) {
+    cl_kernel k = kernel_of(p, name);
+    char got[256] = "?";
+    size_t n = 0;
+    OK(clGetKernelInfo(k, CL_KERNEL_ATTRIBUTES, sizeof got, got, &n));
+    if (strcmp(got, wanted)) fprintf(stderr, "%s: '%s' in place of '%s'\n", name, got, wanted);
+    WANT(!strcmp(got, wanted) && n == strlen(wanted) + 1);
+    OK(clReleaseKernel(k));
+}
+
+// Table 5.20: attributes as they are declared inside of __attribute__((..)), without white space round them and without
+// line feeds, and with a space between them.
+static void attributes(void) {
+    static const char source[] =
+        "#define SIZE 8\n"
+        "__kernel void none(__global int *a) { a[0] = 1; }\n"
+        "__kernel __attribute__((reqd_work_group_size(4, 2,1))) void one(__global int *a) { a[0] = 1; }\n"
+        "__attribute__(( work_group_size_hint(SIZE,1,1) )) __attribute__((vec_type_hint(unsigned int)))\n"
+        "kernel void two(__global int *a) { a[0] = 1; }\n"
+        "__kernel void __attribute__((vec_type_hint(int), reqd_work_group_size(2,\n1,1))) list(__global int *a)\n"
+        "{ a[0] = 1; }\n"
+        "__kernel void in_front(__global int *a) __attribute__((work_group_size_hint(16, 1, 1)));\n"
+        "__kernel __attribute__((vec_type_hint(unsigned\nint))) void in_front(__global int *a) { a[0] = 1; }\n"
+        "__attribute__((reqd_work_group_size(1,1,1))) __kernel void twice(__global int *a);\n"
+        "__attribute__((reqd_work_group_size(1,1,1))) __kernel void twice(__global int *a) { a[0] = 1; }\n";
+    cl_program p = build_program(&h, source, "");
+    want_attributes(p, "none", "");
+    want_attributes(p, "one", "reqd_work_group_size(4, 2,1)");
+    want_attributes(p, "two", "work_group_size_hint(8,1,1) vec_type_hint(unsigned int)");
+    want_attributes(p, "list", "vec_type_hint(int) reqd_work_group_size(2,1,1)");
+    want_attributes(p, "in_front", "work_group_size_hint(16, 1, 1) vec_type_hint(unsigned int)");
+    want_attributes(p, "twice", "reqd_work_group_size(1,1,1)");
+    OK(clReleaseProgram(p));
+}
+
+static cl_int launch(cl_kernel k, const size_t *global, const size_t *local) {
+    return clEnqueueNDRangeKernel(h.queue, k, 2, NULL, global, local, 0, NULL, NULL);
+}
+
+// The size of a group that a kernel asks for (table 5.22), and launches with it and with others (5.8).
+static void group_sizes(void) {
+    static const char source[] = "__kernel __attribute__((reqd_work_group_size(4, 2, 1))) void f(__global int *a) {\n"
+                                 "    a[get_global_id(1) * 8 + get_global_id(0)] = 1;\n"
+                                 "}\n"
+                                 "__kernel void any(__global int *a) { a[0] = 1; }\n";
+    static const size_t global[] = {8, 2}, right[] = {4, 2}, turned[] = {2, 2}, lower[] = {4, 1};
+    cl_program p = build_program(&h, source, "");
+    cl_kernel k = kernel_of(p, "f"), any = kernel_of(p, "any");
+    cl_mem m = buffer_with(CL_MEM_READ_WRITE);
+    size_t got[3] = {9, 9, 9};
+    OK(clSetKernelArg(k, 0, sizeof m, &m));
+    OK(clGetKernelWorkGroupInfo(k, h.device, CL_KERNEL_COMPILE_WORK_GROUP_SIZE, sizeof got, got, NULL));
+    WANT(got[0] == 4 && got[1] == 2 && got[2] == 1);
+    OK(clGetKernelWorkGroupInfo(any, h.device, CL_KERNEL_COMPILE_WORK_GROUP_SIZE, sizeof got, got, NULL));
+    WANT(got[0] == 0 && got[1] == 0 && got[2] == 0);
+    OK(launch(k, global, right));
+    WANT(launch(k, global, turned) == CL_INVALID_WORK_GROUP_SIZE);
+    WANT(launch(k, global, lower) == CL_INVALID_WORK_GROUP_SIZE);
+    WANT(launch(k, global, NULL) == CL_INVALID_WORK_GROUP_SIZE);
+    WANT(clEnqueueTask(h.queue, k, 0, NULL, NULL) == CL_INVALID_WORK_GROUP_SIZE);
+    OK(clReleaseMemObject(m));
+    OK(clReleaseKernel(k));
+    OK(clReleaseKernel(any));
+    OK(clReleaseProgram(p));
+}
+
 // Events: the type of a task's (table 5.18), and no times of a command that failed (5.12).
 static void events(void) {
     cl_program p = build_program(&h, "__kernel void f(__global int *a, int i) { a[i] = 1; }", "");
@@ -182,8 +249,9 @@ int main(int count, char **words) {
     static const struct {
         const char *name;
         void (*call)(void);
-    } all[] = {{"local", local_memory},    {"qualifiers", qualifiers}, {"events", events},
-               {"contexts", two_contexts}, {"access", host_access},    {"nothing", made_of_nothing}};
+    } all[] = {{"local", local_memory},     {"qualifiers", qualifiers}, {"events", events},
+               {"contexts", two_contexts},  {"access", host_access},    {"nothing", made_of_nothing},
+               {"attributes", attributes},  {"groups", group_sizes}};
     h = open_host();
     for (size_t i = 0; i < sizeof all / sizeof *all; i++)
         if (count < 2 || !strcmp(words[1], all[i].name)) all[i].call();
