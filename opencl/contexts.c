@@ -88,6 +88,10 @@ void drop_queue(cl_command_queue q) {
 }
 COUNTED(cl_command_queue, CommandQueue, QUEUE, CL_INVALID_COMMAND_QUEUE, drop_queue)
 
+cl_command_queue_properties queue_properties(void) {
+    cl_command_queue_properties known = CL_QUEUE_PROFILING_ENABLE;
+    return setting("CLSIM_OUT_OF_ORDER") ? known | CL_QUEUE_OUT_OF_ORDER_EXEC_MODE_ENABLE : known;
+}
 CL_API_ENTRY cl_command_queue CL_API_CALL clCreateCommandQueue(cl_context c, cl_device_id d,
                                                                cl_command_queue_properties properties,
                                                                cl_int *errcode) {
@@ -96,7 +100,7 @@ CL_API_ENTRY cl_command_queue CL_API_CALL clCreateCommandQueue(cl_context c, cl_
     if (d != &the_device) return fail(errcode, CL_INVALID_DEVICE);
     if (properties & ~(cl_command_queue_properties)(CL_QUEUE_OUT_OF_ORDER_EXEC_MODE_ENABLE | CL_QUEUE_PROFILING_ENABLE))
         return fail(errcode, CL_INVALID_VALUE);
-    if ((properties & CL_QUEUE_OUT_OF_ORDER_EXEC_MODE_ENABLE) && !setting("CLSIM_OUT_OF_ORDER")) {
+    if (properties & ~queue_properties()) {
         refuse(c, "an out-of-order queue is refused; "
                   "with CLSIM_OUT_OF_ORDER=1 its commands are done in the order of the calls");
         return fail(errcode, CL_INVALID_QUEUE_PROPERTIES);

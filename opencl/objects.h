@@ -178,6 +178,10 @@ cl_int give_text(const char *s, size_t room, void *to, size_t *size);
         return give(&given_, sizeof given_, room, to, size); \
     } while (0)
 
+// ---- queues ----
+// The properties that a queue may have.
+cl_command_queue_properties queue_properties(void);
+
 // ---- commands ----
 cl_ulong now(void); // nanoseconds
 // What a wait list comes to: every command is done when its call returns, so it holds what is done, or a user event

@@ -245,13 +245,34 @@ static void made_of_nothing(void) {
     WANT(fault == CL_INVALID_VALUE && state == CL_INVALID_VALUE);
 }
 
+// The device names each property that a queue can have (table 4.3), and no other (5.1): CLSIM_OUT_OF_ORDER decides.
+static void queues(void) {
+    static const cl_command_queue_properties out = CL_QUEUE_OUT_OF_ORDER_EXEC_MODE_ENABLE,
+                                             times = CL_QUEUE_PROFILING_ENABLE;
+    for (int may = 0; may < 2; may++) {
+        cl_command_queue_properties got = 99;
+        cl_int fault;
+        if (may) setenv("CLSIM_OUT_OF_ORDER", "1", 1);
+        else unsetenv("CLSIM_OUT_OF_ORDER");
+        OK(clGetDeviceInfo(h.device, CL_DEVICE_QUEUE_PROPERTIES, sizeof got, &got, NULL));
+        WANT(got == (may ? out | times : times));
+        cl_command_queue q = clCreateCommandQueue(h.context, h.device, out | times, &fault);
+        WANT(!q == !may && fault == (may ? CL_SUCCESS : CL_INVALID_QUEUE_PROPERTIES));
+        if (!q) continue;
+        OK(clGetCommandQueueInfo(q, CL_QUEUE_PROPERTIES, sizeof got, &got, NULL));
+        WANT(got == (out | times));
+        OK(clReleaseCommandQueue(q));
+    }
+    unsetenv("CLSIM_OUT_OF_ORDER");
+}
+
 int main(int count, char **words) {
     static const struct {
         const char *name;
         void (*call)(void);
     } all[] = {{"local", local_memory},     {"qualifiers", qualifiers}, {"events", events},
                {"contexts", two_contexts},  {"access", host_access},    {"nothing", made_of_nothing},
-               {"attributes", attributes},  {"groups", group_sizes}};
+               {"attributes", attributes},  {"groups", group_sizes},    {"queues", queues}};
     h = open_host();
     for (size_t i = 0; i < sizeof all / sizeof *all; i++)
         if (count < 2 || !strcmp(words[1], all[i].name)) all[i].call();
