@@ -77,7 +77,7 @@ CL_API_ENTRY cl_mem CL_API_CALL clCreateBuffer(cl_context c, cl_mem_flags flags,
     m->context = c;
     m->number = ++c->names;
     m->size = n;
-    m->flags = flags & (CL_MEM_READ_WRITE | CL_MEM_READ_ONLY | CL_MEM_WRITE_ONLY) ? flags : flags | CL_MEM_READ_WRITE;
+    m->flags = flags ? flags : CL_MEM_READ_WRITE; // the default (OpenCL 1.2, 5.2.1)
     const char *reply = session_askf(c->session, "buffer b%u %zu\n", m->number, n);
     cl_int fault = error_of(reply);
     if (fault) {

@@ -231,6 +231,31 @@ static void host_access(void) {
     OK(clReleaseMemObject(m));
 }
 
+// The flags are those that the buffer was made with (table 5.12); in place of 0 the default is used (5.2.1).
+static void flags(void) {
+    static const cl_mem_flags of[] = {CL_MEM_READ_WRITE,
+                                      CL_MEM_READ_ONLY,
+                                      CL_MEM_ALLOC_HOST_PTR,
+                                      CL_MEM_HOST_READ_ONLY,
+                                      CL_MEM_WRITE_ONLY | CL_MEM_ALLOC_HOST_PTR | CL_MEM_HOST_NO_ACCESS,
+                                      CL_MEM_COPY_HOST_PTR,
+                                      CL_MEM_COPY_HOST_PTR | CL_MEM_ALLOC_HOST_PTR,
+                                      CL_MEM_USE_HOST_PTR,
+                                      0};
+    unsigned char bytes[64] = {0};
+    for (size_t i = 0; i < sizeof of / sizeof *of; i++) {
+        cl_int fault;
+        cl_mem_flags got = 99, wanted = of[i] ? of[i] : CL_MEM_READ_WRITE;
+        void *host = of[i] & (CL_MEM_COPY_HOST_PTR | CL_MEM_USE_HOST_PTR) ? bytes : NULL;
+        cl_mem m = clCreateBuffer(h.context, of[i], sizeof bytes, host, &fault);
+        OK(fault);
+        OK(clGetMemObjectInfo(m, CL_MEM_FLAGS, sizeof got, &got, NULL));
+        if (got != wanted) fprintf(stderr, "flags %u in place of %u\n", (unsigned)got, (unsigned)wanted);
+        WANT(got == wanted);
+        OK(clReleaseMemObject(m));
+    }
+}
+
 // A property that isn't known (4.4), and a binary without a byte (5.6.1).
 static void made_of_nothing(void) {
     cl_context_properties properties[] = {CL_CONTEXT_INTEROP_USER_SYNC, CL_TRUE, 0}, wrong[] = {12345, 1, 0};
@@ -272,7 +297,8 @@ int main(int count, char **words) {
         void (*call)(void);
     } all[] = {{"local", local_memory},     {"qualifiers", qualifiers}, {"events", events},
                {"contexts", two_contexts},  {"access", host_access},    {"nothing", made_of_nothing},
-               {"attributes", attributes},  {"groups", group_sizes},    {"queues", queues}};
+               {"attributes", attributes},  {"groups", group_sizes},    {"queues", queues},
+               {"flags", flags}};
     h = open_host();
     for (size_t i = 0; i < sizeof all / sizeof *all; i++)
         if (count < 2 || !strcmp(words[1], all[i].name)) all[i].call();
