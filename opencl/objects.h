@@ -77,7 +77,8 @@ struct _cl_program {
     cl_context context;
     unsigned number; // p1, p2 .., 0 before it is built
     char *source, *options;
-    size_t length; // of the source, which may have a byte 0
+    size_t length;    // of the source, which may have a byte 0
+    bool from_binary; // it was made from one
     prepared form;
     unsigned *tables; // the numbers of the buffers of its tables
     cl_build_status status;

@@ -70,26 +70,38 @@ CL_API_ENTRY cl_program CL_API_CALL clCreateProgramWithSource(cl_context c, cl_u
     done(errcode);
     return p;
 }
-// A binary is the source with a head, so that caches of binaries work.
+// Judges the binary for each device of a list, with a state for each (OpenCL 1.2, 5.6.1).
+static cl_int judge_binaries(cl_uint n, const cl_device_id *devices, const size_t *lengths,
+                             const unsigned char **binaries, cl_int *states) {
+    size_t head = sizeof binary_head - 1;
+    cl_int fault = CL_SUCCESS;
+    if (!n || !devices || !lengths || !binaries) return CL_INVALID_VALUE;
+    for (cl_uint i = 0; i < n; i++)
+        if (devices[i] != &the_device) return CL_INVALID_DEVICE;
+    for (cl_uint i = 0; i < n; i++) {
+        bool empty = !lengths[i] || !binaries[i], good = !empty && lengths[i] >= head;
+        good = good && !memcmp(binaries[i], binary_head, head);
+        cl_int state = empty ? CL_INVALID_VALUE : good ? CL_SUCCESS : CL_INVALID_BINARY;
+        if (states) states[i] = state;
+        if (!fault || empty) fault = state;
+    }
+    return fault;
+}
+// A binary is the source with a head, so that caches of binaries work. Of a device that is named twice, the first one
+// counts.
 CL_API_ENTRY cl_program CL_API_CALL clCreateProgramWithBinary(cl_context c, cl_uint n, const cl_device_id *devices,
                                                               const size_t *lengths, const unsigned char **binaries,
                                                               cl_int *states, cl_int *errcode) {
     LOCKED;
     if (!is_a(c, CONTEXT)) return fail(errcode, CL_INVALID_CONTEXT);
-    if (n != 1 || !devices || !lengths || !binaries || !binaries[0]) return fail(errcode, CL_INVALID_VALUE);
-    if (devices[0] != &the_device) return fail(errcode, CL_INVALID_DEVICE);
+    cl_int fault = judge_binaries(n, devices, lengths, binaries, states);
+    if (fault) return fail(errcode, fault);
     size_t head = sizeof binary_head - 1;
-    if (!lengths[0]) {
-        if (states) states[0] = CL_INVALID_VALUE;
-        return fail(errcode, CL_INVALID_VALUE);
-    }
-    bool good = lengths[0] >= head && !memcmp(binaries[0], binary_head, head);
-    if (states) states[0] = good ? CL_SUCCESS : CL_INVALID_BINARY;
-    if (!good) return fail(errcode, CL_INVALID_BINARY);
     char *source = calloc(1, lengths[0] - head + 1);
     if (source) memcpy(source, binaries[0] + head, lengths[0] - head);
     cl_program p = new_program(c, source, lengths[0] - head);
     if (!p) return fail(errcode, CL_OUT_OF_HOST_MEMORY);
+    p->from_binary = true;
     done(errcode);
     return p;
 }
@@ -213,7 +225,7 @@ CL_API_ENTRY cl_int CL_API_CALL clGetProgramInfo(cl_program p, cl_program_info n
     LOCKED;
     if (!is_a(p, PROGRAM)) return CL_INVALID_PROGRAM;
     bool built = p->status == CL_BUILD_SUCCESS;
-    size_t binary = built ? sizeof binary_head - 1 + strlen(p->source) : 0;
+    size_t binary = built || p->from_binary ? sizeof binary_head - 1 + p->length : 0;
     switch (name) {
     case CL_PROGRAM_REFERENCE_COUNT: GIVE(cl_uint, p->references);
     case CL_PROGRAM_CONTEXT: GIVE(cl_context, p->context);
@@ -227,7 +239,7 @@ CL_API_ENTRY cl_int CL_API_CALL clGetProgramInfo(cl_program p, cl_program_info n
         if (room < sizeof(unsigned char *)) return CL_INVALID_VALUE;
         if (*(unsigned char **)to && binary) {
             memcpy(*(unsigned char **)to, binary_head, sizeof binary_head - 1);
-            memcpy(*(unsigned char **)to + sizeof binary_head - 1, p->source, strlen(p->source));
+            memcpy(*(unsigned char **)to + sizeof binary_head - 1, p->source, p->length);
         }
         return CL_SUCCESS;
     case CL_PROGRAM_NUM_KERNELS:

@@ -291,14 +291,77 @@ static void queues(void) {
     unsetenv("CLSIM_OUT_OF_ORDER");
 }
 
+// What a program answers for its binary: the bytes that are wanted, and no more.
+static void want_binary(cl_program p, const char *wanted, size_t length) {
+    size_t n = 99;
+    unsigned char got[256], *at = got;
+    memset(got, '?', sizeof got);
+    OK(clGetProgramInfo(p, CL_PROGRAM_BINARY_SIZES, sizeof n, &n, NULL));
+    WANT(n == length);
+    OK(clGetProgramInfo(p, CL_PROGRAM_BINARIES, sizeof at, &at, NULL));
+    WANT(!memcmp(got, wanted, length) && got[length] == '?');
+}
+
+// Table 5.13: the binary of a program from a source is there once it is built, that of a program from a binary always.
+static void binaries(void) {
+    static const char source[] = "kernel void f(global int *a) { a[0] = 1; }",
+                      whole[] = "CLSIM-SOURCE 1\nkernel void f(global int *a) { a[0] = 1; }",
+                      wrong[] = "CLSIM-SOURCE 1\nkernel\0void";
+    const unsigned char *binary = (const unsigned char *)whole, *bad = (const unsigned char *)wrong;
+    size_t length = sizeof whole - 1, bad_length = sizeof wrong - 1;
+    const char *text = source;
+    cl_int fault, state;
+    cl_program_binary_type type = 99;
+    cl_program p = clCreateProgramWithSource(h.context, 1, &text, NULL, &fault);
+    OK(fault);
+    want_binary(p, "", 0);
+    OK(clBuildProgram(p, 0, NULL, "", NULL, NULL));
+    want_binary(p, whole, length);
+    OK(clReleaseProgram(p));
+    p = clCreateProgramWithBinary(h.context, 1, &h.device, &length, &binary, &state, &fault);
+    OK(fault);
+    want_binary(p, whole, length);
+    OK(clGetProgramBuildInfo(p, h.device, CL_PROGRAM_BINARY_TYPE, sizeof type, &type, NULL));
+    WANT(state == CL_SUCCESS && type == CL_PROGRAM_BINARY_TYPE_NONE);
+    OK(clBuildProgram(p, 0, NULL, "", NULL, NULL));
+    want_binary(p, whole, length);
+    OK(clReleaseProgram(p));
+    p = clCreateProgramWithBinary(h.context, 1, &h.device, &bad_length, &bad, NULL, &fault);
+    OK(fault);
+    WANT(clBuildProgram(p, 0, NULL, "", NULL, NULL) == CL_BUILD_PROGRAM_FAILURE);
+    want_binary(p, wrong, bad_length);
+    OK(clReleaseProgram(p));
+}
+
+// Lists of binaries (5.6.1): a state for each, another device is told, and a device may stand in the list twice.
+static void lists_of_binaries(void) {
+    static const char whole[] = "CLSIM-SOURCE 1\nkernel void f(global int *a) { a[0] = 1; }";
+    const unsigned char *good = (const unsigned char *)whole, *other = (const unsigned char *)"other";
+    const unsigned char *both[] = {good, good}, *one[] = {good, other}, *none[] = {good, NULL};
+    cl_device_id twice[] = {h.device, h.device}, unknown[] = {h.device, NULL};
+    size_t lengths[] = {sizeof whole - 1, sizeof whole - 1}, short_one[] = {sizeof whole - 1, 5};
+    cl_int fault, states[2];
+    cl_program p = clCreateProgramWithBinary(h.context, 2, twice, lengths, both, states, &fault);
+    OK(fault);
+    WANT(states[0] == CL_SUCCESS && states[1] == CL_SUCCESS);
+    want_binary(p, whole, lengths[0]);
+    OK(clReleaseProgram(p));
+    WANT(!clCreateProgramWithBinary(h.context, 2, twice, short_one, one, states, &fault));
+    WANT(fault == CL_INVALID_BINARY && states[0] == CL_SUCCESS && states[1] == CL_INVALID_BINARY);
+    WANT(!clCreateProgramWithBinary(h.context, 2, twice, lengths, none, states, &fault));
+    WANT(fault == CL_INVALID_VALUE && states[0] == CL_SUCCESS && states[1] == CL_INVALID_VALUE);
+    WANT(!clCreateProgramWithBinary(h.context, 2, unknown, lengths, both, NULL, &fault) && fault == CL_INVALID_DEVICE);
+    WANT(!clCreateProgramWithBinary(h.context, 0, twice, lengths, both, NULL, &fault) && fault == CL_INVALID_VALUE);
+}
+
 int main(int count, char **words) {
     static const struct {
         const char *name;
         void (*call)(void);
-    } all[] = {{"local", local_memory},     {"qualifiers", qualifiers}, {"events", events},
-               {"contexts", two_contexts},  {"access", host_access},    {"nothing", made_of_nothing},
-               {"attributes", attributes},  {"groups", group_sizes},    {"queues", queues},
-               {"flags", flags}};
+    } all[] = {{"local", local_memory},    {"qualifiers", qualifiers}, {"events", events},
+               {"contexts", two_contexts}, {"access", host_access},    {"nothing", made_of_nothing},
+               {"attributes", attributes}, {"groups", group_sizes},    {"queues", queues},
+               {"flags", flags},           {"binaries", binaries},     {"lists", lists_of_binaries}};
     h = open_host();
     for (size_t i = 0; i < sizeof all / sizeof *all; i++)
         if (count < 2 || !strcmp(words[1], all[i].name)) all[i].call();
