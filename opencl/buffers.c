@@ -34,6 +34,10 @@ void drop_memory(cl_mem m) {
     if (m->references || m->uses) return;
     cl_context c = m->context;
     session_askf(c->session, "release b%u\n", m->number);
+    let_go(m);
+    leave_context(c);
+}
+void end_memory(cl_mem m) {
     while (m->ends) { // the last one first (OpenCL 1.2, 5.4.1)
         memory_end *end = m->ends;
         m->ends = end->next;
@@ -46,8 +50,7 @@ void drop_memory(cl_mem m) {
         if (!m->host) free(map->at);
         free(map);
     }
-    free_object(m);
-    leave_context(c);
+    free(m);
 }
 COUNTED(cl_mem, MemObject, MEMORY, CL_INVALID_MEM_OBJECT, drop_memory)
 

@@ -364,7 +364,7 @@ static void tell_fault(cl_kernel k, const char *reply, const launch_sizes *s) {
         last = item;
     }
     explain(k, s);
-    if (k->context->notify) k->context->notify(line, NULL, 0, k->context->user);
+    call_back(k->context, line);
     free(line);
 }
 
@@ -373,9 +373,10 @@ void report_fault(cl_kernel k, const char *reply, const launch_sizes *s) {
     tell("%s", reply);
     tell_fault(k, reply, s);
     const char *then = setting("CLSIM_ON_FAULT");
-    if (then && !strcmp(then, "abort")) abort();
-    if (then && !strcmp(then, "exit")) {
-        fflush(NULL);
-        _exit(status_setting(1));
-    }
+    bool aborts = then && !strcmp(then, "abort"), exits = then && !strcmp(then, "exit");
+    if (!aborts && !exits) return;
+    end_call(); // the client's callback is called in front of the end
+    if (aborts) abort();
+    fflush(NULL);
+    _exit(status_setting(1));
 }

@@ -76,6 +76,56 @@ void free_object(void *o) {
     free(o);
 }
 
+// ---- callbacks: left to the end of the call, since one may wait for another thread, which needs the lock ----
+
+typedef struct notice {
+    struct notice *next;
+    void(CL_CALLBACK *call)(const char *, const void *, size_t, void *);
+    void *user;
+    char line[];
+} notice;
+
+static notice *notices, **notices_end = &notices; // in their order
+static cl_mem gone, *gone_end = &gone;
+
+void let_go(cl_mem m) {
+    remove_living((object *)m);
+    *gone_end = m;
+    gone_end = &m->next_gone;
+}
+
+// Where memory is refused, the callback isn't called: the line is told anyway.
+void call_back(cl_context c, const char *line) {
+    size_t n = strlen(line) + 1;
+    notice *t = c && c->notify ? malloc(sizeof *t + n) : NULL;
+    if (!t) return;
+    *t = (notice){.call = c->notify, .user = c->user};
+    memcpy(t->line, line, n);
+    *notices_end = t;
+    notices_end = &t->next;
+}
+
+void end_call(void) {
+    notice *t = notices;
+    cl_mem m = gone;
+    notices = NULL;
+    notices_end = &notices;
+    gone = NULL;
+    gone_end = &gone;
+    unlock();
+    while (t) {
+        notice *said = t;
+        t = t->next;
+        said->call(said->line, NULL, 0, said->user);
+        free(said);
+    }
+    while (m) {
+        cl_mem ended = m;
+        m = m->next_gone;
+        end_memory(ended);
+    }
+}
+
 // ---- errors ----
 
 void *fail(cl_int *errcode, cl_int fault) {
@@ -108,7 +158,7 @@ void refuse(cl_context c, const char *format, ...) {
     vsnprintf(line, sizeof line, format, values);
     va_end(values);
     tell("%s", line);
-    if (c && c->notify) c->notify(line, NULL, 0, c->user);
+    call_back(c, line);
 }
 
 // ---- infos ----

@@ -70,6 +70,7 @@ struct _cl_mem {
     void *host;
     mapping *mappings;
     memory_end *ends;
+    cl_mem next_gone; // among those that go at the end of a call
 };
 
 struct _cl_program {
@@ -123,9 +124,11 @@ extern struct _cl_device_id the_device;
 // ---- the lock: one, held in each call ----
 void lock(void);
 void unlock(void);
+// The end of a call: lets the lock go, and then calls what the call left to be called back.
+void end_call(void);
 static inline void unlock_at(const int *unused) {
     (void)unused;
-    unlock();
+    end_call();
 }
 #define LOCKED \
     __attribute__((cleanup(unlock_at))) int locked_ = (lock(), 0); \
@@ -137,6 +140,12 @@ bool is_a(const void *o, object_kind kind);
 // A new object with one reference, NULL where memory is refused.
 void *make_object(size_t size, object_kind kind);
 void free_object(void *o);
+// Takes a memory object from the living ones, and leaves the rest to the end of the call.
+void let_go(cl_mem m);
+// The rest, without the lock: calls its callbacks, and frees it.
+void end_memory(cl_mem m);
+// Leaves a line for the callback of a context, if it has one, to the end of the call.
+void call_back(cl_context c, const char *line);
 // Lets an object go that has no reference and no use.
 void drop_context(cl_context c);
 void drop_queue(cl_command_queue q);

@@ -1,5 +1,6 @@
 // Eight threads on one context, each with a queue, a kernel and a buffer of its own, by map and unmap; a buffer goes
-// before its kernel. Events that one thread waits for and another lets go.
+// before its kernel. Events that one thread waits for and another lets go. Callbacks that wait for another thread; with
+// the argument `errors` only those of errors.
 #include "host.h"
 #include <pthread.h>
 #include <stdint.h>
@@ -203,9 +204,99 @@ static void released_in_callback(void) {
     }
 }
 
-int main(void) {
+static cl_event awaited;
+static unsigned turns; // how often a callback waited for another thread
+static char order[8];  // which callbacks were called
+
+static void *set_awaited(void *unused) {
+    OK(clSetUserEventStatus(awaited, CL_COMPLETE));
+    return unused;
+}
+// What a callback does here: it waits for an event that another thread sets.
+static void wait_for_another(const char *name) {
+    pthread_t thread;
+    cl_int fault;
+    strcat(order, name);
+    awaited = clCreateUserEvent(h.context, &fault);
+    OK(fault);
+    pthread_create(&thread, NULL, set_awaited, NULL);
+    OK(clWaitForEvents(1, &awaited));
+    pthread_join(thread, NULL);
+    OK(clReleaseEvent(awaited));
+    turns++;
+}
+static void CL_CALLBACK memory_goes(cl_mem m, void *name) {
+    if (getenv("TEST_DIRECT") && clRetainMemObject(m) != CL_INVALID_MEM_OBJECT) exit(25);
+    wait_for_another(name);
+}
+static void CL_CALLBACK error_comes(const char *line, const void *info, size_t n, void *name) {
+    if (!*line || info || n) exit(26);
+    printf("called back: %s\n", line);
+    wait_for_another(name);
+}
+static cl_mem memory_with_callbacks(char *first, char *second) {
+    cl_int fault;
+    cl_mem m = clCreateBuffer(h.context, CL_MEM_READ_WRITE, 64, NULL, &fault);
+    OK(fault);
+    OK(clSetMemObjectDestructorCallback(m, memory_goes, first));
+    OK(clSetMemObjectDestructorCallback(m, memory_goes, second));
+    return m;
+}
+
+// Callbacks of memory objects, the last one first (5.4.1), by a release of their own, by another argument in their
+// place, and by the release of a kernel.
+static void waiting_for_memory(void) {
+    cl_int fault;
+    alarm(60); // (where the other thread can't go on, a callback waits for ever)
+    cl_mem alone = memory_with_callbacks("b", "a"), first = memory_with_callbacks("d", "c"),
+           second = memory_with_callbacks("f", "e");
+    cl_kernel k = clCreateKernel(program, "step", &fault);
+    OK(fault);
+    OK(clReleaseMemObject(alone));
+    OK(clSetKernelArg(k, 0, sizeof first, &first));
+    OK(clReleaseMemObject(first));
+    if (strcmp(order, "ab")) exit(27);
+    OK(clSetKernelArg(k, 0, sizeof second, &second));
+    OK(clReleaseMemObject(second));
+    if (strcmp(order, "abcd")) exit(28);
+    OK(clReleaseKernel(k));
+    if (strcmp(order, "abcdef") || turns != 6) exit(29);
+    *order = 0;
+}
+
+// Callbacks of a context: a buffer is refused, a command that waits for an event, and a launch has a fault.
+static void waiting_in_errors(void) {
+    cl_int fault, at = 16;
+    host other = h;
+    alarm(60);
+    other.context = clCreateContext(NULL, 1, &h.device, error_comes, "x", &fault);
+    OK(fault);
+    other.queue = clCreateCommandQueue(other.context, h.device, 0, &fault);
+    OK(fault);
+    if (clCreateBuffer(other.context, 0, 1 << 21, NULL, &fault) || strcmp(order, "x")) exit(30);
+    cl_event never = clCreateUserEvent(other.context, &fault);
+    if (clEnqueueMarkerWithWaitList(other.queue, 1, &never, NULL) != CL_INVALID_OPERATION) exit(31);
+    OK(clReleaseEvent(never));
+    if (strcmp(order, "xx")) exit(32);
+    cl_program p = build_program(&other, "__kernel void f(__global int *a, int i) { a[i] = 1; }", "");
+    cl_kernel k = clCreateKernel(p, "f", &fault);
+    cl_mem m = clCreateBuffer(other.context, 0, 64, NULL, &fault);
+    OK(clSetKernelArg(k, 0, sizeof m, &m));
+    OK(clSetKernelArg(k, 1, sizeof at, &at));
+    if (clEnqueueTask(other.queue, k, 0, NULL, NULL) != CL_INVALID_OPERATION || strcmp(order, "xxx")) exit(33);
+    OK(clReleaseMemObject(m));
+    OK(clReleaseKernel(k));
+    OK(clReleaseProgram(p));
+    close_host(&other);
+}
+
+int main(int count, char **words) {
     pthread_t threads[THREADS];
     h = open_host();
+    if (count > 1 && !strcmp(words[1], "errors")) {
+        waiting_in_errors();
+        return 0;
+    }
     program = build_program(&h, "__kernel void step(__global int *a, int t) { a[get_global_id(0)] += t; }", "");
     for (intptr_t i = 0; i < THREADS; i++) pthread_create(&threads[i], NULL, work, (void *)i);
     for (int i = 0; i < THREADS; i++) pthread_join(threads[i], NULL);
@@ -216,6 +307,8 @@ int main(void) {
     failures();
     released_meanwhile();
     released_in_callback();
+    waiting_for_memory();
+    waiting_in_errors();
     OK(clReleaseProgram(program));
     close_host(&h);
     puts("8 threads are right");
