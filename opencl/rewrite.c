@@ -421,43 +421,60 @@ static pieces step(writer *w, const expression *e, bool wanted) {
 
 // ---- values ----
 
-static pieces call(writer *w, const expression *e) {
+// The arguments of a call, each as its parameter takes it; gives how many.
+static size_t arguments(writer *w, const expression *e, pieces **p) {
     size_t n = 0;
     for (const expression *x = e->a; x; x = x->next) n++;
     const expression **e_of = take(w->unit->arena, (n + 1) * sizeof *e_of);
-    pieces *p = take(w->unit->arena, (n + 1) * sizeof *p), whole = {0};
+    *p = take(w->unit->arena, (n + 1) * sizeof **p);
     n = 0;
-    const function *f = e->symbol ? e->symbol->function : NULL;
     for (const expression *x = e->a; x; x = x->next) {
         if (is_void(x)) refuse(w, x->first, "this gives no value");
         e_of[n++] = x;
     }
-    values(w, e_of, n, p);
-    if (f && n == f->parameter_count) {
-        const declaration *d = f->parameters;
-        for (size_t i = 0; i < n; i++, d = d->next) p[i] = given_to(w, d->symbol->type, e_of[i], p[i]);
-    }
-    const char *name = w->unit->tokens.at[e->token].text;
-    if (!f && !strcmp(name, "clamp") && n == 3) { // OpenCL 1.2, 6.12.3: min(max(x, low), high)
-        put_as(w, &whole, e->token, "min(max(");
-        put_all(&whole, p[0]);
-        put(w, &whole, ",");
-        put_all(&whole, p[1]);
-        put(w, &whole, "),");
-        put_all(&whole, p[2]);
-        put(w, &whole, ")");
-        return whole;
-    }
+    values(w, e_of, n, *p);
+    const function *f = e->symbol ? e->symbol->function : NULL;
+    if (!f || n != f->parameter_count) return n;
+    const declaration *d = f->parameters;
+    for (size_t i = 0; i < n; i++, d = d->next) (*p)[i] = given_to(w, d->symbol->type, e_of[i], (*p)[i]);
+    return n;
+}
+
+// OpenCL 1.2, 6.12.3: min(max(x, low), high).
+static pieces clamped(writer *w, const expression *e, const pieces *p) {
+    pieces whole = {0};
+    put_as(w, &whole, e->token, "min(max(");
+    put_all(&whole, p[0]);
+    put(w, &whole, ",");
+    put_all(&whole, p[1]);
+    put(w, &whole, "),");
+    put_all(&whole, p[2]);
+    put(w, &whole, ")");
+    return whole;
+}
+
+// A built-in function as Clsim has it: `atomic_` for the names of the extensions (OpenCL 1.2 extensions, 9.5).
+static const char *builtin_name(writer *w, const char *name) {
     static const char *const atoms[] = {"add", "sub", "xchg", "inc", "dec", "cmpxchg",
                                         "min", "max", "and",  "or",  "xor"};
-    for (size_t i = 0; !f && i < sizeof atoms / sizeof *atoms;
-         i++) // the names of the extensions (OpenCL 1.2 extensions, 9.5)
-        if (!strncmp(name, "atom_", 5) && !strcmp(name + 5, atoms[i])) {
+    if (strncmp(name, "atom_", 5)) return name;
+    for (size_t i = 0; i < sizeof atoms / sizeof *atoms; i++)
+        if (!strcmp(name + 5, atoms[i])) {
             text t = {.arena = w->unit->arena};
             addf(&t, "atomic_%s", atoms[i]);
-            name = t.at;
+            return t.at;
         }
-    put_as(w, &whole, e->token, f ? f->symbol->written : name);
+    return name;
+}
+
+// A call, with the tables that its function uses behind the client's arguments.
+static pieces call(writer *w, const expression *e) {
+    const function *f = e->symbol ? e->symbol->function : NULL;
+    const char *name = w->unit->tokens.at[e->token].text;
+    pieces *p, whole = {0};
+    size_t n = arguments(w, e, &p);
+    if (!f && !strcmp(name, "clamp") && n == 3) return clamped(w, e, p);
+    put_as(w, &whole, e->token, f ? f->symbol->written : builtin_name(w, name));
     put(w, &whole, "(");
     bool comma = false;
     for (size_t i = 0; i < n; i++, comma = true) {
@@ -593,6 +610,30 @@ static pieces index_value(writer *w, const expression *e) {
     return p;
 }
 
+// The value of a cast. That of a pointer changes nothing.
+static pieces cast(writer *w, const expression *e) {
+    pieces whole = {0}, p = value(w, e->a);
+    if (e->type.pointer) return p;
+    if (e->type.base == BOOL_TYPE) return as_bool(w, p);
+    if (is_void(e)) refuse(w, e->token, "this gives no value");
+    put_as(w, &whole, e->token, "(");
+    put(w, &whole, name_of(e->type.base));
+    put(w, &whole, ")");
+    put_all(&whole, p);
+    return whole;
+}
+
+// A ?: whose parts need no statements.
+static pieces easy_choice(writer *w, const expression *e) {
+    pieces p = value(w, e->a);
+    put_token(w, &p, e->token);
+    put_apart(w, &p, "");
+    put_all(&p, value(w, e->b));
+    put_apart(w, &p, ": ");
+    put_all(&p, value(w, e->c));
+    return p;
+}
+
 // The value of an expression, behind the statements that it needs.
 static pieces value(writer *w, const expression *e) {
     pieces p = {0};
@@ -613,30 +654,9 @@ static pieces value(writer *w, const expression *e) {
         put_token(w, &p, e->token);
         put_all(&p, value(w, e->a));
         return p;
-    case CAST:
-        p = value(w, e->a);
-        if (e->type.pointer) return p;
-        if (e->type.base == BOOL_TYPE) return as_bool(w, p);
-        if (is_void(e)) refuse(w, e->token, "this gives no value");
-        {
-            pieces whole = {0};
-            put_as(w, &whole, e->token, "(");
-            put(w, &whole, name_of(e->type.base));
-            put(w, &whole, ")");
-            put_all(&whole, p);
-            return whole;
-        }
+    case CAST: return cast(w, e);
     case BINARY: return binary(w, e);
-    case CHOICE: {
-        if (e->b->hard || e->c->hard) return choice(w, e);
-        put_all(&p, value(w, e->a));
-        put_token(w, &p, e->token);
-        put_apart(w, &p, "");
-        put_all(&p, value(w, e->b));
-        put_apart(w, &p, ": ");
-        put_all(&p, value(w, e->c));
-        return p;
-    }
+    case CHOICE: return e->b->hard || e->c->hard ? choice(w, e) : easy_choice(w, e);
     case COMMA: effect(w, e->a); return value(w, e->b);
     case ASSIGNMENT: return assign(w, e, true);
     default: return step(w, e, true);
@@ -952,6 +972,26 @@ static void write_case(writer *w, const statement *s, const statement *end) {
     }
 }
 
+// Those statements as a block.
+static void write_case_block(writer *w, const statement *s, const statement *end) {
+    part p;
+    begin_part(w, &p);
+    write_case(w, s, end);
+    put_all(p.out, end_part(w, &p, true));
+}
+
+// The test whether a variable has the value of one of the labels up to the statements of their case.
+static void write_labels(writer *w, const char *name, base_type t, const statement *labels, const statement *begin) {
+    put_apart(w, w->out, "if (");
+    for (const statement *y = labels; y != begin; y = y->next) {
+        if (y != labels) put(w, w->out, " || ");
+        put(w, w->out, name);
+        put(w, w->out, " == ");
+        put_piece(w, w->out, number_text(w, converted(y->value, t), t), "", y->token);
+    }
+    put(w, w->out, ")");
+}
+
 // No two labels of a switch are the same (C99 6.8.4.2).
 static void refuse_same_labels(writer *w, const statement *first, base_type t) {
     for (const statement *x = first; x; x = x->next)
@@ -982,28 +1022,15 @@ static void write_switch(writer *w, const statement *s) {
         if (is_default) otherwise = begin ? begin : s;
         else {
             if (chained) put_apart(w, w->out, "else");
-            put_apart(w, w->out, "if (");
-            for (const statement *y = labels; y != begin; y = y->next) {
-                if (y != labels) put(w, w->out, " || ");
-                put(w, w->out, name);
-                put(w, w->out, " == ");
-                put_piece(w, w->out, number_text(w, converted(y->value, t), t), "", y->token);
-            }
-            put(w, w->out, ")");
-            part p;
-            begin_part(w, &p);
-            write_case(w, begin, end);
-            put_all(p.out, end_part(w, &p, true));
+            write_labels(w, name, t, labels, begin);
+            write_case_block(w, begin, end);
             chained = true;
         }
         x = end;
     }
     if (otherwise && otherwise != s) {
         if (chained) put_apart(w, w->out, "else");
-        part p;
-        begin_part(w, &p);
-        write_case(w, otherwise, end_of_case(otherwise));
-        put_all(p.out, end_part(w, &p, true));
+        write_case_block(w, otherwise, end_of_case(otherwise));
     }
     put_all(block.out, end_part(w, &block, true));
     w->statements++;

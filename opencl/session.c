@@ -302,40 +302,47 @@ static char *read_all(int fd) {
     return NULL;
 }
 
+// Starts a command that writes to `out` and reads nothing. A program without the command says so on its standard error:
+// that isn't the client's business.
+static bool start_explaining(char *command, int nothing, int out, pid_t *child) {
+    char *words[MAX_WORDS];
+    posix_spawn_file_actions_t actions;
+    split_words(command, words);
+    int fault = posix_spawn_file_actions_init(&actions);
+    if (!fault) fault = posix_spawn_file_actions_adddup2(&actions, nothing, 0);
+    if (!fault) fault = posix_spawn_file_actions_adddup2(&actions, out, 1);
+    if (!fault) fault = posix_spawn_file_actions_addopen(&actions, 2, "/dev/null", O_WRONLY, 0);
+    if (!fault) fault = posix_spawnp(child, words[0], &actions, NULL, words, environ);
+    posix_spawn_file_actions_destroy(&actions);
+    return !fault;
+}
+
+// What a command writes, NULL where it can't be started, fails, or memory is refused.
+static char *explanation_by(char *command, int nothing) {
+    int ends[2], status = 0;
+    pid_t child, ended;
+    char *read = NULL;
+    if (pipe2(ends, O_CLOEXEC)) return NULL;
+    bool started = start_explaining(command, nothing, ends[1], &child);
+    close(ends[1]);
+    if (started) read = read_all(ends[0]);
+    close(ends[0]); // so that a child that still writes ends, where memory was refused
+    if (!started) return NULL;
+    while ((ended = waitpid(child, &status, 0)) < 0 && errno == EINTR) {}
+    // (a client that ignores the ends of its children took the status along)
+    if (ended < 0 || !status) return read;
+    free(read);
+    return NULL;
+}
+
 char *explain_script(const char *script, size_t length) {
-    char path[64], room[COMMAND_ROOM], *words[MAX_WORDS], *read = NULL;
-    int fd = memfd_create("clsim", MFD_CLOEXEC), nothing = open("/dev/null", O_RDONLY | O_CLOEXEC), ends[2] = {-1, -1},
-        status = -1;
-    pid_t child;
+    char path[64], command[COMMAND_ROOM], *read = NULL;
+    int fd = memfd_create("clsim", MFD_CLOEXEC), nothing = open("/dev/null", O_RDONLY | O_CLOEXEC);
     snprintf(path, sizeof path, "/proc/%ld/fd/%d", (long)getpid(), fd);
-    bool ready = script && fd >= 0 && nothing >= 0 && explain_command(room, sizeof room, path) &&
-                 write(fd, script, length) == (ssize_t)length && !pipe2(ends, O_CLOEXEC);
-    if (ready) {
-        split_words(room, words);
-        // a program without the command says so on its standard error: that isn't the client's business
-        posix_spawn_file_actions_t actions;
-        int fault = posix_spawn_file_actions_init(&actions);
-        if (!fault) fault = posix_spawn_file_actions_adddup2(&actions, nothing, 0);
-        if (!fault) fault = posix_spawn_file_actions_adddup2(&actions, ends[1], 1);
-        if (!fault) fault = posix_spawn_file_actions_addopen(&actions, 2, "/dev/null", O_WRONLY, 0);
-        if (!fault) fault = posix_spawnp(&child, words[0], &actions, NULL, words, environ);
-        posix_spawn_file_actions_destroy(&actions);
-        close(ends[1]);
-        if (!fault) {
-            read = read_all(ends[0]);
-            close(ends[0]); // so that a child that still writes ends, where memory was refused
-            ends[0] = -1;
-            pid_t ended;
-            while ((ended = waitpid(child, &status, 0)) < 0 && errno == EINTR) {}
-            if (ended < 0) status = 0; // a client that ignores the ends of its children took it along
-        }
-        if (ends[0] >= 0) close(ends[0]);
-    }
+    if (script && fd >= 0 && nothing >= 0 && explain_command(command, sizeof command, path) &&
+        write(fd, script, length) == (ssize_t)length)
+        read = explanation_by(command, nothing);
     if (fd >= 0) close(fd);
     if (nothing >= 0) close(nothing);
-    if (status) {
-        free(read);
-        return NULL;
-    }
     return read;
 }

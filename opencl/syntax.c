@@ -357,68 +357,66 @@ static bool read_qualifier(parser *p, type *t) {
     return true;
 }
 
-static bool read_specifier(parser *p, specifiers *s, unsigned *words) {
+// Whether a word is one of those of which an integer type may have several (C99 6.7.2); `words` are those so far.
+static bool read_integer_word(parser *p, specifiers *s, unsigned *words) {
     enum { UNSIGNED = 1, SIGNED = 2, CHAR = 4, SHORT = 8, INT = 16, LONG = 32 };
     static const struct {
         const char *name;
         unsigned word;
     } parts[] = {{"unsigned", UNSIGNED}, {"signed", SIGNED}, {"char", CHAR},
                  {"short", SHORT},       {"int", INT},       {"long", LONG}};
+    unsigned word = 0, before = *words;
+    for (size_t i = 0; i < sizeof parts / sizeof *parts; i++)
+        if (sees(p, parts[i].name)) word = parts[i].word;
+    if (!word) return false;
+    unsigned all = before | word, size = all & (CHAR | SHORT | LONG);
+    bool wrong = (size & (size - 1)) || (all & CHAR && all & INT) || (all & UNSIGNED && all & SIGNED);
+    if (wrong || before & word || (s->has_type && !before))
+        complain_at(p, p->at, before & all & LONG ? "Clsim has no long long" : hint(now(p)));
+    *words = all;
+    s->has_type = true;
+    base_type base = all & CHAR ? CHAR_TYPE : all & SHORT ? SHORT_TYPE : all & LONG ? LONG_TYPE : INT_TYPE;
+    s->type.base = all & UNSIGNED ? base + 1 : base;
+    return true;
+}
+
+// Whether a word is a type of its own.
+static bool read_whole_type(parser *p, specifiers *s) {
     static const struct {
         const char *name;
         base_type base;
     } whole[] = {{"void", VOID_TYPE}, {"bool", BOOL_TYPE},   {"uchar", UCHAR_TYPE},  {"ushort", USHORT_TYPE},
                  {"uint", UINT_TYPE}, {"ulong", ULONG_TYPE}, {"size_t", ULONG_TYPE}, {"ptrdiff_t", LONG_TYPE}};
+    for (size_t i = 0; i < sizeof whole / sizeof *whole && !s->has_type; i++)
+        if (sees(p, whole[i].name)) {
+            s->has_type = true;
+            s->type.base = whole[i].base;
+            return true;
+        }
+    return false;
+}
+
+// Whether a word names an address space. There is one at most.
+static bool read_space(parser *p, specifiers *s) {
     static const struct {
         const char *name;
         space space;
     } spaces[] = {{"global", GLOBAL_SPACE},   {"__global", GLOBAL_SPACE},   {"local", LOCAL_SPACE},
                   {"__local", LOCAL_SPACE},   {"constant", CONSTANT_SPACE}, {"__constant", CONSTANT_SPACE},
                   {"private", PRIVATE_SPACE}, {"__private", PRIVATE_SPACE}};
-    static const char *const dropped[] = {"inline", "__inline", "__inline__", "static",
-                                          "extern", "register", "auto",       NULL};
-    const char *w = now(p)->text;
-    if (now(p)->kind != NAME_TOKEN) return false;
-    for (size_t i = 0; i < sizeof parts / sizeof *parts; i++)
-        if (!strcmp(w, parts[i].name)) {
-            unsigned before = *words, all = before | parts[i].word, size = all & (CHAR | SHORT | LONG);
-            bool wrong = (size & (size - 1)) || (all & CHAR && all & INT) || (all & UNSIGNED && all & SIGNED);
-            if (wrong || before & parts[i].word || (s->has_type && !before))
-                complain_at(p, p->at, before & all & LONG ? "Clsim has no long long" : hint(now(p)));
-            *words = all;
-            s->has_type = true;
-            base_type base = *words & CHAR    ? CHAR_TYPE
-                             : *words & SHORT ? SHORT_TYPE
-                             : *words & LONG  ? LONG_TYPE
-                                              : INT_TYPE;
-            s->type.base = *words & UNSIGNED ? base + 1 : base;
-            return true;
-        }
-    for (size_t i = 0; i < sizeof whole / sizeof *whole; i++)
-        if (!strcmp(w, whole[i].name) && !s->has_type) {
-            s->has_type = true;
-            s->type.base = whole[i].base;
-            return true;
-        }
     for (size_t i = 0; i < sizeof spaces / sizeof *spaces; i++)
-        if (!strcmp(w, spaces[i].name)) {
+        if (sees(p, spaces[i].name)) {
             if (s->has_space) complain(p);
             s->has_space = true;
             s->type.space = spaces[i].space;
             return true;
         }
-    if (read_qualifier(p, &s->type)) return true;
-    if (!strcmp(w, "kernel") || !strcmp(w, "__kernel")) {
-        s->is_kernel = true;
-        return true;
-    }
-    if (!strcmp(w, "typedef")) {
-        s->is_typedef = true;
-        return true;
-    }
-    if (!strcmp(w, "static") || !strcmp(w, "extern")) s->is_static = true;
-    if (is_one_of(w, dropped)) return true;
-    symbol *y = s->has_type ? NULL : find(p, w);
+    return false;
+}
+
+// Whether a word is the name of a type of the source.
+static bool read_type_name(parser *p, specifiers *s) {
+    symbol *y = s->has_type ? NULL : find(p, now(p)->text);
     if (!y || y->kind != TYPE_NAME) return false;
     if (y->type.pointer && (s->has_space || s->type.is_const)) complain_at(p, p->at, "Clsim has no such pointer");
     type before = s->type;
@@ -428,6 +426,20 @@ static bool read_specifier(parser *p, specifiers *s, unsigned *words) {
     if (y->type.pointer) s->type = y->type;
     s->type.is_restrict |= before.is_restrict;
     s->has_type = true;
+    return true;
+}
+
+// Whether a word is a part of a declaration in front of its name, of whatever kind.
+static bool read_specifier(parser *p, specifiers *s, unsigned *words) {
+    static const char *const dropped[] = {"inline", "__inline", "__inline__", "static",
+                                          "extern", "register", "auto",       NULL};
+    if (now(p)->kind != NAME_TOKEN) return false;
+    if (read_integer_word(p, s, words) || read_whole_type(p, s) || read_space(p, s) || read_qualifier(p, &s->type))
+        return true;
+    if (sees(p, "kernel") || sees(p, "__kernel")) s->is_kernel = true;
+    else if (sees(p, "typedef")) s->is_typedef = true;
+    else if (sees(p, "static") || sees(p, "extern")) s->is_static = true;
+    else return is_one_of(now(p)->text, dropped) || read_type_name(p, s);
     return true;
 }
 
@@ -1384,9 +1396,8 @@ static void take_attributes(parser *p, function *f, const specifiers *s) {
     for (const attribute *a = s->attributes; a; a = a->next) add_attribute(p, &f->attributes, a->text);
 }
 
-// A function behind its specifiers and its type: a definition, or a prototype.
-static void read_function(parser *p, const specifiers *s, type result) {
-    unit *u = p->unit;
+// The function that a declaration names, a new one where none in front of it does.
+static function *named_function(parser *p, const specifiers *s, type result) {
     size_t name = p->at;
     const char *word = read_name(p);
     symbol *y = find(p, word);
@@ -1396,20 +1407,28 @@ static void read_function(parser *p, const specifiers *s, type result) {
     if (is_one_of(word, builtins)) complain_at(p, name, "a function of the language has this name");
     if (!y) {
         y = declare(p, FUNCTION, word, name);
-        y->function = take(u->arena, sizeof *y->function);
+        y->function = take(p->unit->arena, sizeof *y->function);
         y->function->symbol = y;
     }
-    function *f = y->function;
-    if (f->defined) complain_at(p, name, "this name is declared twice");
+    if (y->function->defined) complain_at(p, name, "this name is declared twice");
+    return y->function;
+}
+
+// A function behind its specifiers and its type: a definition, or a prototype.
+static void read_function(parser *p, const specifiers *s, type result) {
+    unit *u = p->unit;
+    size_t name = p->at;
+    function *f = named_function(p, s, result);
     p->at++;
-    bool again = y->token != name;
+    bool again = f->symbol->token != name;
     const declaration *parameters = f->parameters;
     if (again && (f->result.base != result.base)) complain_at(p, name, "this function has another type in front");
     f->result = result;
     f->result.is_const = false;
     f->is_kernel |= s->is_kernel;
     take_attributes(p, f, s);
-    if (f->is_kernel && strlen(word) > 63) complain_at(p, name, "the name of a kernel has at most 63 letters");
+    if (f->is_kernel && strlen(f->symbol->name) > 63)
+        complain_at(p, name, "the name of a kernel has at most 63 letters");
     if (f->is_kernel && (result.base != VOID_TYPE)) complain_at(p, name, "a kernel gives no value");
     open_scope(p);
     read_parameters(p, f);
