@@ -119,6 +119,7 @@ static void attributes(void) {
     OK(clReleaseProgram(p));
 }
 
+// What a launch in two dimensions answers.
 static cl_int launch(cl_kernel k, const size_t *global, const size_t *local) {
     return clEnqueueNDRangeKernel(h.queue, k, 2, NULL, global, local, 0, NULL, NULL);
 }

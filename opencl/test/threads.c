@@ -208,6 +208,7 @@ static cl_event awaited;
 static unsigned turns; // how often a callback waited for another thread
 static char order[8];  // which callbacks were called
 
+// The other thread.
 static void *set_awaited(void *unused) {
     OK(clSetUserEventStatus(awaited, CL_COMPLETE));
     return unused;
@@ -225,15 +226,18 @@ static void wait_for_another(const char *name) {
     OK(clReleaseEvent(awaited));
     turns++;
 }
+// The memory object isn't living any more (5.4.1).
 static void CL_CALLBACK memory_goes(cl_mem m, void *name) {
     if (getenv("TEST_DIRECT") && clRetainMemObject(m) != CL_INVALID_MEM_OBJECT) exit(25);
     wait_for_another(name);
 }
+// A context's callback: with a line, and no more (4.4).
 static void CL_CALLBACK error_comes(const char *line, const void *info, size_t n, void *name) {
     if (!*line || info || n) exit(26);
     printf("called back: %s\n", line);
     wait_for_another(name);
 }
+// A buffer with two callbacks; the second one is called first.
 static cl_mem memory_with_callbacks(char *first, char *second) {
     cl_int fault;
     cl_mem m = clCreateBuffer(h.context, CL_MEM_READ_WRITE, 64, NULL, &fault);
