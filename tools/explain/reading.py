@@ -4,6 +4,8 @@ import json
 import sys
 
 VERSION = 1
+# what `clsim explain --format json` writes where there is nothing to explain
+NOTHING = ("clean", "no", "ok")
 
 
 class BadInput(Exception):
@@ -15,7 +17,7 @@ def explanations(paths):
     found = []
     for name, text in texts(paths):
         for number, line in enumerate(text.splitlines(), 1):
-            if line.strip():
+            if line.strip() and line not in NOTHING:
                 found.append(explanation(name, number, line))
     return found
 

@@ -2,7 +2,7 @@
 """Turns explanations into SARIF 2.1.0: `clsim explain FILE --format json | tools/explain/sarif.py > results.sarif`.
 
 Reads the files that are named, or standard input, with an explanation a line, and writes one run with a result each.
-The status is 0, or 2 where the input is bad."""
+A line may also be the word `clean`, `no` or `ok`, which has no result. The status is 0, or 2 where the input is bad."""
 
 import json
 from urllib.parse import quote
