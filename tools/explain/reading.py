@@ -16,7 +16,7 @@ def explanations(paths):
     """The explanations of the files of these names, or of standard input where there is none."""
     found = []
     for name, text in texts(paths):
-        for number, line in enumerate(text.splitlines(), 1):
+        for number, line in enumerate(text.split("\n"), 1):
             if line.strip() and line not in NOTHING:
                 found.append(explanation(name, number, line))
     return found
