@@ -1,8 +1,9 @@
 #!/bin/sh
-# Runs each script that is named with $CLSIM, or with the clsim on the path, and shows the faults and refusals, each
-# with its explanation. Where $SARIF names a file, the explanations are written there as SARIF 2.1.0, which takes
-# Python 3. Status 0 if there are none, else 1, and 2 where there is no such program, no script is named,
-# or the file can't be written.
+# Runs each script that is named with $CLSIM, or with the clsim on the path, and shows the first fault, refusal or bad
+# line of each: FILE:LINE of its command, and below it the explanation where `clsim explain` has one of that very fault
+# or source, else the line itself. Where $SARIF names a file, these and the explanations are written there as
+# SARIF 2.1.0, which takes Python 3. Status 0 if there are none, else 1, and 2 where there is no such program, no script
+# is named, or the file can't be written.
 CLSIM=${CLSIM:-clsim}
 if ! command -v "$CLSIM" >/dev/null; then
     echo "ci.sh: no program: $CLSIM" >&2
@@ -12,19 +13,74 @@ if [ $# -eq 0 ]; then
     echo "ci.sh: no scripts" >&2
     exit 2
 fi
-explained=$(mktemp) || exit 2
-trap 'rm -f "$explained"' EXIT
+folder=$(mktemp -d) || exit 2
+trap 'rm -rf "$folder"' EXIT
+
+# Writes `LINE: REPLY` of the first reply that isn't ok, data or clean, and in a second line its command; of a bad line
+# the same; and ` REPLY` alone where no line is told. $1 is the script, $2 the status of its run.
+# Replies and commands are one to one, in order. The line of a version is none, nor are the lines of a source.
+first_reply() {
+    unended=$(tail -c 1 "$1" 2>/dev/null | tr -d '\n' | wc -c)
+    cat "$1" 2>/dev/null | LC_ALL=C awk -v status="$2" -v unended="$unended" '
+        # Shows a line of the script, without its end where it is long, and says so of the end of a line of Windows.
+        function show(text) {
+            if (length(text) > 160) {
+                text = substr(text, 1, 160)
+                sub(/[\300-\377]?[\200-\277]*$/, "", text)
+                text = text ".."
+            }
+            gsub(/\t/, "    ", text)
+            gsub(/\r/, "\\r", text)
+            printf "%d: %s\n%8d |%s\n", line, reply, line, text == "" ? "" : " " text
+            shown = 1
+            exit
+        }
+        !script && reply == "" && !/^(ok|clean)$|^data / {
+            reply = $0
+            answered = FNR
+            if (/^clsim: line [0-9]+: bad line$/) bad = $3 + 0
+        }
+        !script { next }
+        { line++ }
+        bad && line < bad { next }
+        bad {
+            reply = "bad line"
+            text = $0
+            if (unended + 0 && (getline rest) <= 0) reply = "bad line, without its line feed"
+            show(text)
+        }
+        left > 0 { left--; next }
+        line == 1 && $0 == "clsim 2" { next }
+        ++command == answered { show($0) }
+        $1 == "program" { left = $3 + 0 }
+        END { if (!shown) print " " (reply == "" ? "the program ended with status " status : reply) }
+    ' "$folder/replies" script=1 - | LC_ALL=C tr '\000-\010\013-\037\177' '[?*]'
+}
+
 failed=0
 for script in "$@"; do
-    replies=$("$CLSIM" run "$script" 2>&1) && continue
+    "$CLSIM" run "$script" >"$folder/replies" 2>&1 && continue
+    first_reply "$script" $? >"$folder/first"
     failed=1
-    echo "$script: $(echo "$replies" | grep -E '^(fault|refused|clsim:)' | head -n 1)"
-    told=$("$CLSIM" explain "$script" 2>/dev/null) && printf '%s\n' "$told"
+    first=$(sed 1q "$folder/first")
+    printf '%s:%s\n' "$script" "$first"
+    # (the explanation is that of the first fault or source that doesn't build, which may stand behind another refusal)
+    case $first in
+        [0-9]*': fault '* | [0-9]*': refused 10 BuildFailed '*)
+            told=$("$CLSIM" explain "$script" 2>/dev/null) || told= ;;
+        *) told= ;;
+    esac
+    if [ -n "$told" ]; then printf '%s\n' "$told"; else sed 1d "$folder/first"; fi
+    [ -n "${SARIF:-}" ] || continue
+    if [ -z "$told" ]; then
+        case $first in [0-9]*) printf '%s:%s\n' "$script" "$first" >>"$folder/explained" ;; esac
+    fi
     told=$("$CLSIM" explain "$script" --format json 2>/dev/null)
     # (of a script with neither a fault nor a source that doesn't build it is the word clean)
-    case $told in '{'*) printf '%s\n' "$told" >>"$explained" ;; esac
+    case $told in '{'*) printf '%s\n' "$told" >>"$folder/explained" ;; esac
 done
 if [ -n "${SARIF:-}" ]; then
-    python3 "$(dirname "$0")/../tools/explain/sarif.py" "$explained" >"$SARIF" || exit 2
+    : >>"$folder/explained"
+    python3 "$(dirname "$0")/../tools/explain/sarif.py" "$folder/explained" >"$SARIF" || exit 2
 fi
 exit $failed

@@ -12,13 +12,14 @@ class BadInput(Exception):
     """A file that holds no explanations of a known version."""
 
 
-def explanations(paths):
-    """The explanations of the files of these names, or of standard input where there is none."""
+def explanations(paths, other=lambda line: None):
+    """The explanations of the files of these names, or of standard input where there is none; and what `other` makes
+    of a line that holds something else, where it isn't None."""
     found = []
     for name, text in texts(paths):
         for number, line in enumerate(text.split("\n"), 1):
             if line.strip() and line not in NOTHING:
-                found.append(explanation(name, number, line))
+                found.append(other(line) or explanation(name, number, line))
     return found
 
 
@@ -123,9 +124,11 @@ def text_of(line):
 
 
 def told_places(whole):
-    """The places of the named items and of the calls of helpers round them, or that of a refusal."""
+    """The places of the named items and of the calls of helpers round them, or that of a refusal; none of a command."""
     if is_refusal(whole):
         return [whole["spot"]]
+    if whole.get("kind") == "command":
+        return []
     spots = [place for item in whole["items"] for place in (item["spot"], item["last_access"]) if place]
     return [place for spot in spots for place in [spot, *spot["calls"]]]
 

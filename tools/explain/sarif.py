@@ -2,9 +2,11 @@
 """Turns explanations into SARIF 2.1.0: `clsim explain FILE --format json | tools/explain/sarif.py > results.sarif`.
 
 Reads the files that are named, or standard input, with an explanation a line, and writes one run with a result each.
-A line may also be the word `clean`, `no` or `ok`, which has no result. The status is 0, or 2 where the input is bad."""
+A line may also be the word `clean`, `no` or `ok`, which has no result, or one of examples/ci.sh: `FILE:LINE: REPLY` of
+a command that was refused or had a fault, and `FILE:LINE: bad line`. The status is 0, or 2 where the input is bad."""
 
 import json
+import re
 from urllib.parse import quote
 
 from reading import argument_texts, explanations, is_refusal, item_text, lines_of, place_of, run
@@ -41,6 +43,33 @@ REFUSALS = {
     "TooLarge": "An array or a kernel that is too large",
     "MissingReturn": "A function with a value that doesn't always return",
 }
+
+# of a command that was refused, and of a line that is none (docs/use/script.md)
+COMMANDS = {
+    "NameInUse": "A name that is in use",
+    "NoSuchName": "A name that nothing of the wanted kind has",
+    "BadSize": "A size, a count or a pattern that is not allowed",
+    "OutOfRange": "A range that passes the end of its buffer",
+    "TooManyBuffers": "More buffers than the device has",
+    "BadDimension": "Lists of sizes and offsets that don't fit",
+    "BadGroupSize": "A global size that is no multiple of its local size, or a size of a group that is not allowed",
+    "TooManyItems": "More work-items than a launch may have",
+    "Overlap": "A copy between two ranges that share a byte",
+    "BuildFailed": "A source that doesn't build",
+    "NoSuchKernel": "A program that has no such kernel",
+    "BadArgument": "An argument that doesn't fit its parameter",
+    "ArgumentsMissing": "A launch of a kernel that lacks an argument",
+    "LocalTooLarge": "More local memory than a group may have",
+    "InUse": "A release of what is in use",
+    "OutOfMemory": "Memory that was refused",
+    "bad_line": "A line that is no command of a script",
+}
+ALL = {**RULES, **REFUSALS, **COMMANDS}
+
+# such a line of examples/ci.sh: file, line, reply and the name of its rule
+COMMAND = re.compile(
+    r"(.+):([1-9][0-9]*): ((?:refused|fault) [0-9]+ ([A-Za-z_]+)[^{}]*|bad line(?:, without its line feed)?)")
+LONGEST = 200  # of the text of such a line, which can have a megabyte of data
 
 
 def units(raw):
@@ -100,8 +129,33 @@ def refusal_result(whole):
     }
 
 
+def command_of(line):
+    """What a line of examples/ci.sh tells, None of another line."""
+    found = COMMAND.fullmatch(line)
+    if not found:
+        return None
+    return {"kind": "command", "script": found[1], "script_line": int(found[2]), "reply": found[3],
+            "name": found[4] or "bad_line"}
+
+
+def command_result(whole):
+    """A result of a command with its reply, or of a bad line."""
+    number, lines = whole["script_line"], lines_of(whole)
+    text = lines.get(number, b"").decode(errors="replace").rstrip("\r")[:LONGEST]
+    words = ALL.get(whole["name"])
+    return {
+        "ruleId": "clsim/" + whole["name"],
+        "level": "error",
+        "message": {"text": f"{whole['reply']}: {words}" if words else whole["reply"]},
+        "locations": [location(whole, lines, {"script_line": number, "column": 1, "text": text})],
+        "partialFingerprints": {"clsim/v1": f"{whole['name']} {text}"},
+    }
+
+
 def result(whole):
-    """A result of an explanation."""
+    """A result of an explanation, or of a command."""
+    if whole.get("kind") == "command":
+        return command_result(whole)
     if is_refusal(whole):
         return refusal_result(whole)
     lines = lines_of(whole)
@@ -128,10 +182,10 @@ def result(whole):
 
 def main(paths):
     """The text of a SARIF file."""
-    found = explanations(paths)
+    found = explanations(paths, command_of)
     rules = [
         {"id": "clsim/" + name, "name": name, "shortDescription": {"text": words}}
-        for name, words in {**RULES, **REFUSALS}.items()
+        for name, words in ALL.items()
     ]
     log = {
         "$schema": SCHEMA,
