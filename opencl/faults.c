@@ -3,6 +3,7 @@
 #include "digits.h"
 #include "json.h"
 #include "objects.h"
+#include "reasons.h"
 #include <stdio.h>
 #include <stdlib.h>
 #include <string.h>
@@ -221,8 +222,9 @@ static bool add_buffer(text *t, cl_context c, unsigned number, size_t size) {
     return true;
 }
 
-// A script of the one launch: the buffers that it names, its program, its kernel with the arguments.
-static bool add_script(text *t, cl_kernel k, const launch_sizes *s) {
+// A script of the one launch: the buffers that it names, its program, its kernel with the arguments. Its line in which
+// the judged text begins goes into `first_line`.
+static bool add_script(text *t, cl_kernel k, const launch_sizes *s, unsigned long *first_line) {
     const kernel_form *form = k->form;
     const prepared *source = &k->program->form;
     add(t, "clsim 2\n");
@@ -236,6 +238,8 @@ static bool add_script(text *t, cl_kernel k, const launch_sizes *s) {
         if (!add_buffer(t, k->context, k->program->tables[form->tables[i]], source->tables[form->tables[i]].size))
             return false;
     addf(t, "program p%u %u\n", k->program->number, source->lines);
+    *first_line = 1;
+    for (size_t i = 0; i < t->length; i++) *first_line += t->at[i] == '\n';
     add_bytes(t, source->text, source->length);
     addf(t, "kernel k%u p%u %s\n", k->number, k->program->number, form->name);
     for (unsigned i = 0; i < form->count; i++) add(t, k->arguments[i].command);
@@ -313,12 +317,13 @@ static void tell_spot(const prepared *source, json item) {
     tell_loops(source, spot);
 }
 
-// Tells the items of an explanation, whose members docs/use/explain.md has.
-static void tell_spots(const prepared *source, const char *explanation) {
+// Tells the items of an explanation, whose members docs/use/explain.md has, and why it is a fault.
+static void tell_spots(const prepared *source, unsigned long first_line, const char *explanation) {
     json whole = json_text(explanation, strlen(explanation)), items = json_member(whole, "items");
     unsigned long version;
     if (json_number(json_member(whole, "version"), &version) && version != 1) return;
     for (json i = json_first(items); i.at; i = json_next(items, i)) tell_spot(source, i);
+    tell_reasons(source, first_line, json_member(whole, "why"));
 }
 
 static void explain(cl_kernel k, const launch_sizes *s) {
@@ -332,11 +337,12 @@ static void explain(cl_kernel k, const launch_sizes *s) {
         free_arena(&a);
         return;
     }
+    unsigned long first_line = 1;
     session_record(k->context->session, false); // reading changes nothing
-    bool whole = add_script(&script, k, s) && script.length <= MAX_EXPLAINED_BYTES;
+    bool whole = add_script(&script, k, s, &first_line) && script.length <= MAX_EXPLAINED_BYTES;
     session_record(k->context->session, true);
     char *explanation = whole ? explain_script(script.at, script.length) : NULL;
-    if (explanation) tell_spots(&k->program->form, explanation);
+    if (explanation) tell_spots(&k->program->form, first_line, explanation);
     free(explanation);
     free_arena(&a);
 }

@@ -189,3 +189,66 @@ bool json_word(json v, char *room, size_t n) {
     room[length] = 0;
     return true;
 }
+
+// ---- escapes ----
+
+// The four hexadecimal digits of an escape, over which it steps.
+static uint32_t take_unit(json *rest) {
+    uint32_t unit = 0;
+    for (int i = 0; i < 4; i++) {
+        char c = *rest->at++;
+        unit = unit << 4 | (uint32_t)(c <= '9' ? c - '0' : (c | 32) - 'a' + 10);
+    }
+    return unit;
+}
+
+// What an escape whose backslash and `u` were stepped over stands for; two of them where they are the halves of a pair.
+static uint32_t take_code(json *rest) {
+    uint32_t code = take_unit(rest);
+    if (code >= 0xd800 && code < 0xdc00 && rest->end - rest->at >= 6 && !strncmp(rest->at, "\\u", 2)) {
+        json behind = {rest->at + 2, rest->end};
+        uint32_t low = take_unit(&behind);
+        if (low >= 0xdc00 && low < 0xe000) {
+            *rest = behind;
+            return 0x10000 + ((code - 0xd800) << 10 | (low - 0xdc00));
+        }
+    }
+    return !code || (code >= 0xd800 && code < 0xe000) ? 0xfffd : code;
+}
+
+// A code as UTF-8; how many bytes that is.
+static size_t put_code(char *room, uint32_t code) {
+    size_t n = code < 0x80 ? 1 : code < 0x800 ? 2 : code < 0x10000 ? 3 : 4;
+    static const unsigned char heads[] = {0, 0, 0xc0, 0xe0, 0xf0};
+    for (size_t i = n; i-- > 1; code >>= 6) room[i] = (char)(0x80 | (code & 0x3f));
+    room[0] = (char)(heads[n] | code);
+    return n;
+}
+
+// The next character of a string, as it is there or what its escape stands for; how many bytes that is.
+static size_t take_character(json *rest, char *room) {
+    static const char letters[] = "bfnrt", bytes[] = "\b\f\n\r\t";
+    *room = *rest->at++;
+    if (*room != '\\') return 1;
+    *room = *rest->at++;
+    if (*room == 'u') return put_code(room, take_code(rest));
+    const char *letter = strchr(letters, *room);
+    if (letter) *room = bytes[letter - letters];
+    return 1;
+}
+
+bool json_string(json v, char *room, size_t n) {
+    json rest = v;
+    size_t at = 0;
+    if (!skip_string(&rest) || rest.at != v.end || !n) return false;
+    rest = (json){v.at + 1, v.end - 1};
+    while (rest.at < rest.end) {
+        char character[4];
+        size_t bytes = take_character(&rest, character);
+        if (bytes >= n - at) return false;
+        memcpy(room + at, character, bytes);
+        at += bytes;
+    }
+    room[at] = 0;
+    return true;
+}

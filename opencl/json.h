@@ -21,4 +21,7 @@ json json_next(json list, json element);
 bool json_number(json v, unsigned long *n);
 // Whether it is a string without an escape that fits into `n` bytes of room, into which it is then put.
 bool json_word(json v, char *room, size_t n);
+// The same of a string that may have escapes: what they stand for is put there as UTF-8. What stands for no character
+// of a text (the zero, half of a pair) is U+FFFD. As many bytes as the value has are always enough.
+bool json_string(json v, char *room, size_t n);
 #endif

@@ -161,6 +161,36 @@ static void test_plain(json whole) {
     WANT(!json_word(json_member(whole, "empty"), room, 0) && json_word(json_member(whole, "empty"), room, 1));
 }
 
+// What a string stands for, in room for it and its zero and in no less.
+static void want_string(const char *text, const char *wanted) {
+    size_t n = strlen(text), room_for = strlen(wanted) + 1;
+    char *copy = copy_of(text, n), *room = malloc(room_for);
+    json v = json_text(copy, n);
+    if (!room) exit(2);
+    want(v.at && json_string(v, room, room_for) && !memcmp(room, wanted, room_for), text);
+    want(!json_string(v, room, room_for - 1), text);
+    free(room);
+    free_copy(copy);
+}
+
+// Escapes (RFC 8259, 7) and UTF-8 (RFC 3629, 3).
+static void test_strings(json whole) {
+    char room[64];
+    want_string("\"\"", "");
+    want_string("\"a at 7:5\"", "a at 7:5");
+    want_string("\"\\\"\\\\\\/\\b\\f\\n\\r\\t\"", "\"\\/\b\f\n\r\t");
+    want_string("\"\\u0041\\u007F\\u0080\\u07ff\\u0800\\uFFFF\"", "A\x7f\xc2\x80\xdf\xbf\xe0\xa0\x80\xef\xbf\xbf");
+    want_string("\"\\ud800\\udc00\\uD834\\uDD1E\\udbff\\udfff\"", "\xf0\x90\x80\x80\xf0\x9d\x84\x9e\xf4\x8f\xbf\xbf");
+    want_string("\"\\ud800\"", "\xef\xbf\xbd");
+    want_string("\"\\ud800\\n\\udc00x\"", "\xef\xbf\xbd\n\xef\xbf\xbdx");
+    want_string("\"\\ud800\\u0041\\u0000\"", "\xef\xbf\xbd"
+                                             "A\xef\xbf\xbd");
+    want_string("\"\xc3\xa9\\u00e9\"", "\xc3\xa9\xc3\xa9");
+    WANT(!json_string(json_member(whole, "offset"), room, sizeof room));
+    WANT(!json_string(json_member(whole, "missing"), room, sizeof room));
+    WANT(json_string(json_member(whole, "text"), room, sizeof room) && !strcmp(room, "a[1] \"]\" }\\"));
+}
+
 // ---- texts that are spoilt ----
 
 // A part of a text is asked where it wasn't read as a whole before: nothing is found behind what is wrong.
@@ -178,7 +208,7 @@ static void test_wrong_parts(void) {
     json whole = {list, list + 5}, word = {quote, quote + 1};
     char room[8];
     WANT(is_number(json_first(whole), 1) && !json_next(whole, json_first(whole)).at);
-    WANT(!json_word(word, room, sizeof room));
+    WANT(!json_word(word, room, sizeof room) && !json_string(word, room, sizeof room));
 }
 
 // Asks for all that is found in a text. None of it may be read past its end.
@@ -193,6 +223,8 @@ static void ask_all(json whole) {
     }
     json_number(json_member(json_member(whole, "inner"), "offset"), &n);
     json_word(json_member(whole, "digits"), room, sizeof room);
+    json_string(json_member(whole, "escaped"), room, sizeof room);
+    json_string(json_member(whole, "text"), room, sizeof room);
     json_member(whole, "missing");
 }
 
@@ -229,6 +261,7 @@ int main(void) {
     test_members(whole);
     test_lists(whole);
     test_plain(whole);
+    test_strings(whole);
     test_wrong_parts();
     test_cuts();
     test_changes();
