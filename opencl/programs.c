@@ -1,4 +1,5 @@
 #include "objects.h"
+#include "options.h"
 #include <inttypes.h>
 #include <stdio.h>
 #include <stdlib.h>
@@ -157,17 +158,37 @@ static cl_int build_prepared(cl_program p) {
     return error_of(reply);
 }
 
+// Refuses options that OpenCL 1.2 hasn't, with a fault. What is said of it goes into a log, where there is one for it.
+static cl_int judge_options(cl_context c, const char *options, option_kind kind, cl_int fault, prepared *form) {
+    prepared none = {0}, *into = form ? form : &none;
+    text log = {.arena = &into->arena};
+    if (setjmp(into->arena.failed)) {
+        free_prepared(into);
+        return CL_OUT_OF_HOST_MEMORY;
+    }
+    const char *unknown = unknown_option(&into->arena, options, kind);
+    if (unknown) {
+        addf(&log, "options: error: OpenCL 1.2 has no option %s\n", unknown);
+        into->log = log.at;
+        refuse(c, "OpenCL 1.2 has no option %s", unknown);
+    }
+    if (!unknown || !form) free_prepared(into);
+    return unknown ? fault : CL_SUCCESS;
+}
+
 static cl_int build(cl_program p, const char *options) {
     if (p->uses) return CL_INVALID_OPERATION;
     release_built(p);
     p->status = CL_BUILD_ERROR;
     p->options = strdup(options ? options : "");
+    cl_int wrong = judge_options(p->context, options, COMPILER_OPTION, CL_INVALID_BUILD_OPTIONS, &p->form);
+    if (!p->options || wrong) return p->options ? wrong : CL_OUT_OF_HOST_MEMORY;
     if (strlen(p->source) != p->length) { // what stands behind it would be left out
         p->form.log = "source: error: a byte 0 stands in the source\n";
-        return p->options ? CL_BUILD_PROGRAM_FAILURE : CL_OUT_OF_HOST_MEMORY;
+        return CL_BUILD_PROGRAM_FAILURE;
     }
     preparation done = prepare_source(&p->form, p->source, options);
-    if (!p->options || done == NO_MEMORY) return CL_OUT_OF_HOST_MEMORY;
+    if (done == NO_MEMORY) return CL_OUT_OF_HOST_MEMORY;
     cl_int fault = done == PREPARED ? build_prepared(p) : CL_BUILD_PROGRAM_FAILURE;
     if (!fault) p->status = CL_BUILD_SUCCESS;
     return fault;
@@ -193,27 +214,29 @@ CL_API_ENTRY cl_int CL_API_CALL clCompileProgram(cl_program p, cl_uint n, const 
                                                  void(CL_CALLBACK *f)(cl_program, void *), void *u) {
     (void)n;
     (void)d;
-    (void)o;
     (void)h;
     (void)hs;
     (void)ns;
     (void)f;
     (void)u;
     LOCKED;
-    return is_a(p, PROGRAM) ? CL_COMPILER_NOT_AVAILABLE : CL_INVALID_PROGRAM;
+    if (!is_a(p, PROGRAM)) return CL_INVALID_PROGRAM;
+    cl_int fault = judge_options(p->context, o, COMPILER_OPTION, CL_INVALID_COMPILER_OPTIONS, NULL);
+    return fault ? fault : CL_COMPILER_NOT_AVAILABLE;
 }
 CL_API_ENTRY cl_program CL_API_CALL clLinkProgram(cl_context c, cl_uint n, const cl_device_id *d, const char *o,
                                                   cl_uint m, const cl_program *ps,
                                                   void(CL_CALLBACK *f)(cl_program, void *), void *u, cl_int *errcode) {
-    (void)c;
     (void)n;
     (void)d;
-    (void)o;
     (void)m;
     (void)ps;
     (void)f;
     (void)u;
-    return fail(errcode, CL_LINKER_NOT_AVAILABLE);
+    LOCKED;
+    if (!is_a(c, CONTEXT)) return fail(errcode, CL_INVALID_CONTEXT);
+    cl_int fault = judge_options(c, o, LINKER_OPTION, CL_INVALID_LINKER_OPTIONS, NULL);
+    return fail(errcode, fault ? fault : CL_LINKER_NOT_AVAILABLE);
 }
 CL_API_ENTRY cl_int CL_API_CALL clUnloadCompiler(void) { return CL_SUCCESS; }
 CL_API_ENTRY cl_int CL_API_CALL clUnloadPlatformCompiler(cl_platform_id p) {

@@ -17,8 +17,7 @@ static bool is_word_byte(char c) { return isalnum((unsigned char)c) || c == '_';
 
 // ---- the preprocessor ----
 
-// The words of a build's options, quotes and backslashes taken off.
-static char **split_options(arena *a, const char *s, size_t *count) {
+char **split_options(arena *a, const char *s, size_t *count) {
     char **words = take(a, (strlen(s) / 2 + 2) * sizeof *words), *store = take(a, 2 * strlen(s) + 2);
     *count = 0;
     for (;;) {

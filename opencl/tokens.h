@@ -25,6 +25,8 @@ tokens read_tokens(arena *a, const char *source, bool marked);
 // The text in whole lines; with `marked`, each line that begins with `#` is an empty line.
 char *without_markers(arena *a, const char *source, bool marked);
 
+// The words of a build's options, quotes and backslashes taken off.
+char **split_options(arena *a, const char *s, size_t *count);
 // What the preprocessor makes of a source by a build's options, with line markers. NULL where it fails, and then its
 // messages in `log`.
 char *preprocess(arena *a, const char *source, const char *options, text *log);

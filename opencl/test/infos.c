@@ -355,14 +355,117 @@ static void lists_of_binaries(void) {
     WANT(!clCreateProgramWithBinary(h.context, 0, twice, lengths, both, NULL, &fault) && fault == CL_INVALID_VALUE);
 }
 
+// What a build by options answers. Compiling by the same options is refused either way: by them, or as it is not there.
+static cl_int built_by(const char *options) {
+    const char *source = "kernel void f(global int *a) { a[0] = 1; }";
+    cl_int fault, compiled;
+    cl_program p = clCreateProgramWithSource(h.context, 1, &source, NULL, &fault);
+    OK(fault);
+    fault = clBuildProgram(p, 0, NULL, options, NULL, NULL);
+    compiled = clCompileProgram(p, 0, NULL, options, 0, NULL, NULL, NULL, NULL);
+    WANT(compiled == (fault ? CL_INVALID_COMPILER_OPTIONS : CL_COMPILER_NOT_AVAILABLE));
+    OK(clReleaseProgram(p));
+    return fault;
+}
+
+static cl_int linked_by(const char *options) {
+    cl_int fault;
+    WANT(!clLinkProgram(h.context, 0, NULL, options, 0, NULL, NULL, NULL, &fault));
+    return fault;
+}
+
+// The log of a build by an option that isn't known names it, and the program can be built again.
+static void log_of_options(void) {
+    const char *source = "kernel void f(global int *a) { a[0] = 1; }";
+    char got[256] = "";
+    cl_int fault;
+    cl_build_status status = 99;
+    cl_program p = clCreateProgramWithSource(h.context, 1, &source, NULL, &fault);
+    OK(fault);
+    WANT(clBuildProgram(p, 0, NULL, "-w -frob -grab", NULL, NULL) == CL_INVALID_BUILD_OPTIONS);
+    OK(clGetProgramBuildInfo(p, h.device, CL_PROGRAM_BUILD_LOG, sizeof got, got, NULL));
+    WANT(!strcmp(got, "options: error: OpenCL 1.2 has no option -frob\n"));
+    OK(clGetProgramBuildInfo(p, h.device, CL_PROGRAM_BUILD_OPTIONS, sizeof got, got, NULL));
+    WANT(!strcmp(got, "-w -frob -grab"));
+    OK(clGetProgramBuildInfo(p, h.device, CL_PROGRAM_BUILD_STATUS, sizeof status, &status, NULL));
+    WANT(status == CL_BUILD_ERROR);
+    WANT(clBuildProgram(p, 0, NULL, "-D", NULL, NULL) == CL_INVALID_BUILD_OPTIONS);
+    OK(clGetProgramBuildInfo(p, h.device, CL_PROGRAM_BUILD_LOG, sizeof got, got, NULL));
+    WANT(!strcmp(got, "options: error: OpenCL 1.2 has no option -D without a value\n"));
+    OK(clBuildProgram(p, 0, NULL, "-w", NULL, NULL));
+    OK(clReleaseProgram(p));
+}
+
+// Options that a compiler has, and texts that have one that it hasn't.
+static const char *const right_options[] = {NULL,
+                                            "",
+                                            "  ",
+                                            "-DA",
+                                            "-D A",
+                                            "-DA=1",
+                                            "-D A=1",
+                                            "-D 'A=1 + 2' -DB=\"3 4\"",
+                                            "-I/no/folder",
+                                            "-I /no/folder",
+                                            "-I \"/no folder/a\" -I'/no folder/b'",
+                                            "-cl-single-precision-constant",
+                                            "-cl-denorms-are-zero",
+                                            "-cl-fp32-correctly-rounded-divide-sqrt",
+                                            "-cl-opt-disable",
+                                            "-cl-mad-enable",
+                                            "-cl-no-signed-zeros",
+                                            "-cl-unsafe-math-optimizations",
+                                            "-cl-finite-math-only",
+                                            "-cl-fast-relaxed-math",
+                                            "-w",
+                                            "-Werror",
+                                            "-cl-std=CL1.1",
+                                            "-cl-std=CL1.2",
+                                            "-cl-std=CL2.0",
+                                            "-cl-kernel-arg-info",
+                                            "\t-cl-std=CL1.2  -w -D A -cl-mad-enable\n"};
+static const char *const wrong_options[] = {
+    "-frob", "frob",  "-cl-frob", "-cl-std", "-cl-std=",        "-cl-std=CL3.0",  "-cl-std=CL1.23",
+    "-D",    "-w -I", "-Wall",    "-UA",     "-create-library", "-DA=1 -frob -w", "-cl-mad-enable=1"};
+
+// The options of a compiler (5.6.4) and of a linker (5.6.5), and no others (5.6.2, 5.6.3). CL2.0 is for the
+// constructors of the C++ bindings (CL/opencl.hpp), which pass it of themselves.
+static void options_of_builds(void) {
+    for (size_t i = 0; i < sizeof right_options / sizeof *right_options; i++) {
+        cl_int fault = built_by(right_options[i]);
+        if (fault) fprintf(stderr, "%s: error %d\n", right_options[i] ? right_options[i] : "no options", fault);
+        WANT(!fault);
+    }
+    for (size_t i = 0; i < sizeof wrong_options / sizeof *wrong_options; i++) {
+        cl_int fault = built_by(wrong_options[i]);
+        if (fault != CL_INVALID_BUILD_OPTIONS) fprintf(stderr, "%s: error %d\n", wrong_options[i], fault);
+        WANT(fault == CL_INVALID_BUILD_OPTIONS);
+    }
+    log_of_options();
+    WANT(linked_by(NULL) == CL_LINKER_NOT_AVAILABLE);
+    WANT(linked_by("-create-library -enable-link-options") == CL_LINKER_NOT_AVAILABLE);
+    WANT(linked_by("-cl-denorms-are-zero -cl-no-signed-zeroes -cl-unsafe-math-optimizations -cl-finite-math-only "
+                   "-cl-fast-relaxed-math") == CL_LINKER_NOT_AVAILABLE);
+    WANT(linked_by("-cl-mad-enable") == CL_INVALID_LINKER_OPTIONS && linked_by("-DA") == CL_INVALID_LINKER_OPTIONS);
+}
+
 int main(int count, char **words) {
     static const struct {
         const char *name;
         void (*call)(void);
-    } all[] = {{"local", local_memory},    {"qualifiers", qualifiers}, {"events", events},
-               {"contexts", two_contexts}, {"access", host_access},    {"nothing", made_of_nothing},
-               {"attributes", attributes}, {"groups", group_sizes},    {"queues", queues},
-               {"flags", flags},           {"binaries", binaries},     {"lists", lists_of_binaries}};
+    } all[] = {{"local", local_memory},
+               {"qualifiers", qualifiers},
+               {"events", events},
+               {"contexts", two_contexts},
+               {"access", host_access},
+               {"nothing", made_of_nothing},
+               {"attributes", attributes},
+               {"groups", group_sizes},
+               {"queues", queues},
+               {"flags", flags},
+               {"binaries", binaries},
+               {"lists", lists_of_binaries},
+               {"options", options_of_builds}};
     h = open_host();
     for (size_t i = 0; i < sizeof all / sizeof *all; i++)
         if (count < 2 || !strcmp(words[1], all[i].name)) all[i].call();
