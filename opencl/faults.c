@@ -260,15 +260,23 @@ static bool tell_at(const prepared *source, const char *words, json site) {
     return true;
 }
 
+// The elements of a list, the last one first; how many goes into `n`. The caller frees them. NULL where memory is
+// refused, and then there are none.
+static json *turned_round(json list, size_t *n) {
+    size_t count = 0;
+    for (json e = json_first(list); e.at; e = json_next(list, e)) count++;
+    json *all = calloc(count + 1, sizeof *all);
+    *n = all ? count : 0;
+    if (!all) return NULL;
+    for (json e = json_first(list); e.at; e = json_next(list, e)) all[--count] = e;
+    return all;
+}
+
 // Tells the calls of helpers round a place, the innermost first. The explanation has the outermost first.
 static void tell_calls(const prepared *source, json calls) {
-    size_t n = 0;
-    for (json c = json_first(calls); c.at; c = json_next(calls, c)) n++;
-    json *all = malloc((n + 1) * sizeof *all);
-    if (!all) return;
-    n = 0;
-    for (json c = json_first(calls); c.at; c = json_next(calls, c)) all[n++] = c;
-    while (n) tell_at(source, "    called", all[--n]);
+    size_t n;
+    json *all = turned_round(calls, &n);
+    for (size_t i = 0; i < n; i++) tell_at(source, "    called", all[i]);
     free(all);
 }
 
@@ -284,18 +292,23 @@ static bool is_before(const prepared *source, json spot, json loop) {
     return false;
 }
 
-// Tells the loops round a place with the turns that they have in the client's source, the outermost first.
+// Tells a loop round a place with the turn that it has in the client's source.
+static void tell_loop(const prepared *source, json spot, json loop) {
+    char words[64] = "    in the loop";
+    unsigned long turn;
+    bool known = json_number(json_member(loop, "turn"), &turn);
+    if (known && turn && is_before(source, spot, loop)) turn--;
+    if (known && turn) snprintf(words, sizeof words, "    in turn %lu of the loop", turn);
+    else if (known) snprintf(words, sizeof words, "    before the first turn of the loop");
+    tell_at(source, words, loop);
+}
+
+// Tells the loops round a place, the innermost first. The explanation has the outermost first.
 static void tell_loops(const prepared *source, json spot) {
-    json loops = json_member(spot, "loops");
-    for (json l = json_first(loops); l.at; l = json_next(loops, l)) {
-        char words[64] = "    in the loop";
-        unsigned long turn;
-        bool known = json_number(json_member(l, "turn"), &turn);
-        if (known && turn && is_before(source, spot, l)) turn--;
-        if (known && turn) snprintf(words, sizeof words, "    in turn %lu of the loop", turn);
-        else if (known) snprintf(words, sizeof words, "    before the first turn of the loop");
-        tell_at(source, words, l);
-    }
+    size_t n;
+    json *all = turned_round(json_member(spot, "loops"), &n);
+    for (size_t i = 0; i < n; i++) tell_loop(source, spot, all[i]);
+    free(all);
 }
 
 // Tells what an item of an explanation does, and where. One that has ended is told with its last access.
