@@ -3,7 +3,8 @@
 #include <string.h>
 
 // OpenCL 1.2, 5.6.4: those of a compiler, without -D and -I. (-cl-strict-aliasing and CL1.0 are of earlier versions;
-// CL2.0 is what the constructors of the C++ bindings ask for of themselves.)
+// CL2.0 is what the constructors of the C++ bindings ask for of themselves; -g and -O are what programs ask for on
+// several other platforms. None of them changes what a kernel does.)
 static const char *const of_compiler[] = {"-cl-single-precision-constant",
                                           "-cl-denorms-are-zero",
                                           "-cl-fp32-correctly-rounded-divide-sqrt",
@@ -21,6 +22,11 @@ static const char *const of_compiler[] = {"-cl-single-precision-constant",
                                           "-cl-std=CL1.2",
                                           "-cl-std=CL2.0",
                                           "-cl-kernel-arg-info",
+                                          "-g",
+                                          "-O0",
+                                          "-O1",
+                                          "-O2",
+                                          "-O3",
                                           NULL};
 // 5.6.5: those of a linker. (One is spelled in another way than that of the compiler: both are taken.)
 static const char *const of_linker[] = {
