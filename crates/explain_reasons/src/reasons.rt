@@ -147,14 +147,35 @@ fn store_the_same(played: &Played) -> bool {
     }
 }
 
-/// Why the order of two accesses matters of which at least one stores.
-fn race_words(played: &Played, both_store: bool) -> &'static str {
-    if !both_store {
-        "one of the two stores: what the other one finds depends on which comes first"
-    } else if store_the_same(played) {
+/// Why the order of two stores matters.
+fn two_stores_words(played: &Played) -> &'static str {
+    if store_the_same(played) {
         "both store the same value, which is a race in a launch that isn't uniform"
     } else {
         "both store: which value is left depends on which comes last"
+    }
+}
+
+/// Why the order of two accesses matters of which one stores, by the kind of the other one.
+fn store_race_words(played: &Played, other: AccessKind) -> &'static str {
+    match other {
+        AccessKind::Load =>
+            "one of the two stores: what the other one finds depends on which comes first",
+        AccessKind::Store => two_stores_words(played),
+        AccessKind::Update(_) =>
+            "one of the two is an atomic function, the other one a plain store: what is left depends on which comes first",
+        AccessKind::Fetch =>
+            "one of the two is an atomic function, the other one a plain store: what the function gives and what is left depend on which comes first",
+    }
+}
+
+/// Why the order of two accesses matters that are a race: at least one isn't by an atomic function, and at least one
+/// isn't a load.
+fn race_words(played: &Played, kinds: (AccessKind, AccessKind)) -> &'static str {
+    match kinds {
+        (AccessKind::Store, other) | (other, AccessKind::Store) => store_race_words(played, other),
+        _ =>
+            "one of the two is an atomic function, the other one a plain load: what the load finds depends on which comes first",
     }
 }
 
@@ -171,10 +192,7 @@ fn clash_reason(
     let words = match clash {
         Clash::Order =>
             "the value that an atomic function gives, or what an exchange leaves, shows which of the two came first",
-        Clash::Race => {
-            let both_store = kinds.0 == AccessKind::Store && kinds.1 == AccessKind::Store;
-            race_words(played, both_store)
-        }
+        Clash::Race => race_words(played, kinds),
     };
     String::from_str(alloc, words)
 }

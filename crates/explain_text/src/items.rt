@@ -12,27 +12,36 @@ use explanation::{Does, Explanation, MemoryKind, NamedItem, Spot};
 use std::alloc::{AllocError, Global};
 use std::fmt::Write;
 
-/// Adds what an item does to memory.
-pub fn push_verb(kind: AccessKind, out: &mut String) -> Result<(), AllocError> {
+/// Adds what an item does by an access.
+fn push_verb(kind: AccessKind, out: &mut String) -> Result<(), AllocError> {
     match kind {
         AccessKind::Load => out.push_str("loads"),
         AccessKind::Store => out.push_str("stores"),
         AccessKind::Fetch => out.push_str("fetches"),
         AccessKind::Update(class) => {
-            out.push_str("performs atomic ")?;
-            out.push_str(class_word(class))?;
-            out.push_str(" on")
+            out.push_str("performs an atomic ")?;
+            out.push_str(class_word(class))
         }
+    }
+}
+
+/// What joins an access to the memory that a fault is about.
+fn joining_words(number: u32, kind: AccessKind) -> &'static str {
+    match (number, kind) {
+        (4, _) => " outside of it here",
+        (_, AccessKind::Update(_)) => " on it here",
+        _ => " it here",
     }
 }
 
 /// Adds what an item does by an access that a fault is about.
 fn push_access(number: u32, kind: AccessKind, out: &mut String) -> Result<(), AllocError> {
     push_verb(kind, out)?;
-    out.push_str(match number {
-        4 => " outside of it here",
-        5 => " it here, and nothing has set it",
-        _ => " it here",
+    out.push_str(joining_words(number, kind))?;
+    out.push_str(if number == 5 {
+        ", and nothing has set it"
+    } else {
+        ""
     })
 }
 
