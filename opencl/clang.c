@@ -170,7 +170,7 @@ bool has_clang(void) {
     const char *lacks = library ? find_functions(library) : dlerror();
     if (library && !lacks) {
         clang.index = clang.createIndex(0, 0);
-        clang.toggleCrashRecovery(0); // the client's signals are its own
+        clang.toggleCrashRecovery(0);
         clang.usable = clang.index && reads_a_source();
         if (!clang.usable) lacks = "it doesn't read OpenCL C 1.2";
     }
@@ -186,7 +186,9 @@ bool open_clang_text(clang_text *t, arena *a, const char *source) {
     add(&whole, source);
     clang_file file = {file_name, whole.at, whole.length};
     t->length = whole.length - AHEAD;
+    clang.toggleCrashRecovery(1); // clang falls over at some sources that are no programs: it gives none then
     t->unit = clang.parseTranslationUnit(clang.index, file_name, words, sizeof words / sizeof *words, &file, 1, 0);
+    clang.toggleCrashRecovery(0); // the client's signals are its own
     return t->unit;
 }
 void close_clang_text(clang_text *t) {
