@@ -14,9 +14,9 @@ use Rattle.hint_rules.specs.Near.{Near, near_in, nth_last, word_of}
 use Rattle.hint_rules.specs.Rules.{token_said}
 use Rattle.hint_rules.specs.declared.marks.Mark.{Mark}
 use Rattle.hint_rules.specs.declared.marks.Mark.TheVariants as marks
-use Rattle.lacking_words.specs.Bytes.{byte_said}
-use Rattle.lacking_words.specs.Words.{word_said, function_said, argument_said, value_said, is_built_in}
-use Rattle.lacking_words.specs.declared.words.TheConstants.{UNDECLARED}
+use Rattle.opencl_words.specs.Bytes.{byte_said}
+use Rattle.opencl_words.specs.Words.{word_said, function_said, argument_said, value_said, is_built_in}
+use Rattle.opencl_words.specs.declared.words.TheConstants.{UNDECLARED}
 use Rattle.build_hints.specs.declared.faults.Refused.{Refused}
 use Rattle.build_hints.specs.declared.faults.Refused.TheVariants as refused
 use Rattle.build_hints.specs.declared.hints.Hinted.{Hinted}

@@ -2,8 +2,8 @@
 use Rattle.std.specs.Prelude.{◌≡◌, ℕ, ◌+◌, ◌-◌, ◌^◌, min, max, List, [], ◌++◌, length, slice_range, codes, string_bytes, Option, None, Some, option_copied}
 use Rattle.explanation.specs.Lines.{told_line}
 use Rattle.explain_text.specs.Texts.{place_text}
-use Rattle.lacking_words.specs.Spelling.{word_at}
-use Rattle.source_lines.specs.Lines.{line_of, BeginsLine, EndsLine}
+use Rattle.opencl_words.specs.Spelling.{word_at}
+use Rattle.text_lines.specs.Lines.{line_of, BeginsLine, EndsLine}
 use Rattle.build_hints.specs.Hints.{fault_said}
 use Rattle.build_hints.specs.Places.{fault_place}
 use Rattle.build_hints.specs.Titles.{kind_of, number_of, name_of, title_of}

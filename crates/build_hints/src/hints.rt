@@ -9,8 +9,10 @@ use crate::faults::Refused;
 use clmodel::type_fault::TypeFault;
 use clsyntax_lex::lex;
 use clsyntax_lex::token::SyntaxFault;
-use hint_rules::{Mark, Place, callee, mark_at, nth, nth_last, place_in, token_hint, word_of};
-use lacking_words::{
+use hint_rules::{
+    Mark, TokensAround, callee, mark_at, nth, nth_last, place_in, token_hint, word_of,
+};
+use opencl_words::{
     UNDECLARED, argument_hint, byte_hint, first_said, function_hint, is_built_in, is_one_of,
     said_or, value_hint, word_hint,
 };
@@ -81,49 +83,49 @@ pub(crate) enum Hinted {
 }
 
 /// What the token at a place is.
-fn here_mark(place: Place<'_>) -> Mark
+fn here_mark(place: TokensAround<'_>) -> Mark
     ensures { result ≡ hints.here_mark (near_of place.entry) }
 {
     mark_at(nth(place.rest, 0))
 }
 
 /// What the token behind the one at a place is.
-fn next_mark(place: Place<'_>) -> Mark
+fn next_mark(place: TokensAround<'_>) -> Mark
     ensures { result ≡ hints.next_mark (near_of place.entry) }
 {
     mark_at(nth(place.rest, 1))
 }
 
 /// The word at a place.
-fn here_word(place: Place<'_>) -> &[u8]
+fn here_word(place: TokensAround<'_>) -> &[u8]
     ensures { result.now ≡ hints.here_word (near_of place.entry) }
 {
     word_of(place.source, nth(place.rest, 0))
 }
 
 /// The word that ends in front of a place with so many tokens behind it.
-fn last_word(place: Place<'_>, number: usize) -> &[u8]
+fn last_word(place: TokensAround<'_>, number: usize) -> &[u8]
     ensures { result.now ≡ hints.last_word (near_of place.entry) number }
 {
     word_of(place.source, nth_last(place.front, number))
 }
 
 /// The function whose arguments go on in front of a place.
-fn outer_word(place: Place<'_>) -> &[u8]
+fn outer_word(place: TokensAround<'_>) -> &[u8]
     ensures { result.now ≡ hints.outer_word (near_of place.entry) }
 {
     word_of(place.source, callee(place.front))
 }
 
 /// Whether the token at a place is followed by its arguments.
-fn is_called(place: Place<'_>) -> bool
+fn is_called(place: TokensAround<'_>) -> bool
     ensures { result ≡ hints.is_called (near_of place.entry) }
 {
     matches!(next_mark(place), Mark::OpenRound)
 }
 
 /// Whether the token at a place is followed by an index.
-fn is_indexed(place: Place<'_>) -> bool
+fn is_indexed(place: TokensAround<'_>) -> bool
     ensures { result ≡ hints.is_indexed (near_of place.entry) }
 {
     matches!(next_mark(place), Mark::OpenSquare)
@@ -131,7 +133,7 @@ fn is_indexed(place: Place<'_>) -> bool
 
 /// A hint at the first token that no program has: by its own word and by those of the two in front of it, which may
 /// have been read as names, or by what stands round it.
-fn unexpected_hint(place: Place<'_>) -> &'static str
+fn unexpected_hint(place: TokensAround<'_>) -> &'static str
     ensures { result.now ≡ hints.unexpected_said (near_of place.entry) }
 {
     let round = said_or(word_hint(last_word(place, 1)), token_hint(place));
@@ -157,14 +159,14 @@ fn fenced_hint(outer: &[u8]) -> &'static str
 }
 
 /// A hint at a fence outside of the brackets of a barrier: they may be those of a function that is lacking.
-fn fence_hint(place: Place<'_>) -> &'static str
+fn fence_hint(place: TokensAround<'_>) -> &'static str
     ensures { result.now ≡ hints.fence_said (near_of place.entry) }
 {
     fenced_hint(outer_word(place))
 }
 
 /// A hint at a name that no table has.
-fn unknown_hint(place: Place<'_>, word: &[u8]) -> &'static str
+fn unknown_hint(place: TokensAround<'_>, word: &[u8]) -> &'static str
     ensures { result.now ≡ hints.unknown_said (near_of place.entry) word.now }
 {
     if is_called(place) {
@@ -180,14 +182,14 @@ fn unknown_hint(place: Place<'_>, word: &[u8]) -> &'static str
 }
 
 /// The hint at a word as a name that isn't known: by the word itself, or by what stands round it.
-fn named_hint(place: Place<'_>, word: &[u8]) -> &'static str
+fn named_hint(place: TokensAround<'_>, word: &[u8]) -> &'static str
     ensures { result.now ≡ hints.named_said (near_of place.entry) word.now }
 {
     said_or(word_hint(word), unknown_hint(place, word))
 }
 
 /// A hint at a name that isn't known.
-fn name_hint(place: Place<'_>) -> &'static str
+fn name_hint(place: TokensAround<'_>) -> &'static str
     ensures { result.now ≡ hints.name_said (near_of place.entry) }
 {
     named_hint(place, here_word(place))
@@ -207,7 +209,7 @@ fn call_hint(word: &[u8]) -> Option<&'static str>
 }
 
 /// A hint at an operand by what stands in front of it.
-fn joined_hint(place: Place<'_>) -> Option<&'static str>
+fn joined_hint(place: TokensAround<'_>) -> Option<&'static str>
     ensures { option_copied result ≡ hints.joined_said (near_of place.entry) }
 {
     if is_one_of(&OF_ONE_TYPE, outer_word(place)) {
@@ -220,7 +222,7 @@ fn joined_hint(place: Place<'_>) -> Option<&'static str>
 }
 
 /// A hint at a word as an operand or an argument of a wrong kind.
-fn word_operand_hint(place: Place<'_>, word: &[u8]) -> Option<&'static str>
+fn word_operand_hint(place: TokensAround<'_>, word: &[u8]) -> Option<&'static str>
     ensures { option_copied result ≡ hints.operand_in (near_of place.entry) word.now }
 {
     if is_called(place) {
@@ -233,14 +235,14 @@ fn word_operand_hint(place: Place<'_>, word: &[u8]) -> Option<&'static str>
 }
 
 /// A hint at an operand or an argument of a wrong kind.
-fn operand_hint(place: Place<'_>) -> Option<&'static str>
+fn operand_hint(place: TokensAround<'_>) -> Option<&'static str>
     ensures { option_copied result ≡ hints.operand_said (near_of place.entry) }
 {
     word_operand_hint(place, here_word(place))
 }
 
 /// A hint at an operand, an argument or a statement of a wrong kind.
-fn mismatch_hint(place: Place<'_>) -> Option<&'static str>
+fn mismatch_hint(place: TokensAround<'_>) -> Option<&'static str>
     ensures { option_copied result ≡ hints.mismatch_said (near_of place.entry) }
 {
     match here_mark(place) {
@@ -251,7 +253,7 @@ fn mismatch_hint(place: Place<'_>) -> Option<&'static str>
 }
 
 /// A hint at a pointer of another address space, or at the name of an array that is declared in local memory.
-fn space_hint(place: Place<'_>) -> &'static str
+fn space_hint(place: TokensAround<'_>) -> &'static str
     ensures { result.now ≡ hints.space_said (near_of place.entry) }
 {
     match mark_at(nth_last(place.front, 1)) {
@@ -261,7 +263,7 @@ fn space_hint(place: Place<'_>) -> &'static str
 }
 
 /// A hint at what can't be stored to: only an array's name is followed by an assignment.
-fn target_hint(place: Place<'_>) -> Option<&'static str>
+fn target_hint(place: TokensAround<'_>) -> Option<&'static str>
     ensures { option_copied result ≡ hints.target_said (near_of place.entry) }
 {
     match next_mark(place) {
@@ -271,7 +273,7 @@ fn target_hint(place: Place<'_>) -> Option<&'static str>
 }
 
 /// A hint at a place.
-fn hint_at(hinted: Hinted, place: Place<'_>) -> Option<&'static str>
+fn hint_at(hinted: Hinted, place: TokensAround<'_>) -> Option<&'static str>
     ensures { option_copied result ≡ hints.said_at hinted (near_of place.entry) }
 {
     match hinted {

@@ -9,10 +9,10 @@ use crate::hints::hint_of;
 use crate::titles::title_of;
 use explain_text::{place_text, write_quote};
 use explanation::line_as_text;
-use lacking_words::word_at;
-use source_lines::{line_text, position_of};
+use opencl_words::word_at;
 use std::alloc::{AllocError, Global};
 use std::fmt::Write;
+use text_lines::{line_text, position_of};
 
 /// A fault of a source, with where it lies. Lines and columns count from 1, columns and lengths in bytes.
 #[derive(Drop)]

@@ -1,3 +1,4 @@
 pub mod CommandLines
 pub mod Replays
 mod Servings
+pub mod Sessions

@@ -12,16 +12,16 @@ use Rattle.clmodel.specs.declared.setup.Range.{Range}
 use Rattle.device.specs.Machine.{Machine, kernel_of, setup_of}
 use Rattle.device.specs.Prepared.{IsPrepared}
 use Rattle.host_commands.specs.declared.command.Command.{Command}
-use Rattle.counted_io.specs.Sink.{Sink}
+use Rattle.byte_io.specs.Sink.{Sink}
 use Rattle.item_step.specs.Launches as launches
 use Rattle.item_step.specs.declared.launch.Launch.{Launch}
-use Rattle.spaces_base.specs.Buffers.{bytes_in}
-use Rattle.spaces_base.specs.Tables.{Table}
-use Rattle.script_runs.specs.Reading.{ReadsScript}
+use Rattle.spaces.specs.Buffers.{bytes_in}
+use Rattle.spaces.specs.Tables.{Table}
+use Rattle.cli.specs.Reading.{ReadsScript}
 use Rattle.cli.specs.Replaying.{HadMemory, Leads, Performs, Replays, ReadsFile, Unjudged, Unreplayed, Missed, Refused}
-use Rattle.script_runs.specs.declared.session.RunFault.{RunFault}
-use Rattle.script_runs.specs.declared.session.RunFault.TheVariants as fault
-use Rattle.script_runs.proofs.Sessions.{plays_more}
+use Rattle.cli.specs.declared.session.RunFault.{RunFault}
+use Rattle.cli.specs.declared.session.RunFault.TheVariants as fault
+use Rattle.cli.proofs.Sessions.{plays_more}
 
 pub leads_none : (m : Machine) → Leads m [] m
 leads_none m = record { replies = []; plays = refl; had_memory = λ k d h. absurd (omega arith) }

@@ -6,18 +6,18 @@ use Rattle.std.specs.Io.KnownBytes.{Consumes, IsAtEnd}
 use Rattle.device.specs.Machine.{Machine, Step, opening}
 use Rattle.host_commands.specs.declared.command.Command.{Command}
 use Rattle.host_commands.specs.declared.command.Reply.{Reply}
-use Rattle.script_runs.specs.declared.session.RunEnd.{RunEnd}
-use Rattle.script_runs.specs.Faults.{serve_fault}
-use Rattle.script_runs.specs.Session.{Plays, one_end, end_of, Ran}
+use Rattle.cli.specs.declared.session.RunEnd.{RunEnd}
+use Rattle.cli.specs.Faults.{serve_fault}
+use Rattle.cli.specs.Session.{Plays, one_end, end_of, Ran}
 use Rattle.cli.specs.Serving.{Served, Begun, ServeFailed}
 use Rattle.cli.specs.Serves.{Serves}
-use Rattle.script_runs.proofs.Sessions.{plays_more, lines-more, fold-more}
-use Rattle.counted_io.specs.Pieces.{joined}
-use Rattle.counted_io.specs.Sink.{Wrote}
-use Rattle.counted_io.specs.Source.{Are}
-use Rattle.counted_io.proofs.Puts.{stopped_then}
-use Rattle.peers.specs.Talk.{Event, Heard, Told, heard, told, hearing, Conversation, Said}
-use Rattle.peers.proofs.Talks.{said_then, heard-append, told-append, heard-hearing, told-hearing}
+use Rattle.cli.proofs.Sessions.{plays_more, lines-more, fold-more}
+use Rattle.byte_io.specs.Pieces.{joined}
+use Rattle.byte_io.specs.Sink.{Wrote}
+use Rattle.byte_io.specs.Source.{Are}
+use Rattle.byte_io.proofs.Puts.{stopped_then}
+use Rattle.byte_io.specs.Talk.{Event, Heard, Told, heard, told, hearing, Conversation, Said}
+use Rattle.byte_io.proofs.Talks.{said_then, heard-append, told-append, heard-hearing, told-hearing}
 use Rattle.serving.specs.declared.server.Server.{Server}
 use Rattle.serving.specs.declared.server.ServeFault.{ServeFault}
 use Rattle.serving.specs.declared.server.ServeFault.TheVariants as serve

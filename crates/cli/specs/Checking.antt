@@ -3,11 +3,11 @@ use Rattle.std.specs.Prelude.{◌≡◌, ℕ, Bool, true, false, Option, None, S
 use Rattle.clmodel.specs.Tree.{Program}
 use Rattle.host_commands.specs.Builds.{Builds}
 use Rattle.host_commands.specs.declared.command.BuildFault.{BuildFault}
-use Rattle.script_runs.specs.declared.session.Reader.TheVariants as reader
-use Rattle.script_runs.specs.declared.session.RunFault.{RunFault}
-use Rattle.script_runs.specs.declared.session.RunFault.TheVariants as fault
-use Rattle.counted_io.specs.Sink.{Sink, Wrote, Stopped, CountsUp}
-use Rattle.counted_io.specs.Source.{Are}
+use Rattle.cli.specs.declared.session.Reader.TheVariants as reader
+use Rattle.cli.specs.declared.session.RunFault.{RunFault}
+use Rattle.cli.specs.declared.session.RunFault.TheVariants as fault
+use Rattle.byte_io.specs.Sink.{Sink, Wrote, Stopped, CountsUp}
+use Rattle.byte_io.specs.Source.{Are}
 use Rattle.simfile.specs.Lines.{check_line}
 
 abbrev pub fault_of : Result Program BuildFault → Option BuildFault

@@ -4,15 +4,15 @@ use Rattle.clmodel.specs.Setup.{kernel_number}
 use Rattle.clmodel.specs.Tree.{Program}
 use Rattle.host_commands.specs.Builds.{Builds}
 use Rattle.host_commands.specs.declared.command.BuildFault.{BuildFault}
-use Rattle.counted_io.specs.Sink.{Sink, Wrote, Stopped, CountsUp}
-use Rattle.counted_io.specs.Source.{Are}
+use Rattle.byte_io.specs.Sink.{Sink, Wrote, Stopped, CountsUp}
+use Rattle.byte_io.specs.Source.{Are}
 use Rattle.lower.specs.Names.{LowersNamed}
 use Rattle.regcode.specs.Listing.{Listing}
 use Rattle.code_text.specs.Text.{text_of}
 use Rattle.simfile.specs.Lines.{check_line}
-use Rattle.script_runs.specs.declared.session.Reader.TheVariants as reader
-use Rattle.script_runs.specs.declared.session.RunFault.{RunFault}
-use Rattle.script_runs.specs.declared.session.RunFault.TheVariants as fault
+use Rattle.cli.specs.declared.session.Reader.TheVariants as reader
+use Rattle.cli.specs.declared.session.RunFault.{RunFault}
+use Rattle.cli.specs.declared.session.RunFault.TheVariants as fault
 
 -- the text of code of a program's kernel was written
 pub record CodeWritten (program : Program) (kernel : List ℕ) (old new : Sink) : Type 0 where

@@ -4,10 +4,13 @@ pub mod Replaying
 pub mod CommandLine
 pub mod Serving
 pub mod Serves
-pub use Rattle.counted_io.specs.Sink
-pub use Rattle.counted_io.specs.Source
+pub use Rattle.byte_io.specs.Sink
+pub use Rattle.byte_io.specs.Source
 pub use Rattle.fault_lines.specs.ScheduleFile
-pub use Rattle.script_runs.specs.Session
-pub use Rattle.script_runs.specs.Reading
+pub use Rattle.cli.specs.Session
+pub use Rattle.cli.specs.Reading
 pub use Rattle.simfile.specs.Script
 pub use Rattle.simfile.specs.Lines
+pub mod Session
+pub mod Faults
+pub mod Reading

@@ -14,14 +14,14 @@ use Rattle.host_commands.specs.declared.command.Refusal.{Refusal}
 use Rattle.host_commands.specs.declared.command.Refusal.TheVariants as refusal
 use Rattle.host_commands.specs.declared.command.Reply.{Reply}
 use Rattle.host_commands.specs.declared.command.Reply.TheVariants as reply
-use Rattle.counted_io.specs.Sink.{Sink, Wrote, Stopped, CountsUp}
-use Rattle.counted_io.specs.Source.{Are}
+use Rattle.byte_io.specs.Sink.{Sink, Wrote, Stopped, CountsUp}
+use Rattle.byte_io.specs.Source.{Are}
 use Rattle.fault_lines.specs.ScheduleFile.{IsScheduleFile, NoScheduleFile}
-use Rattle.script_runs.specs.Reading.{ReadsScript, Misread}
-use Rattle.script_runs.specs.Session.{Plays}
-use Rattle.script_runs.specs.declared.session.Reader.TheVariants as reader
-use Rattle.script_runs.specs.declared.session.RunFault.{RunFault}
-use Rattle.script_runs.specs.declared.session.RunFault.TheVariants as fault
+use Rattle.cli.specs.Reading.{ReadsScript, Misread}
+use Rattle.cli.specs.Session.{Plays}
+use Rattle.cli.specs.declared.session.Reader.TheVariants as reader
+use Rattle.cli.specs.declared.session.RunFault.{RunFault}
+use Rattle.cli.specs.declared.session.RunFault.TheVariants as fault
 
 -- a reply other than the refusal for want of memory
 abbrev pub HadMemory : Reply → Type 0

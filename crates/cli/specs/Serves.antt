@@ -3,9 +3,9 @@ use Rattle.std.specs.Prelude.{◌≡◌, ℕ, List, [], ◌∷◌, ◌++◌}
 use Rattle.device.specs.Machine.{Machine, opening}
 use Rattle.host_commands.specs.declared.command.Command.{Command}
 use Rattle.host_commands.specs.declared.command.Reply.{Reply}
-use Rattle.script_runs.specs.declared.session.RunEnd.{RunEnd}
-use Rattle.script_runs.specs.Session.{Plays, end_of}
-use Rattle.peers.specs.Talk.{Event, Heard, heard, Conversation, Said}
+use Rattle.cli.specs.declared.session.RunEnd.{RunEnd}
+use Rattle.cli.specs.Session.{Plays, end_of}
+use Rattle.byte_io.specs.Talk.{Event, Heard, heard, Conversation, Said}
 use Rattle.serving.specs.declared.server.Server.{Server}
 use Rattle.serving.specs.Hearing.{EndsWith}
 use Rattle.serving.specs.Turns.{greeting, AreTurns}

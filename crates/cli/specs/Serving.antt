@@ -4,14 +4,14 @@ use Rattle.std.specs.Io.KnownBytes.{Consumes}
 use Rattle.device.specs.Machine.{Machine, Step, opening}
 use Rattle.host_commands.specs.declared.command.Command.{Command}
 use Rattle.host_commands.specs.declared.command.Reply.{Reply}
-use Rattle.script_runs.specs.declared.session.Reader.TheVariants as reader
-use Rattle.script_runs.specs.declared.session.RunEnd.{RunEnd}
-use Rattle.script_runs.specs.declared.session.RunFault.{RunFault}
-use Rattle.script_runs.specs.declared.session.RunFault.TheVariants as fault
-use Rattle.script_runs.specs.Session.{Plays, end_of}
-use Rattle.counted_io.specs.Pieces.{joined}
-use Rattle.counted_io.specs.Sink.{Stopped, CountsUp}
-use Rattle.peers.specs.Talk.{Event, Heard, heard, hearing, Conversation, Said}
+use Rattle.cli.specs.declared.session.Reader.TheVariants as reader
+use Rattle.cli.specs.declared.session.RunEnd.{RunEnd}
+use Rattle.cli.specs.declared.session.RunFault.{RunFault}
+use Rattle.cli.specs.declared.session.RunFault.TheVariants as fault
+use Rattle.cli.specs.Session.{Plays, end_of}
+use Rattle.byte_io.specs.Pieces.{joined}
+use Rattle.byte_io.specs.Sink.{Stopped, CountsUp}
+use Rattle.byte_io.specs.Talk.{Event, Heard, heard, hearing, Conversation, Said}
 use Rattle.serving.specs.Hearing.{EndsWith}
 use Rattle.serving.specs.Turns.{greeting, AreTurns, IsBad}
 use Rattle.serving.specs.Serving.{up_to_most}

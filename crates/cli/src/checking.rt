@@ -2,15 +2,15 @@
 #![tactic(auto)]
 
 ghost use Rattle.std.specs.Prelude.{◌≡◌, [], IfOk, IfErr, OnOk};
-ghost use Rattle.counted_io.specs.Sink.{Puts};
+ghost use Rattle.byte_io.specs.Sink.{Puts};
 ghost use Rattle.simfile.specs.Lines.{check_line};
 ghost use Rattle.cli.specs.Checking.{Checked, Unchecked, source_status_of};
 
-use counted_io::{Read, Write, WriteFailed};
+use crate::reading::bytes_of;
+use crate::session::{Reader, RunFault};
+use byte_io::{Read, Write, WriteFailed};
 use host_commands::build::{NotBuilt, build};
 use host_commands::command::BuildFault;
-use script_runs::reading::bytes_of;
-use script_runs::session::{Reader, RunFault};
 use simfile::replies::write_check;
 use std::alloc::Global;
 

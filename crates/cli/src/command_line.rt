@@ -7,11 +7,11 @@ ghost use Rattle.clap.specs.declared.builder.command.Command.{Command};
 ghost use Rattle.clap.specs.declared.builder.command.Command.TheViews.{out-Command};
 ghost use Rattle.cli.specs.CommandLine.{file, workers, budget, kernel, script, schedule, some_schedule, format, as_given, run_form, check_form, dump_form, replay_form, serve_form, explain_form, runs, program, GivesWorkers, GivesBudget, GivesFormat, GivesFlag, IsRun, IsCheck, IsDump, IsReplay, IsServe, IsExplain, Reads, Holds, AsksFor, IsRefused};
 
+use crate::session::Options;
 use crate::wish::ExplainWish;
 use clap::builder::ValueParser;
 use clap::error::ErrorKind;
 use clap::{Arg, ArgAction, ArgMatches, Command, Error};
-use script_runs::session::Options;
 use std::alloc::{AllocError, Global};
 
 /// What a command line asks for.

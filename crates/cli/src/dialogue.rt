@@ -4,15 +4,15 @@
 ghost use Rattle.std.specs.Prelude.{◌≡◌, ◌≤◌, ℕ, IfOk, IfErr, IfSome, length, []};
 ghost use Rattle.std.specs.Option.{MatchOption};
 ghost use Rattle.device.specs.Machine.{machine_of};
-ghost use Rattle.peers.specs.Talk.{Conversation};
+ghost use Rattle.byte_io.specs.Talk.{Conversation};
 ghost use Rattle.serving.specs.Serving.{HasLine};
-ghost use Rattle.script_runs.specs.Session.{Ran, end_of};
+ghost use Rattle.cli.specs.Session.{Ran, end_of};
 ghost use Rattle.cli.specs.Serving.{Served, ServeFailed};
 ghost use Rattle.cli.specs.Serves.{Serves};
 
+use crate::session::{Options, RunEnd, RunFault, one_end};
+use byte_io::Peer;
 use device::{Device, OpenGate};
-use peers::Peer;
-use script_runs::session::{Options, RunEnd, RunFault, one_end};
 use serving::Server;
 use std::alloc::Global;
 use std::marker::Sync;

@@ -6,13 +6,13 @@ ghost use Rattle.clmodel.specs.Tree.{program};
 ghost use Rattle.cli.specs.Dumping.{CodeWritten, CodeUnwritten, Dumped, Undumped};
 
 use crate::checking::tell;
+use crate::reading::bytes_of;
+use crate::session::{Reader, RunFault};
+use byte_io::{Read, Write};
 use cltypes::Checked;
 use code_text::dump;
-use counted_io::{Read, Write};
 use host_commands::build::{NotBuilt, build};
 use lower::lower;
-use script_runs::reading::bytes_of;
-use script_runs::session::{Reader, RunFault};
 use std::alloc::Global;
 
 /// Writes the code of a program's kernel as text, and lets go of it.

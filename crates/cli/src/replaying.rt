@@ -4,19 +4,19 @@
 ghost use Rattle.std.specs.Prelude.{◌≡◌, ℕ, List, [], false, None, Some, IfOk, IfErr, IfSome, IfNone, OnOk, Decides, slice_get, take};
 ghost use Rattle.device.specs.Machine.{IsRefusal, machine_of, opening};
 ghost use Rattle.clmodel.specs.declared.setup.Range.{Range};
-ghost use Rattle.counted_io.specs.Sink.{Puts};
+ghost use Rattle.byte_io.specs.Sink.{Puts};
 ghost use Rattle.cli.specs.Replaying.{ReadsFile, FileFails, NoLaunch, Performs, Leads, Replays, Judges, Unjudged, answer_line, Replayed, Unreplayed, replay_status_of};
 
+use crate::reading::{bytes_of, commands_of};
+use crate::session::{Options, Reader, RunFault};
+use byte_io::{Read, Write, WriteFailed};
 use clmodel::fault::Fault;
 use clmodel::schedule::Schedule;
 use clmodel::setup::Range;
 use clmodel::text::Name;
-use counted_io::{Read, Write, WriteFailed};
 use device::{Command, Device, Refusal, Reply};
 use fault_lines::read;
 use replay::replay;
-use script_runs::reading::{bytes_of, commands_of};
-use script_runs::session::{Options, Reader, RunFault};
 use std::alloc::{AllocError, Global};
 
 /// What a schedule file tells: the number of a launch among a script's commands, from 0, a fault, and events that lead

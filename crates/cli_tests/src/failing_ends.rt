@@ -2,8 +2,9 @@
 //! n.
 
 use crate::scripts::{RACE, RACE_REPLIES, REFUSED, REFUSED_REPLIES, SUM, SUM_REPLIES};
-use script_runs::run;
-use script_runs::session::{Options, Reader, RunEnd, RunFault};
+use byte_io::{Input, Output};
+use cli::run;
+use cli::session::{Options, Reader, RunEnd, RunFault};
 use std::alloc::Global;
 use std::io;
 use std::io::{BufWriter, Error, ErrorKind};
@@ -11,7 +12,6 @@ use std::marker::Sync;
 use std::sync::Wait;
 use std::test::Fail;
 use std::thread::Threads;
-use streams::{Input, Output};
 
 /// Moves one byte at each call, and fails where no calls are left.
 #[derive(Drop)]

@@ -1,7 +1,7 @@
 -- The fault of an explanation as that of a command.
 use Rattle.std.proofs.Common.{◌≡◌, ℕ}
-use Rattle.script_runs.specs.declared.session.RunFault.{RunFault}
-use Rattle.counted_io.specs.Sink.{Sink}
+use Rattle.cli.specs.declared.session.RunFault.{RunFault}
+use Rattle.byte_io.specs.Sink.{Sink}
 use Rattle.explaining.specs.Explaining.{Unwritten}
 use Rattle.explaining.specs.declared.facts.Given.{Given}
 use Rattle.explaining.specs.declared.faults.ExplainFault.{ExplainFault}

@@ -1,12 +1,12 @@
 -- Files that are explained: what is read, and what is written (own).
 use Rattle.std.specs.Prelude.{◌≡◌, ◌⊎◌, ℕ, Bool, Option, None, Some, option_map, List, []}
-use Rattle.script_runs.specs.Reading.{ReadFails}
-use Rattle.script_runs.specs.declared.session.Reader.{Reader}
-use Rattle.script_runs.specs.declared.session.Reader.TheVariants as reader
-use Rattle.script_runs.specs.declared.session.RunFault.{RunFault}
-use Rattle.script_runs.specs.declared.session.RunFault.TheVariants as fault
-use Rattle.counted_io.specs.Sink.{Sink, Wrote}
-use Rattle.counted_io.specs.Source.{Are}
+use Rattle.cli.specs.Reading.{ReadFails}
+use Rattle.cli.specs.declared.session.Reader.{Reader}
+use Rattle.cli.specs.declared.session.Reader.TheVariants as reader
+use Rattle.cli.specs.declared.session.RunFault.{RunFault}
+use Rattle.cli.specs.declared.session.RunFault.TheVariants as fault
+use Rattle.byte_io.specs.Sink.{Sink, Wrote}
+use Rattle.byte_io.specs.Source.{Are}
 use Rattle.explaining.specs.Explaining.{Explains, Unwritten}
 use Rattle.explaining.specs.declared.facts.Given.{Given}
 use Rattle.explaining.specs.declared.faults.ExplainFault.{ExplainFault}

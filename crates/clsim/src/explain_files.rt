@@ -8,10 +8,10 @@ ghost use Rattle.std.specs.Prelude.{◌≡◌, IfOk, IfErr};
 ghost use Rattle.std.specs.Option.{option_map};
 ghost use Rattle.clsim.specs.Files.{explain_fault, IsGiven, Answered, Unanswered, ScriptTold, ScriptUntold, FileTold, FileUntold};
 
-use counted_io::{Read, Write};
+use byte_io::{Read, Write};
+use cli::reading::bytes_of;
+use cli::session::{Reader, RunFault};
 use explaining::{ExplainFault, ExplainOptions, Given, explain};
-use script_runs::reading::bytes_of;
-use script_runs::session::{Reader, RunFault};
 use std::alloc::Global;
 
 /// Which fault of a command the fault of an explanation is.

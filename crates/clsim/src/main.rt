@@ -8,23 +8,23 @@ ghost use Rattle.std.specs.Prelude.{◌≡◌, ◌≤◌, IfOk};
 ghost use Rattle.std.specs.Process.{exit_status};
 ghost use Rattle.cli.specs.Checking.{source_status_of};
 ghost use Rattle.cli.specs.Replaying.{replay_status_of};
-ghost use Rattle.script_runs.specs.Session.{status_of};
+ghost use Rattle.cli.specs.Session.{status_of};
 
 mod explain_files;
 mod named_file;
 
 use crate::explain_files::{explain_schedule, explain_script};
 use crate::named_file::NamedFile;
+use byte_io::{Input, Output, StreamPeer};
 use cli::checking::{check_file, source_status};
 use cli::command_line::{Invocation, command};
 use cli::dialogue::serve;
 use cli::dumping::dump_file;
 use cli::replaying::{replay_files, replay_status};
+use cli::session::{Options, Reader, RunEnd, RunFault};
 use cli::wish::ExplainWish;
 use cli::{run, status};
 use explaining::{ExplainOptions, Format};
-use peers::StreamPeer;
-use script_runs::session::{Options, Reader, RunEnd, RunFault};
 use std::env::Env;
 use std::io::{BufReader, BufWriter, Printer};
 use std::marker::Sync;
@@ -33,7 +33,6 @@ use std::rt::Files;
 use std::sync::Wait;
 use std::thread::Threads;
 use std::{env, fs, io};
-use streams::{Input, Output};
 
 /// Opens a file to read, and standard output to be written.
 fn open<'a, R: Files + Print + AllocGlobal>(

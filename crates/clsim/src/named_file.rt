@@ -3,11 +3,11 @@
 
 ghost use Rattle.std.specs.Prelude.{◌≡◌, None};
 
+use byte_io::Input;
 use cli::{Read, ReadFault};
 use std::alloc::Global;
 use std::fs;
 use std::rt::Files;
-use streams::Input;
 
 /// A file that is opened when it is read, and read whole. Where that fails, the failure is counted.
 #[derive(Drop)]

@@ -13,7 +13,7 @@ use clsyntax_lex::token::{Token, TokenKind};
 use clsyntax_terms::closing::add_declaration;
 use clsyntax_terms::nesting::Nesting;
 use clsyntax_terms::state::{
-    Array, ArrayMode, Declared, Frame, Frames, Identifier, Mode, Moved, Purpose, Stack, Step,
+    Array, ArrayMode, Declared, Frame, Frames, Identifier, Mode, Moved, Purpose, Stack, TokenStep,
 };
 
 /// Whether the items of a block are in front.
@@ -28,10 +28,10 @@ pub(crate) fn on_array(declared: Declared, stack: Stack) -> Moved
     ensures { Steps result (machine.on_array declared.nesting.0 declared.at declared.kind declared.identifier.at declared.identifier.name (opened stack)) }
 {
     let VariableType::Integer(element) = declared.kind else {
-        return Ok(Step::Refused);
+        return Ok(TokenStep::Refused);
     };
     if !in_block(&stack.frames) {
-        return Ok(Step::Refused);
+        return Ok(TokenStep::Refused);
     }
     let array = Array {
         nesting: declared.nesting,
@@ -63,7 +63,7 @@ pub(crate) fn on_local_name(
             };
             stack.go(nesting, Mode::Array(ArrayMode::Named(array)))
         }
-        _ => Ok(Step::Refused),
+        _ => Ok(TokenStep::Refused),
     }
 }
 
@@ -72,7 +72,7 @@ fn on_length(array: Array, length_at: u32, length: Value, stack: Stack) -> Moved
     ensures { Steps result (machine.go (suc array.nesting.0) (machine.ArraySized array.nesting.0 (tree.DeclareArray array.at array.is_local array.element array.identifier.at array.identifier.name length_at length)) (opened stack)) }
 {
     let Some(inner) = array.nesting.deeper() else {
-        return Ok(Step::Deep);
+        return Ok(TokenStep::Deep);
     };
     let declaration = Statement::DeclareArray {
         at: array.at,
@@ -97,7 +97,7 @@ fn on_sized(nesting: Nesting, statement: Box<Statement>, stack: Stack) -> Moved
 {
     match nesting.deeper() {
         Some(inner) => stack.go(inner, Mode::Array(ArrayMode::Closed { nesting, statement })),
-        None => Ok(Step::Deep),
+        None => Ok(TokenStep::Deep),
     }
 }
 
@@ -118,6 +118,6 @@ pub(crate) fn on_array_mode(mode: ArrayMode, stack: Stack, token: Token) -> Move
         (ArrayMode::Closed { nesting, statement }, TokenKind::Semicolon) => {
             add_declaration(nesting, statement, stack)
         }
-        _ => Ok(Step::Refused),
+        _ => Ok(TokenStep::Refused),
     }
 }

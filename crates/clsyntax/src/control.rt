@@ -14,7 +14,7 @@ use clmodel::tree::{Expression, Statement};
 use clsyntax_lex::token::{Token, TokenKind};
 use clsyntax_terms::closing::{begin_condition, begin_turns};
 use clsyntax_terms::nesting::Nesting;
-use clsyntax_terms::state::{Frame, Frames, Mode, Moved, Purpose, Stack, Step, Turns};
+use clsyntax_terms::state::{Frame, Frames, Mode, Moved, Purpose, Stack, TokenStep, Turns};
 use std::alloc::AllocError;
 
 /// After `if`.
@@ -23,7 +23,7 @@ pub(crate) fn on_after_if(nesting: Nesting, at: u32, stack: Stack, kind: TokenKi
 {
     match kind {
         TokenKind::OpenRound => stack.open(nesting, Frame::InIf { at, nesting }),
-        _ => Ok(Step::Refused),
+        _ => Ok(TokenStep::Refused),
     }
 }
 
@@ -33,7 +33,7 @@ pub(crate) fn on_after_while(nesting: Nesting, at: u32, stack: Stack, kind: Toke
 {
     match kind {
         TokenKind::OpenRound => stack.open(nesting, Frame::InWhile { at, nesting }),
-        _ => Ok(Step::Refused),
+        _ => Ok(TokenStep::Refused),
     }
 }
 
@@ -49,7 +49,7 @@ pub(crate) fn on_after_do(
 {
     match kind {
         TokenKind::OpenRound => stack.open(nesting, Frame::InDo { at, nesting, body }),
-        _ => Ok(Step::Refused),
+        _ => Ok(TokenStep::Refused),
     }
 }
 
@@ -58,12 +58,12 @@ pub(crate) fn on_after_for(nesting: Nesting, at: u32, stack: Stack, kind: TokenK
     ensures { Steps result (machine.on_after_for nesting.0 at (opened stack) kind) }
 {
     if !matches!(kind, TokenKind::OpenRound) {
-        return Ok(Step::Refused);
+        return Ok(TokenStep::Refused);
     }
     let stack = stack.push(Frame::InInitial { at })?;
     match nesting.deeper() {
         Some(inner) => stack.go(nesting, Mode::Initial { nesting: inner }),
-        None => Ok(Step::Deep),
+        None => Ok(TokenStep::Deep),
     }
 }
 
@@ -72,11 +72,11 @@ fn no_initial(nesting: Nesting, stack: Stack) -> Moved
     ensures { Steps result (machine.no_initial nesting.0 (opened stack)) }
 {
     let Some((frame, stack)) = stack.pop() else {
-        return Ok(Step::Refused);
+        return Ok(TokenStep::Refused);
     };
     let Frame::InInitial { at } = frame else {
         drop(frame);
-        return Ok(Step::Refused);
+        return Ok(TokenStep::Refused);
     };
     begin_condition(nesting, at, None, stack)
 }
@@ -100,13 +100,13 @@ fn no_final(nesting: Nesting, stack: Stack) -> Moved
     ensures { Steps result (machine.no_final nesting.0 (opened stack)) }
 {
     let Some((frame, stack)) = stack.pop() else {
-        return Ok(Step::Refused);
+        return Ok(TokenStep::Refused);
     };
     match frame {
         Frame::InFinal(turns) => begin_turns(nesting, turns, None, stack),
         _ => {
             drop(frame);
-            Ok(Step::Refused)
+            Ok(TokenStep::Refused)
         }
     }
 }
@@ -218,7 +218,7 @@ fn on_settled(statement: Box<Statement>, stack: Stack, token: Token) -> Moved
     ensures { Steps result (machine.on_settled (stmt statement.value) (opened stack) token) }
 {
     let Some((frame, stack)) = stack.pop() else {
-        return Ok(Step::Refused);
+        return Ok(TokenStep::Refused);
     };
     match frame {
         Frame::InItems { nesting, mut body } => {
@@ -232,7 +232,7 @@ fn on_settled(statement: Box<Statement>, stack: Stack, token: Token) -> Moved
             condition,
         } => match token.kind {
             TokenKind::Else => begin_otherwise(nesting, at, condition, statement, stack),
-            _ => Ok(Step::Refused),
+            _ => Ok(TokenStep::Refused),
         },
         Frame::DoTurns { at, nesting } => match token.kind {
             TokenKind::While => {
@@ -243,11 +243,11 @@ fn on_settled(statement: Box<Statement>, stack: Stack, token: Token) -> Moved
                 };
                 stack.go(nesting, after)
             }
-            _ => Ok(Step::Refused),
+            _ => Ok(TokenStep::Refused),
         },
         _ => {
             drop(frame);
-            Ok(Step::Refused)
+            Ok(TokenStep::Refused)
         }
     }
 }

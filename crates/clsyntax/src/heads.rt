@@ -12,7 +12,7 @@ use clnum::IntType;
 use clsyntax_lex::token::{Token, TokenKind};
 use clsyntax_terms::nesting::Nesting;
 use clsyntax_terms::state::{
-    Declared, Frame, Head, HeadMode, Identifier, Mode, Moved, Purpose, Stack, Step, TypeMode,
+    Declared, Frame, Head, HeadMode, Identifier, Mode, Moved, Purpose, Stack, TokenStep, TypeMode,
 };
 
 /// The nesting of a type's tokens.
@@ -44,7 +44,7 @@ pub(crate) fn on_typing(wanted: Purpose, stack: Stack, kind: TokenKind) -> Moved
     let mode = match (kind, type_of(wanted, kind)) {
         (TokenKind::Space(space), _) => TypeMode::AfterSpace(space),
         (_, Some(integer)) => TypeMode::Whole(VariableType::Integer(integer)),
-        _ => return Ok(Step::Refused),
+        _ => return Ok(TokenStep::Refused),
     };
     stack.go(nesting_of(wanted), Mode::Typing { wanted, mode })
 }
@@ -54,7 +54,7 @@ fn on_parameter_name(takes_size: bool, parameter: Parameter, stack: Stack) -> Mo
     ensures { Steps result (machine.on_parameter_name takes_size parameter (opened stack)) }
 {
     let Some((frame, stack)) = stack.pop() else {
-        return Ok(Step::Refused);
+        return Ok(TokenStep::Refused);
     };
     match frame {
         Frame::InHead(mut head) => {
@@ -66,7 +66,7 @@ fn on_parameter_name(takes_size: bool, parameter: Parameter, stack: Stack) -> Mo
         }
         _ => {
             drop(frame);
-            Ok(Step::Refused)
+            Ok(TokenStep::Refused)
         }
     }
 }
@@ -106,7 +106,7 @@ pub(crate) fn on_type(wanted: Purpose, mode: TypeMode, stack: Stack, token: Toke
         (TypeMode::AfterSpace(space), TokenKind::Const) => TypeMode::AfterConst(space),
         (TypeMode::AfterSpace(space) | TypeMode::AfterConst(space), kind) => {
             let Some(element) = type_of(wanted, kind) else {
-                return Ok(Step::Refused);
+                return Ok(TokenStep::Refused);
             };
             TypeMode::AfterElement(PointerType {
                 space,
@@ -126,7 +126,7 @@ pub(crate) fn on_type(wanted: Purpose, mode: TypeMode, stack: Stack, token: Toke
             Identifier { at, name },
             stack,
         ),
-        _ => return Ok(Step::Refused),
+        _ => return Ok(TokenStep::Refused),
     };
     stack.go(nesting_of(wanted), Mode::Typing { wanted, mode: next })
 }
@@ -136,7 +136,7 @@ fn on_open_brace(at: u32, stack: Stack) -> Moved
     ensures { Steps result (machine.on_open_brace at (opened stack)) }
 {
     let Some((frame, stack)) = stack.pop() else {
-        return Ok(Step::Refused);
+        return Ok(TokenStep::Refused);
     };
     match frame {
         Frame::InHead(head) => {
@@ -149,7 +149,7 @@ fn on_open_brace(at: u32, stack: Stack) -> Moved
         }
         _ => {
             drop(frame);
-            Ok(Step::Refused)
+            Ok(TokenStep::Refused)
         }
     }
 }
@@ -163,7 +163,7 @@ fn on_top(stack: Stack, token: Token) -> Moved
         TokenKind::Void => None,
         TokenKind::Type(integer) => Some(integer),
         TokenKind::SizeT => Some(IntType::Ulong),
-        _ => return Ok(Step::Refused),
+        _ => return Ok(TokenStep::Refused),
     };
     let is_kernel = false;
     stack.go(
@@ -204,7 +204,7 @@ fn on_after_returning(
     ensures { Steps result (machine.on_after_returning is_kernel returned (opened stack) token) }
 {
     let TokenKind::Name(name) = token.kind else {
-        return Ok(Step::Refused);
+        return Ok(TokenStep::Refused);
     };
     let named = HeadMode::AfterName {
         is_kernel,
@@ -219,7 +219,7 @@ fn on_after_kernel(stack: Stack, token: Token) -> Moved
     ensures { Steps result (machine.on_after_kernel (opened stack) token) }
 {
     let TokenKind::Void = token.kind else {
-        return Ok(Step::Refused);
+        return Ok(TokenStep::Refused);
     };
     let returning = HeadMode::AfterReturning {
         is_kernel: true,
@@ -259,6 +259,6 @@ pub(crate) fn on_head(mode: HeadMode, stack: Stack, token: Token) -> Moved
             on_typing(Purpose::Parameter { takes_size }, stack, kind)
         }
         (HeadMode::HeadDone, TokenKind::OpenBrace) => on_open_brace(token.at, stack),
-        _ => Ok(Step::Refused),
+        _ => Ok(TokenStep::Refused),
     }
 }

@@ -20,7 +20,7 @@ use clsyntax_terms::closing::on_ended;
 use clsyntax_terms::expressions::{on_expression_read, on_operand};
 use clsyntax_terms::nesting::Nesting;
 use clsyntax_terms::state::{
-    Address, Cast, ExpressionRead, Frame, Identifier, Mode, Moved, Prefix, Stack, State, Step,
+    Address, Cast, ExpressionRead, Frame, Identifier, Mode, Moved, Prefix, Stack, State, TokenStep,
 };
 use std::alloc::Global;
 
@@ -55,7 +55,7 @@ fn on_cast_type(cast: Cast, stack: Stack, token: Token) -> Moved
     ensures { Steps result (machine.on_cast_type cast.nesting.0 cast.at cast.target (opened stack) token) }
 {
     if !matches!(token.kind, TokenKind::CloseRound) {
-        return Ok(Step::Refused);
+        return Ok(TokenStep::Refused);
     }
     let prefix = Prefix::Convert(cast.target);
     match cast.nesting.deeper() {
@@ -66,7 +66,7 @@ fn on_cast_type(cast: Cast, stack: Stack, token: Token) -> Moved
                 prefix,
             },
         ),
-        None => Ok(Step::Deep),
+        None => Ok(TokenStep::Deep),
     }
 }
 
@@ -75,7 +75,7 @@ fn on_after_and(nesting: Nesting, at: u32, stack: Stack, token: Token) -> Moved
     ensures { Steps result (machine.on_after_and nesting.0 at (opened stack) token) }
 {
     let TokenKind::Name(name) = token.kind else {
-        return Ok(Step::Refused);
+        return Ok(TokenStep::Refused);
     };
     let address = Address {
         nesting,
@@ -91,7 +91,7 @@ fn on_and_name(address: Address, stack: Stack, token: Token) -> Moved
 {
     match token.kind {
         TokenKind::OpenSquare => stack.open(address.nesting, Frame::InAddress(address)),
-        _ => Ok(Step::Refused),
+        _ => Ok(TokenStep::Refused),
     }
 }
 
@@ -101,7 +101,7 @@ fn on_closing(nesting: Nesting, statement: Box<Statement>, stack: Stack, token: 
 {
     match token.kind {
         TokenKind::Semicolon => stack.go(nesting, Mode::StatementRead(statement)),
-        _ => Ok(Step::Refused),
+        _ => Ok(TokenStep::Refused),
     }
 }
 

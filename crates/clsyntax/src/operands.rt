@@ -11,7 +11,7 @@ use clsyntax_terms::closing::on_nothing;
 use clsyntax_terms::expressions::{end_call, on_operand};
 use clsyntax_terms::nesting::Nesting;
 use clsyntax_terms::operators::prefix_of;
-use clsyntax_terms::state::{Cast, Frame, Mode, Moved, Stack, Step};
+use clsyntax_terms::state::{Cast, Frame, Mode, Moved, Stack, TokenStep};
 
 /// Whether an operand or the type of a cast begins with a token.
 fn begins_operand(kind: TokenKind) -> bool
@@ -29,10 +29,10 @@ pub(crate) fn on_opened(nesting: Nesting, at: u32, stack: Stack, token: Token) -
     ensures { Steps result (machine.on_opened nesting.0 at (opened stack) token) }
 {
     if !begins_operand(token.kind) {
-        return Ok(Step::Refused);
+        return Ok(TokenStep::Refused);
     }
     let Some(inner) = nesting.deeper() else {
-        return Ok(Step::Deep);
+        return Ok(TokenStep::Deep);
     };
     match token.kind {
         TokenKind::Type(target) => {
@@ -60,13 +60,13 @@ fn close_call(stack: Stack) -> Moved
     ensures { Steps result (machine.close_call (opened stack)) }
 {
     let Some((frame, stack)) = stack.pop() else {
-        return Ok(Step::Refused);
+        return Ok(TokenStep::Refused);
     };
     match frame {
         Frame::InCall(call) => end_call(call, stack),
         _ => {
             drop(frame);
-            Ok(Step::Refused)
+            Ok(TokenStep::Refused)
         }
     }
 }

@@ -13,7 +13,7 @@ use clmodel::text::Name;
 use clmodel::tree::Function;
 use clsyntax_lex::token::{SyntaxFault, Token};
 use clsyntax_terms::nesting::LIMIT;
-use clsyntax_terms::state::{Frame, Frames, HeadMode, Mode, State, Step};
+use clsyntax_terms::state::{Frame, Frames, HeadMode, Mode, State, TokenStep};
 use std::alloc::{AllocError, Global};
 
 /// The state before the first token.
@@ -39,9 +39,9 @@ fn advance(alloc: Global, state: Box<State>, token: Token) -> Result<Box<State>,
 {
     let at = token.at;
     match step(alloc, state, token)? {
-        Step::Refused => Err(SyntaxFault::Unexpected { at }),
-        Step::Deep => Err(SyntaxFault::TooDeep { at }),
-        Step::To { nesting, state } => {
+        TokenStep::Refused => Err(SyntaxFault::Unexpected { at }),
+        TokenStep::Deep => Err(SyntaxFault::TooDeep { at }),
+        TokenStep::To { nesting, state } => {
             if nesting.0 > LIMIT {
                 Err(SyntaxFault::TooDeep { at })
             } else {

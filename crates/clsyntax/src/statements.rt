@@ -17,7 +17,7 @@ use clsyntax_terms::nesting::Nesting;
 use clsyntax_terms::operators::assign_of;
 use clsyntax_terms::state::{
     Assign, Call, Declared, FirstName, Frame, HeadMode, Identifier, Mode, Moved, Purpose, Stack,
-    Step, TargetRead,
+    TargetRead, TokenStep,
 };
 
 /// After a declared name.
@@ -31,7 +31,7 @@ pub(crate) fn on_declared(declared: Declared, stack: Stack, token: Token) -> Mov
             add_declaration(declared.nesting, statement, stack)
         }
         TokenKind::OpenSquare => on_array(declared, stack),
-        _ => Ok(Step::Refused),
+        _ => Ok(TokenStep::Refused),
     }
 }
 
@@ -41,7 +41,7 @@ fn end_function(nesting: Nesting, function: Function, stack: Stack) -> Moved
     ensures { Steps result (machine.end_function nesting.0 (func function) (opened stack)) }
 {
     let Some((frame, stack)) = stack.pop() else {
-        return Ok(Step::Refused);
+        return Ok(TokenStep::Refused);
     };
     match frame {
         Frame::InProgram(mut functions) => {
@@ -52,7 +52,7 @@ fn end_function(nesting: Nesting, function: Function, stack: Stack) -> Moved
         }
         _ => {
             drop(frame);
-            Ok(Step::Refused)
+            Ok(TokenStep::Refused)
         }
     }
 }
@@ -69,7 +69,7 @@ fn end_items(nesting: Nesting, body: Vec<Statement>, stack: Stack) -> Moved
     ensures { Steps result (machine.end_items nesting.0 (stmts_of body.items) (opened stack)) }
 {
     let Some((frame, stack)) = stack.pop() else {
-        return Ok(Step::Refused);
+        return Ok(TokenStep::Refused);
     };
     match frame {
         Frame::InBody { head, at } => {
@@ -90,7 +90,7 @@ fn end_items(nesting: Nesting, body: Vec<Statement>, stack: Stack) -> Moved
         }
         _ => {
             drop(frame);
-            Ok(Step::Refused)
+            Ok(TokenStep::Refused)
         }
     }
 }
@@ -100,13 +100,13 @@ fn on_close_brace(stack: Stack) -> Moved
     ensures { Steps result (machine.on_close_brace (opened stack)) }
 {
     let Some((frame, stack)) = stack.pop() else {
-        return Ok(Step::Refused);
+        return Ok(TokenStep::Refused);
     };
     match frame {
         Frame::InItems { nesting, body } => end_items(nesting, body, stack),
         _ => {
             drop(frame);
-            Ok(Step::Refused)
+            Ok(TokenStep::Refused)
         }
     }
 }
@@ -116,7 +116,7 @@ fn open_block(nesting: Nesting, at: u32, stack: Stack) -> Moved
     ensures { Steps result (machine.go nesting.0 (machine.Item (suc nesting.0)) (machine.InItems (suc nesting.0) NoStmt ∷ machine.InBlock at nesting.0 ∷ opened stack)) }
 {
     let Some(inner) = nesting.deeper() else {
-        return Ok(Step::Deep);
+        return Ok(TokenStep::Deep);
     };
     let body = Vec::new(stack.alloc);
     let stack = stack
@@ -133,7 +133,7 @@ fn begin_step(nesting: Nesting, at: u32, is_increment: bool, stack: Stack) -> Mo
     ensures { Steps result (machine.go nesting.0 (machine.Aim (suc nesting.0)) (machine.InStep at nesting.0 is_increment ∷ opened stack)) }
 {
     let Some(inner) = nesting.deeper() else {
-        return Ok(Step::Deep);
+        return Ok(TokenStep::Deep);
     };
     let step = Frame::InStep {
         at,
@@ -168,7 +168,7 @@ pub(crate) fn on_simple(nesting: Nesting, stack: Stack, token: Token) -> Moved
         }
         TokenKind::PlusPlus => begin_step(nesting, at, true, stack),
         TokenKind::MinusMinus => begin_step(nesting, at, false, stack),
-        _ => Ok(Step::Refused),
+        _ => Ok(TokenStep::Refused),
     }
 }
 
@@ -187,7 +187,7 @@ pub(crate) fn begin_controlled(nesting: Nesting, frame: Frame, stack: Stack) -> 
     let stack = stack.push(frame)?;
     match nesting.deeper() {
         Some(inner) => stack.go(nesting, Mode::Begin { nesting: inner }),
-        None => Ok(Step::Deep),
+        None => Ok(TokenStep::Deep),
     }
 }
 
@@ -252,7 +252,7 @@ pub(crate) fn on_aim(nesting: Nesting, stack: Stack, token: Token) -> Moved
             };
             stack.open(nesting, behind)
         }
-        _ => Ok(Step::Refused),
+        _ => Ok(TokenStep::Refused),
     }
 }
 
@@ -291,7 +291,7 @@ fn on_placed(nesting: Nesting, at: u32, target: Box<Target>, stack: Stack, token
                 let statement = Box::new(stack.alloc, step)?;
                 stack.go(nesting, Mode::Ended { nesting, statement })
             }
-            None => Ok(Step::Refused),
+            None => Ok(TokenStep::Refused),
         },
     }
 }
@@ -310,7 +310,7 @@ pub(crate) fn on_target_read(read: TargetRead, stack: Stack, token: Token) -> Mo
         (false, _) => on_placed(nesting, at, target, stack, token),
         (true, TokenKind::Semicolon) => end_step(false, target, stack),
         (true, TokenKind::CloseRound) => end_step(true, target, stack),
-        (true, _) => Ok(Step::Refused),
+        (true, _) => Ok(TokenStep::Refused),
     }
 }
 
@@ -324,7 +324,7 @@ pub(crate) fn open_call(
     ensures { Steps result (machine.go nesting.0 (machine.CallOpen (suc nesting.0)) (machine.InCall is_statement identifier.at identifier.name nesting.0 NoTerm ∷ opened stack)) }
 {
     let Some(inner) = nesting.deeper() else {
-        return Ok(Step::Deep);
+        return Ok(TokenStep::Deep);
     };
     let arguments = Vec::new(stack.alloc);
     let stack = stack.push(Frame::InCall(Call {
@@ -347,7 +347,7 @@ pub(crate) fn on_begin_name(first: FirstName, stack: Stack, token: Token) -> Mov
     } = first;
     match token.kind {
         TokenKind::OpenSquare => stack.open(nesting, Frame::InPart(first)),
-        TokenKind::OpenRound if is_step => Ok(Step::Refused),
+        TokenKind::OpenRound if is_step => Ok(TokenStep::Refused),
         TokenKind::OpenRound => open_call(true, nesting, identifier, stack),
         _ => {
             let Identifier { at, name } = identifier;

@@ -3,8 +3,8 @@ use Rattle.std.proofs.Common.{◌≡◌, ℕ, ◌+◌, ◌<◌, ◌≤◌, List,
 use Rattle.std.proofs.lemmas.List.{append-nil, drop_more, at_drop_all}
 use Rattle.clsyntax_lex.specs.declared.token.TokenKind.{TokenKind}
 use Rattle.clsyntax_lex.specs.Printed.{spelled, text_of}
-use Rattle.counted_io.specs.Sink.{Sink, Wrote, Stopped, Puts}
-use Rattle.counted_io.proofs.Puts.{wrote_none, wrote_then, stopped_then, stopped_more}
+use Rattle.byte_io.specs.Sink.{Sink, Wrote, Stopped, Puts}
+use Rattle.byte_io.proofs.Puts.{wrote_none, wrote_then, stopped_then, stopped_more}
 use Rattle.clsyntax_print.specs.Printing.{Kinds}
 use Rattle.clsyntax_print.specs.Writing.{Passed, Passes}
 

@@ -6,7 +6,7 @@ use Rattle.clmodel.specs.Tree.{MaybeStmt, Without, With, stmt}
 use Rattle.clsyntax_lex.specs.declared.token.TokenKind.{TokenKind}
 use Rattle.clsyntax_lex.specs.declared.token.TokenKind.TheVariants as kinds
 use Rattle.clsyntax_lex.specs.Printed.{spelled, text_of}
-use Rattle.counted_io.specs.Sink.{Sink, Wrote, Stopped}
+use Rattle.byte_io.specs.Sink.{Sink, Wrote, Stopped}
 use Rattle.clsyntax_print.specs.Printing.{Kinds}
 
 -- the text of a word or a symbol

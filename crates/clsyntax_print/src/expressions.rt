@@ -9,10 +9,10 @@ ghost use Rattle.clsyntax_print.specs.Writing.{Passes};
 
 use crate::operators::{TIGHT, infix_kind, unary_kind};
 use crate::tokens::{write_if, write_tokens};
+use byte_io::{Write, WriteFailed};
 use clmodel::text::Name;
 use clmodel::tree::Expression;
 use clsyntax_lex::token::TokenKind;
-use counted_io::{Write, WriteFailed};
 
 /// Writes an expression where one of a level is wanted: round brackets stand around it where its outermost operator
 /// binds less tightly.

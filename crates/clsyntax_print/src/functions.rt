@@ -10,11 +10,11 @@ ghost use Rattle.clsyntax_print.specs.Writing.{Passes};
 
 use crate::statements::{write_statements, write_type};
 use crate::tokens::{write_if, write_tokens};
+use byte_io::{Write, WriteFailed};
 use clmodel::text::Name;
 use clmodel::tree::{Function, Parameter};
 use clnum::IntType;
 use clsyntax_lex::token::TokenKind;
-use counted_io::{Write, WriteFailed};
 
 /// Writes tokens and a parameter.
 fn write_parameter<W: Write>(

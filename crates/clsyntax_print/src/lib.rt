@@ -5,7 +5,7 @@
 #![tactic(auto)]
 
 ghost use Rattle.clmodel.specs.Tree.{program};
-ghost use Rattle.counted_io.specs.Sink.{Puts};
+ghost use Rattle.byte_io.specs.Sink.{Puts};
 ghost use Rattle.clsyntax_print.specs.Text.{printed_text, IsOfGrammar, IsReadBack};
 
 mod expressions;
@@ -16,8 +16,8 @@ mod statements;
 mod tokens;
 
 use crate::functions::write_functions;
+use byte_io::{Write, WriteFailed};
 use clmodel::tree::Tree;
-use counted_io::{Write, WriteFailed};
 
 /// Why a tree was not printed.
 #[derive(Clone, Copy, Debug, PartialEq, Eq)]

@@ -12,11 +12,11 @@ ghost use Rattle.clsyntax_print.specs.Writing.{part_of, Passes};
 use crate::expressions::{write_arguments, write_between};
 use crate::operators::{TIGHT, assign_kind, step_kind};
 use crate::tokens::{write_if, write_tokens};
+use byte_io::{Write, WriteFailed};
 use clmodel::text::Name;
 use clmodel::tree::{AddressSpace, Expression, Statement, Target, VariableType};
 use clnum::{IntType, Value};
 use clsyntax_lex::token::TokenKind;
-use counted_io::{Write, WriteFailed};
 
 /// Writes a target.
 fn write_target<W: Write>(

@@ -4,15 +4,15 @@
 ghost use Rattle.std.specs.Prelude.{◌≡◌, ◌++◌, ◌∷◌, [], List, decimal, nat_abs};
 ghost use Rattle.clsyntax_lex.specs.declared.token.TokenKind.{TokenKind};
 ghost use Rattle.clsyntax_lex.specs.Printed.{spelled, suffix_text};
-ghost use Rattle.counted_io.specs.Sink.{Puts};
+ghost use Rattle.byte_io.specs.Sink.{Puts};
 ghost use Rattle.clsyntax_print.specs.Printing.{with_token};
 ghost use Rattle.clsyntax_print.specs.Writing.{word_text, Passes};
 
+use byte_io::{Write, WriteFailed};
 use clmodel::text::Name;
 use clmodel::tree::AddressSpace;
 use clnum::{IntType, Value};
 use clsyntax_lex::token::TokenKind;
-use counted_io::{Write, WriteFailed};
 use itoa::Buffer;
 
 /// The text of a word or a symbol, and none of a name or a number.

@@ -30,12 +30,12 @@ use Rattle.clsyntax_terms.specs.declared.state.Frames.{Frames, Empty, Inside'}
 use Rattle.clsyntax_terms.specs.declared.state.Mode.{Mode}
 use Rattle.clsyntax_terms.specs.declared.state.Mode.TheVariants as modes
 use Rattle.clsyntax_terms.specs.declared.state.State.{State}
-use Rattle.clsyntax_terms.specs.declared.state.Part.{Part}
-use Rattle.clsyntax_terms.specs.declared.state.Part.TheVariants as parts
+use Rattle.clsyntax_terms.specs.declared.state.ForPart.{ForPart}
+use Rattle.clsyntax_terms.specs.declared.state.ForPart.TheVariants as parts
 use Rattle.clsyntax_terms.specs.declared.operators.Folded.{Folded}
 use Rattle.clsyntax_terms.specs.declared.state.Stack.{Stack}
-use Rattle.clsyntax_terms.specs.declared.state.Step.{Step}
-use Rattle.clsyntax_terms.specs.declared.state.Step.TheVariants.{Refused, Deep, To}
+use Rattle.clsyntax_terms.specs.declared.state.TokenStep.{TokenStep}
+use Rattle.clsyntax_terms.specs.declared.state.TokenStep.TheVariants.{Refused, Deep, To}
 
 abbrev pub stmts_of : List rust_statement.Statement → Stmts
 stmts_of ss = then_stmts NoStmt (map stmt ss)
@@ -163,7 +163,7 @@ abbrev pub folded_of : Folded → machine.Folded
 folded_of f = machine.folded f.from (term f.value.value) (opened f.stack)
 
 -- which part of a `for` the frame in front reads
-abbrev pub part_of : List machine.Frame → Part
+abbrev pub part_of : List machine.Frame → ForPart
 part_of (machine.InInitial a ∷ fs) = parts.Initial
 part_of (machine.InFinal a i c ∷ fs) = parts.Final
 part_of _ = parts.Other
@@ -196,11 +196,11 @@ IsDeep None = ⊥
 IsDeep (Some x) = limit < x.0
 
 -- a step is the machine's
-abbrev pub IsStep : Step → Moved → Type 0
+abbrev pub IsStep : TokenStep → Moved → Type 0
 IsStep Refused m = m ≡ None
 IsStep Deep m = IsDeep m
 IsStep (To nesting state) m = m ≡ Some (nesting.0, state_of state.value)
 
 -- the step that was made, if memory sufficed
-abbrev pub Steps : Result Step AllocError → Moved → Type 0
+abbrev pub Steps : Result TokenStep AllocError → Moved → Type 0
 Steps result m = IfOk result (λ step. IsStep step m)

@@ -8,7 +8,7 @@ ghost use Rattle.clsyntax_terms.specs.Machine as machine;
 ghost use Rattle.clsyntax_terms.specs.Views.{opened, frame_of, stmts_of, maybe_statement, Steps};
 
 use crate::nesting::Nesting;
-use crate::state::{Assign, Declared, Frame, Mode, Moved, Part, Stack, Step, Turns};
+use crate::state::{Assign, Declared, ForPart, Frame, Mode, Moved, Stack, TokenStep, Turns};
 use clmodel::tree::{Expression, Statement, Target};
 use clsyntax_lex::token::TokenKind;
 use std::alloc::{AllocError, Global};
@@ -65,17 +65,17 @@ fn end_simple(nesting: Nesting, statement: Box<Statement>, stack: Stack) -> Move
 {
     // The frame is looked at before it is taken, since it stays but in front of the second part of a `for`.
     match stack.part() {
-        Part::Other => stack.go(nesting, Mode::StatementRead(statement)),
-        Part::Final => Ok(Step::Refused),
-        Part::Initial => {
+        ForPart::Other => stack.go(nesting, Mode::StatementRead(statement)),
+        ForPart::Final => Ok(TokenStep::Refused),
+        ForPart::Initial => {
             let Some((frame, stack)) = stack.pop() else {
-                return Ok(Step::Refused);
+                return Ok(TokenStep::Refused);
             };
             match frame {
                 Frame::InInitial { at } => begin_condition(nesting, at, Some(statement), stack),
                 _ => {
                     drop(frame);
-                    Ok(Step::Refused)
+                    Ok(TokenStep::Refused)
                 }
             }
         }
@@ -87,13 +87,13 @@ fn end_final(nesting: Nesting, statement: Box<Statement>, stack: Stack) -> Moved
     ensures { Steps result (machine.end_final nesting.0 (stmt statement.value) (opened stack)) }
 {
     let Some((frame, stack)) = stack.pop() else {
-        return Ok(Step::Refused);
+        return Ok(TokenStep::Refused);
     };
     match frame {
         Frame::InFinal(turns) => begin_turns(nesting, turns, Some(statement), stack),
         _ => {
             drop(frame);
-            Ok(Step::Refused)
+            Ok(TokenStep::Refused)
         }
     }
 }
@@ -121,7 +121,7 @@ pub fn on_ended(nesting: Nesting, statement: Box<Statement>, stack: Stack, kind:
     match kind {
         TokenKind::Semicolon => end_simple(nesting, statement, stack),
         TokenKind::CloseRound => end_final(nesting, statement, stack),
-        _ => Ok(Step::Refused),
+        _ => Ok(TokenStep::Refused),
     }
 }
 
@@ -130,7 +130,7 @@ pub fn end_step(is_bracket: bool, target: Box<Target>, stack: Stack) -> Moved
     ensures { Steps result (machine.end_step is_bracket (tree_target target.value) (opened stack)) }
 {
     let Some((frame, stack)) = stack.pop() else {
-        return Ok(Step::Refused);
+        return Ok(TokenStep::Refused);
     };
     match frame {
         Frame::InStep {
@@ -148,7 +148,7 @@ pub fn end_step(is_bracket: bool, target: Box<Target>, stack: Stack) -> Moved
         }
         _ => {
             drop(frame);
-            Ok(Step::Refused)
+            Ok(TokenStep::Refused)
         }
     }
 }
@@ -216,7 +216,7 @@ pub fn add_declaration(nesting: Nesting, statement: Box<Statement>, stack: Stack
     ensures { Steps result (machine.add_declaration nesting.0 (stmt statement.value) (opened stack)) }
 {
     let Some((frame, stack)) = stack.pop() else {
-        return Ok(Step::Refused);
+        return Ok(TokenStep::Refused);
     };
     let Frame::InItems {
         nesting: outer,
@@ -224,7 +224,7 @@ pub fn add_declaration(nesting: Nesting, statement: Box<Statement>, stack: Stack
     } = frame
     else {
         drop(frame);
-        return Ok(Step::Refused);
+        return Ok(TokenStep::Refused);
     };
     add_item(nesting, outer, body, statement, stack)
 }
@@ -234,7 +234,7 @@ fn end_declaration(nesting: Nesting, statement: Box<Statement>, stack: Stack) ->
     ensures { Steps result (machine.end_declaration nesting.0 (stmt statement.value) (opened stack)) }
 {
     let Some((frame, stack)) = stack.pop() else {
-        return Ok(Step::Refused);
+        return Ok(TokenStep::Refused);
     };
     match frame {
         Frame::InItems {
@@ -244,7 +244,7 @@ fn end_declaration(nesting: Nesting, statement: Box<Statement>, stack: Stack) ->
         Frame::InInitial { at } => begin_condition(nesting, at, Some(statement), stack),
         _ => {
             drop(frame);
-            Ok(Step::Refused)
+            Ok(TokenStep::Refused)
         }
     }
 }
@@ -262,7 +262,7 @@ pub(crate) fn on_semicolon(value: Box<Expression>, stack: Stack) -> Moved
     ensures { Steps result (machine.on_semicolon (term value.value) (opened stack)) }
 {
     let Some((frame, stack)) = stack.pop() else {
-        return Ok(Step::Refused);
+        return Ok(TokenStep::Refused);
     };
     match frame {
         Frame::InAssign(assign) => end_assign(false, assign, value, stack),
@@ -282,7 +282,7 @@ pub(crate) fn on_semicolon(value: Box<Expression>, stack: Stack) -> Moved
         Frame::InCondition(turns) => begin_final(turns, Some(value), stack),
         _ => {
             drop(frame);
-            Ok(Step::Refused)
+            Ok(TokenStep::Refused)
         }
     }
 }
@@ -292,14 +292,14 @@ pub fn on_nothing(stack: Stack) -> Moved
     ensures { Steps result (machine.without (opened stack)) }
 {
     let Some((frame, stack)) = stack.pop() else {
-        return Ok(Step::Refused);
+        return Ok(TokenStep::Refused);
     };
     match frame {
         Frame::InReturn { at, nesting } => end_return(nesting, at, None, stack),
         Frame::InCondition(turns) => begin_final(turns, None, stack),
         _ => {
             drop(frame);
-            Ok(Step::Refused)
+            Ok(TokenStep::Refused)
         }
     }
 }
@@ -312,7 +312,7 @@ fn begin_body(nesting: Nesting, frame: Frame, stack: Stack) -> Moved
         Some(inner) => stack.begin(inner, frame),
         None => {
             drop(frame);
-            Ok(Step::Deep)
+            Ok(TokenStep::Deep)
         }
     }
 }
@@ -328,7 +328,7 @@ fn end_do(
     ensures { Steps result (machine.go (suc nesting.0) (machine.Closing nesting.0 (tree.DoWhile at (stmt body.value) (term condition.value))) (opened stack)) }
 {
     let Some(inner) = nesting.deeper() else {
-        return Ok(Step::Deep);
+        return Ok(TokenStep::Deep);
     };
     let turns = Statement::DoWhile {
         at,
@@ -371,7 +371,7 @@ pub(crate) fn end_bracket(frame: Frame, value: Box<Expression>, stack: Stack) ->
         }
         _ => {
             drop(frame);
-            Ok(Step::Refused)
+            Ok(TokenStep::Refused)
         }
     }
 }

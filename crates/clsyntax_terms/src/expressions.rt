@@ -12,8 +12,8 @@ use crate::closing::{end_bracket, on_semicolon};
 use crate::nesting::Nesting;
 use crate::operators::{Folded, assign_of, close, infix_of, is_star, prefix_of};
 use crate::state::{
-    Assign, Call, ExpressionRead, FirstName, Frame, Identifier, Mode, Moved, Stack, Step,
-    TargetRead,
+    Assign, Call, ExpressionRead, FirstName, Frame, Identifier, Mode, Moved, Stack, TargetRead,
+    TokenStep,
 };
 use clmodel::tree::{Expression, InfixOperator, Statement, Target};
 use clsyntax_lex::token::{Token, TokenKind};
@@ -45,12 +45,12 @@ pub fn on_operand(nesting: Nesting, stack: Stack, token: Token) -> Moved
         }
         TokenKind::And => match nesting.deeper() {
             Some(inner) => stack.go(nesting, Mode::AfterAnd { nesting: inner, at }),
-            None => Ok(Step::Deep),
+            None => Ok(TokenStep::Deep),
         },
         TokenKind::OpenRound => stack.go(nesting, Mode::Opened { nesting, at }),
         _ => match prefix_of(kind) {
             Some(prefix) => stack.open(nesting, Frame::Before { at, prefix }),
-            None => Ok(Step::Refused),
+            None => Ok(TokenStep::Refused),
         },
     }
 }
@@ -77,7 +77,7 @@ pub fn end_call(call: Call, stack: Stack) -> Moved
         arguments,
     } = call;
     let Some(inner) = nesting.deeper() else {
-        return Ok(Step::Deep);
+        return Ok(TokenStep::Deep);
     };
     if is_statement {
         let call = Statement::Call {
@@ -104,7 +104,7 @@ fn on_close_round(value: Box<Expression>, stack: Stack) -> Moved
     ensures { Steps result (machine.on_close_round (term value.value) (opened stack)) }
 {
     let Some((frame, stack)) = stack.pop() else {
-        return Ok(Step::Refused);
+        return Ok(TokenStep::Refused);
     };
     match frame {
         Frame::InRound { at, nesting } => stack.close(nesting, at, value),
@@ -122,19 +122,19 @@ fn on_comma(value: Box<Expression>, stack: Stack) -> Moved
     ensures { Steps result (machine.on_comma (term value.value) (opened stack)) }
 {
     let Some((frame, stack)) = stack.pop() else {
-        return Ok(Step::Refused);
+        return Ok(TokenStep::Refused);
     };
     match frame {
         Frame::InCall(mut call) => {
             let Some(inner) = call.nesting.deeper() else {
-                return Ok(Step::Deep);
+                return Ok(TokenStep::Deep);
             };
             call.arguments.push(Box::into_inner(value))?;
             stack.want(inner, Frame::InCall(call))
         }
         _ => {
             drop(frame);
-            Ok(Step::Refused)
+            Ok(TokenStep::Refused)
         }
     }
 }
@@ -151,7 +151,7 @@ fn end_part(array: FirstName, index: Box<Expression>, stack: Stack) -> Moved
     let Identifier { at, name } = identifier;
     let target = Box::new(stack.alloc, Target::Element { at, name, index })?;
     let Some(inner) = nesting.deeper() else {
-        return Ok(Step::Deep);
+        return Ok(TokenStep::Deep);
     };
     let read = TargetRead {
         is_step,
@@ -167,7 +167,7 @@ fn on_close_square(index: Box<Expression>, stack: Stack) -> Moved
     ensures { Steps result (machine.on_close_square (term index.value) (opened stack)) }
 {
     let Some((frame, stack)) = stack.pop() else {
-        return Ok(Step::Refused);
+        return Ok(TokenStep::Refused);
     };
     match frame {
         Frame::InElement {
@@ -191,7 +191,7 @@ fn on_close_square(index: Box<Expression>, stack: Stack) -> Moved
         Frame::InPart(array) => end_part(array, index, stack),
         _ => {
             drop(frame);
-            Ok(Step::Refused)
+            Ok(TokenStep::Refused)
         }
     }
 }
@@ -201,7 +201,7 @@ fn on_colon(nesting: Nesting, chosen: Box<Expression>, stack: Stack) -> Moved
     ensures { Steps result (machine.on_colon nesting.0 (term chosen.value) (opened stack)) }
 {
     let Some((frame, stack)) = stack.pop() else {
-        return Ok(Step::Refused);
+        return Ok(TokenStep::Refused);
     };
     match frame {
         Frame::Conditional { from, condition } => {
@@ -214,7 +214,7 @@ fn on_colon(nesting: Nesting, chosen: Box<Expression>, stack: Stack) -> Moved
         }
         _ => {
             drop(frame);
-            Ok(Step::Refused)
+            Ok(TokenStep::Refused)
         }
     }
 }
@@ -224,10 +224,10 @@ fn on_assignment(kind: TokenKind, pointer: Box<Expression>, stack: Stack) -> Mov
     ensures { Steps result (machine.on_assignment (grammar.assign_of kind) (term pointer.value) (opened stack)) }
 {
     let Some(operator) = assign_of(kind) else {
-        return Ok(Step::Refused);
+        return Ok(TokenStep::Refused);
     };
     let Some((frame, stack)) = stack.pop() else {
-        return Ok(Step::Refused);
+        return Ok(TokenStep::Refused);
     };
     match frame {
         Frame::InBehind {
@@ -246,7 +246,7 @@ fn on_assignment(kind: TokenKind, pointer: Box<Expression>, stack: Stack) -> Mov
         }
         _ => {
             drop(frame);
-            Ok(Step::Refused)
+            Ok(TokenStep::Refused)
         }
     }
 }
@@ -257,7 +257,7 @@ fn end_expression(kind: TokenKind, nesting: Nesting, folded: Folded) -> Moved
 {
     let Folded { from, value, stack } = folded;
     match kind {
-        TokenKind::Question if is_star(&stack.frames) => Ok(Step::Refused),
+        TokenKind::Question if is_star(&stack.frames) => Ok(TokenStep::Refused),
         TokenKind::Question => stack.open(
             nesting,
             Frame::Conditional {
@@ -298,7 +298,7 @@ pub fn on_expression_read(read: ExpressionRead, stack: Stack, token: Token) -> M
     let operand = Folded { from, value, stack };
     let folded = close(asked_level(infix, token.kind), operand)?;
     match infix {
-        Some(_) if is_star(&folded.stack.frames) => Ok(Step::Refused),
+        Some(_) if is_star(&folded.stack.frames) => Ok(TokenStep::Refused),
         Some(operator) => {
             let Folded { from, value, stack } = folded;
             let after = Frame::After {

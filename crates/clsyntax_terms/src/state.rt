@@ -446,7 +446,7 @@ pub struct State {
 
 /// What a token does.
 #[derive(Drop)]
-pub enum Step {
+pub enum TokenStep {
     /// It can't come.
     Refused,
     /// It is nested too deep.
@@ -456,7 +456,7 @@ pub enum Step {
 }
 
 /// What a token does, if memory suffices.
-pub type Moved = Result<Step, AllocError>;
+pub type Moved = Result<TokenStep, AllocError>;
 
 /// What is open, and where memory for more comes from.
 #[derive(Drop)]
@@ -467,7 +467,7 @@ pub struct Stack {
 
 /// What a simple statement is read for.
 #[derive(Clone, Copy)]
-pub(crate) enum Part {
+pub(crate) enum ForPart {
     /// The first part of a `for`
     Initial,
     /// The third part of a `for`
@@ -477,13 +477,13 @@ pub(crate) enum Part {
 
 impl Stack {
     /// What a simple statement in front of the frames is read for.
-    pub(crate) fn part(&self) -> Part
+    pub(crate) fn part(&self) -> ForPart
         ensures { result ≡ part_of (opened self.now) }
     {
         match &*self.frames {
-            Frames::Inside(Frame::InInitial { .. }, _) => Part::Initial,
-            Frames::Inside(Frame::InFinal(_), _) => Part::Final,
-            _ => Part::Other,
+            Frames::Inside(Frame::InInitial { .. }, _) => ForPart::Initial,
+            Frames::Inside(Frame::InFinal(_), _) => ForPart::Final,
+            _ => ForPart::Other,
         }
     }
 
@@ -493,7 +493,7 @@ impl Stack {
     {
         let Stack { alloc, frames } = self;
         let state = Box::new(alloc, State { mode, frames })?;
-        Ok(Step::To { nesting, state })
+        Ok(TokenStep::To { nesting, state })
     }
 
     /// The stack with one more frame.
@@ -531,7 +531,7 @@ impl Stack {
         let stack = self.push(frame)?;
         match nesting.deeper() {
             Some(inner) => stack.go(nesting, Mode::Operand { nesting: inner }),
-            None => Ok(Step::Deep),
+            None => Ok(TokenStep::Deep),
         }
     }
 
@@ -555,7 +555,7 @@ impl Stack {
                 };
                 self.go(inner, Mode::ExpressionRead(read))
             }
-            None => Ok(Step::Deep),
+            None => Ok(TokenStep::Deep),
         }
     }
 }

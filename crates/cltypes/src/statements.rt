@@ -19,7 +19,7 @@ use clmodel::tree::{Expression, Statement, VariableType};
 use clmodel::type_fault::TypeFault;
 use clnum::{IntType, Value};
 use cltypes_scope::{
-    Context, Identifier, Spot, check_call, check_expression, integer_fault, lesser,
+    CallPlace, Context, Identifier, check_call, check_expression, integer_fault, lesser,
 };
 
 /// How many elements an array may have.
@@ -225,7 +225,7 @@ fn check_statement(context: &mut Context, statement: &Statement) -> Result<(), T
                 at: *at,
                 name: *name,
             };
-            check_call(context, Spot::WholeStatement, called, arguments)?;
+            check_call(context, CallPlace::WholeStatement, called, arguments)?;
             Ok(())
         }
         Statement::If {

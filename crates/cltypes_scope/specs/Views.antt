@@ -6,8 +6,8 @@ use Rattle.clmodel.specs.Typing.Faults.{start, kind_of, first_kind, wanted, argu
 use Rattle.clmodel.specs.Typing.Least.{least}
 use Rattle.cltypes_scope.specs.declared.faults.Want.{Want}
 use Rattle.cltypes_scope.specs.declared.faults.Want.TheVariants.{Integer, OfTypeBefore, AtomicPointer, ForParameter}
-use Rattle.cltypes_scope.specs.declared.faults.Spot.{Spot}
-use Rattle.cltypes_scope.specs.declared.faults.Spot.TheVariants.{WholeStatement, RightSide, Inside}
+use Rattle.cltypes_scope.specs.declared.faults.CallPlace.{CallPlace}
+use Rattle.cltypes_scope.specs.declared.faults.CallPlace.TheVariants.{WholeStatement, RightSide, Inside}
 use Rattle.cltypes_scope.specs.declared.faults.TypedOperand.{TypedOperand}
 use Rattle.cltypes_scope.specs.declared.faults.Arguments.{Arguments}
 
@@ -17,7 +17,7 @@ want_of OfTypeBefore = rule.OfTypeBefore
 want_of AtomicPointer = rule.AnAtomicPointer
 want_of (ForParameter kind) = rule.ForParameter kind
 
-abbrev pub spot_of : Spot → rule.Spot
+abbrev pub spot_of : CallPlace → rule.CallPlace
 spot_of WholeStatement = rule.WholeStatement
 spot_of RightSide = rule.RightSide
 spot_of Inside = rule.Inside

@@ -12,8 +12,9 @@ ghost use Rattle.cltypes_scope.specs.Answers.{Checks};
 ghost use Rattle.cltypes_scope.specs.Views.{spot_of, operand_of, arguments_of};
 
 use crate::faults::{
-    Arguments, Spot, TypedOperand, argument_fault, call_fault, choice_fault, element_address_fault,
-    element_fault, integer_fault, lesser, name_fault, operand_fault, pointer_fault, wanted,
+    Arguments, CallPlace, TypedOperand, argument_fault, call_fault, choice_fault,
+    element_address_fault, element_fault, integer_fault, lesser, name_fault, operand_fault,
+    pointer_fault, wanted,
 };
 use crate::flags::flags_fault;
 use crate::kinds::{
@@ -79,7 +80,7 @@ pub(crate) fn check_in(names: Names<'_>, expression: &Expression) -> Result<Type
                 at: *at,
                 name: *name,
             };
-            check_call_in(names, Spot::Inside, called, arguments)
+            check_call_in(names, CallPlace::Inside, called, arguments)
         }
         Expression::Unary {
             at,
@@ -160,7 +161,7 @@ fn check_dereference(
 #[cycle(expressions)]
 pub(crate) fn check_call_in(
     names: Names<'_>,
-    spot: Spot,
+    spot: CallPlace,
     called: Identifier,
     arguments: &[Expression],
 ) -> Result<TypedOperand, TypeFault>

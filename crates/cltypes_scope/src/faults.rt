@@ -33,7 +33,7 @@ pub enum Want {
 
 /// Where a call stands.
 #[derive(Clone, Copy, PartialEq, Eq)]
-pub enum Spot {
+pub enum CallPlace {
     WholeStatement,
     /// All that is assigned, or that initialises a variable
     RightSide,
@@ -283,10 +283,15 @@ fn argument_count(function: BuiltIn) -> usize
 
 /// A function of the text with this signature, called at `at` with n arguments: no kernel, at a spot that takes it, and
 /// an argument for each parameter.
-fn helper_fault(spot: Spot, signature: &Signature, at: u32, arguments: usize) -> Option<TypeFault>
+fn helper_fault(
+    spot: CallPlace,
+    signature: &Signature,
+    at: u32,
+    arguments: usize,
+) -> Option<TypeFault>
     ensures { result ≡ least (helper_faults (spot_of spot) (signature_of signature.now) at arguments) }
 {
-    if spot == Spot::Inside || signature.is_kernel {
+    if spot == CallPlace::Inside || signature.is_kernel {
         Some(TypeFault::TypeMismatch { at })
     } else if arguments != signature.parameters.len() {
         Some(TypeFault::WrongArgumentCount { at })
@@ -307,10 +312,10 @@ fn built_in_fault(function: BuiltIn, at: u32, arguments: usize) -> Option<TypeFa
 }
 
 /// The barrier, called at `at` with n arguments.
-fn barrier_fault(spot: Spot, at: u32, arguments: usize) -> Option<TypeFault>
+fn barrier_fault(spot: CallPlace, at: u32, arguments: usize) -> Option<TypeFault>
     ensures { result ≡ least (callee_faults (spot_of spot) typing.Barrier at arguments) }
 {
-    if spot != Spot::WholeStatement {
+    if spot != CallPlace::WholeStatement {
         Some(TypeFault::TypeMismatch { at })
     } else if arguments != 1 {
         Some(TypeFault::WrongArgumentCount { at })
@@ -321,7 +326,12 @@ fn barrier_fault(spot: Spot, at: u32, arguments: usize) -> Option<TypeFault>
 
 /// What is called at `at`, with n arguments.
 #[tactic(auto, using(crate::proofs::Least::least_append))]
-fn callee_fault(spot: Spot, meaning: Meaning<'_>, at: u32, arguments: usize) -> Option<TypeFault>
+fn callee_fault(
+    spot: CallPlace,
+    meaning: Meaning<'_>,
+    at: u32,
+    arguments: usize,
+) -> Option<TypeFault>
     ensures { result ≡ least (callee_faults (spot_of spot) (meaning_of meaning.entry) at arguments) }
 {
     match meaning {
@@ -339,7 +349,7 @@ fn callee_fault(spot: Spot, meaning: Meaning<'_>, at: u32, arguments: usize) -> 
 
 /// A call: what is called at `at`, n arguments, and what they have against them as flags.
 pub(crate) fn call_fault(
-    spot: Spot,
+    spot: CallPlace,
     meaning: Meaning<'_>,
     at: u32,
     count: usize,

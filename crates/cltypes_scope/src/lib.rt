@@ -18,7 +18,7 @@ mod values;
 pub use context::Context;
 pub use expressions::checked;
 pub use faults::{
-    Spot, TypedOperand, front_fault, integer_fault, lesser, moves, name_fault, passing_fault,
+    CallPlace, TypedOperand, front_fault, integer_fault, lesser, moves, name_fault, passing_fault,
     pointer_fault,
 };
 pub use meaning::{Meaning, Signature};

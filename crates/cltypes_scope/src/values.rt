@@ -13,7 +13,7 @@ ghost use Rattle.cltypes_scope.specs.Views.{spot_of, operand_of};
 
 use crate::context::Context;
 use crate::expressions::{check_call_in, check_in};
-use crate::faults::{Spot, TypedOperand};
+use crate::faults::{CallPlace, TypedOperand};
 use crate::meaning::Meaning;
 use crate::names::{Identifier, Names};
 use clmodel::tree::Expression;
@@ -42,7 +42,7 @@ pub fn check_expression(
 /// A call at a spot.
 pub fn check_call(
     context: &Context,
-    spot: Spot,
+    spot: CallPlace,
     called: Identifier,
     arguments: &[Expression],
 ) -> Result<TypedOperand, TypeFault>
@@ -72,7 +72,7 @@ pub fn check_value(context: &Context, value: &Expression) -> Result<TypedOperand
                 at: *at,
                 name: *name,
             };
-            check_call(context, Spot::RightSide, called, arguments)
+            check_call(context, CallPlace::RightSide, called, arguments)
         }
         _ => check_expression(context, value),
     }

@@ -1,9 +1,9 @@
 -- How the parts of a line and the lines of code are put together.
 use Rattle.std.proofs.Common.{◌≡◌, ℕ, ◌+◌, ◌<◌, suc, List, [], ◌∷◌, ◌++◌, codes, length, take, drop, get_or, Result, ap, sym, subst, ◌∙◌, append_assoc, arith}
 use Rattle.std.proofs.lemmas.List.{append-nil, take_more, take-append-drop, length-take}
-use Rattle.counted_io.specs.Pieces.{joined}
-use Rattle.counted_io.specs.Sink.{Sink, Wrote, Stopped, Puts}
-use Rattle.counted_io.proofs.Puts.{wrote_then, stopped_then, stopped_more}
+use Rattle.byte_io.specs.Pieces.{joined}
+use Rattle.byte_io.specs.Sink.{Sink, Wrote, Stopped, Puts}
+use Rattle.byte_io.proofs.Puts.{wrote_then, stopped_then, stopped_more}
 use Rattle.regcode.specs.declared.instruction.Instruction.{Instruction}
 use Rattle.code_text.specs.Text.{line_of, lines_from}
 

@@ -2,7 +2,7 @@
 use Rattle.std.specs.Prelude.{ℕ, ◌+◌, ◌-◌, suc, if◌then◌else◌, Option, None, Some, List, [], ◌∷◌, ◌++◌, codes, decimal}
 use Rattle.std.specs.Fmt.{signed_decimal}
 use Rattle.std.specs.List.{flat_map}
-use Rattle.counted_io.specs.Pieces.{joined}
+use Rattle.byte_io.specs.Pieces.{joined}
 use Rattle.clnum.specs.declared.operators.BinaryOperator.{BinaryOperator}
 use Rattle.clnum.specs.declared.operators.BinaryOperator.TheVariants as binary
 use Rattle.clnum.specs.declared.operators.Builtin.{Builtin}

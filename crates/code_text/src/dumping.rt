@@ -2,17 +2,17 @@
 #![tactic(auto)]
 
 ghost use Rattle.std.specs.Prelude.{◌≡◌, ◌+◌, ◌-◌, ◌<◌, ◌^◌, Some};
-ghost use Rattle.counted_io.specs.Sink.{Puts};
-ghost use Rattle.code_text.specs.declared.dumping.Part.TheVariants as part;
+ghost use Rattle.byte_io.specs.Sink.{Puts};
+ghost use Rattle.code_text.specs.declared.dumping.OperandText.TheVariants as part;
 ghost use Rattle.code_text.specs.Parts.{part_text, behind, parts_text};
 ghost use Rattle.code_text.specs.Text.{listed, names_in, line_of, text_of, variable_type};
 
 use crate::words::{fences_word, instruction_word, space_word};
+use byte_io::pieces::{Piece, write_number, write_pieces};
+use byte_io::{Write, WriteFailed};
 use clmodel::action::Fences;
 use clmodel::tree::VariableType;
 use clnum::{IntType, Value};
-use counted_io::pieces::{Piece, write_number, write_pieces};
-use counted_io::{Write, WriteFailed};
 use regcode::{Code, FetchOperands, Instruction};
 
 /// Why code was not dumped.
@@ -24,7 +24,7 @@ pub enum DumpFault {
 
 /// What an instruction names.
 #[derive(Clone, Copy)]
-enum Part {
+enum OperandText {
     Register(u32),
     /// The element that the pointer in a register points to
     Element(u32),
@@ -38,7 +38,12 @@ enum Part {
 }
 
 /// What an instruction names, one after another.
-type Parts = (Option<Part>, Option<Part>, Option<Part>, Option<Part>);
+type Parts = (
+    Option<OperandText>,
+    Option<OperandText>,
+    Option<OperandText>,
+    Option<OperandText>,
+);
 
 /// What the instruction at a place names. Jumps name the place that they lead to.
 fn parts(place: usize, instruction: &Instruction) -> Parts
@@ -52,13 +57,18 @@ fn parts(place: usize, instruction: &Instruction) -> Parts
             None,
             None,
         ),
-        Instruction::Constant { to, value } => (register(to), Some(Part::Value(value)), None, None),
+        Instruction::Constant { to, value } => (
+            register(to),
+            Some(OperandText::Value(value)),
+            None,
+            None,
+        ),
         Instruction::Move { to, from, name } => (register(to), register(from), number(name), None),
         Instruction::AssignConversion { to, from, kind } => {
             (
                 register(to),
                 register(from),
-                Some(Part::Variable(kind)),
+                Some(OperandText::Variable(kind)),
                 None,
             )
         }
@@ -67,7 +77,14 @@ fn parts(place: usize, instruction: &Instruction) -> Parts
             to,
             from,
             other: kind,
-        } => { (register(to), register(from), Some(Part::Type(kind)), None) }
+        } => {
+            (
+                register(to),
+                register(from),
+                Some(OperandText::Type(kind)),
+                None,
+            )
+        }
         Instruction::Unary { to, operand, .. } => (register(to), register(operand), None, None),
         Instruction::Binary {
             to,
@@ -84,7 +101,7 @@ fn parts(place: usize, instruction: &Instruction) -> Parts
             (
                 register(to),
                 register(first),
-                second.map(Part::Register),
+                second.map(OperandText::Register),
                 None,
             )
         }
@@ -97,7 +114,7 @@ fn parts(place: usize, instruction: &Instruction) -> Parts
             (
                 register(to),
                 number(place),
-                Some(Part::Variable(kind)),
+                Some(OperandText::Variable(kind)),
                 None,
             )
         }
@@ -109,7 +126,7 @@ fn parts(place: usize, instruction: &Instruction) -> Parts
             (
                 register(to),
                 number(object),
-                Some(Part::Type(element)),
+                Some(OperandText::Type(element)),
                 None,
             )
         }
@@ -123,8 +140,8 @@ fn parts(place: usize, instruction: &Instruction) -> Parts
         } => {
             (
                 register(to),
-                Some(Part::Private { array, index }),
-                Some(Part::Type(element)),
+                Some(OperandText::Private { array, index }),
+                Some(OperandText::Type(element)),
                 None,
             )
         }
@@ -136,9 +153,9 @@ fn parts(place: usize, instruction: &Instruction) -> Parts
             ..
         } => {
             (
-                Some(Part::Private { array, index }),
+                Some(OperandText::Private { array, index }),
                 register(value),
-                Some(Part::Type(element)),
+                Some(OperandText::Type(element)),
                 None,
             )
         }
@@ -148,17 +165,22 @@ fn parts(place: usize, instruction: &Instruction) -> Parts
         }
         Instruction::Load { to, pointer } => (
             register(to),
-            Some(Part::Element(pointer)),
+            Some(OperandText::Element(pointer)),
             None,
             None,
         ),
         Instruction::Store { pointer, value } => {
-            (Some(Part::Element(pointer)), register(value), None, None)
+            (
+                Some(OperandText::Element(pointer)),
+                register(value),
+                None,
+                None,
+            )
         }
         Instruction::Update { pointer, value, .. } => {
             (
-                Some(Part::Element(pointer)),
-                value.map(Part::Register),
+                Some(OperandText::Element(pointer)),
+                value.map(OperandText::Register),
                 None,
                 None,
             )
@@ -169,7 +191,7 @@ fn parts(place: usize, instruction: &Instruction) -> Parts
             operands,
             ..
         } => {
-            let pointed = Some(Part::Element(pointer));
+            let pointed = Some(OperandText::Element(pointer));
             match operands {
                 FetchOperands::Alone => (register(to), pointed, None, None),
                 FetchOperands::Number(value) => (register(to), pointed, register(value), None),
@@ -186,7 +208,7 @@ fn parts(place: usize, instruction: &Instruction) -> Parts
             (
                 number(site),
                 number(depth),
-                Some(Part::Fences(fences)),
+                Some(OperandText::Fences(fences)),
                 None,
             )
         }
@@ -204,32 +226,32 @@ fn parts(place: usize, instruction: &Instruction) -> Parts
 }
 
 /// A register, by its number in the table of registers.
-fn register(number: u32) -> Option<Part>
+fn register(number: u32) -> Option<OperandText>
     ensures { result ≡ Some (part.Register number) }
 {
-    Some(Part::Register(number))
+    Some(OperandText::Register(number))
 }
 
 /// A number that an instruction carries, in decimal.
-fn number(number: u32) -> Option<Part>
+fn number(number: u32) -> Option<OperandText>
     ensures { result ≡ Some (part.Number number) }
 {
-    Some(Part::Number(u64::from(number)))
+    Some(OperandText::Number(u64::from(number)))
 }
 
 /// The place past n further instructions.
-fn onward(place: usize, by: u32) -> Option<Part>
+fn onward(place: usize, by: u32) -> Option<OperandText>
     requires { place < 2 ^ 63 }
     ensures { result ≡ Some (part.Number (place + 1 + by)) }
 {
-    Some(Part::Number(place as u64 + 1 + u64::from(by)))
+    Some(OperandText::Number(place as u64 + 1 + u64::from(by)))
 }
 
 /// The place n instructions back.
-fn back(place: usize, by: u32) -> Option<Part>
+fn back(place: usize, by: u32) -> Option<OperandText>
     ensures { result ≡ Some (part.Number (place - by)) }
 {
-    Some(Part::Number((place as u64).saturating_sub(u64::from(by))))
+    Some(OperandText::Number((place as u64).saturating_sub(u64::from(by))))
 }
 
 /// Writes a variable's type.
@@ -254,19 +276,19 @@ fn write_variable<W: Write>(kind: VariableType, writer: &mut W) -> Result<(), Wr
 }
 
 /// Writes what an instruction names.
-fn write_part<W: Write>(part: Part, writer: &mut W) -> Result<(), WriteFailed>
+fn write_part<W: Write>(part: OperandText, writer: &mut W) -> Result<(), WriteFailed>
     ensures { Puts (W.sink writer.old) result (W.sink writer.new) (part_text part) }
 {
     match part {
-        Part::Register(number) => write_pieces(
+        OperandText::Register(number) => write_pieces(
             &[Piece::Text("r"), Piece::Number32(number)],
             writer,
         ),
-        Part::Element(number) => write_pieces(
+        OperandText::Element(number) => write_pieces(
             &[Piece::Text("[r"), Piece::Number32(number), Piece::Text("]")],
             writer,
         ),
-        Part::Private { array, index } => write_pieces(
+        OperandText::Private { array, index } => write_pieces(
             &[
                 Piece::Text("a"),
                 Piece::Number32(array),
@@ -276,8 +298,8 @@ fn write_part<W: Write>(part: Part, writer: &mut W) -> Result<(), WriteFailed>
             ],
             writer,
         ),
-        Part::Number(number) => write_number(number, writer),
-        Part::Value(value) => write_pieces(
+        OperandText::Number(number) => write_number(number, writer),
+        OperandText::Value(value) => write_pieces(
             &[
                 Piece::Text(value.kind().name()),
                 Piece::Text(" "),
@@ -285,16 +307,16 @@ fn write_part<W: Write>(part: Part, writer: &mut W) -> Result<(), WriteFailed>
             ],
             writer,
         ),
-        Part::Type(kind) => writer.write(kind.name().as_bytes()),
-        Part::Variable(kind) => write_variable(kind, writer),
-        Part::Fences(fences) => writer.write(fences_word(fences).as_bytes()),
+        OperandText::Type(kind) => writer.write(kind.name().as_bytes()),
+        OperandText::Variable(kind) => write_variable(kind, writer),
+        OperandText::Fences(fences) => writer.write(fences_word(fences).as_bytes()),
     }
 }
 
 /// Writes what an instruction names, if it names something here, behind what stands in front of it.
 fn write_behind<W: Write>(
     front: &str,
-    part: Option<Part>,
+    part: Option<OperandText>,
     writer: &mut W,
 ) -> Result<(), WriteFailed>
     ensures { Puts (W.sink writer.old) result (W.sink writer.new) (behind front.now part) }

@@ -9,7 +9,7 @@ use Rattle.clmodel.specs.Tree.{Program}
 use Rattle.clmodel.specs.declared.setup.Argument.{Argument}
 use Rattle.clmodel.specs.declared.tree.Parameter.{Parameter}
 use Rattle.host_commands.specs.Kernels.{KernelState, parameters_of, suits, with_argument}
-use Rattle.spaces_base.specs.Tables.{Table, is, find}
+use Rattle.spaces.specs.Tables.{Table, is, find}
 use Rattle.host_commands.specs.declared.command.Command.TheVariants as command
 use Rattle.host_commands.specs.declared.command.Refusal.{Refusal}
 use Rattle.host_commands.specs.declared.command.Refusal.TheVariants.{NoSuchName, BadArgument}

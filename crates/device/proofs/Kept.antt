@@ -25,7 +25,7 @@ use Rattle.lower.specs.Lowers.{IsLowered}
 use Rattle.regcode.specs.Listing.{Listing}
 use Rattle.renumbering.specs.Renamed.{renamed}
 use Rattle.renumbering.specs.Same.{IsRenumbered}
-use Rattle.spaces_base.specs.Tables.{Table, is, find}
+use Rattle.spaces.specs.Tables.{Table, is, find}
 use Rattle.device.specs.declared.compiled.CompiledKernel.{CompiledKernel}
 use Rattle.device.specs.Kept.{ActsAs, IsCodeOf, IsCompiled, AllCompiled, with_argument_set}
 

@@ -11,7 +11,7 @@ use Rattle.clmodel.specs.declared.outcome.Outcome.{Outcome}
 use Rattle.clmodel.specs.declared.outcome.Outcome.TheVariants.{Clean, Faulted}
 use Rattle.clmodel.specs.declared.schedule.EventRun.{EventRun}
 use Rattle.clmodel.specs.declared.setup.Range.{Range}
-use Rattle.spaces_base.specs.Tables.{with_values}
+use Rattle.spaces.specs.Tables.{with_values}
 use Rattle.host_commands.specs.declared.command.Command.TheVariants as command
 use Rattle.host_commands.specs.declared.command.Refusal.{Refusal}
 use Rattle.host_commands.specs.declared.command.Reply.TheVariants as reply

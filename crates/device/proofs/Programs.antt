@@ -5,7 +5,7 @@ use Rattle.std.specs.List.{list_any}
 use Rattle.std.specs.Map.{lookup, set_value, values_of}
 use Rattle.clmodel.specs.Tree.{program}
 use Rattle.cltypes.specs.declared.checked.Checked.{Checked}
-use Rattle.spaces_base.specs.Tables.{is, find}
+use Rattle.spaces.specs.Tables.{is, find}
 use Rattle.host_commands.specs.Kernels.{KernelState}
 use Rattle.device.specs.declared.compiled.CompiledKernel.{CompiledKernel}
 

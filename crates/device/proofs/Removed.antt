@@ -14,7 +14,7 @@ use Rattle.host_commands.specs.declared.command.Command.TheVariants as command
 use Rattle.host_commands.specs.declared.command.Refusal.{Refusal}
 use Rattle.host_commands.specs.declared.command.Refusal.TheVariants.{NoSuchName, InUse}
 use Rattle.host_commands.specs.declared.command.Reply.TheVariants as reply
-use Rattle.spaces_base.specs.Tables.{Table, is, find}
+use Rattle.spaces.specs.Tables.{Table, is, find}
 use Rattle.device.specs.Kept.{IsCompiled, AllCompiled}
 use Rattle.device.specs.Machine.{Machine, Answers, Does, first, is_used, has_kernels, is_in_use}
 use Rattle.device.proofs.Kept.{still_compiled}

@@ -12,7 +12,7 @@ use Rattle.cltypes.specs.declared.checked.Checked.{Checked}
 use Rattle.host_commands.specs.Kernels.{with_argument}
 use Rattle.lower.specs.Bounds.{per_node}
 use Rattle.lower.specs.Lists.{Lists}
-use Rattle.spaces_base.specs.Tables.{Table, find}
+use Rattle.spaces.specs.Tables.{Table, find}
 use Rattle.regcode.specs.Listing.{Listing}
 use Rattle.regcode.specs.Machine.{acts}
 use Rattle.renumbering.specs.Same.{IsRenumbered}

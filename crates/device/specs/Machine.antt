@@ -14,12 +14,12 @@ use Rattle.clmodel.specs.Tree.{Program, NoFunc, program}
 use Rattle.clmodel.specs.declared.setup.Argument.{Argument}
 use Rattle.clmodel.specs.declared.setup.Argument.TheVariants as argument
 use Rattle.clmodel.specs.declared.setup.Range.{Range}
-use Rattle.spaces_base.specs.Buffers.{bytes_in, with_bytes, repeated}
+use Rattle.spaces.specs.Buffers.{bytes_in, with_bytes, repeated}
 use Rattle.host_commands.specs.Builds.{Builds}
 use Rattle.host_commands.specs.Fills.{is_bad_fill}
 use Rattle.host_commands.specs.Kernels.{KernelState, names_buffer, parameters_of, with_argument, new_kernel, no_kernel, suits}
 use Rattle.host_commands.specs.Ranges.{is_bad_dimension, is_bad_group, is_too_many}
-use Rattle.spaces_base.specs.Tables.{Table, is, find, with_values}
+use Rattle.spaces.specs.Tables.{Table, is, find, with_values}
 use Rattle.host_commands.specs.declared.command.BuildFault.{BuildFault}
 use Rattle.host_commands.specs.declared.command.Command.{Command}
 use Rattle.host_commands.specs.declared.command.Command.TheVariants as command

@@ -7,7 +7,7 @@ ghost use Rattle.std.specs.Map.{set_value, values_of};
 ghost use Rattle.clmodel.specs.Tree.{program};
 ghost use Rattle.cltypes.specs.Kernels.{IsKernel};
 ghost use Rattle.host_commands.specs.Kernels.{names_buffer};
-ghost use Rattle.spaces_base.specs.Tables.{is, find};
+ghost use Rattle.spaces.specs.Tables.{is, find};
 ghost use Rattle.lower.specs.Lowers.{IsLowered};
 ghost use Rattle.device.specs.Kept.{IsCodeOf, with_argument_set};
 
@@ -20,7 +20,7 @@ use lower::kernel_laws::typed_kernels_fit;
 use lower::lower_kernel;
 use regcode::Code;
 use renumbering::renumber;
-use spaces_base::Table;
+use spaces::Table;
 use std::alloc::{AllocError, Global};
 
 /// A kernel with its code, which is made once, with the kernel.

@@ -8,7 +8,7 @@ ghost use Rattle.clmodel.specs.declared.setup.Range.{Range as RangeOf};
 ghost use Rattle.host_commands.specs.Ranges.{IsLaunchable};
 ghost use Rattle.item_step.specs.Launches as launches;
 ghost use Rattle.launches.specs.Groups.{HasGroups};
-ghost use Rattle.spaces_base.specs.Buffers.{bytes_in};
+ghost use Rattle.spaces.specs.Buffers.{bytes_in};
 
 use crate::Device;
 use crate::prepared::{Launched, Prepared, Started};
@@ -20,7 +20,7 @@ use clmodel::text::Name;
 use host_commands::command::{Command, Refusal, Reply};
 use host_commands::ranges::{is_bad_dimension, is_bad_group, is_too_many};
 use item_step::{Launch, is_local_too_large};
-use spaces_base::Buffers;
+use spaces::Buffers;
 use std::alloc::{AllocError, Global};
 
 impl Device {

@@ -14,7 +14,7 @@ ghost use Rattle.clmodel.specs.Tree.{program};
 ghost use Rattle.clmodel.specs.Typing.Sizes.{parameter_limit};
 ghost use Rattle.item_step.specs.Launches.{setup_of};
 ghost use Rattle.launches.specs.Groups.{HasGroups};
-ghost use Rattle.spaces_base.specs.Tables.{find};
+ghost use Rattle.spaces.specs.Tables.{find};
 ghost use Rattle.device.specs.Kept.{ActsAs, AllCompiled, IsCodeOf};
 
 mod compiled;
@@ -26,14 +26,14 @@ use crate::compiled::{CompiledKernel, code_of, has_program, holds_buffer, set_ar
 use clmodel::setup::Argument;
 use clmodel::text::{Bytes, Name};
 use cltypes::Checked;
+use group_join::run_launch;
 use host_commands::build::build;
 pub use host_commands::command::{BuildFault, Command, Refusal, Reply};
 use host_commands::fills::is_bad_fill;
 use host_commands::kernel::{Kernel, parameters_of, suits};
 pub use item_step::Launch;
-use snapshot_merge::run_launch;
-pub use spaces_base::Buffers;
-use spaces_base::Table;
+pub use spaces::Buffers;
+use spaces::Table;
 use std::alloc::Global;
 use std::marker::Sync;
 use std::sync::Wait;

@@ -3,14 +3,14 @@ use Rattle.std.proofs.Common.{◌≡◌, ◌≤◌, ℕ, Option, None, Some, is_
 use Rattle.std.specs.Option.{IfNone, IfSome, option_and_then}
 use Rattle.std.proofs.lemmas.Bool.{false≢true}
 use Rattle.std.proofs.lemmas.Option.{IfSome_then}
-use Rattle.explain_play.specs.PlayedOut.{IsEventOf, IsLastEvent, MadeAccess, acts_at, is_access}
+use Rattle.fault_play.specs.PlayedOut.{IsEventOf, IsLastEvent, MadeAccess, acts_at, is_access}
 use Rattle.explanation.specs.declared.places.Spot.{Spot}
 use Rattle.explanation.specs.declared.told.NamedItem.{NamedItem}
 use Rattle.clmodel.specs.Setup.{kernel_in}
 use Rattle.clmodel.specs.Tree.{Func}
 use Rattle.item_step.specs.Launches.{code_of, setup_of}
 use Rattle.item_step.specs.declared.launch.Launch.{Launch}
-use Rattle.marked_play.specs.declared.marks.Mark.{Mark}
+use Rattle.fault_play.specs.declared.marks.Mark.{Mark}
 use Rattle.origins.specs.Finding.{IsFound, IsOriginIn, plain}
 use Rattle.origins.specs.declared.origin.Origin.{Origin}
 use Rattle.replay.specs.declared.slot.Stand.{Stand}

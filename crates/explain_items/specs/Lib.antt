@@ -1,3 +1,4 @@
 pub mod Marked
 pub mod Named
 pub mod Spotted
+pub mod Ids

@@ -6,11 +6,11 @@ use Rattle.clmodel.specs.declared.action.Stop.{Stop}
 use Rattle.clmodel.specs.declared.action.Stop.TheVariants as stop
 use Rattle.clmodel.specs.declared.fault.Fault.{Fault}
 use Rattle.clmodel.specs.declared.fault.Fault.TheVariants as fault
-use Rattle.explain_play.specs.PlayedOut.{IsEventOf, IsLastEvent, MadeAccess, acts_at}
-use Rattle.explain_play.specs.declared.played.Played.{Played}
+use Rattle.fault_play.specs.PlayedOut.{IsEventOf, IsLastEvent, MadeAccess, acts_at}
+use Rattle.fault_play.specs.declared.played.Played.{Played}
 use Rattle.explanation.specs.declared.told.NamedItem.{NamedItem}
-use Rattle.marked_play.specs.declared.marks.Mark.{Mark}
-use Rattle.marked_play.specs.declared.pairs.Pair.{Pair}
+use Rattle.fault_play.specs.declared.marks.Mark.{Mark}
+use Rattle.fault_play.specs.declared.pairs.Pair.{Pair}
 use Rattle.replay.specs.declared.slot.Stand.{Stand}
 use Rattle.explain_items.specs.Spotted.{IsNamed, IsNamedInside}
 use Rattle.explain_items.specs.declared.context.Context.{Context}

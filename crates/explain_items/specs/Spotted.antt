@@ -5,7 +5,7 @@ use Rattle.clmodel.specs.Setup.{kernel_in}
 use Rattle.clmodel.specs.Tree.{Func}
 use Rattle.explanation.specs.declared.places.Spot.{Spot}
 use Rattle.explanation.specs.declared.told.NamedItem.{NamedItem}
-use Rattle.item_ids.specs.Ids.{AreIds}
+use Rattle.explain_items.specs.Ids.{AreIds}
 use Rattle.item_step.specs.Launches.{code_of, setup_of}
 use Rattle.item_step.specs.declared.launch.Launch.{Launch}
 use Rattle.origins.specs.Finding.{plain}

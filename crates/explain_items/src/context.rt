@@ -12,10 +12,10 @@ ghost use Rattle.explain_items.specs.Spotted.{BeginsAt, HasNoSpot, HasSpot, Stan
 use clmodel::text::Name;
 use clmodel::tree::{Expression, Statement, Target};
 use explanation::{Code, NodeKind, Spot};
+use fault_play::Stand;
 use host_commands::command::Command;
 use item_step::Launch;
 use launch_facts::ProgramSource;
-use marked_play::Stand;
 use origins::{Node, Origin, origin_of};
 use source_spots::{Source, code_of, spot_of};
 use std::alloc::{AllocError, Global};

@@ -5,7 +5,7 @@ ghost use Rattle.std.specs.Prelude.{◌≡◌, option_copied};
 ghost use Rattle.explain_items.specs.Named.{stand_of};
 
 use clmodel::schedule::Event;
-use marked_play::{Mark, Stand};
+use fault_play::{Mark, Stand};
 
 /// Whether an event is an access of an item.
 pub fn is_access(event: Event, item: u32) -> bool {

@@ -3,7 +3,7 @@
 
 ghost use Rattle.std.specs.Prelude.{◌≡◌, [], ◌∷◌, None, Some, IfOk, option_copied};
 ghost use Rattle.std.specs.Option.{option_map_or};
-ghost use Rattle.item_ids.specs.Ids.{AreIds};
+ghost use Rattle.explain_items.specs.Ids.{AreIds};
 ghost use Rattle.item_step.specs.Launches.{setup_of};
 ghost use Rattle.explain_items.specs.Named.{AreToldInside, AtAccess, AtEnd, AtStand, IsToldInside, in_order, site_of, told_items};
 ghost use Rattle.explain_items.specs.Spotted.{IsNamedInside};
@@ -13,10 +13,9 @@ use crate::events::stand_at;
 use clmodel::access::AccessKind;
 use clmodel::action::Stop;
 use clmodel::fault::Fault;
-use explain_play::{Played, Standing, event_of, last_of};
 use explanation::{Does, Ids, NamedItem};
+use fault_play::{Pair, Played, Stand, Standing, event_of, last_of};
 use item_value::position::{ItemPosition, group_counts};
-use marked_play::{Pair, Stand};
 use std::alloc::{AllocError, Global};
 
 /// The ids of an item of a launch.
@@ -33,7 +32,7 @@ fn ids_of(context: &Context<'_>, item: u32) -> Result<Ids, AllocError>
         group_counts: counts.as_slice(),
         group_size: context.launch.group_size(),
     };
-    item_ids::ids_of(alloc, &position)
+    crate::ids_of(alloc, &position)
 }
 
 /// An item that a fault names, where it stands.

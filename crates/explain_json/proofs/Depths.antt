@@ -6,8 +6,8 @@ use Rattle.explanation.specs.declared.places.CallSite.{CallSite}
 use Rattle.explanation.specs.declared.places.LoopSite.{LoopSite}
 use Rattle.explanation.specs.declared.places.Spot.{Spot}
 use Rattle.explanation.specs.declared.steps.Code.{Code}
-use Rattle.explanation.specs.declared.steps.Step.{Step}
-use Rattle.explanation.specs.declared.steps.Step.TheVariants as step
+use Rattle.explanation.specs.declared.steps.ToldEvent.{ToldEvent}
+use Rattle.explanation.specs.declared.steps.ToldEvent.TheVariants as step
 use Rattle.explanation.specs.declared.told.Does.{Does}
 use Rattle.explanation.specs.declared.told.Does.TheVariants as does
 use Rattle.explanation.specs.declared.told.Explanation.{Explanation}
@@ -78,7 +78,7 @@ memory_depth m =
     let parameters : items_depth (items_of (map parameter_data m.parameters.items)) ≤ 1 = many parameter_data 1 parameter_depth m.parameters.items in
     omega arith
 
-step_depth : (s : Step) → depth (step_data s) ≤ 2
+step_depth : (s : ToldEvent) → depth (step_data s) ≤ 2
 step_depth (step.Release group code) = let place : depth (or_null code_data code) ≤ 1 = some code_data 1 code_depth code in omega arith
 step_depth (step.Item item does memory byte bytes value left code) =
     let place : depth (or_null code_data code) ≤ 1 = some code_data 1 code_depth code in

@@ -5,7 +5,7 @@ use Rattle.std.specs.Fmt.{signed_decimal}
 use Rattle.std.specs.declared.alloc.Global.{Global}
 use Rattle.serde_json.specs.Data.{Data, null, boolean, number, unsigned, string, array, object, member, no_members}
 use Rattle.serde_json.specs.View.{items_of}
-use Rattle.access_words.specs.Words.{kind_text}
+use Rattle.fault_lines.specs.Words.{kind_text}
 use Rattle.explanation.specs.declared.places.CallSite.{CallSite}
 use Rattle.explanation.specs.declared.places.LoopSite.{LoopSite}
 use Rattle.explanation.specs.declared.places.NodeKind.{NodeKind}
@@ -13,8 +13,8 @@ use Rattle.explanation.specs.declared.places.NodeKind.TheVariants as node
 use Rattle.explanation.specs.declared.places.Spot.{Spot}
 use Rattle.explanation.specs.declared.steps.Code.{Code}
 use Rattle.explanation.specs.declared.steps.ScheduleFacts.{ScheduleFacts}
-use Rattle.explanation.specs.declared.steps.Step.{Step}
-use Rattle.explanation.specs.declared.steps.Step.TheVariants as step
+use Rattle.explanation.specs.declared.steps.ToldEvent.{ToldEvent}
+use Rattle.explanation.specs.declared.steps.ToldEvent.TheVariants as step
 use Rattle.explanation.specs.declared.told.Does.{Does}
 use Rattle.explanation.specs.declared.told.Does.TheVariants as does
 use Rattle.explanation.specs.declared.told.Explanation.{Explanation}
@@ -137,7 +137,7 @@ schedule_data s =
 abbrev pub value_data : ℕ → Data
 value_data value = string (decimal value)
 
-abbrev pub step_data : Step → Data
+abbrev pub step_data : ToldEvent → Data
 step_data (step.Release group code) =
     object (member (codes "place") (or_null code_data code) (member (codes "release") (number_data group) no_members))
 step_data (step.Item item does memory byte bytes value left code) =

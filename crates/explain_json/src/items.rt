@@ -7,8 +7,8 @@ ghost use Rattle.explain_json.specs.Members.{does_word, barrier_data, item_data}
 
 use crate::object::Object;
 use crate::values::ToJson;
-use access_words::kind_word;
 use explanation::{Does, NamedItem};
+use fault_lines::kind_word;
 use serde_json::Value;
 use std::alloc::{AllocError, Global};
 

@@ -7,8 +7,8 @@ ghost use Rattle.explain_json.specs.Members.{or_null, value_data, schedule_data,
 
 use crate::object::Object;
 use crate::values::ToJson;
-use access_words::kind_word;
-use explanation::{ScheduleFacts, Step};
+use explanation::{ScheduleFacts, ToldEvent};
+use fault_lines::kind_word;
 use serde_json::Value;
 use std::alloc::{AllocError, Global};
 
@@ -37,18 +37,18 @@ fn text_or_null(alloc: Global, number: Option<u64>) -> Result<Value, AllocError>
     }
 }
 
-impl ToJson for Step {
+impl ToJson for ToldEvent {
     ghost json = { step_data };
 
     fn to_json(&self, alloc: Global) -> Result<Value, AllocError> {
         match self {
-            Step::Release { group, code } => {
+            ToldEvent::Release { group, code } => {
                 Object::new(alloc)
                     .with("release", group)
                     .with("place", code)
                     .finish()
             }
-            Step::Item {
+            ToldEvent::Item {
                 item,
                 does,
                 memory,

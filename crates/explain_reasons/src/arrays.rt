@@ -4,7 +4,7 @@
 use clmodel::text::Name;
 use clmodel::tree::{Expression, Function, Statement};
 use explain_items::Context;
-use marked_play::Stand;
+use fault_play::Stand;
 use origins::Node;
 use std::alloc::AllocError;
 

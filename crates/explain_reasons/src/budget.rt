@@ -4,8 +4,7 @@
 use crate::turns::{LoopTurns, SeenTurns, turns_seen};
 use crate::wording::{counted, joined};
 use explain_items::{Context, is_access, is_release};
-use explain_play::Played;
-use marked_play::Mark;
+use fault_play::{Mark, Played};
 use std::alloc::{AllocError, Global};
 
 /// How many loops are told.

@@ -9,9 +9,8 @@ use clmodel::access::{AccessKind, Clash, Class};
 use clmodel::fault::{Fault, Location};
 use clmodel::text::Name;
 use explain_items::{Context, is_release};
-use explain_play::{Played, event_of};
 use explanation::Memory;
-use marked_play::{Mark, Stand};
+use fault_play::{Mark, Played, Stand, event_of};
 use std::alloc::{AllocError, Global};
 
 /// The last release of a group between two events, if there is one.

@@ -5,9 +5,8 @@ use clmodel::access::AccessKind;
 use clmodel::fault::Location;
 use clmodel::schedule::Event;
 use explain_items::Context;
-use explain_play::{Played, Touch};
-use explanation::Step;
-use marked_play::Mark;
+use explanation::ToldEvent;
+use fault_play::{Mark, Played, Touch};
 use std::alloc::{AllocError, Global};
 
 /// How many steps are told.
@@ -39,10 +38,10 @@ fn values_of(kind: AccessKind, mark: &Mark) -> (Option<u64>, Option<u64>) {
 }
 
 /// The step of an access.
-fn access_step(context: &Context<'_>, touch: &Touch, mark: &Mark) -> Result<Step, AllocError> {
+fn access_step(context: &Context<'_>, touch: &Touch, mark: &Mark) -> Result<ToldEvent, AllocError> {
     let code = context.code(mark.stand.as_ref())?;
     let (value, left) = values_of(touch.kind, mark);
-    Ok(Step::Item {
+    Ok(ToldEvent::Item {
         item: touch.item,
         does: touch.kind,
         memory: location_text(context.alloc, &touch.location)?,
@@ -59,11 +58,11 @@ fn step_of(
     context: &Context<'_>,
     mark: &Mark,
     touch: Option<&Touch>,
-) -> Result<Option<Step>, AllocError> {
+) -> Result<Option<ToldEvent>, AllocError> {
     match mark.event {
         Event::Release(group) => {
             let code = context.code(mark.stand.as_ref())?;
-            Ok(Some(Step::Release { group, code }))
+            Ok(Some(ToldEvent::Release { group, code }))
         }
         Event::Item(_) => match touch {
             Some(touch) => Ok(Some(access_step(context, touch, mark)?)),
@@ -81,7 +80,7 @@ fn with_event(accesses: usize, event: Event) -> usize {
 }
 
 /// The first steps of what was played. An error is out of memory.
-pub fn steps_of(context: &Context<'_>, played: &Played) -> Result<Vec<Step>, AllocError> {
+pub fn steps_of(context: &Context<'_>, played: &Played) -> Result<Vec<ToldEvent>, AllocError> {
     let mut steps = Vec::new(context.alloc);
     let mut accesses = 0usize;
     let marks = played.marks.as_slice();

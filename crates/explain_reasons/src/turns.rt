@@ -7,7 +7,7 @@
 
 use explain_items::{Context, is_access, is_release};
 use explanation::{NodeKind, Spot};
-use marked_play::{Mark, Stand};
+use fault_play::{Mark, Stand};
 use std::alloc::{AllocError, Global};
 use std::collections::BTreeMap;
 

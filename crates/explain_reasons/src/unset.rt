@@ -5,8 +5,7 @@ use crate::reasons::text_at;
 use clmodel::access::AccessKind;
 use clmodel::fault::Location;
 use explain_items::{Context, stand_at};
-use explain_play::{Played, Touch, event_of};
-use marked_play::same_location;
+use fault_play::{Played, Touch, event_of, same_location};
 use std::alloc::{AllocError, Global};
 
 /// A store, by its number, with its distance from a byte.

@@ -6,9 +6,9 @@ ghost use Rattle.explain_text.specs.Texts.{AreItems, IsItemText, IsLastPlace, Is
 
 use crate::lines::{ids_text, push_both};
 use crate::quotes::place_and_quote;
-use access_words::class_word;
 use clmodel::access::AccessKind;
 use explanation::{Does, Explanation, MemoryKind, NamedItem, Spot};
+use fault_lines::class_word;
 use std::alloc::{AllocError, Global};
 use std::fmt::Write;
 

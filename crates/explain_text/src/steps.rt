@@ -4,7 +4,7 @@
 ghost use Rattle.std.specs.Prelude.{◌<◌};
 
 use clmodel::access::AccessKind;
-use explanation::{Code, Explanation, ScheduleFacts, Step};
+use explanation::{Code, Explanation, ScheduleFacts, ToldEvent};
 use std::alloc::{AllocError, Global};
 use std::fmt::Write;
 
@@ -35,16 +35,16 @@ fn push_values(value: Option<u64>, left: Option<u64>, out: &mut String) -> Resul
 }
 
 /// Adds a step behind its number.
-fn push_step(number: usize, step: &Step, out: &mut String) -> Result<(), AllocError> {
+fn push_step(number: usize, step: &ToldEvent, out: &mut String) -> Result<(), AllocError> {
     let place = match step {
-        Step::Release { group, code } => {
+        ToldEvent::Release { group, code } => {
             write!(
                 out,
                 "  {number:>6}  ---- group {group} passes its barrier ----"
             )?;
             code
         }
-        Step::Item {
+        ToldEvent::Item {
             item,
             does,
             memory,
@@ -70,10 +70,10 @@ fn push_step(number: usize, step: &Step, out: &mut String) -> Result<(), AllocEr
 }
 
 /// The item of a step, if it is one's.
-fn item_of(step: &Step) -> Option<u32> {
+fn item_of(step: &ToldEvent) -> Option<u32> {
     match step {
-        Step::Item { item, .. } => Some(*item),
-        Step::Release { .. } => None,
+        ToldEvent::Item { item, .. } => Some(*item),
+        ToldEvent::Release { .. } => None,
     }
 }
 
@@ -81,7 +81,7 @@ fn item_of(step: &Step) -> Option<u32> {
 const RUN: usize = 4;
 
 /// How many steps from a number on are one item's, at least 1.
-fn run_length(steps: &[Step], from: usize) -> usize
+fn run_length(steps: &[ToldEvent], from: usize) -> usize
     ensures { 0 < result }
 {
     let Some(first) = steps.get(from) else {
@@ -101,7 +101,12 @@ fn run_length(steps: &[Step], from: usize) -> usize
 }
 
 /// Adds a run of steps: its first and its last one where it is long.
-fn push_run(steps: &[Step], from: usize, end: usize, out: &mut String) -> Result<(), AllocError> {
+fn push_run(
+    steps: &[ToldEvent],
+    from: usize,
+    end: usize,
+    out: &mut String,
+) -> Result<(), AllocError> {
     let count = end.saturating_sub(from);
     for number in from..end {
         let Some(step) = steps.get(number) else {
@@ -119,7 +124,7 @@ fn push_run(steps: &[Step], from: usize, end: usize, out: &mut String) -> Result
 }
 
 /// Adds all steps, long runs of one item folded.
-fn push_runs(steps: &[Step], out: &mut String) -> Result<(), AllocError> {
+fn push_runs(steps: &[ToldEvent], out: &mut String) -> Result<(), AllocError> {
     let mut from = 0;
     while from < steps.len() {
         let end = from.saturating_add(run_length(steps, from));

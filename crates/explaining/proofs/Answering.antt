@@ -2,7 +2,7 @@
 use Rattle.std.proofs.Common.{◌≡◌, ℕ, Bool, true, false, Option, None, Some, refl, sym, subst}
 use Rattle.std.specs.Prelude.{MatchBool, MatchOption}
 use Rattle.std.proofs.lemmas.Bool.{false≢true}
-use Rattle.counted_io.specs.Sink.{Sink}
+use Rattle.byte_io.specs.Sink.{Sink}
 use Rattle.explaining.specs.Explaining.{Unanswered, Unexplained, Unread, Unwritten, is_source}
 use Rattle.explaining.specs.declared.facts.Given.{Given}
 use Rattle.explaining.specs.declared.faults.ExplainFault.{ExplainFault}

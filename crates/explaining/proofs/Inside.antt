@@ -16,23 +16,23 @@ use Rattle.clmodel.specs.declared.fault.Fault.{Fault}
 use Rattle.clmodel.specs.declared.fault.Fault.TheVariants as fault
 use Rattle.clmodel.specs.declared.schedule.Event.{Event}
 use Rattle.clmodel.specs.declared.schedule.Event.TheVariants as event
-use Rattle.explain_play.specs.PlayedOut.{IsPlayedOut, is_access}
-use Rattle.explain_play.specs.declared.played.Played.{Played}
+use Rattle.fault_play.specs.PlayedOut.{IsPlayedOut, is_access}
+use Rattle.fault_play.specs.declared.played.Played.{Played}
 use Rattle.explain_items.specs.Named.{AreTold, AreToldInside, AtAccess, AtEnd, AtStand, IsBefore, IsHere, IsTold, Site, in_order, site_of, told_items}
 use Rattle.explain_items.specs.Spotted.{StandsInside}
 use Rattle.explain_items.specs.declared.context.Context.{Context}
 use Rattle.explain_items.proofs.Spotting.{named_at}
 use Rattle.explanation.specs.declared.told.NamedItem.{NamedItem}
-use Rattle.fault_facts.specs.Facts.{named_items}
+use Rattle.launch_facts.specs.Facts.{named_items}
 use Rattle.item_state.proofs.Going.{code_kept}
 use Rattle.item_step.specs.Launches as launches
 use Rattle.item_step.specs.Launches.{code_of, started}
 use Rattle.item_step.specs.Running.{Running, Makes}
 use Rattle.item_step.specs.declared.launch.Launch as item
-use Rattle.marked_play.proofs.Marking.{lead_after}
-use Rattle.marked_play.specs.Marks.{ActsFrom, Lead, item_of}
-use Rattle.marked_play.specs.declared.marks.Mark.{Mark}
-use Rattle.marked_play.specs.declared.pairs.Pair.{Pair}
+use Rattle.fault_play.proofs.Marking.{lead_after}
+use Rattle.fault_play.specs.Marks.{ActsFrom, Lead, item_of}
+use Rattle.fault_play.specs.declared.marks.Mark.{Mark}
+use Rattle.fault_play.specs.declared.pairs.Pair.{Pair}
 use Rattle.regcode.specs.Listing.{Listing}
 use Rattle.regcode.specs.Machine.{act}
 use Rattle.regcode.specs.declared.instruction.Instruction.{Instruction}

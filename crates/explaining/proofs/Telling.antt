@@ -19,8 +19,8 @@ use Rattle.host_commands.specs.declared.command.Refusal.{Refusal}
 use Rattle.host_commands.specs.declared.command.Refusal.TheVariants as refusal
 use Rattle.item_step.specs.Launches as launches
 use Rattle.item_step.specs.declared.launch.Launch.{Launch}
-use Rattle.spaces_base.specs.Buffers.{bytes_in}
-use Rattle.spaces_base.specs.Tables.{Table}
+use Rattle.spaces.specs.Buffers.{bytes_in}
+use Rattle.spaces.specs.Tables.{Table}
 use Rattle.explaining.specs.Explaining.{HasShort, IsShort, Refuses, Tells}
 use Rattle.explaining.specs.declared.told.ExplainedCase.{ExplainedCase}
 

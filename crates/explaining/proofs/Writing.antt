@@ -15,8 +15,8 @@ use Rattle.clmodel.specs.declared.setup.Range.{Range}
 use Rattle.device.specs.Kept.{IsCodeOf}
 use Rattle.device.specs.Machine.{Machine, opening, kernel_of, setup_of}
 use Rattle.device.specs.Prepared.{IsPrepared}
-use Rattle.explain_play.specs.PlayedOut.{IsPlayedOut}
-use Rattle.explain_play.specs.declared.played.Played.{Played}
+use Rattle.fault_play.specs.PlayedOut.{IsPlayedOut}
+use Rattle.fault_play.specs.declared.played.Played.{Played}
 use Rattle.explain_items.specs.Named.{AreToldInside, told_items}
 use Rattle.explain_items.specs.declared.context.Context.{Context}
 use Rattle.explanation.specs.declared.steps.ScheduleFacts.{ScheduleFacts}
@@ -28,8 +28,8 @@ use Rattle.host_commands.specs.declared.command.Reply.TheVariants as reply
 use Rattle.item_step.specs.Launches as launches
 use Rattle.fault_lines.specs.ScheduleFile.{IsScheduleFile}
 use Rattle.simfile.specs.Script.{IsScript}
-use Rattle.spaces_base.specs.Buffers.{bytes_in}
-use Rattle.spaces_base.specs.Tables.{Table}
+use Rattle.spaces.specs.Buffers.{bytes_in}
+use Rattle.spaces.specs.Tables.{Table}
 use Rattle.explaining.proofs.Faulting.{faults, told_yes}
 use Rattle.explaining.proofs.Inside.{each_inside, told_inside}
 use Rattle.explaining.specs.Explaining.{IsShort, Tells}

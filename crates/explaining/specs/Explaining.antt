@@ -9,7 +9,7 @@ use Rattle.clmodel.specs.Tree.{Program}
 use Rattle.clmodel.specs.declared.fault.Fault.{Fault}
 use Rattle.clmodel.specs.declared.schedule.EventRun.{EventRun}
 use Rattle.clmodel.specs.declared.setup.Range.{Range}
-use Rattle.counted_io.specs.Sink.{Sink, Stopped}
+use Rattle.byte_io.specs.Sink.{Sink, Stopped}
 use Rattle.device.specs.Machine.{Machine, opening, first, row, kernel_of, setup_of, bytes_of}
 use Rattle.host_commands.specs.Builds.{Builds}
 use Rattle.host_commands.specs.declared.command.BuildFault.{BuildFault}

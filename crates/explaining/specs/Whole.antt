@@ -12,15 +12,15 @@ use Rattle.clmodel.specs.declared.setup.Range.{Range}
 use Rattle.device.specs.Kept.{IsCodeOf}
 use Rattle.device.specs.Machine.{Machine, opening, kernel_of, program_of, setup_of, bytes_of}
 use Rattle.explain_json.specs.Members.{explanation_data}
-use Rattle.explain_play.specs.PlayedOut.{IsPlayedOut}
-use Rattle.explain_play.specs.declared.played.Played.{Played}
+use Rattle.fault_play.specs.PlayedOut.{IsPlayedOut}
+use Rattle.fault_play.specs.declared.played.Played.{Played}
 use Rattle.explain_items.specs.Named.{AreTold, told_items}
 use Rattle.explain_items.specs.declared.context.Context.{Context}
 use Rattle.explain_text.specs.Texts.{IsText}
 use Rattle.explanation.specs.declared.told.Explanation.{Explanation}
 use Rattle.explanation.specs.declared.told.FaultFacts.{FaultFacts}
 use Rattle.explanation.specs.declared.told.LaunchFacts.{LaunchFacts}
-use Rattle.fault_facts.specs.Facts.{fault_number, named_items}
+use Rattle.launch_facts.specs.Facts.{fault_number, named_items}
 use Rattle.host_commands.specs.declared.command.BuildFault.{BuildFault}
 use Rattle.host_commands.specs.declared.command.Command.{Command}
 use Rattle.host_commands.specs.declared.command.Command.TheVariants as command

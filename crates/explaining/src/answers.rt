@@ -2,12 +2,12 @@
 #![tactic(auto)]
 
 ghost use Rattle.std.specs.Prelude.{◌≡◌, [], false, IfOk, OnOk, is_some, string_bytes};
-ghost use Rattle.counted_io.specs.Sink.{Puts};
+ghost use Rattle.byte_io.specs.Sink.{Puts};
 ghost use Rattle.explaining.specs.Whole.{AnswersTo, IsTextOf};
 
 use crate::facts::Format;
 use crate::told::ExplainedCase;
-use counted_io::{Write, WriteFailed};
+use byte_io::{Write, WriteFailed};
 use explain_json::json_of;
 use explain_text::text_of;
 use explanation::Explanation;

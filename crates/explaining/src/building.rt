@@ -11,8 +11,8 @@ use crate::faults::ExplainFault;
 use crate::walks::Unbuilt;
 use build_hints::{Refused, refusal_text};
 use device::{BuildFault, Command};
+use explain_json::refused_json;
 use host_commands::build::{NotBuilt, build};
-use refusal_json::refused_json;
 use std::alloc::{AllocError, Global};
 
 /// Turns the fault of a build into the one that a refusal is written for.

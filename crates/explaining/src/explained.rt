@@ -2,7 +2,7 @@
 #![tactic(auto)]
 
 ghost use Rattle.std.specs.Prelude.{◌≡◌, [], IfOk, IfErr, IfSome, OnOk, List, ℕ, true, take, is_some, string_bytes};
-ghost use Rattle.counted_io.specs.Sink.{Wrote};
+ghost use Rattle.byte_io.specs.Sink.{Wrote};
 ghost use Rattle.device.specs.Machine.{machine_of, opening};
 ghost use Rattle.host_commands.specs.declared.command.Command.{Command};
 ghost use Rattle.simfile.specs.Script.{IsScript};
@@ -16,9 +16,9 @@ use crate::facts::{ExplainOptions, Format, Given, lines_before};
 use crate::faults::ExplainFault;
 use crate::told::{ExplainedCase, PerformedScript, explain_case};
 use crate::walks::{Performed, Unbuilt, Walked, perform_all, walk_anew};
+use byte_io::Write;
 use clmodel::fault::Fault;
 use clmodel::schedule::Schedule;
-use counted_io::Write;
 use device::{Command, Device};
 use fault_lines::read;
 use launch_facts::line_of;

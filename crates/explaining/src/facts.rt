@@ -10,20 +10,20 @@ use clmodel::schedule::Schedule;
 use clmodel::setup::Range;
 use clmodel::text::Name;
 use explain_items::{Context, named_items};
-use explain_play::{Played, event_of};
 use explain_reasons::{array_of, items_in, reasons_of, steps_of};
 use explanation::{
     Explanation, FaultFacts, LaunchFacts, Memory, NamedItem, ParameterFacts, ScheduleFacts,
 };
-use fault_facts::{fault_line, fault_name, fault_number, memory_of};
+use fault_play::{Mark, Played, Stand, event_of};
 use host_commands::kernel::parameters_of;
 use item_step::Launch;
-use launch_facts::{line_of, parameters_given, parameters_named};
-use marked_play::{Mark, Stand};
+use launch_facts::{
+    fault_line, fault_name, fault_number, line_of, memory_of, parameters_given, parameters_named,
+};
 use shortening::{Named, Shortened, event_count};
-use source_lines::line_text;
-use spaces_base::Buffers;
+use spaces::Buffers;
 use std::alloc::{AllocError, Global};
+use text_lines::line_text;
 
 /// How an explanation is written.
 #[derive(Clone, Copy, Debug, PartialEq, Eq)]
@@ -79,7 +79,7 @@ fn text_at(alloc: Global, script: &[u8], number: usize) -> Result<String, AllocE
 pub(crate) fn items_of(fault: &Fault) -> (u32, u32)
     ensures { AreNamed fault.now result.0 result.1 }
 {
-    match fault_facts::named_items(fault) {
+    match launch_facts::named_items(fault) {
         (item, Some(other)) => (item, other),
         (item, None) => (item, item),
     }
@@ -221,7 +221,7 @@ fn text(alloc: Global, bytes: &[u8]) -> Result<String, AllocError> {
 
 /// A launch with the texts that are given, as the rest of an explanation needs it.
 #[derive(Clone, Copy)]
-pub(crate) struct Place<'a> {
+pub(crate) struct LaunchTexts<'a> {
     pub given: Given<'a>,
     pub ticket: usize,
     pub range: &'a Range,
@@ -268,7 +268,7 @@ fn sizes_of(alloc: Global, range: &Range) -> Result<Sizes, AllocError>
 }
 
 /// What is told of a launch: its line in the script, its names and its sizes. An error is out of memory.
-fn launch_facts(context: &Context<'_>, place: &Place<'_>) -> Result<LaunchFacts, AllocError>
+fn launch_facts(context: &Context<'_>, place: &LaunchTexts<'_>) -> Result<LaunchFacts, AllocError>
     ensures { IfOk result (TellsLaunch place.now.ticket place.now.range.now) }
 {
     let alloc = context.alloc;
@@ -339,7 +339,11 @@ struct Head {
 }
 
 /// What is said before the reasons: the script's name, the launch and the fault. An error is out of memory.
-fn head_of(context: &Context<'_>, place: &Place<'_>, fault: &Fault) -> Result<Head, AllocError>
+fn head_of(
+    context: &Context<'_>,
+    place: &LaunchTexts<'_>,
+    fault: &Fault,
+) -> Result<Head, AllocError>
     ensures launch { IfOk result (λ head. TellsLaunch place.now.ticket place.now.range.now head.launch) }
     ensures fault { IfOk result (λ head. TellsFault fault.now head.fault) }
 {
@@ -378,7 +382,7 @@ fn body_of(
 pub(crate) fn explanation_of(
     context: &Context<'_>,
     buffers: &Buffers,
-    place: &Place<'_>,
+    place: &LaunchTexts<'_>,
     fault: &Fault,
     played: &Played,
     schedule: ScheduleFacts,

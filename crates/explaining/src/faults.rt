@@ -1,7 +1,7 @@
 //! Why nothing was explained.
 #![tactic(auto)]
 
-use counted_io::WriteFailed;
+use byte_io::WriteFailed;
 use fault_lines::ReadFault;
 use simfile::script::ScriptFault;
 use std::alloc::{AllocError, AllocFailed};

@@ -10,12 +10,13 @@ ghost use Rattle.device.specs.Machine.{machine_of};
 ghost use Rattle.explain_items.specs.Marked.{CodeIsMarked};
 ghost use Rattle.item_step.specs.Launches.{code_of, setup_of};
 ghost use Rattle.launches.specs.Groups.{HasGroups};
-ghost use Rattle.spaces_base.specs.Buffers.{bytes_in};
+ghost use Rattle.spaces.specs.Buffers.{bytes_in};
 ghost use Rattle.explaining.specs.Explaining.{HasShort, IsShort, NoLaunch, Tells, Untold};
 ghost use Rattle.explaining.specs.Whole.{HasWhole, IsAsWanted, IsExplained, IsSourceOf, schedule_words};
 
 use crate::facts::{
-    ExplainOptions, Given, Place, explanation_of, items_of, lines_before, named_of, schedule_facts,
+    ExplainOptions, Given, LaunchTexts, explanation_of, items_of, lines_before, named_of,
+    schedule_facts,
 };
 use crate::faults::ExplainFault;
 use clmodel::fault::Fault;
@@ -24,15 +25,14 @@ use clmodel::setup::Range;
 use clmodel::text::Name;
 use device::{Command, Device, Launch, Refusal};
 use explain_items::Context;
-use explain_play::{play, shorter};
 use explain_reasons::MOST_STEPS;
 use explanation::Explanation;
-use fault_facts::fault_line;
-use launch_facts::{ProgramSource, source_of};
+use fault_play::{play, shorter};
+use launch_facts::{ProgramSource, fault_line, source_of};
 use origins::code_is_marked;
 use replay::replay;
 use shortening::{Named, Shortened, event_count};
-use spaces_base::Buffers;
+use spaces::Buffers;
 use std::alloc::{AllocError, Global};
 
 /// A case that is explained: its explanation, and the schedule that it tells.
@@ -116,7 +116,7 @@ fn most_of(fault: &Fault) -> usize {
 fn whole_of(
     context: &Context<'_>,
     buffers: &Buffers,
-    place: &Place<'_>,
+    place: &LaunchTexts<'_>,
     fault: &Fault,
     given: GivenSchedule,
     short: &Shortened,
@@ -152,7 +152,7 @@ fn whole_of(
 fn told_of(
     context: &Context<'_>,
     buffers: &Buffers,
-    place: &Place<'_>,
+    place: &LaunchTexts<'_>,
     fault: &Fault,
     schedule: Schedule,
     as_given: bool,
@@ -181,7 +181,7 @@ fn told_of(
 fn explain_launch(
     context: &Context<'_>,
     buffers: &Buffers,
-    place: &Place<'_>,
+    place: &LaunchTexts<'_>,
     fault: &Fault,
     schedule: Schedule,
     as_given: bool,
@@ -284,7 +284,7 @@ pub(crate) fn explain_case(
         done: performed.done,
         kernel,
     };
-    let place = Place {
+    let place = LaunchTexts {
         given: performed.given,
         ticket,
         range,

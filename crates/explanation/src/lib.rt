@@ -10,7 +10,7 @@ mod told;
 
 pub use lines::line_as_text;
 pub use places::{CallSite, LoopSite, NodeKind, Spot};
-pub use steps::{Code, ScheduleFacts, Step};
+pub use steps::{Code, ScheduleFacts, ToldEvent};
 pub use told::{
     Does, Explanation, FaultFacts, Ids, LaunchFacts, Memory, MemoryKind, NamedItem, ParameterFacts,
 };

@@ -27,7 +27,7 @@ pub struct Code {
 
 /// An event of a schedule: an access of an item, or the release of a group from a barrier.
 #[derive(Drop)]
-pub enum Step {
+pub enum ToldEvent {
     Item {
         item: u32,
         does: AccessKind,

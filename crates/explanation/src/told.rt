@@ -2,7 +2,7 @@
 #![tactic(auto)]
 
 use crate::places::Spot;
-use crate::steps::{ScheduleFacts, Step};
+use crate::steps::{ScheduleFacts, ToldEvent};
 use clmodel::access::AccessKind;
 
 /// The launch of a fault: the number of its command from 0, which is its ticket, its line in the script, and what it
@@ -113,7 +113,7 @@ pub struct Explanation {
     pub why: Vec<String>,
     pub schedule: ScheduleFacts,
     /// The first events of the short schedule, 1,000 at most
-    pub steps: Vec<Step>,
+    pub steps: Vec<ToldEvent>,
     /// How many more events it has
     pub steps_left: u64,
 }

@@ -8,9 +8,9 @@ use Rattle.clmodel.specs.declared.fault.Fault.{Fault}
 use Rattle.clmodel.specs.declared.fault.Fault.TheVariants as fault
 use Rattle.fault_lines.specs.Text.{kind_text, stop_text, fault_words, fault_item, fault_details, fault_text}
 use Rattle.fault_lines.specs.ScheduleFile.{IsWritten}
-use Rattle.line_fields.specs.Fronts.{after}
+use Rattle.text_lines.specs.Fronts.{after}
 use Rattle.fault_lines.specs.Reading.{conflict_at, divergence_at, element_at, private_fault_at, access_bounds_at, bounds_at, variable_at, access_unset_at, unset_at, item_fault_at, alone_fault_at, memory_fault_at, fault_at}
-use Rattle.line_fields.proofs.FieldLaws.{after_again}
+use Rattle.text_lines.proofs.FieldLaws.{after_again}
 use Rattle.fault_lines.proofs.FieldLaws.{name_before_again, number_before_again, number32_before_again, signed_before_again}
 use Rattle.fault_lines.proofs.ReaderSteps.{joined_onto, joined-append}
 use Rattle.fault_lines.proofs.Grammar.{parts_of, kind_again, place_again, local_place_again, stop_again}

@@ -5,9 +5,9 @@ use Rattle.std.proofs.lemmas.Fmt.{digits_decimal, digits_value-decimal}
 use Rattle.std.specs.List.{list_all}
 use Rattle.std.specs.Fmt.{signed_decimal}
 use Rattle.std.specs.Char.{is_ascii_digit}
-use Rattle.line_fields.specs.Texts.{value_of, list_text, IsListBelow, IsValue}
-use Rattle.line_fields.specs.Fronts.{number_at, value_at, front_length, before}
-use Rattle.line_fields.proofs.FieldLaws.{bind_some, if_some, and_true, name_to_takes, name_to_again, own, all_digits, is_number_decimal, number_takes, number_again, list_below_takes, list_below_again, list_below_back, value_takes, value_again, before_is, before_again, space_ends, space_ends_list}
+use Rattle.text_lines.specs.Texts.{value_of, list_text, IsListBelow, IsValue}
+use Rattle.text_lines.specs.Fronts.{number_at, value_at, front_length, before}
+use Rattle.text_lines.proofs.FieldLaws.{bind_some, if_some, and_true, name_to_takes, name_to_again, own, all_digits, is_number_decimal, number_takes, number_again, list_below_takes, list_below_again, list_below_back, value_takes, value_again, before_is, before_again, space_ends, space_ends_list}
 use Rattle.fault_lines.specs.Fields.{is_name, turns_of, IsElement, is_element}
 use Rattle.fault_lines.proofs.ReaderSteps.{Parted}
 use Rattle.fault_lines.specs.Reading.{name_at, number32_at, list_at, signed_at}

@@ -17,9 +17,9 @@ use Rattle.clmodel.specs.declared.schedule.EventRun.{EventRun}
 use Rattle.clmodel.specs.declared.schedule.EventRun.TheVariants as run
 use Rattle.fault_lines.specs.Text.{run_text, schedule_text, fault_text, fault_line}
 use Rattle.fault_lines.specs.ScheduleFile.{IsRun, AreRuns, ticket_line, IsScheduleFile}
-use Rattle.line_fields.specs.Fronts.{front_length}
+use Rattle.text_lines.specs.Fronts.{front_length}
 use Rattle.fault_lines.specs.Reading.{same, is_inner, line_of, item_run_at, release_at, run_at, run_of, run_named, is_run, words_of, is_schedule, schedule_of, schedule_at, fault_at, file_of}
-use Rattle.line_fields.proofs.FieldLaws.{read_then, if_some, and_true, front_of, after_takes, after_again, number_takes, not_behind, decimal_digits}
+use Rattle.text_lines.proofs.FieldLaws.{read_then, if_some, and_true, front_of, after_takes, after_again, number_takes, not_behind, decimal_digits}
 use Rattle.fault_lines.proofs.FieldLaws.{number32_takes, number_last, number32_last, number_before, number_before_again, number32_before, number32_before_again}
 use Rattle.fault_lines.proofs.ReaderSteps.{read_is, by_word}
 use Rattle.fault_lines.proofs.Grammar.{fault_takes}

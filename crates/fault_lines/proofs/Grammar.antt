@@ -16,12 +16,12 @@ use Rattle.clmodel.specs.declared.fault.Fault.TheVariants as fault
 use Rattle.clmodel.specs.declared.fault.Location.{Location}
 use Rattle.clmodel.specs.declared.fault.Location.TheVariants as location
 use Rattle.fault_lines.specs.Text.{kind_text, clash_text, location_text, later_turn_text, turns_text, stop_text, private_texts, fault_words, fault_item, fault_details, fault_text}
-use Rattle.line_fields.specs.Texts.{is_later, list_text}
+use Rattle.text_lines.specs.Texts.{is_later, list_text}
 use Rattle.fault_lines.specs.Fields.{is_name, turns_of, IsElement}
 use Rattle.fault_lines.specs.ScheduleFile.{IsPlace, IsLocalPlace, IsStop, IsWritten}
-use Rattle.line_fields.specs.Fronts.{◌>>=◌, after, before}
+use Rattle.text_lines.specs.Fronts.{◌>>=◌, after, before}
 use Rattle.fault_lines.specs.Reading.{number32_at, same, kind_of, kind_at, buffer_at, local_at, local_place_at, place_at, listed_at, turns_at, barrier_at, barrier_stop_at, stop_at, conflict_at, divergence_at, element_at, private_fault_at, access_bounds_at, bounds_at, variable_at, access_unset_at, unset_at, item_fault_at, alone_fault_at, memory_fault_at, fault_at}
-use Rattle.line_fields.proofs.FieldLaws.{read_then, after_takes, after_again}
+use Rattle.text_lines.proofs.FieldLaws.{read_then, after_takes, after_again}
 use Rattle.fault_lines.proofs.ReaderSteps.{joined_onto, joined-append, Parted, begins, ◌▸◌, word_takes, as_text, read_is, by_word}
 use Rattle.fault_lines.proofs.FieldLaws.{name_before, name_before_again, number_before, number32_before, number32_before_again, signed_before, list_before, list_before_again, list_back, IsList}
 

@@ -1,8 +1,8 @@
 -- Steps of a reader, whatever it reads.
 use Rattle.std.proofs.Common.{◌≡◌, ℕ, List, [], ◌∷◌, ◌++◌, Option, None, Some, refl, ap, sym, ◌∙◌, subst, codes, append_assoc}
-use Rattle.counted_io.specs.Pieces.{joined}
-use Rattle.line_fields.specs.Fronts.{after, or_else}
-use Rattle.line_fields.proofs.FieldLaws.{after_takes}
+use Rattle.byte_io.specs.Pieces.{joined}
+use Rattle.text_lines.specs.Fronts.{after, or_else}
+use Rattle.text_lines.proofs.FieldLaws.{after_takes}
 
 -- texts one after another, and then the rest
 abbrev pub joined_onto : List (List ℕ) → List ℕ → List ℕ

@@ -1,6 +1,6 @@
 -- The fields of a fault's line: names, numbers and the turns of loops.
 use Rattle.std.specs.Prelude.{ℕ, ◌<◌, ◌≤◌, ◌^◌, suc, ℤ, pos, negsuc, Bool, nat_lt, nat_le, Option, None, Some, List, []}
-use Rattle.line_fields.specs.Texts.{is_name_to, is_number_below, number_below, numbers_below}
+use Rattle.text_lines.specs.Texts.{is_name_to, is_number_below, number_below, numbers_below}
 
 -- 1 to 65,536 letters, digits and _, no digit first: as many as a source has bytes (C99 6.4.2.1; the limit own)
 abbrev pub is_name : List ℕ → Bool

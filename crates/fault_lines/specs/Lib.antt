@@ -1,3 +1,4 @@
+pub mod Words
 pub mod Text
 pub mod Parts
 pub mod Fields
@@ -5,5 +6,5 @@ pub mod ScheduleFile
 pub mod Reading
 pub mod Views
 pub mod Faults
-pub use Rattle.line_fields.specs.Texts
-pub use Rattle.line_fields.specs.Fronts
+pub use Rattle.text_lines.specs.Texts
+pub use Rattle.text_lines.specs.Fronts

@@ -1,11 +1,11 @@
 -- The text of a part of a fault's line.
 use Rattle.std.specs.Prelude.{ℕ, List, decimal}
 use Rattle.std.specs.Fmt.{signed_decimal}
-use Rattle.fault_lines.specs.declared.writing.Part.{Part}
-use Rattle.fault_lines.specs.declared.writing.Part.TheVariants as part
+use Rattle.fault_lines.specs.declared.writing.LinePart.{LinePart}
+use Rattle.fault_lines.specs.declared.writing.LinePart.TheVariants as part
 use Rattle.fault_lines.specs.Text.{clash_text, kind_text, location_text, stop_text, schedule_text}
 
-abbrev pub part_text : Part → List ℕ
+abbrev pub part_text : LinePart → List ℕ
 part_text (part.Text text) = text.now
 part_text (part.Name name) = name.now
 part_text (part.Number number) = decimal number

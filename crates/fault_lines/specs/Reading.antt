@@ -16,7 +16,7 @@ use Rattle.clmodel.specs.declared.fault.Location.{Location}
 use Rattle.clmodel.specs.declared.fault.Location.TheVariants as location
 use Rattle.clmodel.specs.declared.schedule.EventRun.{EventRun}
 use Rattle.clmodel.specs.declared.schedule.EventRun.TheVariants as run
-use Rattle.line_fields.specs.Fronts.{◌>>=◌, or_else, after, front_length, before, name_to, number_at, value_at, list_below}
+use Rattle.text_lines.specs.Fronts.{◌>>=◌, or_else, after, front_length, before, name_to, number_at, value_at, list_below}
 use Rattle.fault_lines.specs.Fields.{turns_of, is_element}
 
 -- the letters, digits and _ in front, where they are a name, and the rest

@@ -9,7 +9,7 @@ use Rattle.clmodel.specs.declared.fault.Location.{Location}
 use Rattle.clmodel.specs.declared.fault.Location.TheVariants as location
 use Rattle.clmodel.specs.declared.schedule.EventRun.{EventRun}
 use Rattle.clmodel.specs.declared.schedule.EventRun.TheVariants as run
-use Rattle.counted_io.specs.Pieces.{joined}
+use Rattle.byte_io.specs.Pieces.{joined}
 use Rattle.fault_lines.specs.Text.{fault_line}
 use Rattle.fault_lines.specs.Fields.{is_name, IsElement}
 

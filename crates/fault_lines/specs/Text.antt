@@ -13,8 +13,8 @@ use Rattle.clmodel.specs.declared.fault.Location.{Location}
 use Rattle.clmodel.specs.declared.fault.Location.TheVariants as location
 use Rattle.clmodel.specs.declared.schedule.EventRun.{EventRun}
 use Rattle.clmodel.specs.declared.schedule.EventRun.TheVariants as run
-use Rattle.counted_io.specs.Pieces.{joined}
-pub use Rattle.access_words.specs.Words.{class_text, kind_text}
+use Rattle.byte_io.specs.Pieces.{joined}
+pub use Rattle.fault_lines.specs.Words.{class_text, kind_text}
 
 abbrev pub clash_text : Clash → List ℕ
 clash_text Race = codes "fault 1 race item "

@@ -6,10 +6,10 @@ use Rattle.clmodel.specs.declared.fault.Fault.{Fault}
 use Rattle.clmodel.specs.declared.fault.Fault.TheVariants as fault
 use Rattle.clmodel.specs.declared.fault.Location.{Location}
 use Rattle.clmodel.specs.declared.fault.Location.TheVariants as location
-use Rattle.fault_lines.specs.declared.lent.Place.{Place}
-use Rattle.fault_lines.specs.declared.lent.Place.TheVariants as place
-use Rattle.fault_lines.specs.declared.lent.Halt.{Halt}
-use Rattle.fault_lines.specs.declared.lent.Halt.TheVariants as halt
+use Rattle.fault_lines.specs.declared.lent.LentLocation.{LentLocation}
+use Rattle.fault_lines.specs.declared.lent.LentLocation.TheVariants as place
+use Rattle.fault_lines.specs.declared.lent.LentStop.{LentStop}
+use Rattle.fault_lines.specs.declared.lent.LentStop.TheVariants as halt
 use Rattle.fault_lines.specs.declared.lent.Conflict.{Conflict}
 use Rattle.fault_lines.specs.declared.lent.Divergence.{Divergence}
 use Rattle.fault_lines.specs.declared.lent.Bounds.{Bounds}
@@ -18,11 +18,11 @@ use Rattle.fault_lines.specs.declared.lent.LentFault.{LentFault}
 use Rattle.fault_lines.specs.declared.lent.LentFault.TheVariants as lent
 use Rattle.fault_lines.specs.Fields.{turns_of}
 
-abbrev pub location_of : Place → Location
+abbrev pub location_of : LentLocation → Location
 location_of (place.Buffer name) = location.Buffer name.now
 location_of (place.Local group name) = location.Local group name.now
 
-abbrev pub stop_of : Halt → Stop
+abbrev pub stop_of : LentStop → Stop
 stop_of (halt.Barrier site turns) = stop.At (record { site = site; turns = turns_of (option_map (λ list. list.now) turns) })
 stop_of halt.End = stop.Ended
 

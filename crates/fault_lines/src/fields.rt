@@ -3,12 +3,12 @@
 
 ghost use Rattle.std.specs.Prelude.{◌≡◌, ◌<◌, ◌≤◌, not, length, position, if◌then◌else◌, Some, None, IfSome};
 ghost use Rattle.std.specs.Option.{option_map};
-ghost use Rattle.line_fields.specs.Texts.{value_of};
-ghost use Rattle.line_fields.specs.Fronts.{front_length, before};
+ghost use Rattle.text_lines.specs.Texts.{value_of};
+ghost use Rattle.text_lines.specs.Fronts.{front_length, before};
 ghost use Rattle.fault_lines.specs.Fields.{is_turn};
 ghost use Rattle.fault_lines.specs.Reading.{name_at, number32_at, signed_at, list_at, is_inner, line_of};
 
-use line_fields::{after, number_at, number_below, value_at};
+use text_lines::{after, number_at, number_below, value_at};
 
 /// The most bytes of a name.
 const MAX_NAME: usize = 65_536;
@@ -20,7 +20,7 @@ const TURN_LIMIT: u128 = 1 << 32;
 pub fn name_before(end: u8, bytes: &[u8]) -> Option<(&[u8], &[u8])>
     ensures { option_map (λ read. (read.0.now, read.1.now)) result ≡ before end (name_at bytes.now) }
 {
-    line_fields::name_before(end, MAX_NAME, bytes)
+    text_lines::name_before(end, MAX_NAME, bytes)
 }
 
 /// A number below 2^32 in front, and the rest.
@@ -36,7 +36,7 @@ pub fn number32_at(bytes: &[u8]) -> Option<(u32, &[u8])>
 }
 
 /// A number below 2^32 in front of a byte, and the rest behind that byte.
-#[tactic(auto, unfolding(line_fields::specs::Fronts::before))]
+#[tactic(auto, unfolding(text_lines::specs::Fronts::before))]
 pub fn number32_before(end: u8, bytes: &[u8]) -> Option<(u32, &[u8])>
     ensures { option_map (λ read. (read.0, read.1.now)) result ≡ before end (number32_at bytes.now) }
 {
@@ -55,7 +55,7 @@ fn signed_at(bytes: &[u8]) -> Option<(i64, &[u8])>
 }
 
 /// A number from -2^63 to 2^63 - 1 in front of a byte, and the rest behind that byte.
-#[tactic(auto, unfolding(line_fields::specs::Fronts::before))]
+#[tactic(auto, unfolding(text_lines::specs::Fronts::before))]
 pub fn signed_before(end: u8, bytes: &[u8]) -> Option<(i64, &[u8])>
     ensures { option_map (λ read. (read.0, read.1.now)) result ≡ before end (signed_at bytes.now) }
 {
@@ -76,7 +76,7 @@ pub fn turn_of(digits: &[u8]) -> Option<u32>
 pub fn list_before(end: u8, bytes: &[u8]) -> Option<(&[u8], &[u8])>
     ensures { option_map (λ read. (read.0.now, read.1.now)) result ≡ before end (list_at bytes.now) }
 {
-    line_fields::list_before(end, TURN_LIMIT, bytes)
+    text_lines::list_before(end, TURN_LIMIT, bytes)
 }
 
 /// The place of the first line feed, if there is one.

@@ -10,9 +10,11 @@ ghost use Rattle.fault_lines.specs.Views.{location_of, stop_of, fault_of};
 ghost use Rattle.fault_lines.specs.declared.lent.LentFault.TheVariants as lent;
 
 use crate::fields::{list_before, name_before, number32_before, signed_before};
-use crate::lent::{Bounds, Conflict, Divergence, Halt, LentFault, Place, Private, Unset};
+use crate::lent::{
+    Bounds, Conflict, Divergence, LentFault, LentLocation, LentStop, Private, Unset,
+};
 use clmodel::access::{AccessKind, Clash, Class};
-use line_fields::{after, number_before};
+use text_lines::{after, number_before};
 
 /// The kind of an access that a word names.
 #[tactic(auto, unfolding(crate::specs::Reading::kind_of))]
@@ -57,26 +59,26 @@ fn kind_at(bytes: &[u8]) -> Option<(AccessKind, &[u8])>
 
 /// A place in a buffer, behind the word `buffer`: the name in front of a space, and the rest behind it.
 #[tactic(auto, unfolding(crate::specs::Reading::buffer_at))]
-fn buffer_at(bytes: &[u8]) -> Option<(Place<'_>, &[u8])>
+fn buffer_at(bytes: &[u8]) -> Option<(LentLocation<'_>, &[u8])>
     ensures { option_map (λ read. (location_of read.0, read.1.now)) result ≡ buffer_at bytes.now }
 {
     let (name, rest) = name_before(b' ', bytes)?;
-    Some((Place::Buffer(name), rest))
+    Some((LentLocation::Buffer(name), rest))
 }
 
 /// A place in local memory, behind the word `local`: a group and a name, each in front of a space, and the rest.
 #[tactic(auto, unfolding(crate::specs::Reading::local_at))]
-fn local_at(bytes: &[u8]) -> Option<(Place<'_>, &[u8])>
+fn local_at(bytes: &[u8]) -> Option<(LentLocation<'_>, &[u8])>
     ensures { option_map (λ read. (location_of read.0, read.1.now)) result ≡ local_at bytes.now }
 {
     let (group, rest) = number32_before(b' ', bytes)?;
     let (name, rest) = name_before(b' ', rest)?;
-    Some((Place::Local { group, name }, rest))
+    Some((LentLocation::Local { group, name }, rest))
 }
 
 /// A place in local memory in front of a space, and the rest behind it.
 #[tactic(auto, unfolding(crate::specs::Reading::local_place_at))]
-fn local_place_at(bytes: &[u8]) -> Option<(Place<'_>, &[u8])>
+fn local_place_at(bytes: &[u8]) -> Option<(LentLocation<'_>, &[u8])>
     ensures { option_map (λ read. (location_of read.0, read.1.now)) result ≡ local_place_at bytes.now }
 {
     let rest = after(b"local ", bytes)?;
@@ -85,7 +87,7 @@ fn local_place_at(bytes: &[u8]) -> Option<(Place<'_>, &[u8])>
 
 /// A place in front of a space, and the rest behind it.
 #[tactic(auto, unfolding(crate::specs::Reading::place_at))]
-fn place_at(bytes: &[u8]) -> Option<(Place<'_>, &[u8])>
+fn place_at(bytes: &[u8]) -> Option<(LentLocation<'_>, &[u8])>
     ensures { option_map (λ read. (location_of read.0, read.1.now)) result ≡ place_at bytes.now }
 {
     if let Some(rest) = after(b"buffer ", bytes) {
@@ -116,17 +118,17 @@ fn turns_at(bytes: &[u8]) -> Option<(Option<&[u8]>, &[u8])>
 
 /// A wait at a barrier, behind the word `barrier`: its site, the turns where there are any, and the rest.
 #[tactic(auto, unfolding(crate::specs::Reading::barrier_at))]
-fn barrier_at(bytes: &[u8]) -> Option<(Halt<'_>, &[u8])>
+fn barrier_at(bytes: &[u8]) -> Option<(LentStop<'_>, &[u8])>
     ensures { option_map (λ read. (stop_of read.0, read.1.now)) result ≡ barrier_at bytes.now }
 {
     let (site, rest) = number32_before(b' ', bytes)?;
     let (turns, rest) = turns_at(rest)?;
-    Some((Halt::Barrier { site, turns }, rest))
+    Some((LentStop::Barrier { site, turns }, rest))
 }
 
 /// A wait at a barrier, with the word `barrier` in front, and the rest.
 #[tactic(auto, unfolding(crate::specs::Reading::barrier_stop_at))]
-fn barrier_stop_at(bytes: &[u8]) -> Option<(Halt<'_>, &[u8])>
+fn barrier_stop_at(bytes: &[u8]) -> Option<(LentStop<'_>, &[u8])>
     ensures { option_map (λ read. (stop_of read.0, read.1.now)) result ≡ barrier_stop_at bytes.now }
 {
     let rest = after(b"barrier ", bytes)?;
@@ -135,11 +137,11 @@ fn barrier_stop_at(bytes: &[u8]) -> Option<(Halt<'_>, &[u8])>
 
 /// A stop in front of a space, and the rest behind it.
 #[tactic(auto, unfolding(crate::specs::Reading::stop_at))]
-fn stop_at(bytes: &[u8]) -> Option<(Halt<'_>, &[u8])>
+fn stop_at(bytes: &[u8]) -> Option<(LentStop<'_>, &[u8])>
     ensures { option_map (λ read. (stop_of read.0, read.1.now)) result ≡ stop_at bytes.now }
 {
     if let Some(rest) = after(b"end ", bytes) {
-        return Some((Halt::End, rest));
+        return Some((LentStop::End, rest));
     }
     barrier_stop_at(bytes)
 }
@@ -287,7 +289,7 @@ fn unset_at(bytes: &[u8]) -> Option<(LentFault<'_>, &[u8])>
 }
 
 /// A fault that names an item alone, behind the word `fault`.
-#[tactic(auto, unfolding(crate::specs::Reading::alone_fault_at, crate::specs::Reading::item_fault_at, line_fields::specs::Fronts::after))]
+#[tactic(auto, unfolding(crate::specs::Reading::alone_fault_at, crate::specs::Reading::item_fault_at, text_lines::specs::Fronts::after))]
 fn alone_fault_at(bytes: &[u8]) -> Option<(LentFault<'_>, &[u8])>
     ensures { option_map (λ read. (fault_of read.0, read.1.now)) result ≡ alone_fault_at bytes.now }
 {
@@ -305,7 +307,7 @@ fn alone_fault_at(bytes: &[u8]) -> Option<(LentFault<'_>, &[u8])>
 }
 
 /// A fault behind the word `fault`.
-#[tactic(auto, unfolding(crate::specs::Reading::memory_fault_at, line_fields::specs::Fronts::after))]
+#[tactic(auto, unfolding(crate::specs::Reading::memory_fault_at, text_lines::specs::Fronts::after))]
 fn memory_fault_at(bytes: &[u8]) -> Option<(LentFault<'_>, &[u8])>
     ensures { option_map (λ read. (fault_of read.0, read.1.now)) result ≡ memory_fault_at bytes.now }
 {

@@ -5,14 +5,14 @@ use clmodel::access::{AccessKind, Clash};
 
 /// Where a byte or an element lies, with a name that is lent.
 #[derive(Clone, Copy)]
-pub enum Place<'a> {
+pub enum LentLocation<'a> {
     Buffer(&'a [u8]),
     Local { group: u32, name: &'a [u8] },
 }
 
 /// Where an item waits or that it has ended, with the text of the turns round a barrier, if there are any.
 #[derive(Clone, Copy)]
-pub enum Halt<'a> {
+pub enum LentStop<'a> {
     Barrier { site: u32, turns: Option<&'a [u8]> },
     End,
 }
@@ -25,7 +25,7 @@ pub struct Conflict<'a> {
     pub kind: AccessKind,
     pub other_item: u32,
     pub other_kind: AccessKind,
-    pub place: Place<'a>,
+    pub place: LentLocation<'a>,
     pub byte: u64,
 }
 
@@ -33,9 +33,9 @@ pub struct Conflict<'a> {
 #[derive(Clone, Copy)]
 pub struct Divergence<'a> {
     pub item: u32,
-    pub stop: Halt<'a>,
+    pub stop: LentStop<'a>,
     pub other_item: u32,
-    pub other_stop: Halt<'a>,
+    pub other_stop: LentStop<'a>,
 }
 
 /// An access of an element that is out of range.
@@ -43,7 +43,7 @@ pub struct Divergence<'a> {
 pub struct Bounds<'a> {
     pub item: u32,
     pub kind: AccessKind,
-    pub place: Place<'a>,
+    pub place: LentLocation<'a>,
     pub element: i64,
 }
 
@@ -52,7 +52,7 @@ pub struct Bounds<'a> {
 pub struct Unset<'a> {
     pub item: u32,
     pub kind: AccessKind,
-    pub place: Place<'a>,
+    pub place: LentLocation<'a>,
     pub byte: u64,
 }
 

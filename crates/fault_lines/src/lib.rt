@@ -2,9 +2,11 @@
 //!
 //! `write` writes the defined line, with names of any length. `read` gives the ticket, the fault and the runs of a
 //! schedule file, and BadText exactly where the bytes are none (out of memory aside). Every `fault` reply goes through
-//! here. The crate knows no device.
+//! here. `kind_word` and `class_word` are the words of accesses that replies and explanations share. The crate knows no
+//! device.
 #![tactic(auto)]
 
+mod access_words;
 mod fields;
 mod forms;
 mod lent;
@@ -12,5 +14,6 @@ mod reading;
 mod runs;
 pub mod writing;
 
+pub use access_words::{class_word, kind_word};
 pub use reading::{ReadFault, read};
 pub use writing::write;

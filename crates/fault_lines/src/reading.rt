@@ -5,7 +5,7 @@ ghost use Rattle.std.specs.Prelude.{◌≡◌, map, IfOk, IfErr, List, ℕ};
 ghost use Rattle.std.specs.Option.{option_map};
 ghost use Rattle.clmodel.specs.declared.fault.Fault.{Fault};
 ghost use Rattle.clmodel.specs.declared.schedule.EventRun.{EventRun};
-ghost use Rattle.line_fields.specs.Texts.{between_commas};
+ghost use Rattle.text_lines.specs.Texts.{between_commas};
 ghost use Rattle.fault_lines.specs.Fields.{turn_of, turns_of};
 ghost use Rattle.fault_lines.specs.Reading.{file_of, schedule_of};
 ghost use Rattle.fault_lines.specs.Views.{location_of, stop_of, conflict_of, divergence_of, bounds_of, unset_of, fault_of};
@@ -14,14 +14,16 @@ ghost use Rattle.fault_lines.specs.Faults.{IsRefused};
 
 use crate::fields::turn_of;
 use crate::forms::fault_at;
-use crate::lent::{Bounds, Conflict, Divergence, Halt, LentFault, Place, Private, Unset};
+use crate::lent::{
+    Bounds, Conflict, Divergence, LentFault, LentLocation, LentStop, Private, Unset,
+};
 use crate::runs::{schedule_at, schedule_of};
 use clmodel::action::{Instance, Stop, Turns};
 use clmodel::fault::{Fault, Location};
 use clmodel::schedule::Schedule;
 use clmodel::text::Name;
-use line_fields::{after, number_before};
 use std::alloc::{AllocError, Global};
+use text_lines::{after, number_before};
 
 /// Why a text is no schedule file, or was not read.
 #[derive(Clone, Copy, Debug, PartialEq, Eq)]
@@ -31,12 +33,12 @@ pub enum ReadFault {
 }
 
 /// A location with a copy of the name.
-fn location_of(alloc: Global, place: Place<'_>) -> Result<Location, AllocError>
+fn location_of(alloc: Global, place: LentLocation<'_>) -> Result<Location, AllocError>
     ensures { IfOk result (λ location. location ≡ location_of place.entry) }
 {
     match place {
-        Place::Buffer(name) => Ok(Location::Buffer(Name::copy_of(alloc, name)?)),
-        Place::Local { group, name } => {
+        LentLocation::Buffer(name) => Ok(Location::Buffer(Name::copy_of(alloc, name)?)),
+        LentLocation::Local { group, name } => {
             let name = Name::copy_of(alloc, name)?;
             Ok(Location::Local { group, name })
         }
@@ -71,12 +73,12 @@ fn turns_of(alloc: Global, turns: Option<&[u8]>) -> Result<Turns, AllocError>
 }
 
 /// A stop with its turns as numbers.
-fn stop_of(alloc: Global, halt: Halt<'_>) -> Result<Stop, AllocError>
+fn stop_of(alloc: Global, halt: LentStop<'_>) -> Result<Stop, AllocError>
     ensures { IfOk result (λ stop. stop ≡ stop_of halt.entry) }
 {
     match halt {
-        Halt::End => Ok(Stop::Ended),
-        Halt::Barrier { site, turns } => {
+        LentStop::End => Ok(Stop::Ended),
+        LentStop::Barrier { site, turns } => {
             let turns = turns_of(alloc, turns)?;
             Ok(Stop::At(Instance { site, turns }))
         }

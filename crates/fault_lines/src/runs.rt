@@ -8,8 +8,8 @@ ghost use Rattle.fault_lines.specs.Reading.{item_run_at, release_at, run_at, run
 
 use crate::fields::{line_of, number32_at, number32_before};
 use clmodel::schedule::{EventRun, Schedule};
-use line_fields::{after, number_at};
 use std::alloc::{AllocError, Global};
+use text_lines::{after, number_at};
 
 /// A run of events of one item in front: the item, `*` and the count, which is at least 1; and the rest.
 #[tactic(auto, unfolding(crate::specs::Reading::item_run_at))]

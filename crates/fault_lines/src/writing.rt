@@ -3,23 +3,23 @@
 
 ghost use Rattle.std.specs.Prelude.{◌≡◌};
 ghost use Rattle.std.specs.List.{flat_map};
-ghost use Rattle.counted_io.specs.Pieces.{joined};
-ghost use Rattle.counted_io.specs.Sink.{Puts};
+ghost use Rattle.byte_io.specs.Pieces.{joined};
+ghost use Rattle.byte_io.specs.Sink.{Puts};
 ghost use Rattle.fault_lines.specs.Text.{clash_text, location_text, later_turn_text, turns_text, stop_text, run_text, schedule_text, fault_words, fault_item, byte_texts, element_texts, private_texts, variable_texts, conflict_texts, divergence_texts, fault_details, fault_text, fault_line};
 ghost use Rattle.fault_lines.specs.Parts.{part_text};
 
-use access_words::kind_word;
+use crate::kind_word;
+use byte_io::pieces::{Piece, write_number, write_pieces, write_signed};
+use byte_io::{Write, WriteFailed};
 use clmodel::access::{AccessKind, Clash};
 use clmodel::action::Stop;
 use clmodel::fault::{Fault, Location};
 use clmodel::schedule::{EventRun, Schedule};
 use clmodel::text::Name;
-use counted_io::pieces::{Piece, write_number, write_pieces, write_signed};
-use counted_io::{Write, WriteFailed};
 
 /// A part of a fault's line.
 #[derive(Clone, Copy)]
-enum Part<'a> {
+enum LinePart<'a> {
     Text(&'a str),
     Name(&'a [u8]),
     Number(u64),
@@ -147,25 +147,25 @@ fn write_schedule<W: Write>(runs: &[EventRun], writer: &mut W) -> Result<(), Wri
 }
 
 /// Writes a part of a line, with its numbers in decimal.
-fn write_part<W: Write>(part: &Part<'_>, writer: &mut W) -> Result<(), WriteFailed>
+fn write_part<W: Write>(part: &LinePart<'_>, writer: &mut W) -> Result<(), WriteFailed>
     ensures { Puts (W.sink writer.old) result (W.sink writer.new) (part_text part.now) }
 {
     match part {
-        Part::Text(text) => writer.write(text.as_bytes()),
-        Part::Name(name) => writer.write(name),
-        Part::Number(number) => write_number(*number, writer),
-        Part::Number32(number) => write_number(u64::from(*number), writer),
-        Part::Signed(number) => write_signed(i128::from(*number), writer),
-        Part::Clash(clash) => writer.write(clash_words(*clash).as_bytes()),
-        Part::Kind(kind) => writer.write(kind_word(*kind).as_bytes()),
-        Part::Location(location) => write_location(location, writer),
-        Part::Stop(stop) => write_stop(stop, writer),
-        Part::Schedule(runs) => write_schedule(runs, writer),
+        LinePart::Text(text) => writer.write(text.as_bytes()),
+        LinePart::Name(name) => writer.write(name),
+        LinePart::Number(number) => write_number(*number, writer),
+        LinePart::Number32(number) => write_number(u64::from(*number), writer),
+        LinePart::Signed(number) => write_signed(i128::from(*number), writer),
+        LinePart::Clash(clash) => writer.write(clash_words(*clash).as_bytes()),
+        LinePart::Kind(kind) => writer.write(kind_word(*kind).as_bytes()),
+        LinePart::Location(location) => write_location(location, writer),
+        LinePart::Stop(stop) => write_stop(stop, writer),
+        LinePart::Schedule(runs) => write_schedule(runs, writer),
     }
 }
 
 /// Writes the parts of a line in their order, with nothing between them.
-fn write_parts<W: Write>(parts: &[Part<'_>], writer: &mut W) -> Result<(), WriteFailed>
+fn write_parts<W: Write>(parts: &[LinePart<'_>], writer: &mut W) -> Result<(), WriteFailed>
     ensures { Puts (W.sink writer.old) result (W.sink writer.new) (flat_map part_text parts.now) }
 {
     for part in parts {
@@ -221,16 +221,16 @@ fn write_conflict<W: Write>(
 {
     write_parts(
         &[
-            Part::Text(" "),
-            Part::Kind(kind),
-            Part::Text(" item "),
-            Part::Number32(other.0),
-            Part::Text(" "),
-            Part::Kind(other.1),
-            Part::Text(" "),
-            Part::Location(location),
-            Part::Text(" byte "),
-            Part::Number(byte),
+            LinePart::Text(" "),
+            LinePart::Kind(kind),
+            LinePart::Text(" item "),
+            LinePart::Number32(other.0),
+            LinePart::Text(" "),
+            LinePart::Kind(other.1),
+            LinePart::Text(" "),
+            LinePart::Location(location),
+            LinePart::Text(" byte "),
+            LinePart::Number(byte),
         ],
         writer,
     )
@@ -247,12 +247,12 @@ fn write_divergence<'a, W: Write>(
 {
     write_parts(
         &[
-            Part::Text(" "),
-            Part::Stop(stop),
-            Part::Text(" item "),
-            Part::Number32(other_item),
-            Part::Text(" "),
-            Part::Stop(other_stop),
+            LinePart::Text(" "),
+            LinePart::Stop(stop),
+            LinePart::Text(" item "),
+            LinePart::Number32(other_item),
+            LinePart::Text(" "),
+            LinePart::Stop(other_stop),
         ],
         writer,
     )
@@ -269,12 +269,12 @@ fn write_element_access<W: Write>(
 {
     write_parts(
         &[
-            Part::Text(" "),
-            Part::Kind(kind),
-            Part::Text(" "),
-            Part::Location(location),
-            Part::Text(" element "),
-            Part::Signed(element),
+            LinePart::Text(" "),
+            LinePart::Kind(kind),
+            LinePart::Text(" "),
+            LinePart::Location(location),
+            LinePart::Text(" element "),
+            LinePart::Signed(element),
         ],
         writer,
     )
@@ -291,12 +291,12 @@ fn write_byte_access<W: Write>(
 {
     write_parts(
         &[
-            Part::Text(" "),
-            Part::Kind(kind),
-            Part::Text(" "),
-            Part::Location(location),
-            Part::Text(" byte "),
-            Part::Number(byte),
+            LinePart::Text(" "),
+            LinePart::Kind(kind),
+            LinePart::Text(" "),
+            LinePart::Location(location),
+            LinePart::Text(" byte "),
+            LinePart::Number(byte),
         ],
         writer,
     )
@@ -312,10 +312,10 @@ fn write_private_element<W: Write>(
 {
     write_parts(
         &[
-            Part::Text(" private "),
-            Part::Name(array.as_slice()),
-            Part::Text(" element "),
-            Part::Signed(element),
+            LinePart::Text(" private "),
+            LinePart::Name(array.as_slice()),
+            LinePart::Text(" element "),
+            LinePart::Signed(element),
         ],
         writer,
     )
@@ -326,7 +326,10 @@ fn write_variable<W: Write>(variable: &Name, writer: &mut W) -> Result<(), Write
     ensures { Puts (W.sink writer.old) result (W.sink writer.new) (joined (variable_texts variable.now)) }
 {
     write_parts(
-        &[Part::Text(" variable "), Part::Name(variable.as_slice())],
+        &[
+            LinePart::Text(" variable "),
+            LinePart::Name(variable.as_slice()),
+        ],
         writer,
     )
 }
@@ -374,7 +377,10 @@ fn write_fault<W: Write>(fault: &Fault, writer: &mut W) -> Result<(), WriteFaile
     ensures { Puts (W.sink writer.old) result (W.sink writer.new) (fault_text fault.now) }
 {
     write_parts(
-        &[Part::Text(words_of(fault)), Part::Number32(item_of(fault))],
+        &[
+            LinePart::Text(words_of(fault)),
+            LinePart::Number32(item_of(fault)),
+        ],
         writer,
     )?;
     write_details(fault, writer)
@@ -392,9 +398,9 @@ pub fn write<W: Write>(
     write_fault(fault, writer)?;
     write_parts(
         &[
-            Part::Text(" schedule"),
-            Part::Schedule(schedule.as_slice()),
-            Part::Text("\n"),
+            LinePart::Text(" schedule"),
+            LinePart::Schedule(schedule.as_slice()),
+            LinePart::Text("\n"),
         ],
         writer,
     )

@@ -9,9 +9,9 @@ use Rattle.clmodel.specs.declared.access.Clash.{Clash}
 use Rattle.clmodel.specs.declared.access.Rule.{Rule}
 use Rattle.clmodel.proofs.Steps.{or_else_none, map_none, decided}
 use Rattle.clmodel.proofs.CellLaws.{covers_parts}
-use Rattle.shadow_list.specs.Log.{hit_between, hit_on}
-use Rattle.shadow_list.specs.declared.log.Entry.{Entry}
-use Rattle.shadow_list.specs.declared.log.Hit.{Hit}
+use Rattle.access_list.specs.Log.{hit_between, hit_on}
+use Rattle.access_list.specs.declared.log.Entry.{Entry}
+use Rattle.access_list.specs.declared.log.Hit.{Hit}
 use Rattle.group_log.specs.Covers.{CoversAt, Covers}
 
 -- ---- conflicts by their parts

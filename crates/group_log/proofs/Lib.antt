@@ -1,3 +1,5 @@
+mod Lining
+mod Places
 pub mod Covering
 pub mod Shortened
 pub mod Standing

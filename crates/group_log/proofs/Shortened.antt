@@ -13,11 +13,11 @@ use Rattle.clmodel.specs.declared.access.Region.TheVariants as region
 use Rattle.joining.specs.Memory.{at_byte}
 use Rattle.shadow.specs.Lasting.{AbsorbedAt, Absorbed, StandsFor, EndsWith, StandsWith}
 use Rattle.shadow.specs.Seen.{seen, seen_with, mark_of}
-use Rattle.shadow_list.specs.Log.{in_buffer, Log, logged}
+use Rattle.access_list.specs.Log.{in_buffer, Log, logged}
 use Rattle.shadow.proofs.Absorbing.{onto}
 use Rattle.shadow.proofs.Listing.{onto_is}
 use Rattle.shadow.specs.declared.group_accesses.AccessSummary.{AccessSummary}
-use Rattle.shadow_list.specs.declared.log.Entry.{Entry}
+use Rattle.access_list.specs.declared.log.Entry.{Entry}
 use Rattle.group_log.specs.Lasting.{all_of, short_of, last_of, made, Stays, LeavesOut}
 use Rattle.group_log.specs.declared.group.GroupLog.{GroupLog}
 

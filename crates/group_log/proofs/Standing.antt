@@ -15,7 +15,7 @@ use Rattle.shadow.specs.Seen.{one_sort, mark_clash, mark_of}
 use Rattle.shadow.specs.declared.seen.Mark.{Mark}
 use Rattle.shadow.proofs.Meetings.{kinds_clash, mark_plain, sort_passes, passes_both}
 use Rattle.shadow.proofs.Absorbing.{sort_self, sort_chain}
-use Rattle.shadow_list.specs.declared.log.Entry.{Entry}
+use Rattle.access_list.specs.declared.log.Entry.{Entry}
 use Rattle.group_traces.specs.Traces.{untouched, first_in, grows, trace_with, is_now, passes, tells}
 use Rattle.group_traces.specs.declared.trace.Trace.{Trace}
 use Rattle.group_log.specs.Covers.{CoversAt}

@@ -20,9 +20,9 @@ use Rattle.group_log.specs.Side.{TakesOf}
 use Rattle.group_log.specs.declared.side.Side.{Side}
 use Rattle.shadow.proofs.Absorbing.{Takes, takes_marked, takes_apart, sort_self}
 use Rattle.shadow.proofs.Absorbing as absorbing
-use Rattle.shadow_list.specs.Keys.{object_number}
-use Rattle.shadow_list.specs.Log.{in_buffer}
-use Rattle.shadow_list.specs.declared.log.Entry.{Entry}
+use Rattle.access_list.specs.Keys.{object_number}
+use Rattle.access_list.specs.Log.{in_buffer}
+use Rattle.access_list.specs.declared.log.Entry.{Entry}
 use Rattle.group_traces.specs.Traces.{untouched, first_in, grows, trace_with, passes, tells, takes}
 use Rattle.group_traces.specs.Cells.{at_key, key_of, trace_of, IsMarked}
 use Rattle.group_traces.specs.declared.trace.Trace.{Trace}

@@ -12,10 +12,10 @@ use Rattle.clmodel.specs.declared.access.Region.{Region}
 use Rattle.clmodel.specs.declared.access.Region.TheVariants as region
 use Rattle.clmodel.specs.declared.access.Rule.{Rule}
 use Rattle.clmodel.proofs.Steps.{none_some, map_none}
-use Rattle.shadow_list.specs.Log.{hit_between, hit_on, hit_from, hit, in_buffer, IsThere, IsKept, IsNoted, Log, logged, stamped}
-use Rattle.shadow_list.specs.declared.log.Entry.{Entry}
-use Rattle.shadow_list.specs.declared.log.Hit.{Hit}
-use Rattle.shadow_list.proofs.Past.{one_memory}
+use Rattle.access_list.specs.Log.{hit_between, hit_on, hit_from, hit, in_buffer, IsThere, IsKept, IsNoted, Log, logged, stamped}
+use Rattle.access_list.specs.declared.log.Entry.{Entry}
+use Rattle.access_list.specs.declared.log.Hit.{Hit}
+use Rattle.access_list.proofs.Past.{one_memory}
 use Rattle.group_log.specs.Tells.{Tells, IsTaken, with_last}
 use Rattle.group_log.proofs.Covering.{no_conflict, on_push}
 

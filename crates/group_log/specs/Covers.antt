@@ -2,8 +2,8 @@
 use Rattle.std.specs.Prelude.{◌≡◌, ℕ, Bool, None, List}
 use Rattle.clmodel.specs.Launch.{within_group, conflict_between}
 use Rattle.clmodel.specs.declared.access.Access.{Access}
-use Rattle.shadow_list.specs.Log.{hit_on}
-use Rattle.shadow_list.specs.declared.log.Entry.{Entry}
+use Rattle.access_list.specs.Log.{hit_on}
+use Rattle.access_list.specs.declared.log.Entry.{Entry}
 
 -- whatever of the same interval conflicts with an access at a byte conflicts there with a kept one (3.3.1, 6.12.8)
 abbrev pub CoversAt : Bool → List Entry → Access → ℕ → Type 0

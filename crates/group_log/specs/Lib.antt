@@ -1,3 +1,4 @@
+pub mod Progressions
 pub mod Covers
 pub mod Lasting
 pub mod Logged

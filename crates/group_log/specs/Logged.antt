@@ -1,5 +1,5 @@
 -- How the log of a running group is seen (own, on OpenCL 1.2, 3.3.1 and 6.12.8).
-use Rattle.shadow_list.specs.Log.{Log, logged}
+use Rattle.access_list.specs.Log.{Log, logged}
 use Rattle.group_log.specs.Lasting.{all_of}
 use Rattle.group_log.specs.declared.group.GroupLog.{GroupLog}
 

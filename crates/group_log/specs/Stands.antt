@@ -7,7 +7,7 @@ use Rattle.clmodel.specs.declared.access.Region.TheVariants as region
 use Rattle.joining.specs.Memory.{at_byte}
 use Rattle.shadow.specs.Seen.{one_sort, mark_of, seen, seen_with}
 use Rattle.shadow.specs.declared.seen.Mark.{Mark}
-use Rattle.shadow_list.specs.declared.log.Entry.{Entry}
+use Rattle.access_list.specs.declared.log.Entry.{Entry}
 use Rattle.group_traces.specs.Traces.{untouched, is_now, takes}
 use Rattle.group_traces.specs.Cells.{at_key, trace_of}
 use Rattle.group_traces.specs.declared.trace.Trace.{Trace}

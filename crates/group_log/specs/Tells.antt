@@ -1,8 +1,8 @@
 -- Kept accesses that tell what all accesses of a group do (own, on OpenCL 1.2, 3.3.1 and 6.12.8).
 use Rattle.std.specs.Prelude.{◌≡◌, ℕ, ◌<◌, ◌⊎◌, Bool, None, List, [], ◌∷◌, ◌++◌}
 use Rattle.clmodel.specs.Launch.{within_group}
-use Rattle.shadow_list.specs.Log.{Log, hit_on, in_buffer}
-use Rattle.shadow_list.specs.declared.log.Entry.{Entry}
+use Rattle.access_list.specs.Log.{Log, hit_on, in_buffer}
+use Rattle.access_list.specs.declared.log.Entry.{Entry}
 use Rattle.group_log.specs.Covers.{Covers}
 
 -- whatever access of a running interval to buffers, or to local objects, conflicts with one of the whole list conflicts

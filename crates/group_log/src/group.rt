@@ -3,8 +3,8 @@
 ghost use Rattle.std.specs.Prelude.{◌≡◌, [], List, IfOk, OnOk, OnErr, false, true};
 ghost use Rattle.clmodel.specs.declared.access.Access.{Access as TheAccess};
 ghost use Rattle.shadow.specs.Lasting.{StandsWith, Absorbed};
-ghost use Rattle.shadow_list.specs.Clear.{IsNotedIfClear};
-ghost use Rattle.shadow_list.specs.Log.{IsPlaced, IsNoted, fresh_log, in_buffer};
+ghost use Rattle.access_list.specs.Clear.{IsNotedIfClear};
+ghost use Rattle.access_list.specs.Log.{IsPlaced, IsNoted, fresh_log, in_buffer};
 ghost use Rattle.group_log.specs.Lasting.{all_of, short_of, last_of, made, LeavesOut};
 ghost use Rattle.group_log.specs.Covers.{Covers};
 ghost use Rattle.group_log.specs.Side.{TakesOf, IsKnown};
@@ -13,9 +13,9 @@ ghost use Rattle.group_log.specs.Tells.{Tells, with_last};
 use crate::lasting::Lasting;
 use crate::side::{Glance, Side};
 use crate::whole::Whole;
+use access_list::{AccessLog, Entry, Fenced, Hit, Logged};
 use clmodel::access::Region;
 use shadow::{AccessSummary, GroupAccesses};
-use shadow_list::{AccessLog, Entry, Fenced, Hit, Logged};
 use std::alloc::{AllocError, Global};
 
 /// The log of a group that is running, which keeps only accesses that tell a conflict that none before tells. Its list,

@@ -1,17 +1,17 @@
 //! The accesses of a group that are kept for other groups.
 
 ghost use Rattle.std.specs.Prelude.{◌≡◌, ◌++◌, ◌∷◌, [], All, IfOk, OnOk, false, true, if◌then◌else◌};
-ghost use Rattle.shadow_list.specs.Log.{IsPlaced};
+ghost use Rattle.access_list.specs.Log.{IsPlaced};
 
-use entry_lines::EntryLines;
+use crate::progressions::Progressions;
+use access_list::Entry;
 use shadow::AccessSummary;
-use shadow_list::Entry;
 use std::alloc::{AllocError, Global};
 
 /// The accesses to buffers that tell other groups something that none before tells: at most two for each byte of these.
 #[derive(Drop)]
 pub(crate) struct Lasting {
-    pub(crate) entries: EntryLines,
+    pub(crate) entries: Progressions,
     /// Whether the newest access of the group is one of them.
     pub(crate) has_last: bool,
     ghost placed: { All IsPlaced entries.items },
@@ -24,7 +24,7 @@ impl Lasting {
         ensures has_last { result.has_last ≡ false }
     {
         Lasting {
-            entries: EntryLines::new(alloc),
+            entries: Progressions::new(alloc),
             has_last: false,
         }
     }

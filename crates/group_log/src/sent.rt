@@ -5,9 +5,9 @@ ghost use Rattle.group_log.specs.contracts.group.GroupLog as GroupLogType;
 ghost use Rattle.group_log.specs.contracts.lasting.Lasting as LastingType;
 ghost use Rattle.group_log.specs.contracts.side.Side as SideType;
 
+use crate::progressions_sent::progressions_are_sent;
 use crate::whole::Whole;
 use clmodel::access::Region;
-use entry_lines::lines_are_sent;
 use group_traces::traces_are_sent;
 use std::marker::Send;
 
@@ -20,7 +20,7 @@ fn is_sent<T: Send>()
 fn sides_are_sent()
     ensures { IsSend SideType.the_row }
 {
-    lines_are_sent();
+    progressions_are_sent();
     is_sent::<Option<Region>>();
     traces_are_sent();
 }
@@ -29,7 +29,7 @@ fn sides_are_sent()
 fn lasting_accesses_are_sent()
     ensures { IsSend LastingType.the_row }
 {
-    lines_are_sent();
+    progressions_are_sent();
 }
 
 /// Logs may go from one thread to another. It does nothing when it runs.

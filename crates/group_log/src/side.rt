@@ -5,15 +5,15 @@ ghost use Rattle.clmodel.specs.Cells.{byte_count};
 ghost use Rattle.clmodel.specs.Launch.{within_group, conflict_between};
 ghost use Rattle.clmodel.specs.declared.access.Access.{Access as TheAccess};
 ghost use Rattle.shadow.specs.Lasting.{Absorbed};
-ghost use Rattle.shadow_list.specs.Log.{IsPlaced, hit, in_buffer};
-ghost use Rattle.shadow_list.specs.declared.log.Entry.{Entry as TheEntry};
+ghost use Rattle.access_list.specs.Log.{IsPlaced, hit, in_buffer};
+ghost use Rattle.access_list.specs.declared.log.Entry.{Entry as TheEntry};
 ghost use Rattle.group_log.specs.Covers.{Covers};
 ghost use Rattle.group_log.specs.Stands.{region_at, number_of, AllStand};
 
+use crate::progressions::Progressions;
+use access_list::{Entry, Hit, object_number};
 use clmodel::access::{Access, Region, Rule};
-use entry_lines::EntryLines;
 use group_traces::{Look, Sight, Traces, is_near};
-use shadow_list::{Entry, Hit, object_number};
 use std::alloc::{AllocError, Global};
 
 /// What is kept of the accesses of the running interval of local or of global memory: those that tell a conflict that
@@ -23,7 +23,7 @@ pub(crate) struct Side {
     pub(crate) uniform: bool,
     /// The number of the running interval.
     pub(crate) interval: u32,
-    pub(crate) kept: EntryLines,
+    pub(crate) kept: Progressions,
     /// The region of the first access that was kept. Others are in regions that differ from it in the object's number
     /// alone.
     home: Option<Region>,
@@ -74,7 +74,7 @@ impl Side {
         Side {
             uniform,
             interval: 0,
-            kept: EntryLines::new(alloc),
+            kept: Progressions::new(alloc),
             home: None,
             traces: Traces::new(alloc),
             whole: true,

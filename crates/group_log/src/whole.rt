@@ -2,9 +2,9 @@
 
 ghost use Rattle.std.specs.Prelude.{◌≡◌, Bool, List, [], ◌∷◌, ◌++◌};
 ghost use Rattle.std.specs.Borrow.{ftrue};
-ghost use Rattle.shadow_list.specs.declared.log.Entry.{Entry as TheEntry};
+ghost use Rattle.access_list.specs.declared.log.Entry.{Entry as TheEntry};
 
-use shadow_list::Entry;
+use access_list::Entry;
 use std::marker::Model;
 
 /// All accesses of a group in their order, each with whether it is kept for other groups. Only proofs read it: it takes

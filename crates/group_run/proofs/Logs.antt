@@ -12,9 +12,9 @@ use Rattle.clmodel.specs.declared.access.Clash.{Clash}
 use Rattle.clmodel.specs.declared.access.Conflict as conflict_type
 use Rattle.clmodel.proofs.Steps.{or_else_map}
 use Rattle.clmodel.proofs.Logs.{logged_kept, logged_front, logged_back}
-use Rattle.shadow_list.specs.Log.{hit_between, hit_on, hit_from, hit, IsThere, IsKept}
-use Rattle.shadow_list.specs.declared.log.Entry.{Entry}
-use Rattle.shadow_list.specs.declared.log.Hit.{Hit}
+use Rattle.access_list.specs.Log.{hit_between, hit_on, hit_from, hit, IsThere, IsKept}
+use Rattle.access_list.specs.declared.log.Entry.{Entry}
+use Rattle.access_list.specs.declared.log.Hit.{Hit}
 use Rattle.group_run.specs.Logs.{accesses_of, conflict_of, AreMine}
 use Rattle.joining.proofs.Kept.{on_kept}
 use Rattle.joining.proofs.Crossings.{on_append}

@@ -14,7 +14,7 @@ use Rattle.clmodel.specs.declared.access.Region.TheVariants as region
 use Rattle.clmodel.specs.declared.fault.Fault.{Fault}
 use Rattle.clmodel.proofs.Steps.{none_some, some_inj}
 use Rattle.clmodel.proofs.CellLaws.{cells_some, cells_none}
-use Rattle.shadow_list.specs.Log.{Log, fresh_log}
+use Rattle.access_list.specs.Log.{Log, fresh_log}
 use Rattle.launches.specs.Objects.{SpacesHold}
 use Rattle.launches.proofs.Items.{waiting_at}
 use Rattle.launches.proofs.Memory.{local_at, local_past}

@@ -30,9 +30,9 @@ use Rattle.clmodel.proofs.Ending.{sum_below_less, not_over, one_more, less_left}
 use Rattle.clmodel.proofs.Steps.{none_some, if_true, if_false, made, region_for, item_at, release_at, map_some, map_none}
 use Rattle.item_step.specs.BriefActions.{action_from}
 use Rattle.item_step.specs.declared.brief_action.BriefAction.{BriefAction}
-use Rattle.shadow_list.specs.Log.{Log, stamped, entry_of, hit, IsKept, IsNoted}
-use Rattle.shadow_list.specs.declared.log.Entry.{Entry}
-use Rattle.shadow_list.specs.declared.log.Hit.{Hit}
+use Rattle.access_list.specs.Log.{Log, stamped, entry_of, hit, IsKept, IsNoted}
+use Rattle.access_list.specs.declared.log.Entry.{Entry}
+use Rattle.access_list.specs.declared.log.Hit.{Hit}
 use Rattle.launches.specs.Objects.{ObjectsHold, IsMoved, space_of}
 use Rattle.group_run.specs.Fits.{Fits, Counts, AreAnswered, group_left}
 use Rattle.joining.specs.Group.{Plan, IsGroup}
@@ -40,8 +40,8 @@ use Rattle.group_run.specs.Logs.{conflict_of, numbered, Notes, IsLogged, IsJudge
 use Rattle.group_run.specs.Loops.{Steps, IsMade, judged_as}
 use Rattle.group_run.specs.declared.machine.Made.{Made}
 use Rattle.group_run.specs.declared.machine.Made.TheVariants as made_as
-use Rattle.spaces_base.specs.declared.space.SpaceFault.{SpaceFault}
-use Rattle.spaces_base.specs.declared.space.SpaceFault.TheVariants as space_fault
+use Rattle.spaces.specs.declared.space.SpaceFault.{SpaceFault}
+use Rattle.spaces.specs.declared.space.SpaceFault.TheVariants as space_fault
 use Rattle.launches.proofs.Lists.{get_set}
 use Rattle.launches.proofs.Memory.{space_sized}
 use Rattle.group_run.proofs.Logs.{newest_is_hit, keeps_noted, mine_noted}

@@ -5,7 +5,7 @@ use Rattle.clmodel.specs.Law.{IsBounded, sum_below}
 use Rattle.clmodel.specs.Run.{State, Events}
 use Rattle.clmodel.specs.declared.action.Action.{Action}
 use Rattle.clmodel.specs.declared.action.Answer.{Answer}
-use Rattle.shadow_list.specs.Log.{Log}
+use Rattle.access_list.specs.Log.{Log}
 use Rattle.launches.specs.Objects.{ObjectsHold}
 use Rattle.joining.specs.Group.{Plan, IsGroup}
 use Rattle.group_run.specs.Logs.{IsLogged}

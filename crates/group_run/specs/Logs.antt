@@ -9,9 +9,9 @@ use Rattle.clmodel.specs.declared.access.Conflict as conflict_type
 use Rattle.clmodel.specs.declared.action.Fences.{Fences}
 use Rattle.clmodel.specs.declared.fault.Fault.{Fault}
 use Rattle.clmodel.specs.declared.schedule.Event.TheVariants as event
-use Rattle.shadow_list.specs.Log.{Log, IsKept, IsNoted}
-use Rattle.shadow_list.specs.declared.log.Entry.{Entry}
-use Rattle.shadow_list.specs.declared.log.Hit.{Hit}
+use Rattle.access_list.specs.Log.{Log, IsKept, IsNoted}
+use Rattle.access_list.specs.declared.log.Entry.{Entry}
+use Rattle.access_list.specs.declared.log.Hit.{Hit}
 use Rattle.joining.specs.Group.{Plan}
 
 -- the accesses of a program's log, the newest first

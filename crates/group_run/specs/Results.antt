@@ -3,7 +3,7 @@ use Rattle.std.specs.Prelude.{◌≡◌, ℕ, Option, None, Some, List, map}
 use Rattle.clmodel.specs.Launch.{Launch}
 use Rattle.clmodel.specs.Outcome.{events_of, IsMerged}
 use Rattle.clmodel.specs.Run.{State, Events, start, left}
-use Rattle.shadow_list.specs.Log.{Log}
+use Rattle.access_list.specs.Log.{Log}
 use Rattle.joining.specs.Group.{Plan, IsRun, plan_of}
 use Rattle.group_run.specs.Logs.{IsLogged}
 use Rattle.group_run.specs.declared.result.GroupResult.{GroupResult}

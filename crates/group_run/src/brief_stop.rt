@@ -5,7 +5,7 @@ ghost use Rattle.clmodel.specs.Run.{same_stop};
 ghost use Rattle.group_run.specs.Stops.{stop_from};
 
 use clmodel::action::{Instance, Stop, Turns};
-use divergence::{is_at, same_stop};
+use launches::{is_at, same_stop};
 use std::alloc::{AllocError, Global};
 
 /// Where an item stops: at a barrier, by its site in the kernel, or at its end. The turns of the loops round a barrier

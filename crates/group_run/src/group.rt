@@ -8,7 +8,7 @@ ghost use Rattle.clmodel.specs.Law as law;
 ghost use Rattle.clmodel.specs.declared.action.Answer.{Answer};
 ghost use Rattle.clmodel.specs.declared.action.Answer.TheVariants.{Done};
 ghost use Rattle.launches.specs.Objects.{space_of};
-ghost use Rattle.shadow_list.specs.Log.{Log, IsPlaced};
+ghost use Rattle.access_list.specs.Log.{Log, IsPlaced};
 ghost use Rattle.group_run.specs.Fits.{Fits, AreAnswered};
 ghost use Rattle.group_run.specs.Items.{acts_at};
 ghost use Rattle.launches.specs.Items.{acts_of};
@@ -17,14 +17,14 @@ ghost use Rattle.group_run.specs.Logs.{IsJudged, after_fences, conflict_of};
 use crate::brief_stop::BriefStop;
 use crate::faults::{self, bounds_fault, unset_fault};
 use crate::machine::{Machine, Made, Report};
+use access_list::{AccessLog, Entry, Fenced, Hit};
 use clmodel::access::{Conflict, Object, Operation};
 use clmodel::action::{Answer, Cause, Fences, Stop};
 use clmodel::fault::Fault;
 use item_step::BriefAction;
 use launches::objects::{perform_on, size_of};
 use launches::{Described, Runnable, Slot};
-use shadow_list::{AccessLog, Entry, Fenced, Hit};
-use spaces_base::{LocalMem, Space, SpaceFault, first_byte};
+use spaces::{LocalMem, Space, SpaceFault, first_byte};
 use std::alloc::{AllocError, Global};
 
 /// A work-group that runs: its items, how many events they have made, the launch's buffers and the group's local

@@ -2,19 +2,19 @@
 
 ghost use Rattle.std.specs.Prelude.{◌≡◌, ◌*◌, ◌<◌, false, map, IfOk};
 ghost use Rattle.launches.specs.Groups.{IsRunnable, filled};
-ghost use Rattle.shadow_list.specs.Log.{fresh_log};
+ghost use Rattle.access_list.specs.Log.{fresh_log};
 ghost use Rattle.group_run.specs.Results.{IsResult};
 
 use crate::group::Group;
 use crate::loops::run_items;
 use crate::result::{GroupEnd, GroupResult};
 use crate::runs::Runs;
+use access_list::AccessLog;
 use clmodel::fault::Fault;
 use clmodel::schedule::Schedule;
 use launches::objects::local_objects;
 use launches::{Runnable, waiting_items};
-use shadow_list::AccessLog;
-use spaces_base::Space;
+use spaces::Space;
 use std::alloc::{AllocError, Global};
 
 /// The canonical run of one group of a launch, on spaces for its buffers that hold their first bytes. An error is out

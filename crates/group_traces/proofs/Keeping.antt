@@ -14,8 +14,8 @@ use Rattle.group_traces.specs.Traces.{untouched, trace_with, part_with}
 use Rattle.group_traces.specs.Cells.{apart_at, word_trace, Holds, IsWhole, cell_at, word_at, placed_trace, IsOwn, IsWritten, IsPut, IsPart, FitsWith}
 use Rattle.group_traces.specs.declared.cell.Apart.{Apart}
 use Rattle.group_traces.specs.declared.cell.Cell.{Cell}
-use Rattle.group_traces.specs.declared.cell.Word.{Word}
-use Rattle.group_traces.specs.declared.cell.Word.TheVariants as word
+use Rattle.group_traces.specs.declared.cell.TracedWord.{TracedWord}
+use Rattle.group_traces.specs.declared.cell.TracedWord.TheVariants as word
 use Rattle.group_traces.specs.declared.trace.Trace.{Trace}
 use Rattle.group_traces.specs.declared.traces.Traces.{Traces}
 use Rattle.group_traces.proofs.Placing.{at_of, no_cell, no_apart}
@@ -32,7 +32,7 @@ same_map places more e q = ap (lookup (nat_eq q)) e
 -- ---- cells
 
 -- the key of each cell stays
-pub put_key : (cells new : List Cell) (i n : ℕ) (v : Word) → IsPut cells i n v new → (j : ℕ) → (cell_at new j).key ≡ (cell_at cells j).key
+pub put_key : (cells new : List Cell) (i n : ℕ) (v : TracedWord) → IsPut cells i n v new → (j : ℕ) → (cell_at new j).key ≡ (cell_at cells j).key
 put_key cells new i n v put j = go (cases_eq j i)
   where
     go : (j ≡ i) ⊎ (j ≡ i → ⊥) → (cell_at new j).key ≡ (cell_at cells j).key
@@ -55,7 +55,7 @@ nothing_written old new key n w q b = w q b ∙ go ((q == key) && (b / 4 == n))
 -- ---- words that fit
 
 -- as bytes are added, as those of a word are written, and a word that is kept apart then
-pub fits_more : (apart : List Apart) (a : Apart) (key n : ℕ) (x : Access) (first count : ℕ) (w : Word) → FitsWith apart key n x first count w → FitsWith (apart ++ a ∷ []) key n x first count w
+pub fits_more : (apart : List Apart) (a : Apart) (key n : ℕ) (x : Access) (first count : ℕ) (w : TracedWord) → FitsWith apart key n x first count w → FitsWith (apart ++ a ∷ []) key n x first count w
 fits_more apart a key n x first count word.Untouched h = h
 fits_more apart a key n x first count (word.Whole w) h = h
 fits_more apart a key n x first count (word.Single how who) h = h
@@ -65,7 +65,7 @@ fits_more apart a key n x first count (word.Apart at) h =
 
 pub fits_part :
     (x : Access) (first size at : ℕ) (apart new : List Apart) → IsPart x first size apart at new
-    → (key n : ℕ) (y : Access) (f c : ℕ) (w : Word) → FitsWith apart key n y f c w → FitsWith new key n y f c w
+    → (key n : ℕ) (y : Access) (f c : ℕ) (w : TracedWord) → FitsWith apart key n y f c w → FitsWith new key n y f c w
 fits_part x first size at apart new part key n y f c word.Untouched h = h
 fits_part x first size at apart new part key n y f c (word.Whole w) h = h
 fits_part x first size at apart new part key n y f c (word.Single how who) h = h
@@ -86,7 +86,7 @@ fits_new apart at a key n x first count l e f =
     (omega (arith, length_push apart a, l), ap (λ (z : Apart). z.key) s ∙ e, ap (λ (z : Apart). z.word) s ∙ f)
 
 -- what is kept of a word that isn't kept apart can have an access added that fits
-pub whole_holds : (apart : List Apart) (key n : ℕ) (x : Access) (first count : ℕ) (w : Word) → IsWhole w → FitsWith apart key n x first count w → Holds x first count w
+pub whole_holds : (apart : List Apart) (key n : ℕ) (x : Access) (first count : ℕ) (w : TracedWord) → IsWhole w → FitsWith apart key n x first count w → Holds x first count w
 whole_holds apart key n x first count word.Untouched h e = e
 whole_holds apart key n x first count (word.Whole w) h e = e
 whole_holds apart key n x first count (word.Single how who) h e = e
@@ -94,12 +94,12 @@ whole_holds apart key n x first count (word.Apart at) h e = absurd h
 
 -- another word of a cell, once one is put
 pub put_fits :
-    (apart more : List Apart) (cells new : List Cell) (i n : ℕ) (v : Word) → IsPut cells i n v new → (m : ℕ) (x : Access) (first count : ℕ) → (m ≡ n → ⊥)
-    → ((u : Word) → FitsWith apart (cell_at cells i).key m x first count u → FitsWith more (cell_at cells i).key m x first count u)
+    (apart more : List Apart) (cells new : List Cell) (i n : ℕ) (v : TracedWord) → IsPut cells i n v new → (m : ℕ) (x : Access) (first count : ℕ) → (m ≡ n → ⊥)
+    → ((u : TracedWord) → FitsWith apart (cell_at cells i).key m x first count u → FitsWith more (cell_at cells i).key m x first count u)
     → FitsWith apart (cell_at cells i).key m x first count (word_at (cell_at cells i) m) → FitsWith more (cell_at new i).key m x first count (word_at (cell_at new i) m)
 put_fits apart more cells new i n v put m x first count ne kept h =
     subst (λ q. FitsWith more q m x first count (word_at (cell_at new i) m)) (sym put.key)
-    (subst (λ (u : Word). FitsWith more (cell_at cells i).key m x first count u) (sym (put.words m ne)) (kept (word_at (cell_at cells i) m) h))
+    (subst (λ (u : TracedWord). FitsWith more (cell_at cells i).key m x first count u) (sym (put.words m ne)) (kept (word_at (cell_at cells i) m) h))
 
 -- ---- an access to all of a word
 
@@ -133,7 +133,7 @@ read_fits apart more cells i n m x first count w same inside is at h =
     (subst (λ (z : Cell). FitsWith apart z.key n x first count (word_at z n)) (read_cell cells i w inside is) (subst (λ l. FitsWith l w.key n x first count (word_at w n)) same h))
 
 -- a word that is put
-pub word_put : (cells : List Cell) (i n : ℕ) (w : Cell) (v : Word) → i < length cells → w ≡ get_or cells i w → n < length w.words → IsPut cells i n v (set cells i (record w { words = set w.words n v }))
+pub word_put : (cells : List Cell) (i n : ℕ) (w : Cell) (v : TracedWord) → i < length cells → w ≡ get_or cells i w → n < length w.words → IsPut cells i n v (set cells i (record w { words = set w.words n v }))
 word_put cells i n w v inside is room =
     let d : Cell = record w { words = set w.words n v } in
     let here : cell_at (set cells i d) i ≡ d = get_or-set_same cells i d no_cell inside in

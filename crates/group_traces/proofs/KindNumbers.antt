@@ -3,7 +3,7 @@ use Rattle.std.proofs.Common.{◌≡◌, ℕ, [], ◌∷◌, get_or, refl, sym, 
 use Rattle.clmodel.specs.declared.access.AccessKind.{AccessKind}
 use Rattle.clmodel.specs.declared.access.AccessKind.TheVariants as kind
 use Rattle.clmodel.specs.declared.access.Class.TheVariants as class
-use Rattle.shadow_list.specs.Kinds.{kind_number}
+use Rattle.access_list.specs.Kinds.{kind_number}
 
 kind_of : ℕ → AccessKind
 kind_of n =

@@ -10,8 +10,8 @@ use Rattle.shadow.specs.declared.words.WordMark.{WordMark}
 use Rattle.group_traces.specs.Traces.{untouched, word_byte}
 use Rattle.group_traces.specs.Cells.{word_trace, cell_at, word_at, placed_trace, at_key, key_of, trace_of, IsOwn, IsNear}
 use Rattle.group_traces.specs.declared.cell.Apart.{Apart}
-use Rattle.group_traces.specs.declared.cell.Word.{Word}
-use Rattle.group_traces.specs.declared.cell.Word.TheVariants as word
+use Rattle.group_traces.specs.declared.cell.TracedWord.{TracedWord}
+use Rattle.group_traces.specs.declared.cell.TracedWord.TheVariants as word
 use Rattle.group_traces.specs.declared.trace.Trace.{Trace}
 use Rattle.group_traces.specs.declared.traces.Traces.{Traces}
 use Rattle.group_traces.specs.declared.word.WordTrace.{WordTrace}
@@ -125,9 +125,9 @@ all_with P first byte old one new h p is e b lo hi = go (cases_eq b byte)
 
 -- what holds of each byte of a word of which all four were accessed at once
 pub whole_byte :
-    (P : Trace → Mark → Type 0) (apart : List Apart) (key n : ℕ) (w : Word) (v : WordTrace) (x : Access) (first count byte : ℕ) (mark : WordMark) → first % 4 + count ≤ 4 → count ≡ 4 → w ≡ word.Whole v
+    (P : Trace → Mark → Type 0) (apart : List Apart) (key n : ℕ) (w : TracedWord) (v : WordTrace) (x : Access) (first count byte : ℕ) (mark : WordMark) → first % 4 + count ≤ 4 → count ≡ 4 → w ≡ word.Whole v
     → (count ≡ 4 → (k : ℕ) → k < 4 → byte_mark mark k ≡ mark_of x (first + k)) → first ≤ byte → byte < first + count → ((k : ℕ) → k < 4 → P (word_byte v k) (byte_mark mark k))
     → P (word_trace apart key n w (byte % 4)) (mark_of x byte)
 whole_byte P apart key n w v x first count byte mark fits all is marks lo hi h =
-    subst (λ (u : Word). P (word_trace apart key n u (byte % 4)) (mark_of x byte)) (sym is)
+    subst (λ (u : TracedWord). P (word_trace apart key n u (byte % 4)) (mark_of x byte)) (sym is)
     (subst (P (word_byte v (byte % 4))) (marks all (byte % 4) (omega arith) ∙ ap (mark_of x) {x = first + byte % 4} {y = byte} (omega (arith, fits, all, lo, hi))) (h (byte % 4) (omega arith)))

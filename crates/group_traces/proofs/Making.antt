@@ -7,8 +7,8 @@ use Rattle.group_traces.specs.Traces.{untouched, part_with}
 use Rattle.group_traces.specs.Cells.{word_trace, cell_at, word_at, placed_trace, at_key, IsOwn, IsWritten, IsPut, IsPart, FitsWith, IsFitting}
 use Rattle.group_traces.specs.declared.cell.Apart.{Apart}
 use Rattle.group_traces.specs.declared.cell.Cell.{Cell}
-use Rattle.group_traces.specs.declared.cell.Word.{Word}
-use Rattle.group_traces.specs.declared.cell.Word.TheVariants as word
+use Rattle.group_traces.specs.declared.cell.TracedWord.{TracedWord}
+use Rattle.group_traces.specs.declared.cell.TracedWord.TheVariants as word
 use Rattle.group_traces.specs.declared.traces.Traces.{Traces}
 use Rattle.group_traces.proofs.Placing.{at_of, no_cell, pushed, inserted, put_word, put_apart, part_others, part_here, push_others, push_here}
 use Rattle.group_traces.proofs.Keeping.{own_kept, put_key, nothing_written, fits_more, fits_part, fits_new, put_fits}
@@ -82,7 +82,7 @@ module _ (old new : Traces) (a : Apart) (i n at : ℕ) (places : new.places ≡ 
   split_fits x first count =
       subst (λ l. FitsWith l (cell_at new.cells.items i).key n x first count (word_at (cell_at new.cells.items i) n)) (sym apart)
       (subst (λ q. FitsWith (old.apart.items ++ a ∷ []) q n x first count (word_at (cell_at new.cells.items i) n)) (sym put.key)
-      (subst (λ (u : Word). FitsWith (old.apart.items ++ a ∷ []) (cell_at old.cells.items i).key n x first count u) (sym put.here)
+      (subst (λ (u : TracedWord). FitsWith (old.apart.items ++ a ∷ []) (cell_at old.cells.items i).key n x first count u) (sym put.here)
       (fits_new old.apart.items at a (cell_at old.cells.items i).key n x first count end key number)))
 
   pub split_others : (m : ℕ) (x : Access) (first count : ℕ) → (m ≡ n → ⊥) → IsFitting old i m x first count → IsFitting new i m x first count
@@ -96,12 +96,12 @@ module _ (old new : Traces) (x : Access) (first count at i n : ℕ) (places : ne
   pub apart_written : word_at (cell_at old.cells.items i) n ≡ word.Apart at → IsFitting old i n x first count → (key : ℕ) → IsOwn old key i → IsWritten (at_key old) (at_key new) key n (part_with x first count)
   apart_written is fits key own q b =
       let f : FitsWith old.apart.items (cell_at old.cells.items i).key n x first count (word.Apart at) =
-      subst (λ (u : Word). FitsWith old.apart.items (cell_at old.cells.items i).key n x first count u) is fits in
+      subst (λ (u : TracedWord). FitsWith old.apart.items (cell_at old.cells.items i).key n x first count u) is fits in
       ap (λ m. placed_trace new.cells.items new.apart.items q b (get nat_eq m q)) places
       ∙ ap (λ v. placed_trace v.items new.apart.items q b (get nat_eq old.places q)) cells
       ∙ put_apart old.places old.cells.items old.apart.items new.apart.items key i n (part_with x first count) own.there own.own
       (λ k small.
-      subst (λ (u : Word). word_trace new.apart.items key n u k ≡ part_with x first count k (word_trace old.apart.items key n u k)) (sym is)
+      subst (λ (u : TracedWord). word_trace new.apart.items key n u k ≡ part_with x first count k (word_trace old.apart.items key n u k)) (sym is)
       (part_here x first count at old.apart.items new.apart.items key n k part (f.1 ∙ own.own) f.2 small))
       (part_others x first count at old.apart.items new.apart.items key n part (f.1 ∙ own.own) f.2) q b
 
@@ -115,7 +115,7 @@ module _ (old new : Traces) (x : Access) (first count at i n : ℕ) (places : ne
 
 -- ---- an access that is added to a word in one piece
 
-module _ (old new : Traces) (i n : ℕ) (v : Word) (places : new.places ≡ old.places) (apart : new.apart ≡ old.apart) (put : IsPut old.cells.items i n v new.cells.items) where
+module _ (old new : Traces) (i n : ℕ) (v : TracedWord) (places : new.places ≡ old.places) (apart : new.apart ≡ old.apart) (put : IsPut old.cells.items i n v new.cells.items) where
   pub whole_written :
       (x : Access) (first count : ℕ)
       → ((l : List Apart) (q m k : ℕ) → k < 4 → word_trace l q m v k ≡ part_with x first count k (word_trace l q m (word_at (cell_at old.cells.items i) n) k))

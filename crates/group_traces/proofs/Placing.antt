@@ -9,8 +9,8 @@ use Rattle.group_traces.specs.Traces.{untouched, part_with}
 use Rattle.group_traces.specs.Cells.{apart_at, own_trace, word_trace, cell_at, word_at, cell_trace, placed_trace, IsWritten, IsPut, IsPart}
 use Rattle.group_traces.specs.declared.cell.Apart.{Apart}
 use Rattle.group_traces.specs.declared.cell.Cell.{Cell}
-use Rattle.group_traces.specs.declared.cell.Word.{Word}
-use Rattle.group_traces.specs.declared.cell.Word.TheVariants as word
+use Rattle.group_traces.specs.declared.cell.TracedWord.{TracedWord}
+use Rattle.group_traces.specs.declared.cell.TracedWord.TheVariants as word
 use Rattle.group_traces.specs.declared.trace.Trace.{Trace}
 
 -- what is kept of byte b of the cell of a key
@@ -87,7 +87,7 @@ elsewhere key n q b t u ne = go (cases_eq q key) (cases_eq (b / 4) n)
 
 -- what is kept of a word that isn't this one, once bytes that are kept apart are
 still :
-    (apart more : List Apart) (key n q b : ℕ) → ((q m : ℕ) (w : Word) (k : ℕ) → (q ≡ key → m ≡ n → ⊥) → word_trace more q m w k ≡ word_trace apart q m w k)
+    (apart more : List Apart) (key n q b : ℕ) → ((q m : ℕ) (w : TracedWord) (k : ℕ) → (q ≡ key → m ≡ n → ⊥) → word_trace more q m w k ≡ word_trace apart q m w k)
     → (z : Cell) → (z.key ≡ q → q ≡ key → b / 4 ≡ n → ⊥) → cell_trace more q z b ≡ cell_trace apart q z b
 still apart more key n q b others z ne = at (cases_eq z.key q)
   where
@@ -97,10 +97,10 @@ still apart more key n q b others z ne = at (cases_eq z.key q)
 
 -- what is kept where a word of a cell is put: each byte of it becomes what is said, and each other stays
 pub put_word :
-    {S : Type 0} (places : HashMap ℕ ℕ S) (cells new : List Cell) (apart more : List Apart) (key i n : ℕ) (v : Word) (become : ℕ → Trace → Trace)
+    {S : Type 0} (places : HashMap ℕ ℕ S) (cells new : List Cell) (apart more : List Apart) (key i n : ℕ) (v : TracedWord) (become : ℕ → Trace → Trace)
     → get nat_eq places key ≡ Some i → (cell_at cells i).key ≡ key → IsPut cells i n v new
     → ((k : ℕ) → k < 4 → word_trace more key n v k ≡ become k (word_trace apart key n (word_at (cell_at cells i) n) k))
-    → ((q m : ℕ) (w : Word) (k : ℕ) → (q ≡ key → m ≡ n → ⊥) → word_trace more q m w k ≡ word_trace apart q m w k)
+    → ((q m : ℕ) (w : TracedWord) (k : ℕ) → (q ≡ key → m ≡ n → ⊥) → word_trace more q m w k ≡ word_trace apart q m w k)
     → IsWritten (at_of places cells apart) (at_of places new more) key n become
 put_word places cells new apart more key i n v become there own put same others q b = go (get nat_eq places q) refl
   where
@@ -154,7 +154,7 @@ put_word places cells new apart more key i n v become there own put same others 
 pub put_apart :
     {S : Type 0} (places : HashMap ℕ ℕ S) (cells : List Cell) (apart more : List Apart) (key i n : ℕ) (become : ℕ → Trace → Trace) → get nat_eq places key ≡ Some i → (cell_at cells i).key ≡ key
     → ((k : ℕ) → k < 4 → word_trace more key n (word_at (cell_at cells i) n) k ≡ become k (word_trace apart key n (word_at (cell_at cells i) n) k))
-    → ((q m : ℕ) (w : Word) (k : ℕ) → (q ≡ key → m ≡ n → ⊥) → word_trace more q m w k ≡ word_trace apart q m w k)
+    → ((q m : ℕ) (w : TracedWord) (k : ℕ) → (q ≡ key → m ≡ n → ⊥) → word_trace more q m w k ≡ word_trace apart q m w k)
     → IsWritten (at_of places cells apart) (at_of places cells more) key n become
 put_apart places cells apart more key i n become there own same others =
     put_word places cells cells apart more key i n (word_at (cell_at cells i) n) become there own
@@ -184,7 +184,7 @@ empty_traces q m k = go (cases_eq 0 q) (cases_eq 0 m)
 -- those of another word, where bytes are written
 pub part_others :
     (x : Access) (first count at : ℕ) (apart new : List Apart) (key n : ℕ) → IsPart x first count apart at new → (apart_at apart at).key ≡ key → (apart_at apart at).word ≡ n
-    → (q m : ℕ) (w : Word) (k : ℕ) → (q ≡ key → m ≡ n → ⊥) → word_trace new q m w k ≡ word_trace apart q m w k
+    → (q m : ℕ) (w : TracedWord) (k : ℕ) → (q ≡ key → m ≡ n → ⊥) → word_trace new q m w k ≡ word_trace apart q m w k
 part_others x first count at apart new key n part e f q m word.Untouched k ne = refl
 part_others x first count at apart new key n part e f q m (word.Whole w) k ne = refl
 part_others x first count at apart new key n part e f q m (word.Single how who) k ne = refl
@@ -199,7 +199,7 @@ part_others x first count at apart new key n part e f q m (word.Apart p) k ne = 
 
 -- those of another word, where bytes are added
 pub push_others : (apart : List Apart) (a : Apart) (key n : ℕ) → a.key ≡ key → a.word ≡ n
-    → (q m : ℕ) (w : Word) (k : ℕ) → (q ≡ key → m ≡ n → ⊥) → word_trace (apart ++ a ∷ []) q m w k ≡ word_trace apart q m w k
+    → (q m : ℕ) (w : TracedWord) (k : ℕ) → (q ≡ key → m ≡ n → ⊥) → word_trace (apart ++ a ∷ []) q m w k ≡ word_trace apart q m w k
 push_others apart a key n g h q m word.Untouched k ne = refl
 push_others apart a key n g h q m (word.Whole w) k ne = refl
 push_others apart a key n g h q m (word.Single how who) k ne = refl

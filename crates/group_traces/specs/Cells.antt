@@ -7,8 +7,8 @@ use Rattle.shadow.specs.Seen.{mark_of}
 use Rattle.group_traces.specs.Traces.{untouched, trace_with, word_byte, part_with, single_byte, HoldsBytes}
 use Rattle.group_traces.specs.declared.cell.Apart.{Apart}
 use Rattle.group_traces.specs.declared.cell.Cell.{Cell}
-use Rattle.group_traces.specs.declared.cell.Word.{Word}
-use Rattle.group_traces.specs.declared.cell.Word.TheVariants as word
+use Rattle.group_traces.specs.declared.cell.TracedWord.{TracedWord}
+use Rattle.group_traces.specs.declared.cell.TracedWord.TheVariants as word
 use Rattle.group_traces.specs.declared.trace.Trace.{Trace}
 use Rattle.group_traces.specs.declared.traces.Traces.{Traces}
 
@@ -22,35 +22,35 @@ abbrev pub own_trace : ℕ → ℕ → Apart → ℕ → Trace
 own_trace key n a k = if (a.key == key) && (a.word == n) then slice_index_or a.traces k untouched else untouched
 
 -- what is kept of byte k of that word (own)
-abbrev pub word_trace : List Apart → ℕ → ℕ → Word → ℕ → Trace
+abbrev pub word_trace : List Apart → ℕ → ℕ → TracedWord → ℕ → Trace
 word_trace apart key n word.Untouched k = untouched
 word_trace apart key n (word.Whole w) k = word_byte w k
 word_trace apart key n (word.Single how who) k = single_byte (record { how = how; who = who }) k
 word_trace apart key n (word.Apart at) k = own_trace key n (apart_at apart at) k
 
 -- the bytes of a word aren't kept apart (own)
-abbrev pub IsWhole : Word → Type 0
+abbrev pub IsWhole : TracedWord → Type 0
 IsWhole word.Untouched = Unit {0}
 IsWhole (word.Whole w) = Unit {0}
 IsWhole (word.Single how who) = Unit {0}
 IsWhole (word.Apart at) = ⊥
 
 -- an access at so many bytes of it, from the first on, can be added to what is kept of a word (own)
-abbrev pub Holds : Access → ℕ → ℕ → Word → Type 0
+abbrev pub Holds : Access → ℕ → ℕ → TracedWord → Type 0
 Holds x first count word.Untouched = Unit {0}
 Holds x first count (word.Whole w) = count ≡ 4
 Holds x first count (word.Single how who) = HoldsBytes (record { how = how; who = who }) x first count
 Holds x first count (word.Apart at) = ⊥
 
 -- the bytes of a word are kept apart, at this place (own)
-abbrev pub IsApart : Word → ℕ → Type 0
+abbrev pub IsApart : TracedWord → ℕ → Type 0
 IsApart w at = w ≡ word.Apart at
 
 -- the cell at a place, and a word of one (own)
 abbrev pub cell_at : List Cell → ℕ → Cell
 cell_at cells i = slice_index_or cells i (record { key = 0; words = [] })
 
-abbrev pub word_at : Cell → ℕ → Word
+abbrev pub word_at : Cell → ℕ → TracedWord
 word_at c n = slice_index_or c.words n word.Untouched
 
 -- what is kept of byte b of a cell of this key: nothing where it has another (own)
@@ -94,7 +94,7 @@ IsMarked old new number x =
     → trace_of new n byte ≡ (if (n == number) && covers x.first (byte_count x.width) byte then trace_with (trace_of old n byte) x.interval (mark_of x byte) else trace_of old n byte)
 
 -- a word of a cell is put (own)
-pub record IsPut (old : List Cell) (i n : ℕ) (word : Word) (new : List Cell) : Type 0 where
+pub record IsPut (old : List Cell) (i n : ℕ) (word : TracedWord) (new : List Cell) : Type 0 where
   pub long : length new ≡ length old
   pub others : (j : ℕ) → (j ≡ i → ⊥) → cell_at new j ≡ cell_at old j
   pub key : (cell_at new i).key ≡ (cell_at old i).key
@@ -114,7 +114,7 @@ abbrev pub IsSame : Traces → Traces → Type 0
 IsSame old new = (q b : ℕ) → at_key new q b ≡ at_key old q b
 
 -- an access can be added to what is kept of word n of a cell, or its bytes are kept apart as its own (own)
-abbrev pub FitsWith : List Apart → ℕ → ℕ → Access → ℕ → ℕ → Word → Type 0
+abbrev pub FitsWith : List Apart → ℕ → ℕ → Access → ℕ → ℕ → TracedWord → Type 0
 FitsWith apart key n x first count word.Untouched = Unit {0}
 FitsWith apart key n x first count (word.Whole w) = count ≡ 4
 FitsWith apart key n x first count (word.Single how who) =

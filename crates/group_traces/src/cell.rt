@@ -9,16 +9,16 @@ ghost use Rattle.group_traces.specs.declared.cell.Apart.{Apart as TheApart};
 use crate::single::{How, Singles, Who};
 use crate::trace::{Sight, Trace};
 use crate::word::WordTrace;
+use access_list::WORD_BYTES;
 use clmodel::access::Access;
 use shadow::{WordMark, mark_of};
-use shadow_list::WORD_BYTES;
 
 /// How many words a cell has.
 pub(crate) const CELL_WORDS: usize = 8;
 
 /// What is kept of the accesses to a word of four bytes.
 #[derive(Clone, Copy)]
-pub enum Word {
+pub enum TracedWord {
     Untouched,
     /// Of all four at once, as long as each access was to all four
     Whole(WordTrace),
@@ -42,7 +42,7 @@ pub struct Apart {
 #[derive(Clone, Copy)]
 pub struct Cell {
     pub key: u64,
-    pub words: [Word; CELL_WORDS],
+    pub words: [TracedWord; CELL_WORDS],
 }
 
 /// What is kept of byte k of a word of a cell, by the bytes at a place: nothing where they are of another word, which
@@ -57,17 +57,17 @@ fn own_trace(apart: &[Apart], key: u64, n: usize, at: usize, k: usize) -> Trace
     }
 }
 
-impl Word {
+impl TracedWord {
     /// What is kept of byte k of the word, which is word n of a cell.
     pub fn byte(&self, apart: &[Apart], key: u64, n: usize, k: usize) -> Trace
         requires { k < 4 }
         ensures { result ≡ word_trace apart.now key n self.now k }
     {
         match *self {
-            Word::Untouched => Trace::untouched(),
-            Word::Whole(whole) => whole.byte(k),
-            Word::Single(how, who) => Singles { how, who }.byte(k),
-            Word::Apart(at) => own_trace(apart, key, n, at, k),
+            TracedWord::Untouched => Trace::untouched(),
+            TracedWord::Whole(whole) => whole.byte(k),
+            TracedWord::Single(how, who) => Singles { how, who }.byte(k),
+            TracedWord::Apart(at) => own_trace(apart, key, n, at, k),
         }
     }
 
@@ -98,10 +98,10 @@ impl Word {
         ensures { result ≡ true → FitsWith apart.now key n x.now first count self.now }
     {
         match *self {
-            Word::Untouched => true,
-            Word::Whole(_) => count == WORD_BYTES,
-            Word::Single(how, who) => Singles { how, who }.holds(x, first, count),
-            Word::Apart(at) => match apart.get(at) {
+            TracedWord::Untouched => true,
+            TracedWord::Whole(_) => count == WORD_BYTES,
+            TracedWord::Single(how, who) => Singles { how, who }.holds(x, first, count),
+            TracedWord::Apart(at) => match apart.get(at) {
                 None => false,
                 Some(own) => own.key == key && own.word == n,
             },
@@ -114,8 +114,8 @@ impl Word {
         ensures { MatchOption result (IsWhole self) (IsApart self) }
     {
         match self {
-            Word::Untouched | Word::Whole(_) | Word::Single(_, _) => None,
-            Word::Apart(at) => Some(at),
+            TracedWord::Untouched | TracedWord::Whole(_) | TracedWord::Single(_, _) => None,
+            TracedWord::Apart(at) => Some(at),
         }
     }
 
@@ -125,7 +125,7 @@ impl Word {
         ensures bytes { (apart : List TheApart) (key n k : ℕ) → word_trace apart key n result k ≡ single_byte singles k }
         ensures whole { IsWhole result }
     {
-        Word::Single(singles.how, singles.who)
+        TracedWord::Single(singles.how, singles.who)
     }
 
     /// A word that wasn't accessed, with an access at so many bytes of it.
@@ -138,9 +138,9 @@ impl Word {
         ensures whole { IsWhole result }
     {
         if count == WORD_BYTES {
-            return Word::Whole(WordTrace::of(x.interval, mark));
+            return TracedWord::Whole(WordTrace::of(x.interval, mark));
         }
-        Word::of_singles(Singles::none(x.interval, x.kind).with(x, first, count))
+        TracedWord::of_singles(Singles::none(x.interval, x.kind).with(x, first, count))
     }
 
     /// The word with one access more at so many bytes of it, from the first on, which fits, by the mark of the access
@@ -155,10 +155,12 @@ impl Word {
         ensures whole { IsWhole result }
     {
         match self {
-            Word::Untouched => Word::first(x, first, count, mark),
-            Word::Whole(whole) => Word::Whole(whole.with(x.interval, mark)),
-            Word::Single(how, who) => Word::of_singles(Singles { how, who }.with(x, first, count)),
-            Word::Apart(_) => self,
+            TracedWord::Untouched => TracedWord::first(x, first, count, mark),
+            TracedWord::Whole(whole) => TracedWord::Whole(whole.with(x.interval, mark)),
+            TracedWord::Single(how, who) => TracedWord::of_singles(Singles { how, who }.with(
+                x, first, count,
+            )),
+            TracedWord::Apart(_) => self,
         }
     }
 
@@ -213,12 +215,14 @@ impl Word {
         ensures taken { result.taken ≡ true → (byte : ℕ) → first ≤ byte → byte < first + count → takes (word_trace apart.now key n self.now (byte % 4)) (mark_of x.now byte) ≡ true }
     {
         match *self {
-            Word::Untouched => Sight {
+            TracedWord::Untouched => Sight {
                 clear: true,
                 told: count == 0,
                 taken: count == 0,
             },
-            Word::Whole(whole) if count == WORD_BYTES => whole.sight(uniform, x.interval, mark),
+            TracedWord::Whole(whole) if count == WORD_BYTES => whole.sight(
+                uniform, x.interval, mark,
+            ),
             _ => {
                 // a copy, so that other accesses needn't lie in memory
                 let part = *x;

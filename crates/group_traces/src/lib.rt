@@ -14,7 +14,7 @@ mod trace;
 mod traces;
 mod word;
 
-pub use cell::{Apart, Cell, Word};
+pub use cell::{Apart, Cell, TracedWord};
 pub use sent::traces_are_sent;
 pub use single::{How, Singles, Who};
 pub use trace::{Sight, Trace};

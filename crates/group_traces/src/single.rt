@@ -4,9 +4,9 @@ ghost use Rattle.std.specs.Prelude.{◌≡◌, ◌<◌, ◌≤◌, ◌+◌, ◌%
 ghost use Rattle.group_traces.specs.Traces.{untouched, first_in, part_with, single_byte, HoldsByte, HoldsBytes};
 
 use crate::trace::Trace;
+use access_list::WORD_BYTES;
 use clmodel::access::{Access, AccessKind};
 use shadow::{Mark, mark_of};
-use shadow_list::WORD_BYTES;
 
 /// Of which kind the accesses were, at which bytes, and what a store left of each; 0 of all other kinds.
 #[derive(Clone, Copy)]

@@ -8,11 +8,11 @@ ghost use Rattle.shadow.specs.Seen.{byte_mark, mark_of};
 ghost use Rattle.group_traces.specs.Cells.{word_trace, word_at, cell_at, cell_trace, at_key, key_of, trace_of, IsOwn, IsNear, IsWritten, IsMarked, IsSame, IsPut, IsPart, IsFitting};
 ghost use Rattle.group_traces.specs.Traces.{untouched, passes, tells, takes, part_with};
 
-use crate::cell::{Apart, CELL_WORDS, Cell, Word, bytes_with};
+use crate::cell::{Apart, CELL_WORDS, Cell, TracedWord, bytes_with};
 use crate::trace::Sight;
+use access_list::{VALUE_BYTES, WORD_BYTES, WORD_VALUES};
 use clmodel::access::Access;
 use shadow::{WordMark, word_mark};
-use shadow_list::{VALUE_BYTES, WORD_BYTES, WORD_VALUES};
 use std::alloc::{AllocError, Global};
 use std::collections::HashMap;
 
@@ -229,7 +229,7 @@ impl Traces {
         let i = self.cells.len();
         self.cells.push(Cell {
             key,
-            words: [Word::Untouched; CELL_WORDS],
+            words: [TracedWord::Untouched; CELL_WORDS],
         })?;
         self.places.insert(key, i)?;
         Ok(i)
@@ -248,7 +248,7 @@ impl Traces {
     }
 
     /// Puts a word of a cell.
-    fn put(&mut self, i: usize, n: usize, word: Word)
+    fn put(&mut self, i: usize, n: usize, word: TracedWord)
         requires inside { i < length self.old.cells.items }
         requires small { n < 8 }
         ensures places { self.new.places ≡ self.old.places }
@@ -277,7 +277,7 @@ impl Traces {
             word: n,
             traces,
         })?;
-        self.put(i, n, Word::Apart(at));
+        self.put(i, n, TracedWord::Apart(at));
         Ok(())
     }
 

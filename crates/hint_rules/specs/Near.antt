@@ -2,8 +2,8 @@
 use Rattle.std.specs.Prelude.{ℕ, ◌-◌, nat_lt, List, [], length, take, drop, slice_get, Option, None, Some, if◌then◌else◌}
 use Rattle.std.specs.List.{prefix_len}
 use Rattle.clsyntax_lex.specs.declared.token.Token.{Token}
-use Rattle.lacking_words.specs.Spelling.{word_at}
-use Rattle.hint_rules.specs.declared.near.Place.{Place}
+use Rattle.opencl_words.specs.Spelling.{word_at}
+use Rattle.hint_rules.specs.declared.near.TokensAround.{TokensAround}
 use Rattle.hint_rules.specs.declared.near.Setting.{Setting}
 use Rattle.hint_rules.specs.Marks.{mark_at}
 use Rattle.hint_rules.specs.Seen.{seen_of}
@@ -14,7 +14,7 @@ pub record Near : Type 0 where
   pub front : List Token
   pub rest : List Token
 
-abbrev pub near_of : Place → Near
+abbrev pub near_of : TokensAround → Near
 near_of place = record { source = place.source.now; front = place.front.now; rest = place.rest.now }
 
 -- how many tokens begin before a byte

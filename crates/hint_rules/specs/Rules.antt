@@ -1,14 +1,14 @@
 -- Rules for the first token that no program has, by the tokens round it (own).
 use Rattle.std.specs.Prelude.{ℕ, ◌==◌, nat_lt, Bool, true, false, not, ◌&&◌, ◌||◌, List, map, find, Option, option_map, unwrap_or, if◌then◌else◌}
 use Rattle.std.specs.Borrow.{Bor}
-use Rattle.lacking_words.specs.declared.words.TheConstants.{NO_STRUCTS}
+use Rattle.opencl_words.specs.declared.words.TheConstants.{NO_STRUCTS}
 use Rattle.hint_rules.specs.declared.marks.Mark.{Mark}
 use Rattle.hint_rules.specs.declared.marks.Mark.TheVariants as marks
 use Rattle.hint_rules.specs.declared.near.Setting.{Setting}
 use Rattle.hint_rules.specs.declared.rules.Is.{Is}
 use Rattle.hint_rules.specs.declared.rules.Is.TheVariants as is
-use Rattle.hint_rules.specs.declared.rules.Part.{Part}
-use Rattle.hint_rules.specs.declared.rules.Part.TheVariants as part
+use Rattle.hint_rules.specs.declared.rules.SourcePart.{SourcePart}
+use Rattle.hint_rules.specs.declared.rules.SourcePart.TheVariants as part
 use Rattle.hint_rules.specs.declared.rules.TheConstants.{NO_RULE, RULES}
 use Rattle.hint_rules.specs.declared.seen.Seen.{Seen}
 use Rattle.hint_rules.specs.Marks.{is_nothing}
@@ -72,7 +72,7 @@ abbrev pub takes_address : Seen → Bool
 takes_address s = is_same s.tail.last marks.Name && is_same s.tail.second marks.And && not (ends_operand s.tail.third)
 
 -- the parts of a source
-abbrev pub is_in : Part → Seen → Bool
+abbrev pub is_in : SourcePart → Seen → Bool
 is_in part.Anywhere s = true
 is_in part.Outside s = not (in_body s) && (s.brackets.rounds == 0)
 is_in part.Head s = not (in_body s) && nat_lt 0 s.brackets.rounds
@@ -88,7 +88,7 @@ is_in part.Address s = in_body s && takes_address s
 
 -- in which part of a source, behind which two tokens, and at which one
 abbrev pub Looked : Type 0
-Looked = Part × Is × Is × Is
+Looked = SourcePart × Is × Is × Is
 
 -- rules, each with what it says
 abbrev pub Rules : Type 0

@@ -9,5 +9,5 @@ mod rules;
 mod seen;
 
 pub use marks::{Mark, mark_at};
-pub use near::{Place, callee, nth, nth_last, place_in, word_of};
+pub use near::{TokensAround, callee, nth, nth_last, place_in, word_of};
 pub use rules::token_hint;

@@ -8,11 +8,11 @@ ghost use Rattle.hint_rules.specs.Near as near;
 use crate::marks::{Mark, mark_at};
 use crate::seen::{Seen, seen_of};
 use clsyntax_lex::token::Token;
-use lacking_words::word_at;
+use opencl_words::word_at;
 
 /// A place of a source: the tokens in front of it, and those from it on.
 #[derive(Clone, Copy)]
-pub struct Place<'a> {
+pub struct TokensAround<'a> {
     pub source: &'a [u8],
     pub front: &'a [Token],
     pub rest: &'a [Token],
@@ -30,11 +30,11 @@ fn count_before(tokens: &[Token], at: usize) -> usize
 }
 
 /// The place of a byte in a source with these tokens.
-pub fn place_in<'a>(source: &'a [u8], tokens: &'a [Token], at: usize) -> Place<'a>
+pub fn place_in<'a>(source: &'a [u8], tokens: &'a [Token], at: usize) -> TokensAround<'a>
     ensures { near.near_of result ≡ near.near_in source.now tokens.now at }
 {
     let (front, rest) = tokens.split_at(count_before(tokens, at));
-    Place {
+    TokensAround {
         source,
         front,
         rest,
@@ -128,7 +128,7 @@ pub(crate) struct Setting {
 }
 
 /// What is known of a place. It takes the time of the tokens in front.
-pub(crate) fn setting_of(place: Place<'_>) -> Setting
+pub(crate) fn setting_of(place: TokensAround<'_>) -> Setting
     ensures { result ≡ near.setting_of (near.near_of place.entry) }
 {
     Setting {

@@ -6,14 +6,14 @@ ghost use Rattle.hint_rules.specs.Near.{near_of};
 ghost use Rattle.hint_rules.specs.Rules as rules;
 
 use crate::marks::{Mark, is_nothing};
-use crate::near::{Place, Setting, setting_of};
+use crate::near::{Setting, TokensAround, setting_of};
 use crate::seen::Seen;
 use Is::{Any, Assigns, One, Operator, Space, Type};
 use Mark::{
     Assign, CloseBrace, CloseRound, CloseSquare, Colon, Comma, Const, Do, Else, For, If, Kernel,
     Name, Nothing, OpenBrace, OpenRound, OpenSquare, Semicolon, SizeT, Star, Step, Void, While,
 };
-use lacking_words::{NO_STRUCTS, said_or};
+use opencl_words::{NO_STRUCTS, said_or};
 
 /// What a token is looked for as.
 #[derive(Clone, Copy)]
@@ -33,7 +33,7 @@ pub(crate) enum Is {
 
 /// Which part of a source a rule is for.
 #[derive(Clone, Copy)]
-pub(crate) enum Part {
+pub(crate) enum SourcePart {
     Anywhere,
     /// Outside of functions
     Outside,
@@ -60,7 +60,7 @@ pub(crate) enum Part {
 }
 
 /// Where a rule fits: in which part of a source, behind which two tokens, and at which one.
-type Looked = (Part, Is, Is, Is);
+type Looked = (SourcePart, Is, Is, Is);
 
 /// What to write for a word that is no type.
 const TYPES: &str =
@@ -100,251 +100,257 @@ pub(crate) const NO_RULE: &str = "no program goes on like this";
 /// The rules, each with what to write: the first one that fits is taken.
 pub(crate) static RULES: [(Looked, &str); 83] = [
     (
-        (Part::Outside, Any, One(Nothing), One(Nothing)),
+        (SourcePart::Outside, Any, One(Nothing), One(Nothing)),
         "a source has a function at least: __kernel void f(__global int *a) { a[0] = 1; }",
     ),
     (
-        (Part::Outside, Any, Any, Space),
+        (SourcePart::Outside, Any, Any, Space),
         "outside of functions stand no variables, and no function gives a pointer: pass a pointer to __constant memory",
     ),
-    ((Part::Outside, Any, Any, One(Const)), NO_VARIABLES),
+    ((SourcePart::Outside, Any, Any, One(Const)), NO_VARIABLES),
     (
-        (Part::Outside, Any, One(Void), One(Kernel)),
+        (SourcePart::Outside, Any, One(Void), One(Kernel)),
         "__kernel stands in front of void",
     ),
     (
-        (Part::Outside, Any, One(Kernel), Any),
+        (SourcePart::Outside, Any, One(Kernel), Any),
         "a kernel gives no value: __kernel void f(..) { .. }",
     ),
-    ((Part::Outside, Any, Type, Type), ONE_WORD),
+    ((SourcePart::Outside, Any, Type, Type), ONE_WORD),
     (
-        (Part::Outside, Any, Type, One(Star)),
+        (SourcePart::Outside, Any, Type, One(Star)),
         "a function gives an integer or nothing, and no pointer",
     ),
-    ((Part::Outside, Type, One(Name), Any), NO_VARIABLES),
+    ((SourcePart::Outside, Type, One(Name), Any), NO_VARIABLES),
     (
-        (Part::Outside, Any, One(CloseRound), One(Semicolon)),
+        (SourcePart::Outside, Any, One(CloseRound), One(Semicolon)),
         "there are no prototypes: write the whole function in front of its calls",
     ),
     (
-        (Part::Outside, Any, One(CloseRound), Any),
+        (SourcePart::Outside, Any, One(CloseRound), Any),
         "the block of the function is wanted: { .. }",
     ),
     (
-        (Part::Outside, Any, One(CloseBrace), One(Semicolon)),
+        (SourcePart::Outside, Any, One(CloseBrace), One(Semicolon)),
         "leave out the ; behind a function",
     ),
     (
-        (Part::Outside, Any, One(CloseBrace), One(CloseBrace)),
+        (SourcePart::Outside, Any, One(CloseBrace), One(CloseBrace)),
         "one } too many, here or before",
     ),
-    ((Part::Outside, Any, One(Nothing), One(Name)), TYPES),
-    ((Part::Outside, Any, One(CloseBrace), One(Name)), TYPES),
+    ((SourcePart::Outside, Any, One(Nothing), One(Name)), TYPES),
     (
-        (Part::Outside, Any, Any, Any),
+        (SourcePart::Outside, Any, One(CloseBrace), One(Name)),
+        TYPES,
+    ),
+    (
+        (SourcePart::Outside, Any, Any, Any),
         "a function is wanted: __kernel void f(..) { .. }, or a helper as int g(int x) { .. }",
     ),
     (
-        (Part::Head, Any, One(OpenRound), One(Void)),
+        (SourcePart::Head, Any, One(OpenRound), One(Void)),
         "a function without parameters has empty brackets: f()",
     ),
     (
-        (Part::Head, Any, Type, One(Star)),
+        (SourcePart::Head, Any, Type, One(Star)),
         "a pointer names its address space: __global int *a, or __local, or __constant",
     ),
     (
-        (Part::Head, Any, One(Star), One(Star)),
+        (SourcePart::Head, Any, One(Star), One(Star)),
         "there are no pointers to pointers: pass one buffer, and where a part of it begins",
     ),
     (
-        (Part::Head, Any, One(Name), One(OpenSquare)),
+        (SourcePart::Head, Any, One(Name), One(OpenSquare)),
         "a parameter is no array: write a pointer, as __global int *a",
     ),
     (
-        (Part::Head, Any, Any, One(SizeT)),
+        (SourcePart::Head, Any, Any, One(SizeT)),
         "a kernel has no parameter of type size_t, nor a pointer to it: write ulong",
     ),
-    ((Part::Head, Any, Any, One(Const)), NO_CONST),
-    ((Part::Head, Any, Type, Type), ONE_WORD),
+    ((SourcePart::Head, Any, Any, One(Const)), NO_CONST),
+    ((SourcePart::Head, Any, Type, Type), ONE_WORD),
     (
-        (Part::Head, Any, Type, One(Name)),
+        (SourcePart::Head, Any, Type, One(Name)),
         "a parameter with an address space is a pointer: __global int *a",
     ),
     (
-        (Part::Head, Any, Type, Any),
+        (SourcePart::Head, Any, Type, Any),
         "a name is wanted behind the type of a parameter",
     ),
     (
-        (Part::Head, Any, One(Star), Any),
+        (SourcePart::Head, Any, One(Star), Any),
         "the name of the pointer is wanted",
     ),
     (
-        (Part::Head, Any, One(Name), Any),
+        (SourcePart::Head, Any, One(Name), Any),
         "a , or a ) is wanted behind a parameter",
     ),
-    ((Part::Head, Any, Any, One(Name)), TYPES),
+    ((SourcePart::Head, Any, Any, One(Name)), TYPES),
     (
-        (Part::Head, Any, Any, Any),
+        (SourcePart::Head, Any, Any, Any),
         "a parameter is wanted: int n, or __global int *a",
     ),
     (
-        (Part::Body, Any, Any, One(Nothing)),
+        (SourcePart::Body, Any, Any, One(Nothing)),
         "the source ends inside of a function: a } is missing",
     ),
-    ((Part::Body, Any, Any, One(Kernel)), NOT_NESTED),
+    ((SourcePart::Body, Any, Any, One(Kernel)), NOT_NESTED),
     (
-        (Part::Declared, Type, One(Name), One(OpenRound)),
+        (SourcePart::Declared, Type, One(Name), One(OpenRound)),
         NOT_NESTED,
     ),
     (
-        (Part::Body, Any, One(OpenRound), One(Void)),
+        (SourcePart::Body, Any, One(OpenRound), One(Void)),
         "there is no cast to void: leave it out",
     ),
-    ((Part::Body, Any, Any, One(Void)), NOT_NESTED),
+    ((SourcePart::Body, Any, Any, One(Void)), NOT_NESTED),
     (
-        (Part::Declared, Any, Type, One(OpenRound)),
+        (SourcePart::Declared, Any, Type, One(OpenRound)),
         "there are no pointers to functions: choose among calls by if and else",
     ),
     (
-        (Part::Body, Any, One(CloseSquare), One(OpenSquare)),
+        (SourcePart::Body, Any, One(CloseSquare), One(OpenSquare)),
         "an array has one dimension: write int a[12]; for int a[3][4]; and a[y * 4 + x] for a[y][x]",
     ),
     (
-        (Part::Length, Any, Any, Any),
+        (SourcePart::Length, Any, Any, Any),
         "the length of an array is one number: compute it, and write it out",
     ),
     (
-        (Part::Declared, Any, One(CloseSquare), One(Assign)),
+        (SourcePart::Declared, Any, One(CloseSquare), One(Assign)),
         "an array has no initialiser: assign its elements one by one",
     ),
     (
-        (Part::Local, Type, One(Name), Any),
+        (SourcePart::Local, Type, One(Name), Any),
         "a variable in local memory is an array: write __local int x[1]; and x[0] for x",
     ),
     (
-        (Part::Address, Any, Any, Any),
+        (SourcePart::Address, Any, Any, Any),
         "there are no addresses of variables: & stands in front of an element, as &a[i]; a helper gives its value back by return",
     ),
-    ((Part::Body, Any, One(OpenRound), Space), NO_CASTS),
-    ((Part::Body, One(OpenRound), Type, One(Star)), NO_CASTS),
+    ((SourcePart::Body, Any, One(OpenRound), Space), NO_CASTS),
     (
-        (Part::Body, Any, Type, One(Star)),
+        (SourcePart::Body, One(OpenRound), Type, One(Star)),
+        NO_CASTS,
+    ),
+    (
+        (SourcePart::Body, Any, Type, One(Star)),
         "there are no pointers to private memory: a pointer begins with __global, __local or __constant",
     ),
     (
-        (Part::Declared, Any, One(Star), One(Star)),
+        (SourcePart::Declared, Any, One(Star), One(Star)),
         "there are no pointers to pointers: keep where a part of a buffer begins, as a number",
     ),
-    ((Part::Body, Any, Type, Type), ONE_WORD),
+    ((SourcePart::Body, Any, Type, Type), ONE_WORD),
     (
-        (Part::Body, One(If), One(OpenRound), Type),
+        (SourcePart::Body, One(If), One(OpenRound), Type),
         "a declaration stands in front of an if",
     ),
     (
-        (Part::Body, One(While), One(OpenRound), Type),
+        (SourcePart::Body, One(While), One(OpenRound), Type),
         "a declaration stands in front of a while",
     ),
     (
-        (Part::Body, Any, Type, One(Name)),
+        (SourcePart::Body, Any, Type, One(Name)),
         "behind an address space stands a pointer: leave the space out of a variable",
     ),
-    ((Part::Body, Any, Space, One(Name)), TYPES),
-    ((Part::Body, Any, Any, One(Const)), NO_CONST),
-    ((Part::Body, Any, One(CloseRound), Type), IN_A_BLOCK),
-    ((Part::Body, Any, One(CloseRound), Space), IN_A_BLOCK),
-    ((Part::Body, Any, One(Else), Type), IN_A_BLOCK),
-    ((Part::Body, Any, One(Else), Space), IN_A_BLOCK),
-    ((Part::Body, Any, One(Do), Type), IN_A_BLOCK),
-    ((Part::Body, Any, One(Do), Space), IN_A_BLOCK),
+    ((SourcePart::Body, Any, Space, One(Name)), TYPES),
+    ((SourcePart::Body, Any, Any, One(Const)), NO_CONST),
+    ((SourcePart::Body, Any, One(CloseRound), Type), IN_A_BLOCK),
+    ((SourcePart::Body, Any, One(CloseRound), Space), IN_A_BLOCK),
+    ((SourcePart::Body, Any, One(Else), Type), IN_A_BLOCK),
+    ((SourcePart::Body, Any, One(Else), Space), IN_A_BLOCK),
+    ((SourcePart::Body, Any, One(Do), Type), IN_A_BLOCK),
+    ((SourcePart::Body, Any, One(Do), Space), IN_A_BLOCK),
     (
-        (Part::Round, Any, One(OpenRound), One(Comma)),
+        (SourcePart::Round, Any, One(OpenRound), One(Comma)),
         "an expression is wanted, or the closing bracket",
     ),
     (
-        (Part::Round, Any, One(Comma), Any),
+        (SourcePart::Round, Any, One(Comma), Any),
         "an argument is wanted behind a ,",
     ),
     (
-        (Part::Loop, Any, Any, One(Comma)),
+        (SourcePart::Loop, Any, Any, One(Comma)),
         "a for declares or assigns one variable: write the other ones in front of it",
     ),
     (
-        (Part::Declared, Any, Any, One(Comma)),
+        (SourcePart::Declared, Any, Any, One(Comma)),
         "a declaration declares one name: write int a; int b; for int a, b;",
     ),
     (
-        (Part::Body, Any, Any, One(Comma)),
+        (SourcePart::Body, Any, Any, One(Comma)),
         "there is no comma operator: write two statements; what a for does twice in each turn stands at the end of its body",
     ),
-    ((Part::Body, Any, Any, One(Step)), NO_STEP),
-    ((Part::Body, Any, One(Step), Any), NO_STEP),
+    ((SourcePart::Body, Any, Any, One(Step)), NO_STEP),
+    ((SourcePart::Body, Any, One(Step), Any), NO_STEP),
     (
-        (Part::Loop, Type, One(Name), One(Semicolon)),
+        (SourcePart::Loop, Type, One(Name), One(Semicolon)),
         "the variable of a for has a value: for (int i = 0; ..; ..)",
     ),
     (
-        (Part::Body, Any, One(Assign), One(OpenBrace)),
+        (SourcePart::Body, Any, One(Assign), One(OpenBrace)),
         "there are no values in braces: assign elements and fields one by one",
     ),
     (
-        (Part::Body, Any, Type, One(Assign)),
+        (SourcePart::Body, Any, Type, One(Assign)),
         "a name is wanted behind the type",
     ),
     (
-        (Part::Round, Any, Any, Assigns),
+        (SourcePart::Round, Any, Any, Assigns),
         "an assignment is a statement and has no value: write it in front of the one round it, and == to compare",
     ),
     (
-        (Part::Body, Any, One(CloseRound), Assigns),
+        (SourcePart::Body, Any, One(CloseRound), Assigns),
         "a call and brackets are no target: write a[i] for an element",
     ),
     (
-        (Part::Body, Any, Any, Assigns),
+        (SourcePart::Body, Any, Any, Assigns),
         "an assignment is a statement and has no value: write b = c; a = b; for a = b = c, and == to compare",
     ),
-    ((Part::Second, Any, One(Name), One(Name)), TYPES),
-    ((Part::Second, Any, One(Name), One(Star)), TYPES),
+    ((SourcePart::Second, Any, One(Name), One(Name)), TYPES),
+    ((SourcePart::Second, Any, One(Name), One(Star)), TYPES),
     (
-        (Part::Second, Any, One(Name), One(Colon)),
+        (SourcePart::Second, Any, One(Name), One(Colon)),
         "there are no labels and no goto: write a loop with break and continue",
     ),
     (
-        (Part::Second, Any, One(Name), Any),
+        (SourcePart::Second, Any, One(Name), Any),
         "a statement that begins with a name is x = e; x[i] = e; f(e); or x++;",
     ),
     (
-        (Part::Body, Any, Any, One(Else)),
+        (SourcePart::Body, Any, Any, One(Else)),
         "an else stands behind the one statement of its if: put several into { }",
     ),
-    ((Part::Body, Any, One(If), Any), BRACKETS),
-    ((Part::Body, Any, One(While), Any), BRACKETS),
-    ((Part::Body, Any, One(For), Any), BRACKETS),
+    ((SourcePart::Body, Any, One(If), Any), BRACKETS),
+    ((SourcePart::Body, Any, One(While), Any), BRACKETS),
+    ((SourcePart::Body, Any, One(For), Any), BRACKETS),
     (
-        (Part::First, Any, Any, One(OpenRound)),
+        (SourcePart::First, Any, Any, One(OpenRound)),
         "a statement begins with no bracket: write *p += 1; for (*p)++; and leave (void)x; out",
     ),
     (
-        (Part::First, Any, Any, Any),
+        (SourcePart::First, Any, Any, Any),
         "a declaration or a statement is wanted: an expression alone is none",
     ),
     (
-        (Part::Anywhere, Any, One(OpenRound), Any),
+        (SourcePart::Anywhere, Any, One(OpenRound), Any),
         "an expression is wanted, or the closing bracket",
     ),
     (
-        (Part::Anywhere, Any, One(OpenSquare), Any),
+        (SourcePart::Anywhere, Any, One(OpenSquare), Any),
         "an expression is wanted between [ and ]",
     ),
     (
-        (Part::Anywhere, Any, Operator, Any),
+        (SourcePart::Anywhere, Any, Operator, Any),
         "an operand is wanted: a number, a name, an element, a call or brackets",
     ),
     (
-        (Part::Anywhere, Any, Type, Any),
+        (SourcePart::Anywhere, Any, Type, Any),
         "a name is wanted behind the type",
     ),
     (
-        (Part::Anywhere, Any, Any, Any),
+        (SourcePart::Anywhere, Any, Any, Any),
         "an operator, a closing bracket or a ; is wanted: a ; may be missing at the end of the line before",
     ),
 ];
@@ -425,24 +431,24 @@ fn takes_address(seen: Seen) -> bool
 }
 
 /// Whether what stands in front of a place is a part of a source, but for the parts of a body.
-fn is_in(part: Part, seen: Seen) -> bool
+fn is_in(part: SourcePart, seen: Seen) -> bool
     ensures { result ≡ rules.is_in part seen }
 {
     let (brackets, statement) = (seen.brackets, seen.statement);
     let body = brackets.braces > 0;
     match part {
-        Part::Anywhere => true,
-        Part::Outside => !body && brackets.rounds == 0,
-        Part::Head => !body && brackets.rounds > 0,
-        Part::Body => body,
-        Part::First => body && is_nothing(statement.first),
-        Part::Second => body && statement.is_one,
-        Part::Declared => declares(seen) && brackets.rounds == 0,
-        Part::Length => declares(seen) && brackets.squares > 0 && !statement.assigns,
-        Part::Local => body && statement.first == Mark::Local,
-        Part::Loop => body && statement.first == For,
-        Part::Round => body && brackets.rounds > 0,
-        Part::Address => body && takes_address(seen),
+        SourcePart::Anywhere => true,
+        SourcePart::Outside => !body && brackets.rounds == 0,
+        SourcePart::Head => !body && brackets.rounds > 0,
+        SourcePart::Body => body,
+        SourcePart::First => body && is_nothing(statement.first),
+        SourcePart::Second => body && statement.is_one,
+        SourcePart::Declared => declares(seen) && brackets.rounds == 0,
+        SourcePart::Length => declares(seen) && brackets.squares > 0 && !statement.assigns,
+        SourcePart::Local => body && statement.first == Mark::Local,
+        SourcePart::Loop => body && statement.first == For,
+        SourcePart::Round => body && brackets.rounds > 0,
+        SourcePart::Address => body && takes_address(seen),
     }
 }
 
@@ -488,7 +494,7 @@ fn hint_of(setting: Setting) -> &'static str
 }
 
 /// A hint at the first token that no program has at a place, by the tokens round it.
-pub fn token_hint(place: Place<'_>) -> &'static str
+pub fn token_hint(place: TokensAround<'_>) -> &'static str
     ensures { result.now ≡ rules.token_said (near_of place.entry) }
 {
     hint_of(setting_of(place))

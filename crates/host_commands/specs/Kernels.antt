@@ -12,7 +12,7 @@ use Rattle.clmodel.specs.declared.tree.VariableType.{VariableType}
 use Rattle.clmodel.specs.declared.tree.VariableType.TheVariants as variable_type
 use Rattle.clmodel.specs.declared.tree.AddressSpace.{AddressSpace}
 use Rattle.clmodel.specs.declared.tree.AddressSpace.TheVariants as space
-use Rattle.spaces_base.specs.Tables.{is}
+use Rattle.spaces.specs.Tables.{is}
 
 -- A kernel: the name of its program, its function by the number of its name, and an argument for each parameter, or
 -- None where it wasn't given.

@@ -18,5 +18,5 @@ mod view;
 
 pub use machine::Machine;
 pub use queue::{Answered, Client, Driver, Full, Queue, TICKETS, Ticket, close, open};
-pub use table::{Board, Place, Rows, Tickets};
+pub use table::{Board, QueueSeat, Rows, Tickets};
 pub use view::{Entry, Held, Request, Stage, View};

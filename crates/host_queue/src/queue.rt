@@ -14,7 +14,9 @@ ghost use Rattle.host_queue.specs.Hands.{DoesSteps};
 ghost use Rattle.host_queue.specs.Opened.{Each, IsGuest};
 
 use crate::machine::Machine;
-use crate::table::{Admit, Answer, Draw, Gather, Learn, Leave, Look, Place, Put, Rows, Take, Tell};
+use crate::table::{
+    Admit, Answer, Draw, Gather, Learn, Leave, Look, Put, QueueSeat, Rows, Take, Tell,
+};
 use crate::view::Request;
 use atomic_table::Table;
 use core::mem::replace_with;
@@ -45,7 +47,7 @@ pub struct Queue<D: Machine<C, R>, C: Drop, R: Drop> {
 /// Who submits requests and collects their replies. It may go to a thread of its own.
 #[derive(Drop)]
 pub struct Client<D: Machine<C, R>, C: Drop, R: Drop> {
-    pub seat: Place<D, C, R>,
+    pub seat: QueueSeat<D, C, R>,
     full: bool,
     // One above the last ticket.
     next: u64,
@@ -150,7 +152,7 @@ impl<D: Machine<C, R>, C: Drop, R: Drop> Client<D, C, R> {
 /// How many tickets are answered, and what the driver knew then.
 #[derive(Drop)]
 pub struct Answered<D: Machine<C, R>, C: Drop, R: Drop> {
-    pub seat: Place<D, C, R>,
+    pub seat: QueueSeat<D, C, R>,
     pub count: u64,
     ghost note: { IsNote seat.me.0 },
     ghost empty_handed: { seat.me.1 ≡ [] },
@@ -169,7 +171,7 @@ impl<D: Machine<C, R>, C: Drop, R: Drop> Answered<D, C, R> {
 /// Who takes the requests in ticket order, and has the machine. It may go to a thread of its own.
 #[derive(Drop)]
 pub struct Driver<D: Machine<C, R>, C: Drop, R: Drop> {
-    pub seat: Place<D, C, R>,
+    pub seat: QueueSeat<D, C, R>,
     pub machine: D,
     count: u64,
     ghost driver: { IsDriver D.step seat.me.0 machine },
@@ -472,7 +474,7 @@ pub fn open<D: Machine<C, R>, C: Drop, R: Drop>(
 {
     let words = Vec::from_elem(alloc, 0u64, FIRST + TICKETS)?;
     let about = Snapshot::of(&machine);
-    let (table, seat): (Rows<D, C, R>, Place<D, C, R>) = Table::vacant(
+    let (table, seat): (Rows<D, C, R>, QueueSeat<D, C, R>) = Table::vacant(
         alloc,
         words.as_slice(),
         TICKETS,

@@ -26,7 +26,7 @@ impl<D: Machine<C, R>, C: Drop, R: Drop> TableRule<
 }
 
 /// The seat of a client, of the driver or of a note. It takes no bytes.
-pub type Place<D, C, R> = Seat<Option<Box<Request<C, R>>>, View<D, C, R>>;
+pub type QueueSeat<D, C, R> = Seat<Option<Box<Request<C, R>>>, View<D, C, R>>;
 
 /// The words and slots as threads share them: a word that counts the draws, a word and a slot for each ticket, and
 /// words that nobody changes.

@@ -1,2 +1,3 @@
+mod Ends
 mod Lasts
 mod Told

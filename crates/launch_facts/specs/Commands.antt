@@ -6,7 +6,7 @@ use Rattle.std.specs.Option.{option_map_or, unwrap_or}
 use Rattle.clmodel.specs.Setup.{same_text}
 use Rattle.host_commands.specs.declared.command.Command.{Command}
 use Rattle.host_commands.specs.declared.command.Command.TheVariants as command
-use Rattle.source_lines.specs.Lines.{line_feeds}
+use Rattle.text_lines.specs.Lines.{line_feeds}
 
 abbrev pub makes_kernel : List ℕ → Command → Bool
 makes_kernel wanted (command.Kernel name program function) = same_text name wanted

@@ -6,7 +6,7 @@ ghost use Rattle.launch_facts.specs.Commands.{makes_kernel, makes_program, kerne
 
 use clmodel::text::Name;
 use host_commands::command::Command;
-use source_lines::line_feeds;
+use text_lines::line_feeds;
 
 /// The source of a kernel's program: its bytes, the line of the script in which it begins, from 1, and the names of the
 /// program and of the function.

@@ -1,9 +1,19 @@
-//! What the commands before a launch tell of it: the source of its program with its line in the script, and the
-//! parameters that are given a buffer. It knows commands as data, with whether each was done, and no device.
+//! What is told of a fault and of its launch without playing it.
+//!
+//! Of a fault: its number and name, its line, the items that it names, and its place in memory. Of its launch, by the
+//! commands before it: the source of its program with its line in the script, and the parameters that are given a
+//! buffer. The crate knows commands as data, with whether each was done, the text of a fault's line by `fault_lines`,
+//! and no device.
 #![tactic(auto)]
 
 mod commands;
+mod gathered;
+mod lines;
+mod numbers;
 mod parameters;
 
 pub use commands::{ProgramSource, line_of, source_of};
+pub use gathered::Gathered;
+pub use lines::{FaultLine, fault_line, line_bytes};
+pub use numbers::{fault_name, fault_number, memory_of, named_items};
 pub use parameters::{parameters_given, parameters_named, type_text};

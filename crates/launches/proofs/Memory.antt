@@ -15,9 +15,9 @@ use Rattle.clmodel.specs.declared.access.Region.TheVariants as region
 use Rattle.clmodel.specs.declared.action.Answer.{Answer}
 use Rattle.clmodel.proofs.Steps.{if_true, if_false, none_some, some_inj}
 use Rattle.clmodel.proofs.CellLaws.{byte_count_some}
-use Rattle.spaces_base.specs.declared.space.SpaceFault.{SpaceFault}
-use Rattle.spaces_base.specs.declared.space.SpaceFault.TheVariants as space_fault
-use Rattle.spaces_base.specs.Operations.{IsPerformed}
+use Rattle.spaces.specs.declared.space.SpaceFault.{SpaceFault}
+use Rattle.spaces.specs.declared.space.SpaceFault.TheVariants as space_fault
+use Rattle.spaces.specs.Operations.{IsPerformed}
 use Rattle.launches.specs.Objects.{SpacesHold, ObjectsHold, IsMoved, bytes_or, space_of}
 use Rattle.launches.proofs.Lists.{get_set, none_set}
 

@@ -9,4 +9,5 @@ pub use Rattle.item_step.specs.Launches
 pub use Rattle.item_step.specs.Listing
 pub use Rattle.item_step.specs.Machine
 pub use Rattle.item_step.specs.Running
-pub use Rattle.spaces_base.specs.Buffers
+pub use Rattle.spaces.specs.Buffers
+pub mod Examples

@@ -10,8 +10,8 @@ use Rattle.clmodel.specs.declared.access.Operation.{Operation}
 use Rattle.clmodel.specs.declared.access.Region.{Region}
 use Rattle.clmodel.specs.declared.access.Region.TheVariants as region
 use Rattle.clmodel.specs.declared.action.Answer.{Answer}
-use Rattle.spaces_base.specs.declared.space.SpaceFault.{SpaceFault}
-use Rattle.spaces_base.specs.declared.space.SpaceFault.TheVariants as space_fault
+use Rattle.spaces.specs.declared.space.SpaceFault.{SpaceFault}
+use Rattle.spaces.specs.declared.space.SpaceFault.TheVariants as space_fault
 
 -- a program's spaces, one for each of `count` regions of a kind, hold what a memory has there
 pub record SpacesHold {S : Type 0} (bytes : S → List (Option ℕ)) (launch : Launch) (count : ℕ) (region_at : ℕ → Region) (spaces : List S) (memory : Memory) : Type 0 where

@@ -3,13 +3,13 @@
 ghost use Rattle.std.specs.Prelude.{◌≡◌, [], IfOk, slice_index_or};
 ghost use Rattle.clmodel.specs.Next.{launch_of};
 ghost use Rattle.item_step.specs.Launches.{setup_of, started};
-ghost use Rattle.spaces_base.specs.Buffers.{bytes_in};
+ghost use Rattle.spaces.specs.Buffers.{bytes_in};
 
 use crate::described::Described;
 use crate::runnable::Runnable;
 use clmodel::text::Name;
 use item_step::{Item, Launch};
-use spaces_base::Buffers;
+use spaces::Buffers;
 use std::alloc::{AllocError, Global};
 
 /// A kernel that is ready to run, on the buffers that its arguments name (OpenCL 1.2, sections 3.2 and 5.8). A name

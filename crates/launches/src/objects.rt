@@ -13,7 +13,7 @@ ghost use Rattle.launches.specs.Objects.{IsMoved, ObjectsHold, space_of};
 
 use clmodel::access::{Object, Operation};
 use clmodel::action::Answer;
-use spaces_base::{LocalMem, Space, SpaceFault, perform};
+use spaces::{LocalMem, Space, SpaceFault, perform};
 use std::alloc::{AllocError, Global};
 
 /// Local objects of these sizes, unset (OpenCL 1.2, section 6.5.2). An error is out of memory.

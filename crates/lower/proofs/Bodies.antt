@@ -4,29 +4,29 @@ use Rattle.std.specs.declared.alloc.Global.{Global}
 use Rattle.std.proofs.lemmas.List.{append_assoc, reverse-append, length-append}
 use Rattle.std.proofs.lemmas.List.Elements.{All-pop, All-push, All-same}
 use Rattle.lower_code.specs.Parts.{part_code, whole, IsKnown, AllKnown}
-use Rattle.lower_code.specs.declared.holes.Part.{Part}
-use Rattle.lower_code.specs.declared.holes.Part.TheVariants as part
+use Rattle.lower_code.specs.declared.holes.CodePart.{CodePart}
+use Rattle.lower_code.specs.declared.holes.CodePart.TheVariants as part
 use Rattle.lower_code.proofs.Drafts.{part_whole}
 use Rattle.lower.specs.Bodies.{left, EachKnown, Opened}
 
-pub left_more : (bodies : List (Vec Part Global)) (body : Vec Part Global) → left (reverse (bodies ++ body ∷ [])) ≡ whole (reverse body.items) ++ left (reverse bodies)
+pub left_more : (bodies : List (Vec CodePart Global)) (body : Vec CodePart Global) → left (reverse (bodies ++ body ∷ [])) ≡ whole (reverse body.items) ++ left (reverse bodies)
 left_more bodies body = ap left (reverse-append bodies (body ∷ []))
 
 -- A part is taken off the innermost of bodies, of which the rest goes back on the list.
-pub record Taken (bodies front back : List (Vec Part Global)) (body rest : Vec Part Global) (p : Part) : Type 0 where
+pub record Taken (bodies front back : List (Vec CodePart Global)) (body rest : Vec CodePart Global) (p : CodePart) : Type 0 where
   pub last : bodies ≡ front ++ body ∷ []
   pub popped : body.items ≡ rest.items ++ p ∷ []
   pub pushed : back ≡ front ++ rest ∷ []
 
-pub known_taken : (bodies front back : List (Vec Part Global)) (body rest : Vec Part Global) (p : Part) → Taken bodies front back body rest p
+pub known_taken : (bodies front back : List (Vec CodePart Global)) (body rest : Vec CodePart Global) (p : CodePart) → Taken bodies front back body rest p
     → EachKnown bodies → EachKnown back × IsKnown p
 known_taken bodies front back body rest p t known =
-    let bodies_known = All-pop (λ (b : Vec Part Global). AllKnown b.items) bodies front (Some body) t.last known in
+    let bodies_known = All-pop (λ (b : Vec CodePart Global). AllKnown b.items) bodies front (Some body) t.last known in
     let parts_known = All-pop IsKnown body.items rest.items (Some p) t.popped bodies_known.1 in
-    let back_known = All-push (λ (b : Vec Part Global). AllKnown b.items) front rest bodies_known.0 parts_known.0 in
-    (All-same (λ (b : Vec Part Global). AllKnown b.items) back (front ++ rest ∷ []) t.pushed back_known, parts_known.1)
+    let back_known = All-push (λ (b : Vec CodePart Global). AllKnown b.items) front rest bodies_known.0 parts_known.0 in
+    (All-same (λ (b : Vec CodePart Global). AllKnown b.items) back (front ++ rest ∷ []) t.pushed back_known, parts_known.1)
 
-pub left_taken : (bodies front back : List (Vec Part Global)) (body rest : Vec Part Global) (p : Part) → Taken bodies front back body rest p
+pub left_taken : (bodies front back : List (Vec CodePart Global)) (body rest : Vec CodePart Global) (p : CodePart) → Taken bodies front back body rest p
     → left (reverse bodies) ≡ part_code p ++ left (reverse back)
 left_taken bodies front back body rest p t =
     ap (λ bs. left (reverse bs)) t.last
@@ -36,43 +36,43 @@ left_taken bodies front back body rest p t =
     ∙ ap (λ xs. part_code p ++ xs) (sym (left_more front rest))
     ∙ ap (λ bs. part_code p ++ left (reverse bs)) (sym t.pushed)
 
-left_length : (bodies : List (Vec Part Global)) (body : Vec Part Global) → length (left (reverse (bodies ++ body ∷ []))) ≡ length (whole (reverse body.items)) + length (left (reverse bodies))
+left_length : (bodies : List (Vec CodePart Global)) (body : Vec CodePart Global) → length (left (reverse (bodies ++ body ∷ []))) ≡ length (whole (reverse body.items)) + length (left (reverse bodies))
 left_length bodies body = ap length (left_more bodies body) ∙ length-append (whole (reverse body.items)) (left (reverse bodies))
 
 -- The steps that are left before the next instruction is written, where n bodies are on the list and these parts are
 -- left of the innermost: those of which nothing is left go from the list, and no more are begun than memory holds.
-abbrev steps : ℕ → List Part → ℕ
+abbrev steps : ℕ → List CodePart → ℕ
 steps n [] = 2 ^ 63 + n
 steps n (p ∷ ps) = 2 ^ 63 - n
 
-abbrev innermost : List (Vec Part Global) → List Part
+abbrev innermost : List (Vec CodePart Global) → List CodePart
 innermost [] = []
 innermost (body ∷ bodies) = body.items
 
 -- the work that is left
-abbrev pub work : List (Vec Part Global) → ℕ
+abbrev pub work : List (Vec CodePart Global) → ℕ
 work bodies = 2 ^ 64 * length (left (reverse bodies)) + steps (length bodies) (innermost (reverse bodies))
 
-steps_most : (n : ℕ) (ps : List Part) → steps n ps ≤ 2 ^ 63 + n
+steps_most : (n : ℕ) (ps : List CodePart) → steps n ps ≤ 2 ^ 63 + n
 steps_most n [] = omega arith
 steps_most n (p ∷ ps) = omega arith
 
-steps_begun : (n : ℕ) (ps : List Part) → 0 < length ps → steps n ps ≡ 2 ^ 63 - n
+steps_begun : (n : ℕ) (ps : List CodePart) → 0 < length ps → steps n ps ≡ 2 ^ 63 - n
 steps_begun n [] h = absurd (omega (arith, h))
 steps_begun n (p ∷ ps) h = refl
 
-begun : (ps : List Part) → 0 < length (whole (reverse ps)) → 0 < length ps
+begun : (ps : List CodePart) → 0 < length (whole (reverse ps)) → 0 < length ps
 begun [] h = absurd (omega (arith, h))
 begun (p ∷ ps) h = omega arith
 
-innermost_of : (bodies : List (Vec Part Global)) (body : Vec Part Global) → innermost (reverse (bodies ++ body ∷ [])) ≡ body.items
+innermost_of : (bodies : List (Vec CodePart Global)) (body : Vec CodePart Global) → innermost (reverse (bodies ++ body ∷ [])) ≡ body.items
 innermost_of bodies body = ap innermost (reverse-append bodies (body ∷ []))
 
-counted : (bodies : List (Vec Part Global)) (body : Vec Part Global) → length (bodies ++ body ∷ []) ≡ length bodies + 1
+counted : (bodies : List (Vec CodePart Global)) (body : Vec CodePart Global) → length (bodies ++ body ∷ []) ≡ length bodies + 1
 counted bodies body = length-append bodies (body ∷ [])
 
 -- a part is taken off and written
-pub work_written : (bodies front back : List (Vec Part Global)) (new : Vec (Vec Part Global) Global) (body rest : Vec Part Global) (p : Part)
+pub work_written : (bodies front back : List (Vec CodePart Global)) (new : Vec (Vec CodePart Global) Global) (body rest : Vec CodePart Global) (p : CodePart)
     → Taken bodies front back body rest p → IsKnown p → Opened p back new.items → work new.items < work bodies
 work_written bodies front back new body rest (part.Own i) t known opened =
     let code = ap length (left_taken bodies front back body rest (part.Own i) t) ∙ length-append (part_code (part.Own i)) (left (reverse back)) in

@@ -11,12 +11,12 @@ ghost use Rattle.lower_code.specs.Parts.{hole_code, part_code, whole, HoleKnown,
 
 use crate::statements::emit_body;
 use lower_code::draft::Draft;
-use lower_code::holes::{Helpers, Hole, Part};
+use lower_code::holes::{CodePart, Helpers, Hole};
 use regcode::Instruction;
 use std::alloc::{AllocError, Global};
 
 /// The parts of the body that a hole leaves out, the last first, with the bodies of the helpers that it calls left out.
-fn open<'a>(alloc: Global, hole: &Hole<'a>) -> Result<Vec<Part<'a>>, AllocError>
+fn open<'a>(alloc: Global, hole: &Hole<'a>) -> Result<Vec<CodePart<'a>>, AllocError>
     requires { HoleKnown hole.now }
     ensures code { IfOk result (λ parts. whole (reverse parts.items) ≡ hole_code hole.now) }
     ensures known { IfOk result (λ parts. AllKnown parts.items) }
@@ -34,8 +34,8 @@ fn open<'a>(alloc: Global, hole: &Hole<'a>) -> Result<Vec<Part<'a>>, AllocError>
 /// Adds an instruction to the code, or puts the body of a hole behind the bodies. Out of memory, nothing changes.
 fn write<'a>(
     alloc: Global,
-    part: &Part<'a>,
-    bodies: &mut Vec<Vec<Part<'a>>>,
+    part: &CodePart<'a>,
+    bodies: &mut Vec<Vec<CodePart<'a>>>,
     code: &mut Vec<Instruction>,
 ) -> Result<(), AllocError>
     requires known { IsKnown part.now }
@@ -47,14 +47,14 @@ fn write<'a>(
     ensures same_bodies { OnErr result (bodies.new.items ≡ bodies.old.items) }
 {
     match part {
-        Part::Own(instruction) => code.push(*instruction)?,
-        Part::Left(hole) => bodies.push(open(alloc, hole)?)?,
+        CodePart::Own(instruction) => code.push(*instruction)?,
+        CodePart::Left(hole) => bodies.push(open(alloc, hole)?)?,
     }
     Ok(())
 }
 
 /// The whole code of parts, the last first. Err if out of memory.
-pub fn expand(alloc: Global, parts: Vec<Part<'_>>) -> Result<Vec<Instruction>, AllocError>
+pub fn expand(alloc: Global, parts: Vec<CodePart<'_>>) -> Result<Vec<Instruction>, AllocError>
     requires { AllKnown parts.items }
     ensures { IfOk result (λ code. code.items ≡ whole (reverse parts.entry.items)) }
 {

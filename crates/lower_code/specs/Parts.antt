@@ -9,19 +9,19 @@ use Rattle.lower_code.specs.Room.{FewParameters, FewElements, levels}
 use Rattle.lower_code.specs.Trees.{all_of}
 use Rattle.lower_code.specs.Variables.{row_elements}
 use Rattle.lower_code.specs.declared.holes.Hole.{Hole}
-use Rattle.lower_code.specs.declared.holes.Part.{Part}
-use Rattle.lower_code.specs.declared.holes.Part.TheVariants as part
+use Rattle.lower_code.specs.declared.holes.CodePart.{CodePart}
+use Rattle.lower_code.specs.declared.holes.CodePart.TheVariants as part
 
 -- the body that is left out
 abbrev pub hole_code : Hole → List Instruction
 hole_code h = body_of h.functions.now h.function.now h.position.level.0 h.position.depth h.position.site
 
-abbrev pub part_code : Part → List Instruction
+abbrev pub part_code : CodePart → List Instruction
 part_code (part.Own i) = i ∷ []
 part_code (part.Left h) = hole_code h
 
 -- the whole code
-abbrev pub whole : List Part → List Instruction
+abbrev pub whole : List CodePart → List Instruction
 whole [] = []
 whole (p ∷ ps) = part_code p ++ whole ps
 
@@ -48,9 +48,9 @@ pub record IsLeft (h : Hole) : Type 0 where
   pub known : HoleKnown h
   pub code : 0 < length (hole_code h)
 
-abbrev pub IsKnown : Part → Type 0
+abbrev pub IsKnown : CodePart → Type 0
 IsKnown (part.Own i) = Unit {0}
 IsKnown (part.Left h) = IsLeft h
 
-abbrev pub AllKnown : List Part → Type 0
+abbrev pub AllKnown : List CodePart → Type 0
 AllKnown parts = All IsKnown parts

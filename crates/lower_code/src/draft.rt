@@ -6,7 +6,7 @@ ghost use Rattle.std.specs.Prelude.{◌≡◌, ◌-◌, ◌+◌, ◌<◌, ◌^�
 ghost use Rattle.lower_code.specs.Growth.{GrowsBefore};
 ghost use Rattle.lower_code.specs.Parts.{hole_code, whole, HoleKnown, AllKnown};
 
-use crate::holes::{Hole, Part};
+use crate::holes::{CodePart, Hole};
 use regcode::Instruction;
 use std::alloc::{AllocError, Global};
 use std::marker::Model;
@@ -16,7 +16,7 @@ use std::marker::Model;
 #[derive(Drop)]
 pub struct Draft<'a> {
     alloc: Global,
-    parts: Vec<Part<'a>>,
+    parts: Vec<CodePart<'a>>,
     len: usize,
 }
 
@@ -74,7 +74,7 @@ impl<'a> Draft<'a> {
     }
 
     /// Puts parts before the code, the last first, which have `count` instructions, or more if that is 2^64 - 1.
-    fn put_parts(&mut self, parts: &[Part<'a>], count: usize) -> Result<(), AllocError>
+    fn put_parts(&mut self, parts: &[CodePart<'a>], count: usize) -> Result<(), AllocError>
         requires count { count ≡ min (length (whole (reverse parts.now))) (2 ^ 64 - 1) }
         requires known { AllKnown parts.now }
         ensures code { OnOk result (self.new ≡ whole (reverse parts.now) ++ self.old) }
@@ -90,7 +90,7 @@ impl<'a> Draft<'a> {
         ensures code { OnOk result (self.new ≡ instruction ∷ self.old) }
         ensures longer { OnErr result (GrowsBefore self.old self.new) }
     {
-        self.put_parts(&[Part::Own(instruction)], 1)
+        self.put_parts(&[CodePart::Own(instruction)], 1)
     }
 
     /// Puts the body of a helper before the code, and leaves it out. It has `count` instructions: where these are none,
@@ -104,7 +104,7 @@ impl<'a> Draft<'a> {
         if count == 0 {
             return Ok(());
         }
-        self.put_parts(&[Part::Left(hole)], count)
+        self.put_parts(&[CodePart::Left(hole)], count)
     }
 
     /// Puts other code before the code.
@@ -127,7 +127,7 @@ impl<'a> Draft<'a> {
     }
 
     /// Its parts, the last first.
-    pub fn into_parts(self) -> Vec<Part<'a>>
+    pub fn into_parts(self) -> Vec<CodePart<'a>>
         ensures code { whole (reverse result.items) ≡ self.entry }
         ensures known { AllKnown result.items }
     {

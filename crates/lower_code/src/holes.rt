@@ -63,7 +63,7 @@ pub struct Hole<'a> {
 
 /// A part of code: an instruction, or the body of a helper that is left out.
 #[derive(Clone, Copy)]
-pub enum Part<'a> {
+pub enum CodePart<'a> {
     Own(Instruction),
     Left(Hole<'a>),
 }

@@ -8,7 +8,7 @@ use Rattle.origins.specs.Finding.{HasOrigin}
 use Rattle.origins.specs.Origins.{Node, Origin, itself, entered, node_of, function_origins, origins_at, there}
 use Rattle.origins.specs.Walks.{Walks, huge}
 use Rattle.origins.specs.declared.node.Entered.{Entered}
-use Rattle.origins.specs.declared.node.Halt.TheVariants as halt
+use Rattle.origins.specs.declared.node.WalkEnd.TheVariants as halt
 use Rattle.origins.proofs.Counting.{got_below, origins_before}
 use Rattle.origins.proofs.Finding.{there_is}
 

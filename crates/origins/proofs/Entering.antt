@@ -6,7 +6,7 @@ use Rattle.clmodel.specs.declared.tree.Function.{Function}
 use Rattle.lower_code.specs.Emission.{functions_of}
 use Rattle.origins.specs.Origins.{Node, entered, node_at, call_origins, origins_at}
 use Rattle.origins.specs.Walks.{Walks, huge}
-use Rattle.origins.specs.declared.node.Halt.TheVariants as halt
+use Rattle.origins.specs.declared.node.WalkEnd.TheVariants as halt
 
 got_one : {A : Type 0} (xs : List A) (k : ℕ) → k < length xs → (x : A) × (slice_get xs k ≡ Some x)
 got_one [] k h = absurd (omega (arith, h))

@@ -6,18 +6,18 @@ use Rattle.origins.specs.Origins as spec
 use Rattle.origins.specs.Origins.{itself, entered, node_of, origins_at}
 use Rattle.origins.specs.Walks.{Walks, huge}
 use Rattle.origins.specs.declared.node.Entered.{Entered}
-use Rattle.origins.specs.declared.node.Halt.{Halt}
-use Rattle.origins.specs.declared.node.Halt.TheVariants as halt
+use Rattle.origins.specs.declared.node.WalkEnd.{WalkEnd}
+use Rattle.origins.specs.declared.node.WalkEnd.TheVariants as halt
 use Rattle.origins.specs.declared.origin.Origin.{Origin}
 
-pub found_at : (inside : ℕ → List spec.Origin) (os : List spec.Origin) (n : ℕ) (h : Halt) (node : _) → h ≡ halt.Found node → Walks inside os n (Err h) → slice_get os n ≡ Some (itself (node_of node))
+pub found_at : (inside : ℕ → List spec.Origin) (os : List spec.Origin) (n : ℕ) (h : WalkEnd) (node : _) → h ≡ halt.Found node → Walks inside os n (Err h) → slice_get os n ≡ Some (itself (node_of node))
 found_at inside os n h node is w = let v = subst (λ x. Walks inside os n (Err x)) is w in v.leads
 
-pub inside_at : (inside : ℕ → List spec.Origin) (os : List spec.Origin) (n : ℕ) (h : Halt) (e : Entered) → h ≡ halt.Inside e → Walks inside os n (Err h)
+pub inside_at : (inside : ℕ → List spec.Origin) (os : List spec.Origin) (n : ℕ) (h : WalkEnd) (e : Entered) → h ≡ halt.Inside e → Walks inside os n (Err h)
     → (o : spec.Origin) × (slice_get (inside e.place) e.left ≡ Some o) × (slice_get os n ≡ Some (entered e.call o)) × (length (inside e.place) ≤ length os)
 inside_at inside os n h e is w = let v = subst (λ x. Walks inside os n (Err x)) is w in v.leads
 
-pub lost_at : (inside : ℕ → List spec.Origin) (os : List spec.Origin) (n : ℕ) (h : Halt) → h ≡ halt.Lost → Walks inside os n (Err h) → huge ≤ length os
+pub lost_at : (inside : ℕ → List spec.Origin) (os : List spec.Origin) (n : ℕ) (h : WalkEnd) → h ≡ halt.Lost → Walks inside os n (Err h) → huge ≤ length os
 lost_at inside os n h is w = let v = subst (λ x. Walks inside os n (Err x)) is w in v.leads
 
 some_is : {A : Type 0} (x y : A) → Some x ≡ Some y → x ≡ y

@@ -21,7 +21,7 @@ use Rattle.origins.specs.Origins.{Node, OfStmt, Origin, times, array_count, cond
 use Rattle.origins.specs.Settings.{stmt_in, part_in, row_in, assign_in, step_in, call_in, declare_in, return_in, for_in}
 use Rattle.origins.specs.Walks.{Walks}
 use Rattle.origins.specs.declared.names.Named.{Named}
-use Rattle.origins.specs.declared.node.Halt.{Halt}
+use Rattle.origins.specs.declared.node.WalkEnd.{WalkEnd}
 use Rattle.origins.specs.declared.setting.Setting.{Setting}
 use Rattle.origins.proofs.Stating.{of_six}
 
@@ -167,7 +167,7 @@ module _ (s : Setting) (names : List Named) where
       ∙ of_six (part_in s names first) (times 3 n) (stmt_in s (names_after_part names first) body) (part_in s (names_after_part names first) third) (condition_origins (names_after_part names first) test n) (times 1 n)
 
   -- one statement more
-  pub row_passed : (inside : ℕ → List Origin) (ss : List Statement) (i n : ℕ) (r : Result ℕ Halt) (e : Statement) (ks : List Named) → i < length ss → e ≡ get_or ss i e
+  pub row_passed : (inside : ℕ → List Origin) (ss : List Statement) (i n : ℕ) (r : Result ℕ WalkEnd) (e : Statement) (ks : List Named) → i < length ss → e ≡ get_or ss i e
       → ks ≡ names_after_all names (all_of (take i ss)) → Walks inside (row_in s names (all_of (take i ss)) ++ stmt_in s ks (stmt e)) n r → Walks inside (row_in s names (all_of (take (i + 1) ss))) n r
   row_passed inside ss i n r e ks below is k w =
       subst (λ (rs : Stmts). Walks inside (row_in s names rs) n r) (sym (row_more ss i e below is))

@@ -12,9 +12,9 @@ use Rattle.origins.specs.Walks.{Walks}
 use Rattle.origins.specs.declared.names.Meaning.{Meaning}
 use Rattle.origins.specs.declared.names.Meaning.TheVariants.{Unknown, Array, Plain}
 use Rattle.origins.specs.declared.names.Named.{Named}
-use Rattle.origins.specs.declared.node.Halt.{Halt}
+use Rattle.origins.specs.declared.node.WalkEnd.{WalkEnd}
 
-pub settle : (inside : ℕ → List Origin) (xs ys : List Origin) (n : ℕ) (r : Result ℕ Halt) → xs ≡ ys → Walks inside xs n r → Walks inside ys n r
+pub settle : (inside : ℕ → List Origin) (xs ys : List Origin) (n : ℕ) (r : Result ℕ WalkEnd) → xs ≡ ys → Walks inside xs n r → Walks inside ys n r
 settle inside xs ys n r e w = subst (λ zs. Walks inside zs n r) e w
 
 -- what isn't constant has the code of its form

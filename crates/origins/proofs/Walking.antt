@@ -4,8 +4,8 @@ use Rattle.std.proofs.lemmas.List.{length-append}
 use Rattle.std.proofs.lemmas.Option.{slice_get_within}
 use Rattle.origins.specs.Origins.{Origin, Node, itself, times, entered, node_of}
 use Rattle.origins.specs.Walks.{Walks, huge}
-use Rattle.origins.specs.declared.node.Halt.{Halt}
-use Rattle.origins.specs.declared.node.Halt.TheVariants as halt
+use Rattle.origins.specs.declared.node.WalkEnd.{WalkEnd}
+use Rattle.origins.specs.declared.node.WalkEnd.TheVariants as halt
 
 -- what stands in the first of two lists, and in the second
 pub get_left : {A : Type 0} (xs ys : List A) (n : ℕ) (x : A) → slice_get xs n ≡ Some x → slice_get (xs ++ ys) n ≡ Some x
@@ -18,14 +18,14 @@ get_right [] ys n = ap (λ k. slice_get ys k) (let e : 0 + n ≡ n = omega arith
 get_right (x ∷ xs) ys n = ap (λ k. slice_get (x ∷ (xs ++ ys)) k) (let e : length (x ∷ xs) + n ≡ suc (length xs + n) = omega arith in e) ∙ get_right xs ys n
 
 -- a walk that stops in the first of two codes stops in both
-pub stops : (inside : ℕ → List Origin) (xs ys : List Origin) (n : ℕ) (h : Halt) → Walks inside xs n (Err h) → Walks inside (xs ++ ys) n (Err h)
+pub stops : (inside : ℕ → List Origin) (xs ys : List Origin) (n : ℕ) (h : WalkEnd) → Walks inside xs n (Err h) → Walks inside (xs ++ ys) n (Err h)
 stops inside xs ys n (halt.Found node) w = record { leads = get_left xs ys n (itself (node_of node)) w.leads }
 stops inside xs ys n (halt.Inside e) w = let l = w.leads in let longer = length-append xs ys in record { leads = (l.0, l.1, get_left xs ys n (entered e.call l.0) l.2, omega (arith, longer, l.3)) }
 stops inside xs ys n halt.Lost w = let l = w.leads in let longer = length-append xs ys in record { leads = omega (arith, longer, l) }
 stops inside xs ys n halt.OutOfMemory w = record { leads = tt }
 
 -- one that passes the first goes on in the second
-pub goes_on : (inside : ℕ → List Origin) (xs ys : List Origin) (n m : ℕ) (r : Result ℕ Halt) → Walks inside xs n (Ok m) → Walks inside ys m r → Walks inside (xs ++ ys) n r
+pub goes_on : (inside : ℕ → List Origin) (xs ys : List Origin) (n m : ℕ) (r : Result ℕ WalkEnd) → Walks inside xs n (Ok m) → Walks inside ys m r → Walks inside (xs ++ ys) n r
 goes_on inside xs ys n m (Ok left) w v = let a = w.leads in let b = v.leads in record { leads = omega (arith, length-append xs ys, a, b) }
 goes_on inside xs ys n m (Err (halt.Found node)) w v =
     record { leads = subst (λ k. slice_get (xs ++ ys) k ≡ Some (itself (node_of node))) w.leads (get_right xs ys m ∙ v.leads) }
@@ -57,17 +57,17 @@ pub nothing : (inside : ℕ → List Origin) (n : ℕ) → Walks inside [] n (Ok
 nothing inside n = record { leads = omega arith }
 
 -- a walk over code that stops behind so many instructions, where memory isn't wanted
-abbrev pub IsNoWant : Halt → Type 0
+abbrev pub IsNoWant : WalkEnd → Type 0
 IsNoWant (halt.Found node) = Unit {0}
 IsNoWant (halt.Inside e) = Unit {0}
 IsNoWant halt.Lost = Unit {0}
 IsNoWant halt.OutOfMemory = ⊥
 
-stops_long : (inside : ℕ → List Origin) (os : List Origin) (h : Halt) → IsNoWant h → Walks inside os huge (Err h) → huge ≤ length os
+stops_long : (inside : ℕ → List Origin) (os : List Origin) (h : WalkEnd) → IsNoWant h → Walks inside os huge (Err h) → huge ≤ length os
 stops_long inside os (halt.Found node) k w = let l = slice_get_within os huge (itself (node_of node)) w.leads in omega (arith, l)
 stops_long inside os (halt.Inside e) k w = let o = w.leads in let l = slice_get_within os huge (entered e.call o.0) o.2 in omega (arith, l)
 stops_long inside os halt.Lost k w = w.leads
 stops_long inside os halt.OutOfMemory k w = absurd k
 
-pub is_long : (inside : ℕ → List Origin) (os : List Origin) (h g : Halt) → h ≡ g → IsNoWant g → Walks inside os huge (Err h) → huge ≤ length os
+pub is_long : (inside : ℕ → List Origin) (os : List Origin) (h g : WalkEnd) → h ≡ g → IsNoWant g → Walks inside os huge (Err h) → huge ≤ length os
 is_long inside os h g is k w = stops_long inside os g k (subst (λ x. Walks inside os huge (Err x)) is w)

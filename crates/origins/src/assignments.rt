@@ -12,7 +12,7 @@ ghost use Rattle.origins.specs.Walks.{Walks};
 use crate::expressions::{pass_arguments, pass_expression, then_own};
 use crate::helpers::{needed_count, then_call};
 use crate::names::{Meaning, Named};
-use crate::node::{Halt, Node, pass_own};
+use crate::node::{Node, WalkEnd, pass_own};
 use crate::setting::Setting;
 use crate::targets::{pass_target, then_fetch};
 use clmodel::barrier::is_barrier;
@@ -53,7 +53,7 @@ fn pass_right<'a>(
     names: &[Named],
     value: &'a Expression,
     left: usize,
-) -> Result<usize, Halt<'a>>
+) -> Result<usize, WalkEnd<'a>>
     ensures { Walks (inside_in setting.entry) (right_in setting.entry names.now (term value.now)) left result }
 {
     match helper_call(value) {
@@ -69,11 +69,11 @@ fn pass_right<'a>(
 
 /// What a walk passed, and then the right side of an assignment.
 fn then_right<'a>(
-    passed: Result<usize, Halt<'a>>,
+    passed: Result<usize, WalkEnd<'a>>,
     setting: Setting<'_>,
     names: &[Named],
     value: &'a Expression,
-) -> Result<usize, Halt<'a>>
+) -> Result<usize, WalkEnd<'a>>
     ensures { (xs : List Origin) (n : ℕ) → Walks (inside_in setting.entry) xs n passed.entry → Walks (inside_in setting.entry) (xs ++ right_in setting.entry names.now (term value.now)) n result }
 {
     match passed {
@@ -91,7 +91,7 @@ pub fn pass_assignment<'a>(
     operator: Option<BinaryOperator>,
     value: &'a Expression,
     left: usize,
-) -> Result<usize, Halt<'a>>
+) -> Result<usize, WalkEnd<'a>>
     ensures { Walks (inside_in setting.entry) (assign_in setting.entry names.now (tree_target target.now) operator (term value.now) (node_of node.entry)) left result }
 {
     let reached = pass_target(names, target, left);
@@ -110,7 +110,7 @@ pub fn pass_step<'a>(
     node: Node<'a>,
     target: &'a Target,
     left: usize,
-) -> Result<usize, Halt<'a>>
+) -> Result<usize, WalkEnd<'a>>
     ensures { (inside : ℕ → List Origin) → Walks inside (step_in names.now (tree_target target.now) (node_of node.entry)) left result }
 {
     let reached = pass_target(names, target, left);
@@ -125,7 +125,7 @@ pub fn pass_call_statement<'a>(
     name: u32,
     arguments: &'a [Expression],
     left: usize,
-) -> Result<usize, Halt<'a>>
+) -> Result<usize, WalkEnd<'a>>
     ensures { Walks (inside_in setting.entry) (call_in setting.entry names.now name (terms arguments.now) (node_of node.entry)) left result }
 {
     if is_barrier(name) {
@@ -147,7 +147,7 @@ pub fn pass_declaration<'a>(
     name: u32,
     value: &'a Expression,
     left: usize,
-) -> Result<usize, Halt<'a>>
+) -> Result<usize, WalkEnd<'a>>
     ensures walks { Walks (inside_in setting.entry) (declare_in setting.entry names.old.items kind name (term value.now) (node_of node.entry)) left result }
     ensures names { names.new.items ≡ names.old.items }
 {
@@ -164,6 +164,6 @@ pub fn pass_declaration<'a>(
             names.truncate(count);
             then_own(valued, node, 1)
         }
-        Err(_) => Err(Halt::OutOfMemory),
+        Err(_) => Err(WalkEnd::OutOfMemory),
     }
 }

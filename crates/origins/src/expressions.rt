@@ -11,7 +11,7 @@ ghost use Rattle.origins.specs.Walks.{Walks};
 
 use crate::known::known_of;
 use crate::names::{Meaning, Named, meaning_of};
-use crate::node::{Halt, Node, pass_own};
+use crate::node::{Node, WalkEnd, pass_own};
 use clmodel::tree::{Expression, InfixOperator};
 
 /// How many instructions stand between the operands of an operator.
@@ -36,7 +36,11 @@ fn infix_behind(operator: InfixOperator) -> usize
 }
 
 /// Passes a variable's value, which a node asks for.
-pub fn pass_variable<'a>(meaning: Meaning, node: Node<'a>, left: usize) -> Result<usize, Halt<'a>>
+pub fn pass_variable<'a>(
+    meaning: Meaning,
+    node: Node<'a>,
+    left: usize,
+) -> Result<usize, WalkEnd<'a>>
     ensures { (inside : ℕ → List Origin) → Walks inside (variable_origins meaning (node_of node.entry)) left result }
 {
     match meaning {
@@ -48,10 +52,10 @@ pub fn pass_variable<'a>(meaning: Meaning, node: Node<'a>, left: usize) -> Resul
 
 /// What a walk passed, and then instructions of a node itself.
 pub fn then_own<'a>(
-    passed: Result<usize, Halt<'a>>,
+    passed: Result<usize, WalkEnd<'a>>,
     node: Node<'a>,
     count: usize,
-) -> Result<usize, Halt<'a>>
+) -> Result<usize, WalkEnd<'a>>
     ensures { (inside : ℕ → List Origin) (xs : List Origin) (n : ℕ) → Walks inside xs n passed.entry → Walks inside (xs ++ times count (node_of node.entry)) n result }
 {
     match passed {
@@ -63,10 +67,10 @@ pub fn then_own<'a>(
 /// What a walk passed, and then an expression.
 #[cycle(walk)]
 pub fn then_expression<'a>(
-    passed: Result<usize, Halt<'a>>,
+    passed: Result<usize, WalkEnd<'a>>,
     names: &[Named],
     expression: &'a Expression,
-) -> Result<usize, Halt<'a>>
+) -> Result<usize, WalkEnd<'a>>
     ensures { (inside : ℕ → List Origin) (xs : List Origin) (n : ℕ) → Walks inside xs n passed.entry → Walks inside (xs ++ expr_origins names.now (term expression.now)) n result }
 {
     match passed {
@@ -82,7 +86,7 @@ pub fn pass_expression<'a>(
     names: &[Named],
     expression: &'a Expression,
     left: usize,
-) -> Result<usize, Halt<'a>>
+) -> Result<usize, WalkEnd<'a>>
     ensures { (inside : ℕ → List Origin) → Walks inside (expr_origins names.now (term expression.now)) left result }
 {
     match known_of(names, expression).constant {
@@ -97,7 +101,7 @@ fn pass_parts<'a>(
     names: &[Named],
     expression: &'a Expression,
     left: usize,
-) -> Result<usize, Halt<'a>>
+) -> Result<usize, WalkEnd<'a>>
     requires { constant_of (variables_of names.now) (term expression.now) ≡ None }
     ensures { (inside : ℕ → List Origin) → Walks inside (expr_origins names.now (term expression.now)) left result }
 {
@@ -171,7 +175,7 @@ pub fn pass_address<'a>(
     node: Node<'a>,
     index: &'a Expression,
     left: usize,
-) -> Result<usize, Halt<'a>>
+) -> Result<usize, WalkEnd<'a>>
     ensures { (inside : ℕ → List Origin) → Walks inside (address_origins meaning (node_of node.entry) (expr_origins names.now (term index.now))) left result }
 {
     let pointer = pass_variable(meaning, node, left);
@@ -184,7 +188,7 @@ pub fn pass_arguments<'a>(
     names: &[Named],
     arguments: &'a [Expression],
     left: usize,
-) -> Result<usize, Halt<'a>>
+) -> Result<usize, WalkEnd<'a>>
     ensures { (inside : ℕ → List Origin) → Walks inside (terms_origins names.now (terms arguments.now)) left result }
 {
     let mut passed = Ok(left);

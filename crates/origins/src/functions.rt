@@ -9,7 +9,7 @@ ghost use Rattle.origins.specs.Walks.{Walks};
 
 use crate::expressions::then_own;
 use crate::names::declare_parameters;
-use crate::node::{Halt, Node, pass_own};
+use crate::node::{Node, WalkEnd, pass_own};
 use crate::setting::Setting;
 use crate::statements::{then_statements, value_count};
 use clmodel::tree::Function;
@@ -22,7 +22,7 @@ pub fn pass_function<'a>(
     lengths: &[Option<usize>],
     function: &'a Function,
     left: usize,
-) -> Result<usize, Halt<'a>>
+) -> Result<usize, WalkEnd<'a>>
     requires { LengthsKnown functions.now lengths.now }
     ensures { Walks (origins_at functions.now) (function_origins functions.now (func function.now)) left result }
 {
@@ -40,7 +40,7 @@ pub fn pass_function<'a>(
             let passed = then_statements(given, setting, &mut names, function.body.as_slice());
             then_own(passed, node, value_count(function.result))
         }
-        Err(_) => Err(Halt::OutOfMemory),
+        Err(_) => Err(WalkEnd::OutOfMemory),
     }
 }
 
@@ -56,10 +56,10 @@ fn length_of(
 {
     match pass_function(alloc, functions, lengths, function, usize::MAX) {
         Ok(left) => Ok(Some(usize::MAX - left)),
-        Err(Halt::Found(_)) => Ok(None),
-        Err(Halt::Inside(_)) => Ok(None),
-        Err(Halt::Lost) => Ok(None),
-        Err(Halt::OutOfMemory) => Err(AllocError),
+        Err(WalkEnd::Found(_)) => Ok(None),
+        Err(WalkEnd::Inside(_)) => Ok(None),
+        Err(WalkEnd::Lost) => Ok(None),
+        Err(WalkEnd::OutOfMemory) => Err(AllocError),
     }
 }
 

@@ -10,7 +10,7 @@ ghost use Rattle.origins.specs.Walks.{Walks};
 ghost use Rattle.origins.specs.Settings.{inside_in, calls_in, results_in};
 ghost use Rattle.origins.specs.Helpers.{found_origins, found_type};
 
-use crate::node::{Entered, Halt, Node, pass_own};
+use crate::node::{Entered, Node, WalkEnd, pass_own};
 use crate::setting::Setting;
 use clmodel::tree::Function;
 
@@ -36,17 +36,17 @@ pub fn pass_call<'a>(
     call: Node<'a>,
     name: u32,
     left: usize,
-) -> Result<usize, Halt<'a>>
+) -> Result<usize, WalkEnd<'a>>
     ensures { Walks (inside_in setting.entry) (calls_in setting.entry (node_of call.entry) name) left result }
 {
     let Some(place) = find(setting.functions, name) else {
         return pass_own(call, 1, left);
     };
     let Some(length) = setting.lengths[place] else {
-        return Err(Halt::Lost);
+        return Err(WalkEnd::Lost);
     };
     if left < length {
-        return Err(Halt::Inside(Entered {
+        return Err(WalkEnd::Inside(Entered {
             call: call.at(),
             place,
             left,
@@ -57,11 +57,11 @@ pub fn pass_call<'a>(
 
 /// What a walk passed, and then the call of a helper by a node.
 pub fn then_call<'a>(
-    passed: Result<usize, Halt<'a>>,
+    passed: Result<usize, WalkEnd<'a>>,
     setting: Setting<'_>,
     call: Node<'a>,
     name: u32,
-) -> Result<usize, Halt<'a>>
+) -> Result<usize, WalkEnd<'a>>
     ensures { (xs : List Origin) (n : ℕ) → Walks (inside_in setting.entry) xs n passed.entry → Walks (inside_in setting.entry) (xs ++ calls_in setting.entry (node_of call.entry) name) n result }
 {
     match passed {

@@ -31,21 +31,21 @@ pub struct Entered {
 /// Why a walk ends before the end of code: the wanted instruction is a node's own, or stands in the body of a helper,
 /// or it isn't known how long the code of a helper is, or memory was refused.
 #[derive(Clone, Copy)]
-pub enum Halt<'a> {
+pub enum WalkEnd<'a> {
     Found(Node<'a>),
     Inside(Entered),
     Lost,
     OutOfMemory,
 }
 
-impl<'a> From<AllocError> for Halt<'a> {
+impl<'a> From<AllocError> for WalkEnd<'a> {
     ghost use Rattle.std.specs.Prelude.{◌≡◌};
-    ghost use Rattle.origins.specs.declared.node.Halt.TheVariants.{OutOfMemory};
+    ghost use Rattle.origins.specs.declared.node.WalkEnd.TheVariants.{OutOfMemory};
 
     ghost from_gives = { λ _ h. h ≡ OutOfMemory };
 
     fn from(_: AllocError) -> Self {
-        Halt::OutOfMemory
+        WalkEnd::OutOfMemory
     }
 }
 
@@ -115,11 +115,11 @@ impl<'a> Node<'a> {
 }
 
 /// Passes `count` instructions of a node itself.
-pub fn pass_own<'a>(node: Node<'a>, count: usize, left: usize) -> Result<usize, Halt<'a>>
+pub fn pass_own<'a>(node: Node<'a>, count: usize, left: usize) -> Result<usize, WalkEnd<'a>>
     ensures { (inside : ℕ → List Origin) → Walks inside (times count (node_of node.entry)) left result }
 {
     if left < count {
-        return Err(Halt::Found(node));
+        return Err(WalkEnd::Found(node));
     }
     Ok(left - count)
 }

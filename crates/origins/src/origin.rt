@@ -11,7 +11,7 @@ ghost use Rattle.origins.specs.Finding.{HasOrigin, IsFound, IsFoundInside, IsOri
 
 use crate::expressions::then_own;
 use crate::functions::{lengths_of, pass_function};
-use crate::node::{Entered, Halt, Node};
+use crate::node::{Entered, Node, WalkEnd};
 use clmodel::tree::{Function, Tree};
 use std::alloc::{AllocError, Global};
 
@@ -44,14 +44,14 @@ fn origin_inside<'a>(
         let function = &functions[end];
         match pass_function(alloc, &functions[..end], &lengths[..end], function, left) {
             Ok(_) => unreachable!(),
-            Err(Halt::Found(node)) => return Ok(Some(Origin { node, through })),
-            Err(Halt::Inside(further)) => {
+            Err(WalkEnd::Found(node)) => return Ok(Some(Origin { node, through })),
+            Err(WalkEnd::Inside(further)) => {
                 through.push(further.call)?;
                 end = further.place;
                 left = further.left;
             }
-            Err(Halt::Lost) => return Ok(None),
-            Err(Halt::OutOfMemory) => return Err(AllocError),
+            Err(WalkEnd::Lost) => return Ok(None),
+            Err(WalkEnd::OutOfMemory) => return Err(AllocError),
         }
     }
 }
@@ -70,13 +70,18 @@ fn kernel_origin<'a>(
     let passed = pass_function(alloc, functions, lengths.as_slice(), kernel, place);
     match then_own(passed, Node::Function(kernel), 1) {
         Ok(_) => Ok(None),
-        Err(Halt::Found(node)) => Ok(Some(Origin {
+        Err(WalkEnd::Found(node)) => Ok(Some(Origin {
             node,
             through: Vec::new(alloc),
         })),
-        Err(Halt::Inside(entered)) => origin_inside(alloc, functions, lengths.as_slice(), entered),
-        Err(Halt::Lost) => Ok(None),
-        Err(Halt::OutOfMemory) => Err(AllocError),
+        Err(WalkEnd::Inside(entered)) => origin_inside(
+            alloc,
+            functions,
+            lengths.as_slice(),
+            entered,
+        ),
+        Err(WalkEnd::Lost) => Ok(None),
+        Err(WalkEnd::OutOfMemory) => Err(AllocError),
     }
 }
 

@@ -14,7 +14,7 @@ ghost use Rattle.origins.specs.Walks.{Walks};
 use crate::assignments::{pass_assignment, pass_call_statement, pass_declaration, pass_step};
 use crate::expressions::{pass_expression, then_expression, then_own};
 use crate::names::{Named, declare};
-use crate::node::{Halt, Node, pass_own};
+use crate::node::{Node, WalkEnd, pass_own};
 use crate::setting::Setting;
 use clmodel::tree::{Expression, Statement};
 use clnum::IntType;
@@ -54,7 +54,7 @@ fn pass_return<'a>(
     node: Node<'a>,
     value: Option<&'a Expression>,
     left: usize,
-) -> Result<usize, Halt<'a>>
+) -> Result<usize, WalkEnd<'a>>
     ensures { (inside : ℕ → List Origin) → Walks inside (return_in setting.entry names.now (test_of value.entry) (node_of node.entry)) left result }
 {
     match value {
@@ -68,11 +68,11 @@ fn pass_return<'a>(
 
 /// What a walk passed, and then the condition of a `for`, if there is one.
 fn then_condition<'a>(
-    passed: Result<usize, Halt<'a>>,
+    passed: Result<usize, WalkEnd<'a>>,
     names: &[Named],
     node: Node<'a>,
     condition: Option<&'a Expression>,
-) -> Result<usize, Halt<'a>>
+) -> Result<usize, WalkEnd<'a>>
     ensures { (inside : ℕ → List Origin) (xs : List Origin) (n : ℕ) → Walks inside xs n passed.entry → Walks inside (xs ++ origins.condition_origins names.now (test_of condition.entry) (node_of node.entry)) n result }
 {
     match condition {
@@ -99,7 +99,7 @@ fn pass_statement<'a>(
     names: &mut Vec<Named>,
     statement: &'a Statement,
     left: usize,
-) -> Result<usize, Halt<'a>>
+) -> Result<usize, WalkEnd<'a>>
     ensures walks { Walks (inside_in setting.entry) (stmt_in setting.entry names.old.items (stmt statement.now)) left result }
     ensures names { names.new.items ≡ names.old.items }
 {
@@ -194,11 +194,11 @@ fn pass_statement<'a>(
 /// What a walk passed, and then a statement.
 #[cycle(walk)]
 fn then_statement<'a>(
-    passed: Result<usize, Halt<'a>>,
+    passed: Result<usize, WalkEnd<'a>>,
     setting: Setting<'_>,
     names: &mut Vec<Named>,
     statement: &'a Statement,
-) -> Result<usize, Halt<'a>>
+) -> Result<usize, WalkEnd<'a>>
     ensures walks { (xs : List Origin) (n : ℕ) → Walks (inside_in setting.entry) xs n passed.entry → Walks (inside_in setting.entry) (xs ++ stmt_in setting.entry names.old.items (stmt statement.now)) n result }
     ensures names { names.new.items ≡ names.old.items }
 {
@@ -211,11 +211,11 @@ fn then_statement<'a>(
 /// What a walk passed, and then the first or the third part of a `for`, if there is one.
 #[cycle(walk)]
 fn then_part<'a>(
-    passed: Result<usize, Halt<'a>>,
+    passed: Result<usize, WalkEnd<'a>>,
     setting: Setting<'_>,
     names: &mut Vec<Named>,
     part: Option<&'a Statement>,
-) -> Result<usize, Halt<'a>>
+) -> Result<usize, WalkEnd<'a>>
     ensures walks { (xs : List Origin) (n : ℕ) → Walks (inside_in setting.entry) xs n passed.entry → Walks (inside_in setting.entry) (xs ++ part_in setting.entry names.old.items (part_of part.entry)) n result }
     ensures names { names.new.items ≡ names.old.items }
 {
@@ -234,7 +234,7 @@ fn pass_branch<'a>(
     condition: &'a Expression,
     chosen: &'a Statement,
     left: usize,
-) -> Result<usize, Halt<'a>>
+) -> Result<usize, WalkEnd<'a>>
     ensures walks { Walks (inside_in setting.entry)
         ((origins.expr_origins names.old.items (term condition.now) ++ origins.times 1 (node_of node.entry)) ++ stmt_in setting.entry names.old.items (stmt chosen.now)) left result }
     ensures names { names.new.items ≡ names.old.items }
@@ -253,7 +253,7 @@ fn pass_loop<'a>(
     body: &'a Statement,
     condition: &'a Expression,
     left: usize,
-) -> Result<usize, Halt<'a>>
+) -> Result<usize, WalkEnd<'a>>
     ensures walks { Walks (inside_in setting.entry)
         ((((origins.times count (node_of node.entry) ++ stmt_in setting.entry names.old.items (stmt body.now)) ++ origins.expr_origins names.old.items (term condition.now))
         ++ origins.times 1 (node_of node.entry)) ++ origins.times 1 (node_of node.entry)) left result }
@@ -272,7 +272,7 @@ fn pass_for<'a>(
     node: Node<'a>,
     parts: ForParts<'a>,
     left: usize,
-) -> Result<usize, Halt<'a>>
+) -> Result<usize, WalkEnd<'a>>
     ensures walks { Walks (inside_in setting.entry) (for_in setting.entry names.old.items (part_of parts.entry.first) (test_of parts.entry.condition) (part_of parts.entry.third) (stmt parts.entry.body.now) (node_of node.entry)) left result }
     ensures names { names.new.items ≡ names.old.items }
 {
@@ -287,7 +287,7 @@ fn pass_for<'a>(
             names.truncate(count);
             then_own(tested, node, 1)
         }
-        Err(_) => Err(Halt::OutOfMemory),
+        Err(_) => Err(WalkEnd::OutOfMemory),
     }
 }
 
@@ -298,7 +298,7 @@ fn pass_statements<'a>(
     names: &mut Vec<Named>,
     statements: &'a [Statement],
     left: usize,
-) -> Result<usize, Halt<'a>>
+) -> Result<usize, WalkEnd<'a>>
     ensures walks { Walks (inside_in setting.entry) (row_in setting.entry names.old.items (all_of statements.now)) left result }
     ensures names { names.new.items ≡ names.old.items }
 {
@@ -311,7 +311,7 @@ fn pass_statements<'a>(
             Ok(()) => {}
             Err(_) => {
                 names.truncate(count);
-                return Err(Halt::OutOfMemory);
+                return Err(WalkEnd::OutOfMemory);
             }
         }
     }
@@ -321,11 +321,11 @@ fn pass_statements<'a>(
 
 /// What a walk passed, and then statements.
 pub fn then_statements<'a>(
-    passed: Result<usize, Halt<'a>>,
+    passed: Result<usize, WalkEnd<'a>>,
     setting: Setting<'_>,
     names: &mut Vec<Named>,
     statements: &'a [Statement],
-) -> Result<usize, Halt<'a>>
+) -> Result<usize, WalkEnd<'a>>
     ensures { (xs : List Origin) (n : ℕ) → Walks (inside_in setting.entry) xs n passed.entry → Walks (inside_in setting.entry) (xs ++ row_in setting.entry names.old.items (all_of statements.now)) n result }
 {
     match passed {

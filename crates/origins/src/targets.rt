@@ -8,11 +8,15 @@ ghost use Rattle.origins.specs.Walks.{Walks};
 
 use crate::expressions::{pass_address, pass_expression, pass_variable, then_own};
 use crate::names::{Meaning, Named, meaning_of};
-use crate::node::{Halt, Node, pass_own};
+use crate::node::{Node, WalkEnd, pass_own};
 use clmodel::tree::Target;
 
 /// Passes the code of a target: its index, or the pointer to it.
-pub fn pass_target<'a>(names: &[Named], target: &'a Target, left: usize) -> Result<usize, Halt<'a>>
+pub fn pass_target<'a>(
+    names: &[Named],
+    target: &'a Target,
+    left: usize,
+) -> Result<usize, WalkEnd<'a>>
     ensures { (inside : ℕ → List Origin) → Walks inside (target_origins names.now (tree_target target.now)) left result }
 {
     let node = Node::Target(target);
@@ -35,7 +39,7 @@ pub fn pass_fetch<'a>(
     target: &Target,
     node: Node<'a>,
     left: usize,
-) -> Result<usize, Halt<'a>>
+) -> Result<usize, WalkEnd<'a>>
     ensures { (inside : ℕ → List Origin) → Walks inside (fetch_origins names.now (tree_target target.now) (node_of node.entry)) left result }
 {
     match target {
@@ -47,11 +51,11 @@ pub fn pass_fetch<'a>(
 
 /// What a walk passed, and then that fetch.
 pub fn then_fetch<'a>(
-    passed: Result<usize, Halt<'a>>,
+    passed: Result<usize, WalkEnd<'a>>,
     names: &[Named],
     target: &Target,
     node: Node<'a>,
-) -> Result<usize, Halt<'a>>
+) -> Result<usize, WalkEnd<'a>>
     ensures { (inside : ℕ → List Origin) (xs : List Origin) (n : ℕ) → Walks inside xs n passed.entry → Walks inside (xs ++ fetch_origins names.now (tree_target target.now) (node_of node.entry)) n result }
 {
     match passed {

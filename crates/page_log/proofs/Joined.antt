@@ -8,9 +8,9 @@ use Rattle.clmodel.specs.Launch.{conflict_between}
 use Rattle.clmodel.specs.Run.{or_else}
 use Rattle.clmodel.specs.declared.access.Clash.{Clash}
 use Rattle.clmodel.specs.declared.access.Rule.{Rule}
-use Rattle.shadow_list.specs.Log.{hit_between, hit_on, hit_from, hit}
-use Rattle.shadow_list.specs.declared.log.Entry.{Entry}
-use Rattle.shadow_list.specs.declared.log.Hit.{Hit}
+use Rattle.access_list.specs.Log.{hit_between, hit_on, hit_from, hit}
+use Rattle.access_list.specs.declared.log.Entry.{Entry}
+use Rattle.access_list.specs.declared.log.Hit.{Hit}
 use Rattle.page_log.specs.Tally.{lower_hit, hit_with}
 
 -- ---- on which byte a conflict is

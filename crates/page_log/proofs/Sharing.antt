@@ -12,9 +12,9 @@ use Rattle.clmodel.specs.declared.access.Width.{Width}
 use Rattle.clmodel.specs.declared.access.Width.TheVariants.{One, Two, Four, Eight}
 use Rattle.clmodel.proofs.CellLaws.{covers_parts}
 use Rattle.clmodel.proofs.Steps.{decided}
-use Rattle.shadow_list.specs.Log.{hit_on}
-use Rattle.shadow_list.specs.declared.log.Entry.{Entry}
-use Rattle.shadow_list.proofs.Hits.{not_shared, past_over, clear}
+use Rattle.access_list.specs.Log.{hit_on}
+use Rattle.access_list.specs.declared.log.Entry.{Entry}
+use Rattle.access_list.proofs.Hits.{not_shared, past_over, clear}
 use Rattle.page_log.specs.Pages.{first_page, last_page, share_page, IsOnOnePage, page_in, page_of, same_page, begins_in}
 use Rattle.page_log.specs.Tally.{hit_with}
 use Rattle.page_log.specs.declared.pages.Page.{Page}

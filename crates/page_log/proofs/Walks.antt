@@ -10,8 +10,8 @@ use Rattle.clmodel.proofs.Steps.{decided}
 use Rattle.std.proofs.lemmas.Option.{slice_get_within, same_Some, get_or_from_slice_get}
 use Rattle.clmodel.specs.declared.access.Access.{Access}
 use Rattle.clmodel.specs.declared.access.Rule.{Rule}
-use Rattle.shadow_list.specs.Log.{IsThere, hit}
-use Rattle.shadow_list.specs.declared.log.Entry.{Entry}
+use Rattle.access_list.specs.Log.{IsThere, hit}
+use Rattle.access_list.specs.declared.log.Entry.{Entry}
 use Rattle.page_log.specs.Pages.{share_page, IsOnOnePage, page_of, begins_in, same_page, newest_of, count_on_page, IsNewest, IsIndexed}
 use Rattle.page_log.specs.Tally.{IsTally, lower_hit, hit_with}
 use Rattle.page_log.specs.declared.pages.Page.{Page}

@@ -1,7 +1,7 @@
 -- What a log answers that counts its comparisons (own).
 use Rattle.std.specs.Prelude.{ℕ, Option, Result, Ok, Err}
 use Rattle.std.specs.declared.alloc.AllocError.{AllocError}
-use Rattle.shadow_list.specs.declared.log.Hit.{Hit}
+use Rattle.access_list.specs.declared.log.Hit.{Hit}
 
 -- the conflict alone (own)
 abbrev pub found_of : Result (Option Hit × ℕ) AllocError → Result (Option Hit) AllocError

@@ -8,7 +8,7 @@ use Rattle.clmodel.specs.Launch.{same_region}
 use Rattle.clmodel.specs.declared.access.Access.{Access}
 use Rattle.clmodel.specs.declared.access.Region.{Region}
 use Rattle.clmodel.specs.declared.access.Region.TheVariants as region
-use Rattle.shadow_list.specs.declared.log.Entry.{Entry}
+use Rattle.access_list.specs.declared.log.Entry.{Entry}
 use Rattle.page_log.specs.declared.pages.Page.{Page}
 
 -- the number of the page of an access's first byte, and of its last byte: it touches these and all between (own)

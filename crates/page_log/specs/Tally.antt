@@ -1,9 +1,9 @@
 -- What comparing an access with others finds (own, on OpenCL 1.2, 3.3.1).
 use Rattle.std.specs.Prelude.{◌≡◌, false, Option, None, Some, List, [], ◌∷◌, IsTrue, nat_lt, if◌then◌else◌}
 use Rattle.clmodel.specs.declared.access.Rule.{Rule}
-use Rattle.shadow_list.specs.Log.{hit, IsThere}
-use Rattle.shadow_list.specs.declared.log.Entry.{Entry}
-use Rattle.shadow_list.specs.declared.log.Hit.{Hit}
+use Rattle.access_list.specs.Log.{hit, IsThere}
+use Rattle.access_list.specs.declared.log.Entry.{Entry}
+use Rattle.access_list.specs.declared.log.Hit.{Hit}
 use Rattle.page_log.specs.Pages.{count_on_page}
 use Rattle.page_log.specs.declared.tally.Tally.{Tally}
 

@@ -1,11 +1,11 @@
 //! The conflicts between the logs of two groups.
 
 ghost use Rattle.std.specs.Prelude.{◌≡◌, ◌+◌, ◌<◌, ◌^◌, length};
-ghost use Rattle.shadow_list.specs.Log.{IsPlaced, hit, across};
+ghost use Rattle.access_list.specs.Log.{IsPlaced, hit, across};
 
 use crate::tally::{hit_with, lower_hit};
+use access_list::{Accesses, Entry, Hit};
 use clmodel::access::{Region, Rule};
-use shadow_list::{Accesses, Entry, Hit};
 
 /// The conflict of an access with a log by their rule: on its lowest byte that has one, there with the earliest access.
 fn hit_in<L: Accesses>(rule: Rule, x: &Entry, log: &L) -> Option<Hit>

@@ -3,14 +3,14 @@
 ghost use Rattle.std.specs.Prelude.{◌≡◌, ◌+◌, ◌∷◌, ◌++◌, ◌<◌, ◌≤◌, ◌^◌, [], All, true, length, if◌then◌else◌, is_ok, slice_get};
 ghost use Rattle.std.specs.HashMap.{IsEmpty};
 ghost use Rattle.clmodel.specs.Cells.{byte_count};
-ghost use Rattle.shadow_list.specs.Log.{IsPlaced};
-ghost use Rattle.shadow_list.specs.declared.log.Entry.{Entry as TheEntry};
+ghost use Rattle.access_list.specs.Log.{IsPlaced};
+ghost use Rattle.access_list.specs.declared.log.Entry.{Entry as TheEntry};
 ghost use Rattle.page_log.specs.Pages.{share_page, newest_of, IsIndexed, IsNewest, IsOnOnePage};
 
 use crate::pages::{Page, is_on_one_page, page_of, share_page};
 use crate::tally::Tally;
+use access_list::Entry;
 use clmodel::access::{Access, Rule};
-use shadow_list::Entry;
 use std::alloc::{AllocError, Global};
 use std::collections::HashMap;
 

@@ -1,14 +1,14 @@
 //! A log with an index by pages.
 
 ghost use Rattle.std.specs.Prelude.{◌≡◌, IfOk, OnOk};
-ghost use Rattle.shadow_list.specs.Log.{IsPlaced, IsNoted, IsKeptOnce, stamped, logged, fresh_log, across};
+ghost use Rattle.access_list.specs.Log.{IsPlaced, IsNoted, IsKeptOnce, stamped, logged, fresh_log, across};
 ghost use Rattle.page_log.specs.Counted.{found_of};
 ghost use Rattle.page_log.specs.Pages.{count_on_page};
 
 use crate::between::conflicts_between;
 use crate::list::PagedList;
+use access_list::{AccessLog, Accesses, Entry, Fenced, Hit, Logged, stamped};
 use clmodel::access::Rule;
-use shadow_list::{AccessLog, Accesses, Entry, Fenced, Hit, Logged, stamped};
 use std::alloc::{AllocError, Global};
 
 /// A log with an index by object and page of 64 bytes. A new access costs two look-ups in a hash table, and one

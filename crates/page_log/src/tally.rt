@@ -1,14 +1,14 @@
 //! What comparing an access with others finds.
 
 ghost use Rattle.std.specs.Prelude.{◌≡◌, ◌+◌, ◌∷◌, ◌<◌, ◌-◌, ◌^◌, [], List, true};
-ghost use Rattle.shadow_list.specs.Log.{IsPlaced};
+ghost use Rattle.access_list.specs.Log.{IsPlaced};
 ghost use Rattle.clmodel.specs.declared.access.Rule.{Rule as TheRule};
-ghost use Rattle.shadow_list.specs.declared.log.Entry.{Entry as TheEntry};
+ghost use Rattle.access_list.specs.declared.log.Entry.{Entry as TheEntry};
 ghost use Rattle.page_log.specs.Pages.{share_page};
 ghost use Rattle.page_log.specs.Tally.{lower_hit, hit_with};
 
+use access_list::{Entry, Hit, hit, is_same};
 use clmodel::access::Rule;
-use shadow_list::{Entry, Hit, hit, is_same};
 
 /// What comparing an access with others has found so far.
 #[derive(Clone, Copy)]

@@ -9,7 +9,7 @@ use crate::turns::{notes_are_right, polls_are_right};
 use clmodel::text::{Bytes, Name};
 use device::{Command, Device, Reply};
 use host_queue::{Driver, Queue, close, open};
-use spaces_base::Buffers;
+use spaces::Buffers;
 use std::alloc::{AllocError, Global};
 use std::sync::Wait;
 use std::thread;

@@ -2,7 +2,7 @@
 
 use build_hints::Refused;
 use clsyntax_lex::token::SyntaxFault;
-use refusal_json::refused_json;
+use explain_json::refused_json;
 use std::test::Fail;
 
 /// A byte that begins no token is told in one line, with its place in the source and in the file, and a hint.

@@ -8,7 +8,7 @@ use crate::scripts::{command_of, device_of};
 use clmodel::text::Name;
 use device::{Command, Device, Refusal};
 use item_step::Launch;
-use spaces_base::Buffers;
+use spaces::Buffers;
 use std::alloc::Global;
 use std::marker::Sync;
 use std::sync::Wait;

@@ -2,11 +2,11 @@
 //! groups, of the other two how many they have.
 
 use crate::came::{Came, done_if, is_done};
+use access_list::{AccessLog, Entry, ListLog};
 use clmodel::access::{Operation, Region, Width};
 use group_log::GroupLog;
 use page_log::PageLog;
 use shadow::GroupAccesses;
-use shadow_list::{AccessLog, Entry, ListLog};
 use std::alloc::Global;
 
 /// How many items store. With so many, a note of a conflict takes memory in each log.

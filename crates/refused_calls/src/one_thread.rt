@@ -4,21 +4,20 @@ ghost use Rattle.clmodel.specs.Next.{launch_of};
 ghost use Rattle.clmodel.specs.Setup.{item_count, group_items};
 ghost use Rattle.item_step.specs.Launches.{setup_of};
 ghost use Rattle.launches.specs.Groups.{HasGroups};
-ghost use Rattle.snapshot_merge.specs.Launches.{AreResults, list_log};
-ghost use Rattle.spaces_base.specs.Buffers.{bytes_in};
+ghost use Rattle.group_join.specs.Launches.{AreResults, list_log};
+ghost use Rattle.spaces.specs.Buffers.{bytes_in};
 
 use crate::came::{Came, done_if, is_done, refuse_all, refuse_none};
+use access_list::ListLog;
 use clmodel::action::{Action, Answer};
 use clmodel::fault::Fault;
 use clmodel::outcome::Outcome;
+use group_join::{has_stopped, merge, one_group, run_launch};
 use group_run::GroupResult;
 use item_step::{Item, Launch};
 use launches::group_count;
 use replay::replay;
-use shadow_list::ListLog;
-use snapshot_merge::{has_stopped, merge, one_group, run_launch};
-use spaces::Overlay;
-use spaces_base::Buffers;
+use spaces::{Buffers, Overlay};
 use std::alloc::{AllocError, Global};
 
 /// Results of groups, their accesses in lists.

@@ -1,18 +1,17 @@
 //! From a source to code: the passes.
 
 use crate::came::{Came, told};
+use byte_io::{Output, Write};
 use clmodel::tree::Tree;
 use clsyntax::parse;
 use clsyntax_lex::token::SyntaxFault;
 use clsyntax_lex::{Tokens, lex};
 use cltypes::{Checked, TypeFault, check};
 use code_text::dump;
-use counted_io::Write;
 use lower::{LowerFault, lower};
 use regcode::Code;
 use std::alloc::Global;
 use std::io::BufWriter;
-use streams::Output;
 
 /// A kernel with a helper, a loop, a local array and a private one.
 const SOURCE: &str = "int sum(int n) { int s = 0; for (int j = 1; j <= n; j++) s += j; return s; }

@@ -3,3 +3,4 @@ pub mod RegisterValues
 pub mod Kept
 pub mod Faultless
 pub mod Computing
+pub mod Words

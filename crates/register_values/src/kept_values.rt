@@ -15,10 +15,10 @@ ghost use Rattle.register_values.specs.Leading.{Leads};
 use crate::operators::binary_operation;
 use crate::register_value::{Form, RegisterValue};
 use crate::termination::Termination;
+use crate::{binary_word, converted_word, unary_word, wrapped_word};
 use clmodel::action::Cause;
 use clmodel::tree::VariableType;
 use clnum::{ArithFault, BinaryOperator, IntType, UnaryOperator, binary_kind, unary_kind};
-use words::{binary_word, converted_word, unary_word, wrapped_word};
 
 /// The number of a type that differs from these bits by a multiple of 2 to the type's width.
 #[inline(always)]

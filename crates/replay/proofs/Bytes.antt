@@ -17,7 +17,7 @@ use Rattle.clmodel.proofs.CellLaws.{found_unset}
 use Rattle.launches.specs.Objects.{SpacesHold}
 use Rattle.launches.proofs.Memory.{size_some}
 use Rattle.replay.specs.States.{LocalsHold}
-use Rattle.spaces_base.proofs.Rows.{unset_here}
+use Rattle.spaces.proofs.Rows.{unset_here}
 
 -- bytes that make a number are set
 pub all_set : (w : Width) (c : Cells) (first v : ℕ) → number c first (byte_count w) ≡ Some v → lowest_unset c first (byte_count w) ≡ None

@@ -8,3 +8,5 @@ pub mod Played
 pub mod Reaching
 pub mod Showing
 pub mod Telling
+pub mod Spots
+mod Shown

@@ -20,8 +20,8 @@ use Rattle.clmodel.specs.declared.action.Answer.{Answer}
 use Rattle.clmodel.specs.declared.schedule.Event.TheVariants.{Item}
 use Rattle.clmodel.proofs.Steps.{if_true, if_false}
 use Rattle.clmodel.proofs.CellLaws.{found_unset, cells_none}
-use Rattle.spaces_base.specs.declared.space.SpaceFault.{SpaceFault}
-use Rattle.spaces_base.specs.declared.space.SpaceFault.TheVariants as space_fault
+use Rattle.spaces.specs.declared.space.SpaceFault.{SpaceFault}
+use Rattle.spaces.specs.declared.space.SpaceFault.TheVariants as space_fault
 use Rattle.launches.specs.Objects.{SpacesHold, ObjectsHold, IsMoved, space_of}
 use Rattle.launches.proofs.Lists.{get_set}
 use Rattle.launches.proofs.Memory.{space_sized, local_at, local_past}

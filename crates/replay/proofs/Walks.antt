@@ -11,7 +11,7 @@ use Rattle.clmodel.proofs.Steps.{some_inj}
 use Rattle.launches.proofs.Lists.{get_set}
 use Rattle.item_step.specs.Running.{Running}
 use Rattle.launches.specs.Items.{IsAsked}
-use Rattle.told_conflicts.proofs.Spots.{below_next}
+use Rattle.replay.proofs.Spots.{below_next}
 use Rattle.replay.specs.Items.{is_at, IsAlike, IsAnswered, AreAlike, AreAsked, AreAt, AreAnswered}
 use Rattle.launches.specs.declared.slot.Slot.{Slot}
 

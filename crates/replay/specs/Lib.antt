@@ -2,3 +2,4 @@ pub mod Items
 pub mod States
 pub mod Nexts
 pub mod Played
+pub mod Spots

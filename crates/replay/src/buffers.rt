@@ -1,10 +1,10 @@
 //! The buffers of a launch as the replay's memory.
 
 ghost use Rattle.std.specs.Prelude.{◌≡◌, Some, map, IfOk};
-ghost use Rattle.spaces_base.specs.Buffers.{bytes_in};
+ghost use Rattle.spaces.specs.Buffers.{bytes_in};
 
 use clmodel::text::Name;
-use spaces_base::{Buffers, Plain};
+use spaces::{Buffers, Plain};
 use std::alloc::{AllocError, Global};
 
 /// A copy of the buffers of these names, none of whose bytes are unset (OpenCL 1.2, section 5.2.1). An error is out of

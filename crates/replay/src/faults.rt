@@ -8,19 +8,18 @@ ghost use Rattle.clmodel.specs.Law.{Fails, Shows};
 ghost use Rattle.clmodel.specs.Run.{State, byte_at, next_action, stop_of};
 ghost use Rattle.clmodel.specs.declared.fault.Fault.TheVariants as faults;
 ghost use Rattle.item_step.specs.Running.{Running};
-ghost use Rattle.told_conflicts.specs.Spots.{is_conflict};
+ghost use Rattle.replay.specs.Spots.{is_conflict};
 ghost use Rattle.replay.specs.States.{IsAt};
 ghost use Rattle.replay.specs.Nexts.{StopsAt, ReadsUnset};
 
 use crate::nexts::{NextAccess, access_of, cause_of, stop_of};
 use crate::player::Player;
+use crate::{is_at, is_fault_of, shows_conflict, told_conflict};
 use clmodel::access::{AccessKind, Operation};
 use clmodel::action::Stop;
 use clmodel::fault::{Fault, Location};
-use divergence::same_stop;
-use launches::Runnable;
+use launches::{Runnable, same_stop};
 use std::alloc::{AllocError, Global};
-use told_conflicts::{is_at, is_fault_of, shows_conflict, told_conflict};
 
 /// Whether an item waits at this stop. An error is out of memory.
 fn stops_at<D: Runnable>(

@@ -11,7 +11,7 @@ ghost use Rattle.replay.specs.States.{LocalsHold, IsNew, IsPerformed, passed};
 use clmodel::access::{Access, Object, Operation};
 use clmodel::action::{Answer, Fences};
 use launches::objects::{local_objects, perform_on, size_of};
-use spaces_base::{LocalMem, Plain, Space, SpaceFault, first_byte};
+use spaces::{LocalMem, Plain, Space, SpaceFault, first_byte};
 use std::alloc::{AllocError, Global};
 
 /// The local objects of a work-group, none before the first access of one of its items, and its intervals (OpenCL 1.2,

@@ -11,8 +11,13 @@
 //! player is at, and then the player is at the state that the event leads to; else it stays. The other calls tell of
 //! that state: what an item does next, the accesses so far, where an element begins, the lowest byte that is unset. An
 //! event costs the same however many items there are, and no buffer is copied. `copies` makes the memory with which a
-//! player begins. `told_conflicts` judges whether the accesses have a conflict that a fault tells. The crate uses
-//! neither overlays nor the runner of groups.
+//! player begins.
+//!
+//! `told_conflict` is the conflict of a fault that tells one (OpenCL 1.2, sections 3.3.1 and 6.12.8). `shows_conflict`
+//! answers true exactly where each state with a log shows that conflict, with its items, kinds, place and byte (out of
+//! memory aside). It goes over the log twice, whatever conflicts there are. `is_at` and `is_fault_of` answer whether a
+//! region lies where a fault tells, and whether a fault is that of an item that can do nothing more for a cause;
+//! `same_name` and `is_on` compare a name and a byte. The crate uses neither overlays nor the runner of groups.
 #![tactic(auto)]
 
 ghost use Rattle.std.specs.Prelude.{IfOk};
@@ -22,15 +27,17 @@ ghost use Rattle.clmodel.specs.Next.{launch_of};
 ghost use Rattle.clmodel.specs.Outcome.{events_of};
 ghost use Rattle.item_step.specs.Launches.{setup_of};
 ghost use Rattle.launches.specs.Groups.{HasGroups};
-ghost use Rattle.spaces_base.specs.Buffers.{bytes_in};
+ghost use Rattle.spaces.specs.Buffers.{bytes_in};
 
 mod buffers;
+mod conflicts;
 mod dividends;
 mod events;
 mod faults;
 mod group;
 mod members;
 mod nexts;
+mod places;
 mod player;
 mod slot;
 
@@ -39,13 +46,15 @@ use crate::faults::shows;
 pub use buffers::copies;
 use clmodel::fault::Fault;
 use clmodel::schedule::Schedule;
+pub use conflicts::{Partner, is_on, shows_conflict, told_conflict};
 pub use fault_lines::{ReadFault, read, write};
 use item_step::Launch;
 use launches::laws::setups_are_runnable;
 use launches::{LoadedLaunch, group_count};
+pub use places::{is_at, is_fault_of, same_name};
 pub use player::Player;
 pub use slot::Stand;
-use spaces_base::Buffers;
+use spaces::Buffers;
 use std::alloc::{AllocError, Global};
 
 /// Whether a schedule leads a launch to a state that shows a fault: each event is possible in its turn (OpenCL 1.2,

@@ -21,7 +21,7 @@ use clmodel::action::{Action, Fences, Stop};
 use clmodel::schedule::Event;
 use clnum::Value;
 use launches::{Runnable, Slot, waiting_items};
-use spaces_base::{Plain, Space, first_byte};
+use spaces::{Plain, Space, first_byte};
 use std::alloc::{AllocError, Global};
 
 /// A launch as it is played: its items, one memory that they share, and the accesses so far, the oldest first.

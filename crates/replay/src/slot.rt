@@ -9,8 +9,7 @@ ghost use Rattle.replay.specs.Items.{is_at, stand_of};
 
 use crate::nexts::stop_of;
 use clmodel::action::{Answer, Stop, Turns};
-use divergence::same_stop;
-use launches::{Runnable, Slot};
+use launches::{Runnable, Slot, same_stop};
 use std::alloc::{AllocError, Global};
 
 /// Where an item stands: the place in its code of an instruction, and the numbers of the turns that loops have made by

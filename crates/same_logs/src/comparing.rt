@@ -10,16 +10,15 @@ use crate::failing::NotRun;
 use crate::logs::NewLog;
 use crate::results::{Results, run_groups};
 use crate::telling::{tell_outcome, tell_results};
+use access_list::{Accesses, Entry, ListLog};
 use clmodel::outcome::Outcome;
-use fault_facts::Gathered;
+use group_join::{merge, run_launch};
 use group_log::GroupLog;
 use group_run::GroupResult;
 use item_step::Launch;
+use launch_facts::Gathered;
 use page_log::PageLog;
-use shadow_list::{Accesses, Entry, ListLog};
-use snapshot_merge::{merge, run_launch};
-use spaces::Overlay;
-use spaces_base::Buffers;
+use spaces::{Buffers, Overlay};
 use std::alloc::{AllocError, Global};
 
 /// What a launch comes to with one log, as far as it is compared.

@@ -1,8 +1,8 @@
 //! How many accesses the log with pages compares with a new one.
 #![tactic(auto)]
 
+use access_list::{Accesses, Entry};
 use page_log::PageLog;
-use shadow_list::{Accesses, Entry};
 use std::alloc::{AllocError, Global};
 
 /// How many bytes a page has.

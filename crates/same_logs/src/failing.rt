@@ -1,6 +1,6 @@
 //! Launches that can't be run.
 
-use counted_io::WriteFailed;
+use byte_io::WriteFailed;
 use host_commands::build::NotBuilt;
 use std::alloc::AllocError;
 

@@ -4,7 +4,7 @@
 use crate::row::{Row, number_of, with_digit};
 use clmodel::setup::{Argument, Range};
 use clmodel::text::{Bytes, Name, Numbers};
-use spaces_base::Buffers;
+use spaces::Buffers;
 use std::alloc::{AllocError, Global};
 
 /// The bytes of local memory that the argument `t` stands for.

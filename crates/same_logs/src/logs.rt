@@ -2,11 +2,11 @@
 #![tactic(auto)]
 
 ghost use Rattle.std.specs.Prelude.{◌≡◌};
-ghost use Rattle.shadow_list.specs.Log.{fresh_log};
+ghost use Rattle.access_list.specs.Log.{fresh_log};
 
+use access_list::{AccessLog, ListLog};
 use group_log::GroupLog;
 use page_log::PageLog;
-use shadow_list::{AccessLog, ListLog};
 use std::alloc::Global;
 
 /// A log that can be made anew.

@@ -5,15 +5,14 @@ ghost use Rattle.std.specs.Prelude.{◌≡◌, IfOk};
 ghost use Rattle.clmodel.specs.Next.{launch_of};
 ghost use Rattle.item_step.specs.Launches.{setup_of};
 ghost use Rattle.launches.specs.Groups.{HasGroups};
-ghost use Rattle.snapshot_merge.specs.Launches.{AreResults};
-ghost use Rattle.spaces_base.specs.Buffers.{bytes_in};
+ghost use Rattle.group_join.specs.Launches.{AreResults};
+ghost use Rattle.spaces.specs.Buffers.{bytes_in};
 
 use crate::logs::NewLog;
+use group_join::{group_count, has_stopped, one_group};
 use group_run::GroupResult;
 use item_step::Launch;
-use snapshot_merge::{group_count, has_stopped, one_group};
-use spaces::Overlay;
-use spaces_base::Buffers;
+use spaces::{Buffers, Overlay};
 use std::alloc::{AllocError, Global};
 
 /// The results of a launch's work-groups.

@@ -1,14 +1,14 @@
 //! Results of work-groups and launches as text, by which they are compared.
 #![tactic(auto)]
 
+use byte_io::pieces::{Piece, write_pieces};
+use byte_io::{Write, WriteFailed};
 use clmodel::access::Width;
 use clmodel::outcome::Outcome;
 use clmodel::schedule::{EventRun, Schedule};
 use clmodel::text::Bytes;
-use counted_io::pieces::{Piece, write_pieces};
-use counted_io::{Write, WriteFailed};
-use fault_facts::Gathered;
 use group_run::{GroupEnd, GroupResult};
+use launch_facts::Gathered;
 use spaces::{Overlay, Space};
 
 /// The hexadecimal digits, each at the place of its value.

@@ -4,12 +4,12 @@ use Rattle.std.proofs.lemmas.List.{append-nil}
 use Rattle.std.specs.Prelude.{IfSome}
 use Rattle.std.specs.Option.{MatchOption}
 use Rattle.std.specs.Io.KnownBytes.{Consumes, Appends, IsAtEnd}
-use Rattle.counted_io.specs.Pieces.{joined}
-use Rattle.counted_io.specs.Sink.{Sink, Wrote}
+use Rattle.byte_io.specs.Pieces.{joined}
+use Rattle.byte_io.specs.Sink.{Sink, Wrote}
 use Rattle.host_commands.specs.declared.command.Command.{Command}
 use Rattle.host_commands.specs.declared.command.Reply.{Reply}
-use Rattle.peers.specs.Talk.{Event, Heard, Told, Conversation, heard, hearing, Said}
-use Rattle.peers.proofs.Talks.{said_none, said_then}
+use Rattle.byte_io.specs.Talk.{Event, Heard, Told, Conversation, heard, hearing, Said}
+use Rattle.byte_io.proofs.Talks.{said_none, said_then}
 use Rattle.serving.specs.declared.server.Server.{Server}
 use Rattle.serving.specs.declared.server.ServeFault.{ServeFault}
 use Rattle.serving.specs.declared.server.ServeFault.TheVariants as fault

@@ -9,10 +9,10 @@ use Rattle.std.specs.List.{All, AllByRecursion}
 use Rattle.std.specs.Io.{StopsAt}
 use Rattle.std.specs.Io.BufRead.{take_through, ends_with_byte}
 use Rattle.std.specs.Io.KnownBytes.{Consumes, IsAtEnd}
-use Rattle.counted_io.specs.declared.ReadFault.{ReadFault}
-use Rattle.counted_io.specs.declared.ReadFault.TheVariants as read
-use Rattle.peers.specs.Talk.{Conversation, Hears}
-use Rattle.peers.proofs.Talks.{said_heard}
+use Rattle.byte_io.specs.declared.counted.ReadFault.{ReadFault}
+use Rattle.byte_io.specs.declared.counted.ReadFault.TheVariants as read
+use Rattle.byte_io.specs.Talk.{Conversation, Hears}
+use Rattle.byte_io.proofs.Talks.{said_heard}
 use Rattle.serving.specs.Faults.{hear_fault}
 use Rattle.serving.specs.Hearing.{IsHeardLine, EndsWith, HeardLine, NotHeard}
 use Rattle.simfile.specs.Script.{line_feeds}

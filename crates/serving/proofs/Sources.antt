@@ -1,9 +1,9 @@
 -- The lines of a source, one after another.
 use Rattle.std.proofs.Common.{◌≡◌, ℕ, ◌+◌, ◌<◌, Bool, true, false, List, [], ◌∷◌, ◌++◌, refl, ap, sym, ◌∙◌, subst, arith, append_assoc}
 use Rattle.std.proofs.lemmas.List.{append-nil}
-use Rattle.counted_io.specs.Pieces.{joined}
-use Rattle.peers.specs.Talk.{Event, Heard, Conversation, hearing, Said}
-use Rattle.peers.proofs.Talks.{said_none, said_then, hearing-append}
+use Rattle.byte_io.specs.Pieces.{joined}
+use Rattle.byte_io.specs.Talk.{Event, Heard, Conversation, hearing, Said}
+use Rattle.byte_io.proofs.Talks.{said_none, said_then, hearing-append}
 use Rattle.serving.specs.declared.server.ServeFault.{ServeFault}
 use Rattle.serving.specs.declared.server.ServeFault.TheVariants as fault
 use Rattle.serving.specs.Hearing.{HeardLine, HeardSource, HearFails, NotHeard, NotHeardSource}

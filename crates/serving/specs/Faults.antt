@@ -1,6 +1,6 @@
 -- Which fault of a server a failure to hear is.
-use Rattle.counted_io.specs.declared.ReadFault.{ReadFault}
-use Rattle.counted_io.specs.declared.ReadFault.TheVariants as read
+use Rattle.byte_io.specs.declared.counted.ReadFault.{ReadFault}
+use Rattle.byte_io.specs.declared.counted.ReadFault.TheVariants as read
 use Rattle.serving.specs.declared.server.ServeFault.{ServeFault}
 use Rattle.serving.specs.declared.server.ServeFault.TheVariants as fault
 

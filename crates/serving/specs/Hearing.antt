@@ -1,9 +1,9 @@
 -- Lines that are heard (own).
 use Rattle.std.specs.Prelude.{◌≡◌, ◌⊎◌, ℕ, ◌+◌, ◌<◌, Bool, true, false, Some, List, [], ◌∷◌, ◌++◌, IfSome}
 use Rattle.std.specs.Io.KnownBytes.{IsAtEnd}
-use Rattle.counted_io.specs.Pieces.{joined}
-use Rattle.counted_io.specs.Sink.{CountsUp}
-use Rattle.peers.specs.Talk.{Conversation, Heard, hearing, Said}
+use Rattle.byte_io.specs.Pieces.{joined}
+use Rattle.byte_io.specs.Sink.{CountsUp}
+use Rattle.byte_io.specs.Talk.{Conversation, Heard, hearing, Said}
 use Rattle.serving.specs.declared.server.ServeFault.{ServeFault}
 use Rattle.serving.specs.declared.server.ServeFault.TheVariants as fault
 use Rattle.simfile.specs.Script.{AreLines, line_feeds}

@@ -1,10 +1,10 @@
 -- What a server hears and tells in each of its calls (own).
 use Rattle.std.specs.Prelude.{◌≡◌, ℕ, ◌+◌, ◌-◌, ◌^◌, min, Bool, true, false, None, List, [], ◌∷◌, ◌++◌}
-use Rattle.counted_io.specs.Pieces.{joined}
-use Rattle.counted_io.specs.Sink.{Stopped}
+use Rattle.byte_io.specs.Pieces.{joined}
+use Rattle.byte_io.specs.Sink.{Stopped}
 use Rattle.host_commands.specs.declared.command.Command.{Command}
 use Rattle.host_commands.specs.declared.command.Reply.{Reply}
-use Rattle.peers.specs.Talk.{Conversation, Heard, Told, hearing, Said}
+use Rattle.byte_io.specs.Talk.{Conversation, Heard, Told, hearing, Said}
 use Rattle.serving.specs.Hearing.{IsHeardLine, EndsWith, HearFails, IsShort}
 use Rattle.serving.specs.Turns.{greeting, IsBad}
 use Rattle.serving.specs.declared.server.Server.{Server}

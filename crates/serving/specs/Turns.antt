@@ -1,9 +1,9 @@
 -- The talk of commands and replies: each reply is told before the next command is heard (own).
 use Rattle.std.specs.Prelude.{◌≡◌, ◌⊎◌, ℕ, List, [], ◌∷◌, ◌++◌}
-use Rattle.counted_io.specs.Pieces.{joined}
+use Rattle.byte_io.specs.Pieces.{joined}
 use Rattle.host_commands.specs.declared.command.Command.{Command}
 use Rattle.host_commands.specs.declared.command.Reply.{Reply}
-use Rattle.peers.specs.Talk.{Event, Heard, Told, hearing}
+use Rattle.byte_io.specs.Talk.{Event, Heard, Told, hearing}
 use Rattle.serving.specs.Hearing.{IsShort}
 use Rattle.simfile.specs.declared.lines.Version.{Version}
 use Rattle.simfile.specs.declared.lines.Version.TheVariants as version

@@ -3,7 +3,7 @@
 
 ghost use Rattle.std.specs.Prelude.{◌≡◌, []};
 
-use counted_io::{Write, WriteFailed};
+use byte_io::{Write, WriteFailed};
 use std::alloc::Global;
 
 /// The bytes of a line. Their room stays from reply to reply.
@@ -41,7 +41,7 @@ impl Answer {
 
 impl Write for Answer {
     ghost use Rattle.std.specs.Prelude.{[], Some};
-    ghost use Rattle.counted_io.specs.Sink.{Sink};
+    ghost use Rattle.byte_io.specs.Sink.{Sink};
 
     ghost sink = { λ answer. record { written = Some answer.bytes.items; held = []; failed = answer.failed } };
 

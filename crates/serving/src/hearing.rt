@@ -6,7 +6,7 @@ ghost use Rattle.std.specs.Io.BufRead.{ends_with_byte};
 ghost use Rattle.serving.specs.Hearing.{HeardLine, HeardSource, NotHeard, NotHeardSource};
 
 use crate::server::ServeFault;
-use peers::Peer;
+use byte_io::Peer;
 
 /// Whether bytes end with a line feed.
 fn ends_line(bytes: &[u8]) -> bool

@@ -9,9 +9,8 @@ ghost use Rattle.serving.specs.Serving.{HasLine, HeardOpening, Opened, NotOpened
 
 use crate::answer::Answer;
 use crate::hearing::{hear_line, hear_source};
-use counted_io::ReadFault;
+use byte_io::{Peer, ReadFault};
 use host_commands::command::{Command, Reply};
-use peers::Peer;
 use simfile::lines::Version;
 use simfile::replies::write_reply;
 use simfile::stepwise::{count_lines, is_version_line, read_command, source_lines};

@@ -7,14 +7,14 @@ use Rattle.clmodel.specs.declared.access.Access.{Access}
 use Rattle.clmodel.specs.declared.access.Region.TheVariants as region
 use Rattle.clmodel.proofs.Swaps.{same_region-true}
 use Rattle.joining.specs.Memory.{at_byte}
-use Rattle.shadow_list.specs.Kinds.{kind_number}
+use Rattle.access_list.specs.Kinds.{kind_number}
 use Rattle.shadow.specs.Seen.{one_sort, seen_with, is_new, mark_of, seen}
 use Rattle.shadow.specs.Lasting.{AbsorbedAt, Absorbed, StandsFor}
 use Rattle.shadow.specs.declared.seen.Mark.{Mark}
 use Rattle.shadow.specs.declared.seen.Seen.{Seen}
 use Rattle.shadow.specs.declared.seen.Seen.TheVariants.{Untouched, Touched, Mixed}
 use Rattle.shadow.proofs.Meetings.{sort_from}
-use Rattle.shadow_list.specs.declared.log.Entry.{Entry}
+use Rattle.access_list.specs.declared.log.Entry.{Entry}
 
 -- ---- one mark more
 

@@ -11,11 +11,11 @@ use Rattle.shadow.specs.declared.seen.Mark.{Mark}
 use Rattle.shadow.specs.declared.seen.Seen.{Seen}
 use Rattle.shadow.specs.declared.seen.Seen.TheVariants.{Untouched}
 use Rattle.shadow.specs.declared.words.Bytes.{Bytes}
-use Rattle.shadow.specs.declared.words.Word.{Word}
-use Rattle.shadow.specs.declared.words.Word.TheVariants as word
+use Rattle.shadow.specs.declared.words.MarkedWord.{MarkedWord}
+use Rattle.shadow.specs.declared.words.MarkedWord.TheVariants as word
 
 abbrev Row : Type 0
-Row = Vec Word Global
+Row = Vec MarkedWord Global
 
 -- ---- pages of one buffer
 
@@ -27,7 +27,7 @@ pushed (x ∷ pages) v e zero = refl
 pushed (x ∷ pages) v e (suc page) = pushed pages v e page
 
 -- an untouched word more
-pub word_more : (row : List Word) (k : ℕ) → get_or (row ++ word.Untouched ∷ []) k word.Untouched ≡ get_or row k word.Untouched
+pub word_more : (row : List MarkedWord) (k : ℕ) → get_or (row ++ word.Untouched ∷ []) k word.Untouched ≡ get_or row k word.Untouched
 word_more [] zero = refl
 word_more [] (suc k) = refl
 word_more (x ∷ row) zero = refl
@@ -113,19 +113,19 @@ apart_placed apart pages n h = (go (cases_lt (n / 64) (length pages)), inside (c
 
 -- the word that was there
 pub was_word :
-    (pages : List Row) (n : ℕ) (w : Row) (old : Word) → n / 64 < length pages → w ≡ get_or pages (n / 64) w → n % 64 < length w.items → old ≡ get_or w.items (n % 64) old
+    (pages : List Row) (n : ℕ) (w : Row) (old : MarkedWord) → n / 64 < length pages → w ≡ get_or pages (n / 64) w → n % 64 < length w.items → old ≡ get_or w.items (n % 64) old
     → word_in pages n ≡ old
 was_word pages n w old b e inside is =
     ap (λ z. get_or z (n % 64) word.Untouched) (was_row pages (n / 64) w b e) ∙ get_or_default w.items (n % 64) word.Untouched old inside ∙ sym is
 
 -- one word is put, and the others stay
-pub record IsPut (pages after : List Row) (n : ℕ) (s : Word) : Type 0 where
+pub record IsPut (pages after : List Row) (n : ℕ) (s : MarkedWord) : Type 0 where
   pub here : word_in after n ≡ s
   pub others : (m : ℕ) → (m ≡ n → ⊥) → word_in after m ≡ word_in pages m
   pub kept : (page : ℕ) → IsPage pages page → IsPage after page
 
 pub put :
-    (pages : List Row) (n : ℕ) (v w : Row) (s : Word) → n / 64 < length pages → w ≡ get_or pages (n / 64) w → n % 64 < length w.items → v.items ≡ set w.items (n % 64) s
+    (pages : List Row) (n : ℕ) (v w : Row) (s : MarkedWord) → n / 64 < length pages → w ≡ get_or pages (n / 64) w → n % 64 < length w.items → v.items ≡ set w.items (n % 64) s
     → length v.items ≡ length w.items → IsPut pages (set pages (n / 64) v) n s
 put pages n v w s b e inside is long = record {
   here =
@@ -172,7 +172,7 @@ part_marked bytes k s mark inside is j = go (cases_eq k j)
         ∙ sym (ap (λ (z : Bool). if z then seen_with (get_or bytes j Untouched) mark else get_or bytes j Untouched) (ne_eqb k j ne))
 
 -- the four bytes of a word, listed
-pub four_listed : (apart : List Bytes) (n : ℕ) (bytes : List Seen) (w : Word) (a b c d : Seen) → bytes ≡ a ∷ b ∷ c ∷ d ∷ [] → a ≡ byte_seen apart n w 0 → b ≡ byte_seen apart n w 1 → c ≡ byte_seen apart n w 2 → d ≡ byte_seen apart n w 3
+pub four_listed : (apart : List Bytes) (n : ℕ) (bytes : List Seen) (w : MarkedWord) (a b c d : Seen) → bytes ≡ a ∷ b ∷ c ∷ d ∷ [] → a ≡ byte_seen apart n w 0 → b ≡ byte_seen apart n w 1 → c ≡ byte_seen apart n w 2 → d ≡ byte_seen apart n w 3
     → (k : ℕ) → k < 4 → get_or bytes k Untouched ≡ byte_seen apart n w k
 four_listed apart n bytes w a b c d is e f g h zero small = ap (λ z. get_or z 0 Untouched) is ∙ e
 four_listed apart n bytes w a b c d is e f g h (suc zero) small = ap (λ z. get_or z 1 Untouched) is ∙ f
@@ -189,7 +189,7 @@ one_more [] b e zero byte = ap (λ z. cell_in b.apart.items z byte) e ∙ nothin
     nothing_in : (byte : ℕ) → cell_in b.apart.items [] byte ≡ Untouched
     nothing_in byte =
         ap (λ z. byte_seen b.apart.items (byte / 4) z (byte % 4))
-        (ap (λ z. get_or z (byte / 4 % 64) word.Untouched) (get_or_past {X = List Word} [] (byte / 4 / 64) [] (omega arith)) ∙ get_or_past {X = Word} [] (byte / 4 % 64) word.Untouched (omega arith))
+        (ap (λ z. get_or z (byte / 4 % 64) word.Untouched) (get_or_past {X = List MarkedWord} [] (byte / 4 / 64) [] (omega arith)) ∙ get_or_past {X = MarkedWord} [] (byte / 4 % 64) word.Untouched (omega arith))
 one_more [] b e (suc n) byte = refl
 one_more (x ∷ buffers) b e zero byte = refl
 one_more (x ∷ buffers) b e (suc n) byte = one_more buffers b e n byte

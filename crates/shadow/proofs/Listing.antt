@@ -5,7 +5,7 @@ use Rattle.std.proofs.lemmas.List.{append_assoc, append-nil, map-append, reverse
 use Rattle.std.proofs.lemmas.Option.{slice_get-get_or}
 use Rattle.clmodel.proofs.Steps.{none_some, some_inj}
 use Rattle.clmodel.specs.declared.access.Access.{Access}
-use Rattle.shadow_list.specs.declared.log.Entry.{Entry}
+use Rattle.access_list.specs.declared.log.Entry.{Entry}
 use Rattle.shadow.specs.Lasting.{Absorbed, StandsFor, EndsWith, StandsWith, TellsNews}
 use Rattle.shadow.proofs.Absorbing.{onto}
 

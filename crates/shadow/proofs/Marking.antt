@@ -13,8 +13,8 @@ use Rattle.shadow.specs.Seen.{seen_with, is_new, mark_of, against, against_from,
 use Rattle.shadow.specs.declared.seen.Mark.{Mark}
 use Rattle.shadow.specs.declared.seen.Seen.{Seen}
 use Rattle.shadow.specs.declared.seen.Seen.TheVariants.{Untouched}
-use Rattle.shadow.specs.declared.words.Word.{Word}
-use Rattle.shadow.specs.declared.words.Word.TheVariants as word
+use Rattle.shadow.specs.declared.words.MarkedWord.{MarkedWord}
+use Rattle.shadow.specs.declared.words.MarkedWord.TheVariants as word
 use Rattle.shadow.specs.declared.words.Bytes.{Bytes}
 use Rattle.shadow.specs.declared.words.WordMark.{WordMark}
 use Rattle.shadow.proofs.Absorbing.{not_new}
@@ -166,7 +166,7 @@ marked_both old mid new mark first next a b count here there news starts many is
 
 -- the bytes of a word that is put are marked
 pub word_marked :
-    (apart : List Bytes) (pages after : List (Vec Word Global)) (n : ℕ) (s old : Word) (mark : WordMark) (news : Bool) → IsPut pages after n s → word_in pages n ≡ old
+    (apart : List Bytes) (pages after : List (Vec MarkedWord Global)) (n : ℕ) (s old : MarkedWord) (mark : WordMark) (news : Bool) → IsPut pages after n s → word_in pages n ≡ old
     → ((k : ℕ) → k < 4 → byte_seen apart n s k ≡ seen_with (byte_seen apart n old k) (byte_mark mark k))
     → (news ≡ false → (k : ℕ) → k < 4 → is_new (byte_seen apart n old k) (byte_mark mark k) ≡ false)
     → (news ≡ true → (k : ℕ) × (k < 4) × (is_new (byte_seen apart n old k) (byte_mark mark k) ≡ true))
@@ -209,7 +209,7 @@ word_marked apart pages after n s old mark news p was marked quiet told = record
 
 -- one byte of a word apart is marked
 pub byte_marked :
-    (pages : List (Vec Word Global)) (apart after : List Bytes) (byte : ℕ) (mark : Mark) (news : Bool)
+    (pages : List (Vec MarkedWord Global)) (apart after : List Bytes) (byte : ℕ) (mark : Mark) (news : Bool)
     → ((n k : ℕ) → (n ≡ byte / 4 → ⊥) → byte_seen after n (word_in pages n) k ≡ byte_seen apart n (word_in pages n) k)
     → ((j : ℕ) → byte_seen after (byte / 4) (word_in pages (byte / 4)) j ≡ (if byte % 4 == j then seen_with (byte_seen apart (byte / 4) (word_in pages (byte / 4)) j) mark else byte_seen apart (byte / 4) (word_in pages (byte / 4)) j))
     → news ≡ is_new (byte_seen apart (byte / 4) (word_in pages (byte / 4)) (byte % 4)) mark
@@ -288,7 +288,7 @@ own_away : (n : ℕ) (b : Bytes) (k m : ℕ) → b.word ≡ n → (m ≡ n → �
 own_away n b k m own ne = if_false (b.word == m) (get_or b.bytes k Untouched) Untouched (ne_eqb b.word m (λ e. ne (sym e ∙ own)))
 
 -- other words stay where the bytes of one are put
-pub part_away : (apart : List Bytes) (n at : ℕ) (v w : Bytes) (x : Word) → at < length apart → w ≡ get_or apart at w → w.word ≡ n → v.word ≡ n
+pub part_away : (apart : List Bytes) (n at : ℕ) (v w : Bytes) (x : MarkedWord) → at < length apart → w ≡ get_or apart at w → w.word ≡ n → v.word ≡ n
     → (m k : ℕ) → (m ≡ n → ⊥) → byte_seen (set apart at v) m x k ≡ byte_seen apart m x k
 part_away apart n at v w word.Untouched inside is own new m k ne = refl
 part_away apart n at v w (word.Touched a) inside is own new m k ne = refl
@@ -306,7 +306,7 @@ part_away apart n at v w (word.Apart a) inside is own new m k ne = go (cases_eq 
     go (inr far) = ap (λ (b : Bytes). own_seen m b k) (get_or-set_other apart at a v (record { word = 0; bytes = [] }) far)
 
 -- a byte of its own is marked
-pub part_put : (pages : List (Vec Word Global)) (apart : List Bytes) (byte at : ℕ) (v w : Bytes) (mark : Mark) (news : Bool) → word_in pages (byte / 4) ≡ word.Apart at → at < length apart
+pub part_put : (pages : List (Vec MarkedWord Global)) (apart : List Bytes) (byte at : ℕ) (v w : Bytes) (mark : Mark) (news : Bool) → word_in pages (byte / 4) ≡ word.Apart at → at < length apart
     → w ≡ get_or apart at w → w.word ≡ byte / 4 → v.word ≡ byte / 4
     → ((j : ℕ) → get_or v.bytes j Untouched ≡ (if byte % 4 == j then seen_with (get_or w.bytes j Untouched) mark else get_or w.bytes j Untouched))
     → news ≡ is_new (get_or w.bytes (byte % 4) Untouched) mark
@@ -322,7 +322,7 @@ part_put pages apart byte at v w mark news here inside is own new marked told =
     (told ∙ ap (λ z. is_new z mark) (sym (own_here apart (byte / 4) at w inside is own (byte % 4)) ∙ ap (λ x. byte_seen apart (byte / 4) x (byte % 4)) (sym here)))
 
 -- the bytes of one word more
-pub more_away : (apart : List Bytes) (n : ℕ) (b : Bytes) (x : Word) → b.word ≡ n → (m k : ℕ) → (m ≡ n → ⊥) → byte_seen (apart ++ b ∷ []) m x k ≡ byte_seen apart m x k
+pub more_away : (apart : List Bytes) (n : ℕ) (b : Bytes) (x : MarkedWord) → b.word ≡ n → (m k : ℕ) → (m ≡ n → ⊥) → byte_seen (apart ++ b ∷ []) m x k ≡ byte_seen apart m x k
 more_away apart n b word.Untouched own m k ne = refl
 more_away apart n b (word.Touched a) own m k ne = refl
 more_away apart n b (word.Mixed a c) own m k ne = refl
@@ -342,7 +342,7 @@ pub more_here : (apart : List Bytes) (b : Bytes) → bytes_at (apart ++ b ∷ []
 more_here [] b = refl
 more_here (x ∷ apart) b = more_here apart b
 
-pub more_kept : (apart : List Bytes) (b : Bytes) (n : ℕ) (x : Word) → IsApart apart n x → IsApart (apart ++ b ∷ []) n x
+pub more_kept : (apart : List Bytes) (b : Bytes) (n : ℕ) (x : MarkedWord) → IsApart apart n x → IsApart (apart ++ b ∷ []) n x
 more_kept apart b n word.Untouched h = h
 more_kept apart b n (word.Touched a) h = h
 more_kept apart b n (word.Mixed a c) h = h
@@ -354,13 +354,13 @@ more_kept apart b n (word.Apart a) h = (omega (arith, h.0, length-append apart (
     get_or-append_left (x ∷ l) (suc a) i = get_or-append_left l a (omega (arith, i))
 
 -- a word whose bytes are put behind the others
-pub split_is : (pages after : List (Vec Word Global)) (apart : List Bytes) (b : Bytes) (n len : ℕ) → IsPut pages after n (word.Apart len) → len ≡ length apart → b.word ≡ n
+pub split_is : (pages after : List (Vec MarkedWord Global)) (apart : List Bytes) (b : Bytes) (n len : ℕ) → IsPut pages after n (word.Apart len) → len ≡ length apart → b.word ≡ n
     → IsApart (apart ++ b ∷ []) n (word_in after n)
 split_is pages after apart b n len p e own =
     subst (IsApart (apart ++ b ∷ []) n) (sym (p.here ∙ ap (λ z. word.Apart z) e))
     (omega (arith, length-append apart (b ∷ [])), ap (λ (z : Bytes). z.word) (more_here apart b) ∙ own)
 
-pub split_others : (pages after : List (Vec Word Global)) (apart : List Bytes) (b : Bytes) (n len : ℕ) → IsPut pages after n (word.Apart len) → len ≡ length apart → b.word ≡ n
+pub split_others : (pages after : List (Vec MarkedWord Global)) (apart : List Bytes) (b : Bytes) (n len : ℕ) → IsPut pages after n (word.Apart len) → len ≡ length apart → b.word ≡ n
     → (m : ℕ) → IsApart apart m (word_in pages m) → IsApart (apart ++ b ∷ []) m (word_in after m)
 split_others pages after apart b n len p e own m h = go (cases_eq m n)
   where
@@ -368,7 +368,7 @@ split_others pages after apart b n len p e own m h = go (cases_eq m n)
     go (inl is) = subst (λ z. IsApart (apart ++ b ∷ []) z (word_in after z)) (sym is) (split_is pages after apart b n len p e own)
     go (inr ne) = subst (IsApart (apart ++ b ∷ []) m) (sym (p.others m ne)) (more_kept apart b m (word_in pages m) h)
 
-pub split_same : (pages after : List (Vec Word Global)) (apart : List Bytes) (b : Bytes) (n len : ℕ) → IsPut pages after n (word.Apart len) → len ≡ length apart → b.word ≡ n
+pub split_same : (pages after : List (Vec MarkedWord Global)) (apart : List Bytes) (b : Bytes) (n len : ℕ) → IsPut pages after n (word.Apart len) → len ≡ length apart → b.word ≡ n
     → ((k : ℕ) → k < 4 → get_or b.bytes k Untouched ≡ byte_seen apart n (word_in pages n) k)
     → (byte : ℕ) → cell_in (apart ++ b ∷ []) after byte ≡ cell_in apart pages byte
 split_same pages after apart b n len p e own bytes byte = go (cases_eq (byte / 4) n)

@@ -20,8 +20,8 @@ use Rattle.clmodel.proofs.Steps.{none_some, or_else_nothing, or_else_map}
 use Rattle.clmodel.proofs.CellLaws.{covers_from}
 use Rattle.clmodel.proofs.Conflicts.{eqb_sym}
 use Rattle.joining.specs.Memory.{writes, at_byte, wrote}
-use Rattle.shadow_list.specs.Kinds.{kind_number}
-use Rattle.shadow_list.proofs.Agreeing.{class_small, agree_number, not_eight, number_agrees}
+use Rattle.access_list.specs.Kinds.{kind_number}
+use Rattle.access_list.proofs.Agreeing.{class_small, agree_number, not_eight, number_agrees}
 use Rattle.shadow.specs.Seen.{one_sort, seen_with, is_written, left_by, mark_of, seen, mark_clash, met, against, against_from, meeting_of, meeting, Remembers, OfOthers, cell, cell_in, buffer_cells}
 use Rattle.shadow.specs.declared.pages.Pages.{Pages}
 use Rattle.shadow.specs.declared.seen.Mark.{Mark}

@@ -6,7 +6,7 @@ use Rattle.clmodel.specs.declared.access.Region.{Region}
 use Rattle.clmodel.specs.declared.access.Region.TheVariants as region
 use Rattle.joining.specs.Memory.{at_byte}
 use Rattle.shadow.specs.Seen.{seen, seen_with, mark_of}
-use Rattle.shadow_list.specs.declared.log.Entry.{Entry}
+use Rattle.access_list.specs.declared.log.Entry.{Entry}
 
 -- what is kept of each byte stays with one access more, whose region this is: it is of a local object, which no other
 -- group shares, or at each of its bytes the earlier accesses were of its sort, or of two sorts

@@ -15,14 +15,14 @@ use Rattle.clmodel.specs.declared.access.Region.{Region}
 use Rattle.clmodel.specs.declared.access.Region.TheVariants as region
 use Rattle.clmodel.specs.declared.access.Conflict as conflict_type
 use Rattle.joining.specs.Memory.{writes, at_byte}
-use Rattle.shadow_list.specs.Kinds.{kind_number}
+use Rattle.access_list.specs.Kinds.{kind_number}
 use Rattle.shadow.specs.declared.seen.Mark.{Mark}
 use Rattle.shadow.specs.declared.seen.Meeting.{Meeting}
 use Rattle.shadow.specs.declared.pages.Pages.{Pages}
 use Rattle.shadow.specs.declared.footprint.Footprint.{Footprint}
 use Rattle.shadow.specs.declared.seen.Seen.{Seen}
-use Rattle.shadow.specs.declared.words.Word.{Word}
-use Rattle.shadow.specs.declared.words.Word.TheVariants as word
+use Rattle.shadow.specs.declared.words.MarkedWord.{MarkedWord}
+use Rattle.shadow.specs.declared.words.MarkedWord.TheVariants as word
 use Rattle.shadow.specs.declared.words.WordMark.{WordMark}
 use Rattle.shadow.specs.declared.words.Bytes.{Bytes}
 use Rattle.shadow.specs.declared.seen.Seen.TheVariants.{Untouched, Touched, Mixed}
@@ -102,21 +102,21 @@ abbrev pub own_seen : ℕ → Bytes → ℕ → Seen
 own_seen number b k = if b.word == number then slice_index_or b.bytes k Untouched else Untouched
 
 -- what is kept of byte k of a word of this number (own)
-abbrev pub byte_seen : List Bytes → ℕ → Word → ℕ → Seen
+abbrev pub byte_seen : List Bytes → ℕ → MarkedWord → ℕ → Seen
 byte_seen apart number word.Untouched k = Untouched
 byte_seen apart number (word.Touched a) k = Touched (byte_mark a k)
 byte_seen apart number (word.Mixed a b) k = seen_with (Touched (byte_mark a k)) (byte_mark b k)
 byte_seen apart number (word.Apart at) k = own_seen number (bytes_at apart at) k
 
 -- whether a word stays one when an access to all of it is added (own)
-abbrev pub is_ready : Word → Bool
+abbrev pub is_ready : MarkedWord → Bool
 is_ready word.Untouched = true
 is_ready (word.Touched a) = true
 is_ready (word.Mixed a b) = not (kind_number a.kind == kind_number b.kind)
 is_ready (word.Apart at) = false
 
 -- each byte of a word of this number is kept apart (own)
-abbrev pub IsApart : List Bytes → ℕ → Word → Type 0
+abbrev pub IsApart : List Bytes → ℕ → MarkedWord → Type 0
 IsApart apart number word.Untouched = ⊥
 IsApart apart number (word.Touched a) = ⊥
 IsApart apart number (word.Mixed a b) = ⊥
@@ -128,19 +128,19 @@ half_start false = 0
 half_start true = 4
 
 -- the words of a page, none where it has none (own)
-abbrev pub row_of : List (Vec Word Global) → ℕ → List Word
+abbrev pub row_of : List (Vec MarkedWord Global) → ℕ → List MarkedWord
 row_of pages page = slice_index_or (map (λ row. row.items) pages) page []
 
 -- a word of one buffer: pages have 64 words (own)
-abbrev pub word_in : List (Vec Word Global) → ℕ → Word
+abbrev pub word_in : List (Vec MarkedWord Global) → ℕ → MarkedWord
 word_in pages number = slice_index_or (row_of pages (number / 64)) (number % 64) word.Untouched
 
 -- what is kept of a byte of one buffer (own)
-abbrev pub cell_in : List Bytes → List (Vec Word Global) → ℕ → Seen
+abbrev pub cell_in : List Bytes → List (Vec MarkedWord Global) → ℕ → Seen
 cell_in apart pages byte = byte_seen apart (byte / 4) (word_in pages (byte / 4)) (byte % 4)
 
 -- a page has its words (own)
-abbrev pub IsPage : List (Vec Word Global) → ℕ → Type 0
+abbrev pub IsPage : List (Vec MarkedWord Global) → ℕ → Type 0
 IsPage pages page = (page < length pages) × (64 ≤ length (row_of pages page))
 
 -- each of `count` bytes got its mark, and `news` says whether this changed what is kept of one of them (own)

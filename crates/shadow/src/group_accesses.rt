@@ -2,11 +2,11 @@
 
 ghost use Rattle.std.specs.Prelude.{◌≡◌, ◌<◌, ◌++◌, ◌∷◌, [], All, Bool, List, IfOk, OnOk, true, if◌then◌else◌, length, slice_index_or};
 ghost use Rattle.shadow.specs.Lasting.{StandsWith, TellsNews};
-ghost use Rattle.shadow_list.specs.Log.{IsPlaced};
-ghost use Rattle.shadow_list.specs.declared.log.Entry.{Entry as TheEntry};
+ghost use Rattle.access_list.specs.Log.{IsPlaced};
+ghost use Rattle.access_list.specs.declared.log.Entry.{Entry as TheEntry};
 
 use crate::footprint::Footprint;
-use shadow_list::{Accesses, Entry};
+use access_list::{Accesses, Entry};
 use std::alloc::{AllocError, Global};
 
 /// Accesses of a work-group as its join to other groups asks for them: in their order, the oldest first. Accesses that

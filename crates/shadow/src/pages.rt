@@ -4,22 +4,22 @@ ghost use Rattle.std.specs.Prelude.{◌≡◌, List, ◌+◌, ◌*◌, ◌<◌, 
 ghost use Rattle.clmodel.specs.Cells.{byte_count, covers};
 ghost use Rattle.shadow.specs.Seen.{is_new, mark_of, against, against_from, byte_mark, is_ready, IsApart, row_of, word_in, cell_in, IsPage, IsMarked};
 ghost use Rattle.shadow.specs.declared.words.Bytes.{Bytes as TheBytes};
-ghost use Rattle.shadow.specs.declared.words.Word.{Word as TheWord};
-ghost use Rattle.shadow.specs.declared.words.Word.TheVariants as word;
+ghost use Rattle.shadow.specs.declared.words.MarkedWord.{MarkedWord as TheWord};
+ghost use Rattle.shadow.specs.declared.words.MarkedWord.TheVariants as word;
 
 use crate::seen::{Mark, Meeting, Seen, against, is_new, mark_of};
 use crate::words::{
-    Bytes, Word, WordMark, byte_seen, bytes_of, is_apart, is_ready, mark_in, mark_whole, passes,
-    word_mark,
+    Bytes, MarkedWord, WordMark, byte_seen, bytes_of, is_apart, is_ready, mark_in, mark_whole,
+    passes, word_mark,
 };
 use clmodel::access::Access;
 use std::alloc::{AllocError, Global};
 
 /// How many bytes a word has.
-const WORD_BYTES: usize = shadow_list::WORD_BYTES as usize;
+const WORD_BYTES: usize = access_list::WORD_BYTES as usize;
 
 /// How many bytes the widest access is at.
-const VALUE_BYTES: usize = shadow_list::VALUE_BYTES as usize;
+const VALUE_BYTES: usize = access_list::VALUE_BYTES as usize;
 
 /// How many words a page has.
 const PAGE_WORDS: usize = 64;
@@ -30,14 +30,14 @@ const PAGE_BYTES: usize = PAGE_WORDS * WORD_BYTES;
 /// The words of a buffer, in pages. A page has words once one of them was touched.
 #[derive(Drop)]
 pub(crate) struct Pages {
-    pub(crate) pages: Vec<Vec<Word>>,
+    pub(crate) pages: Vec<Vec<MarkedWord>>,
     /// The bytes of the words whose bytes are kept apart
     pub(crate) apart: Vec<Bytes>,
 }
 
 /// Places for `count` pages.
 #[tactic(auto, using(crate::proofs::Cells::pushed))]
-fn grow(alloc: Global, pages: &mut Vec<Vec<Word>>, count: usize) -> Result<(), AllocError>
+fn grow(alloc: Global, pages: &mut Vec<Vec<MarkedWord>>, count: usize) -> Result<(), AllocError>
     ensures long { OnOk result (count ≤ length pages.new.items) }
     ensures same { (page : ℕ) → row_of pages.new.items page ≡ row_of pages.old.items page }
 {
@@ -48,7 +48,7 @@ fn grow(alloc: Global, pages: &mut Vec<Vec<Word>>, count: usize) -> Result<(), A
 }
 
 /// Fills the words of a page up to `PAGE_WORDS`.
-fn fill(row: &mut Vec<Word>) -> Result<(), AllocError>
+fn fill(row: &mut Vec<MarkedWord>) -> Result<(), AllocError>
     ensures long { OnOk result (64 ≤ length row.new.items) }
     ensures same { (k : ℕ) → slice_index_or row.new.items k word.Untouched ≡ slice_index_or row.old.items k word.Untouched }
     ensures longer { length row.old.items ≤ length row.new.items }
@@ -58,13 +58,13 @@ fn fill(row: &mut Vec<Word>) -> Result<(), AllocError>
     }
     row.reserve_exact(PAGE_WORDS - row.len())?;
     while row.len() < PAGE_WORDS {
-        row.push(Word::Untouched)?;
+        row.push(MarkedWord::Untouched)?;
     }
     Ok(())
 }
 
 /// Marks a word by an access to all of it. Whether what is kept of one of its bytes changes.
-fn mark_word(pages: &mut Vec<Vec<Word>>, number: usize, mark: WordMark) -> bool
+fn mark_word(pages: &mut Vec<Vec<MarkedWord>>, number: usize, mark: WordMark) -> bool
     requires page { IsPage pages.old.items (number / 64) }
     requires ready { is_ready (word_in pages.old.items number) ≡ true }
     ensures marked { (apart : List TheBytes) → IsMarked (cell_in apart pages.old.items) (cell_in apart pages.new.items) (λ byte. byte_mark mark (byte % 4)) (4 * number) 4 result }
@@ -76,7 +76,7 @@ fn mark_word(pages: &mut Vec<Vec<Word>>, number: usize, mark: WordMark) -> bool
 }
 
 /// Marks the word that an access is at, or the two of them. Whether what is kept of one of its bytes changes.
-fn mark_words(pages: &mut Vec<Vec<Word>>, x: &Access, number: usize, count: usize) -> bool
+fn mark_words(pages: &mut Vec<Vec<MarkedWord>>, x: &Access, number: usize, count: usize) -> bool
     requires inside { 4 * number + count < 2 ^ 64 }
     requires first { x.now.first ≡ 4 * number }
     requires count { count ≡ byte_count x.now.width }
@@ -96,22 +96,22 @@ fn mark_words(pages: &mut Vec<Vec<Word>>, x: &Access, number: usize, count: usiz
 }
 
 /// Marks a byte of a word that is kept apart. Whether what is kept of it changes.
-fn mark_byte(pages: &[Vec<Word>], apart: &mut Vec<Bytes>, byte: usize, mark: Mark) -> bool
+fn mark_byte(pages: &[Vec<MarkedWord>], apart: &mut Vec<Bytes>, byte: usize, mark: Mark) -> bool
     requires { IsApart apart.old.items (byte / 4) (word_in pages.now (byte / 4)) }
     ensures kept { (n : ℕ) (w : TheWord) → IsApart apart.old.items n w → IsApart apart.new.items n w }
     ensures marked { IsMarked (cell_in apart.old.items pages.now) (cell_in apart.new.items pages.now) (λ _. mark) byte 1 result }
 {
     let number = byte / WORD_BYTES;
     match pages[number / PAGE_WORDS][number % PAGE_WORDS] {
-        Word::Apart(at) => mark_in(&mut apart[at].bytes, byte % WORD_BYTES, mark),
-        Word::Untouched | Word::Touched(_) | Word::Mixed(_, _) => unreachable!(),
+        MarkedWord::Apart(at) => mark_in(&mut apart[at].bytes, byte % WORD_BYTES, mark),
+        MarkedWord::Untouched | MarkedWord::Touched(_) | MarkedWord::Mixed(_, _) => unreachable!(),
     }
 }
 
 /// Marks `count` bytes from the first on, which an access is at, of words that are kept apart. Whether what is kept of
 /// one of them changes.
 fn mark_bytes(
-    pages: &[Vec<Word>],
+    pages: &[Vec<MarkedWord>],
     apart: &mut Vec<Bytes>,
     x: &Access,
     first: usize,
@@ -131,7 +131,7 @@ fn mark_bytes(
 
 /// Keeps what is known of the bytes of a word apart.
 fn split_word(
-    pages: &mut Vec<Vec<Word>>,
+    pages: &mut Vec<Vec<MarkedWord>>,
     apart: &mut Vec<Bytes>,
     number: usize,
 ) -> Result<(), AllocError>
@@ -149,13 +149,13 @@ fn split_word(
     let place = apart.len();
     let bytes = bytes_of(apart, number, word);
     apart.push(bytes)?;
-    row[number % PAGE_WORDS] = Word::Apart(place);
+    row[number % PAGE_WORDS] = MarkedWord::Apart(place);
     Ok(())
 }
 
 /// The same of the words from `start` to `last`.
 fn split_words(
-    pages: &mut Vec<Vec<Word>>,
+    pages: &mut Vec<Vec<MarkedWord>>,
     apart: &mut Vec<Bytes>,
     start: usize,
     last: usize,
@@ -183,7 +183,7 @@ impl Pages {
     }
 
     /// A word that has its place.
-    fn word(&self, number: usize) -> Option<&Word>
+    fn word(&self, number: usize) -> Option<&MarkedWord>
         ensures { MatchOption result (word_in self.now.pages.items number ≡ word.Untouched) (λ w. w.now ≡ word_in self.now.pages.items number) }
     {
         match self.pages.get(number / PAGE_WORDS) {

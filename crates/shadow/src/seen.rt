@@ -4,8 +4,8 @@ ghost use Rattle.std.specs.Prelude.{◌≡◌};
 ghost use Rattle.joining.specs.Memory.{writes};
 ghost use Rattle.shadow.specs.Seen.{one_sort, mark_of, seen_with, is_new, is_written, mark_clash, met, against, conflict_with};
 
+use access_list::{both_store, clash, kind_number, left_at};
 use clmodel::access::{Access, AccessKind, Clash, Conflict};
-use shadow_list::{both_store, clash, kind_number, left_at};
 
 /// Who accessed a byte, and how.
 #[derive(Clone, Copy)]

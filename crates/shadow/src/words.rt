@@ -8,8 +8,8 @@ ghost use Rattle.shadow.specs.declared.seen.Seen.TheVariants as seen;
 ghost use Rattle.shadow.specs.declared.words.Bytes.{Bytes as TheBytes};
 
 use crate::seen::{Mark, Seen, is_new, seen_with};
+use access_list::{BYTE_BITS, BYTE_VALUES, WORD_VALUES, both_store, clash, kind_number};
 use clmodel::access::{Access, AccessKind};
-use shadow_list::{BYTE_BITS, BYTE_VALUES, WORD_VALUES, both_store, clash, kind_number};
 
 /// Who accessed all four bytes of a word, and how.
 #[derive(Clone, Copy)]
@@ -30,7 +30,7 @@ pub(crate) struct Bytes {
 
 /// What is kept of the accesses to a word.
 #[derive(Clone, Copy)]
-pub(crate) enum Word {
+pub(crate) enum MarkedWord {
     Untouched,
     /// What is kept of each byte is that of one access to all four
     Touched(WordMark),
@@ -98,18 +98,18 @@ fn own_seen(apart: &[Bytes], number: usize, at: usize, k: usize) -> Seen
 }
 
 /// What is kept of byte k of a word of this number.
-pub(crate) fn byte_seen(apart: &[Bytes], number: usize, word: Word, k: usize) -> Seen
+pub(crate) fn byte_seen(apart: &[Bytes], number: usize, word: MarkedWord, k: usize) -> Seen
     requires { k < 4 }
     ensures { result ≡ byte_seen apart.now number word k }
 {
     match word {
-        Word::Untouched => Seen::Untouched,
-        Word::Touched(first) => Seen::Touched(byte_mark(first, k)),
-        Word::Mixed(first, other) => seen_with(
+        MarkedWord::Untouched => Seen::Untouched,
+        MarkedWord::Touched(first) => Seen::Touched(byte_mark(first, k)),
+        MarkedWord::Mixed(first, other) => seen_with(
             Seen::Touched(byte_mark(first, k)),
             byte_mark(other, k),
         ),
-        Word::Apart(at) => own_seen(apart, number, at, k),
+        MarkedWord::Apart(at) => own_seen(apart, number, at, k),
     }
 }
 
@@ -130,45 +130,45 @@ fn is_one_sort(a: WordMark, b: WordMark) -> bool
 }
 
 /// Whether a word stays one when an access to all of it is added.
-pub(crate) fn is_ready(word: &Word) -> bool
+pub(crate) fn is_ready(word: &MarkedWord) -> bool
     ensures { result ≡ is_ready word.now }
 {
     match word {
-        Word::Untouched | Word::Touched(_) => true,
-        Word::Mixed(first, other) => kind_number(first.kind) != kind_number(other.kind),
-        Word::Apart(_) => false,
+        MarkedWord::Untouched | MarkedWord::Touched(_) => true,
+        MarkedWord::Mixed(first, other) => kind_number(first.kind) != kind_number(other.kind),
+        MarkedWord::Apart(_) => false,
     }
 }
 
 /// Marks a word by an access to all of it. Whether what is kept of one of its bytes changes.
-pub(crate) fn mark_whole(word: &mut Word, mark: WordMark) -> bool
+pub(crate) fn mark_whole(word: &mut MarkedWord, mark: WordMark) -> bool
     requires { is_ready word.old ≡ true }
     ensures marked { (apart : List TheBytes) (n k : ℕ) → k < 4 → byte_seen apart n word.new k ≡ seen_with (byte_seen apart n word.old k) (byte_mark mark k) }
     ensures quiet { result ≡ false → (apart : List TheBytes) (n k : ℕ) → k < 4 → is_new (byte_seen apart n word.old k) (byte_mark mark k) ≡ false }
     ensures told { result ≡ true → (apart : List TheBytes) (n : ℕ) → (k : ℕ) × (k < 4) × (is_new (byte_seen apart n word.old k) (byte_mark mark k) ≡ true) }
 {
     let first = match word {
-        Word::Untouched => {
-            *word = Word::Touched(mark);
+        MarkedWord::Untouched => {
+            *word = MarkedWord::Touched(mark);
             return true;
         }
-        Word::Touched(first) => *first,
-        Word::Mixed(_, _) | Word::Apart(_) => return false,
+        MarkedWord::Touched(first) => *first,
+        MarkedWord::Mixed(_, _) | MarkedWord::Apart(_) => return false,
     };
     if is_one_sort(first, mark) {
         return false;
     }
-    *word = Word::Mixed(first, mark);
+    *word = MarkedWord::Mixed(first, mark);
     true
 }
 
 /// Whether each byte of a word of this number is kept apart.
-pub(crate) fn is_apart(apart: &[Bytes], number: usize, word: Word) -> bool
+pub(crate) fn is_apart(apart: &[Bytes], number: usize, word: MarkedWord) -> bool
     ensures { result ≡ true → IsApart apart.now number word }
 {
     match word {
-        Word::Untouched | Word::Touched(_) | Word::Mixed(_, _) => false,
-        Word::Apart(at) => match apart.get(at) {
+        MarkedWord::Untouched | MarkedWord::Touched(_) | MarkedWord::Mixed(_, _) => false,
+        MarkedWord::Apart(at) => match apart.get(at) {
             None => false,
             Some(own) => own.word == number,
         },
@@ -176,7 +176,7 @@ pub(crate) fn is_apart(apart: &[Bytes], number: usize, word: Word) -> bool
 }
 
 /// What is kept of each byte of a word of this number.
-pub(crate) fn bytes_of(apart: &[Bytes], number: usize, word: Word) -> Bytes
+pub(crate) fn bytes_of(apart: &[Bytes], number: usize, word: MarkedWord) -> Bytes
     ensures word { result.word ≡ number }
     ensures bytes { (k : ℕ) → k < 4 → slice_index_or result.bytes k seen.Untouched ≡ byte_seen apart.now number word k }
 {
@@ -212,13 +212,14 @@ pub fn agrees(uniform: bool, a: WordMark, b: WordMark) -> bool
 }
 
 /// Whether an access to all of a word is seen to conflict with none of those that are kept.
-pub(crate) fn passes(uniform: bool, mark: WordMark, word: &Word) -> bool
+pub(crate) fn passes(uniform: bool, mark: WordMark, word: &MarkedWord) -> bool
     ensures { result ≡ true → (apart : List TheBytes) (n k byte : ℕ) → k < 4 → against uniform (byte_mark mark k) byte (byte_seen apart n word.now k) ≡ None }
 {
     match word {
-        Word::Untouched => true,
-        Word::Touched(first) => agrees(uniform, *first, mark),
-        Word::Mixed(first, other) => agrees(uniform, *first, mark) && agrees(uniform, *other, mark),
-        Word::Apart(_) => false,
+        MarkedWord::Untouched => true,
+        MarkedWord::Touched(first) => agrees(uniform, *first, mark),
+        MarkedWord::Mixed(first, other) => agrees(uniform, *first, mark)
+            && agrees(uniform, *other, mark),
+        MarkedWord::Apart(_) => false,
     }
 }

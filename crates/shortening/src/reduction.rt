@@ -33,7 +33,7 @@ fn try_without<J: Judge, C: Candidate>(
     search: &mut Search,
     candidate: &C,
     numbers: &[u32],
-    part: Part,
+    part: ListPart,
 ) -> Result<Option<Vec<u32>>, AllocError>
     requires { J.leads judge.old (events_of search.old.best) }
     ensures { Advances J.leads J.judged judge.old judge.new search.old search.new }
@@ -49,30 +49,30 @@ fn try_without<J: Judge, C: Candidate>(
 
 /// A part of a list.
 #[derive(Clone, Copy)]
-struct Part {
+struct ListPart {
     from: usize,
     size: usize,
 }
 
-impl Part {
+impl ListPart {
     /// The next part to leave out of a list of this length: of half the size, from the front, where the end was come
     /// to; none where parts of one were tried.
-    fn next(self, len: usize) -> Option<Part> {
+    fn next(self, len: usize) -> Option<ListPart> {
         if self.from < len {
             return Some(self);
         }
         if self.size <= 1 {
             return None;
         }
-        Some(Part {
+        Some(ListPart {
             from: 0,
             size: self.size / 2,
         })
     }
 
     /// The part behind.
-    fn behind(self) -> Part {
-        Part {
+    fn behind(self) -> ListPart {
+        ListPart {
             from: self.from.saturating_add(self.size),
             size: self.size,
         }
@@ -93,7 +93,7 @@ pub(crate) fn reduce<J: Judge, C: Candidate>(
     ensures { Advances J.leads J.judged judge.old judge.new search.old search.new }
 {
     let mut numbers = numbers;
-    let mut part = Part {
+    let mut part = ListPart {
         from: 0,
         size: numbers.len(),
     };

@@ -5,12 +5,12 @@ use Rattle.std.proofs.Math.Seq.{take-append_seam, drop-append_seam}
 use Rattle.std.proofs.lemmas.Bool.Decides.{nat_tests}
 use Rattle.std.proofs.lemmas.Bool.{eqb-true, eqb-false, ne_eqb}
 use Rattle.std.specs.List.{list_all}
-use Rattle.line_fields.proofs.FieldLemmas.{front_within}
-use Rattle.line_fields.proofs.FieldLaws.{if_some, and_true, front_passes, front_of, before_is, before_again, name_to_takes, name_to_again, list_below_takes, list_below_again, list_below_back}
-use Rattle.line_fields.specs.Texts.{is_later, is_listed, list_text}
+use Rattle.text_lines.proofs.FieldLemmas.{front_within}
+use Rattle.text_lines.proofs.FieldLaws.{if_some, and_true, front_passes, front_of, before_is, before_again, name_to_takes, name_to_again, list_below_takes, list_below_again, list_below_back}
+use Rattle.text_lines.specs.Texts.{is_later, is_listed, list_text}
 use Rattle.fault_lines.proofs.ReaderSteps.{Parted}
 use Rattle.simfile.specs.Fields.{is_name, IsList, numbers_of, AreBytes, hex_digit, hex, is_hex_digit, hex_value, bytes_of}
-use Rattle.line_fields.specs.Fronts.{before, front_length, ◌>>=◌}
+use Rattle.text_lines.specs.Fronts.{before, front_length, ◌>>=◌}
 use Rattle.simfile.specs.Reading.{name_at, list_at, hex_at, lines_end, lines_at, source_at}
 use Rattle.simfile.specs.Script.{line_feeds, AreLines}
 

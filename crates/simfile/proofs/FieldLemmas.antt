@@ -6,9 +6,9 @@ use Rattle.std.proofs.lemmas.List.{append-nil, at_drop_more, at_drop_all, drop-t
 use Rattle.std.proofs.lemmas.List.Concat.{flat_map-append}
 use Rattle.std.proofs.lemmas.List.Folds.{list_all-append}
 use Rattle.std.specs.List.{flat_map, list_all}
-use Rattle.counted_io.specs.Sink.{Sink, Wrote, Stopped}
-use Rattle.counted_io.proofs.Puts.{wrote_then, stopped_then, stopped_more}
-use Rattle.line_fields.specs.Fronts.{front_length}
+use Rattle.byte_io.specs.Sink.{Sink, Wrote, Stopped}
+use Rattle.byte_io.proofs.Puts.{wrote_then, stopped_then, stopped_more}
+use Rattle.text_lines.specs.Fronts.{front_length}
 use Rattle.simfile.specs.Fields.{bytes_of, hex_value}
 use Rattle.simfile.specs.Reading.{lines_end}
 

@@ -6,16 +6,16 @@ use Rattle.clmodel.specs.declared.setup.Argument.TheVariants as argument
 use Rattle.clmodel.specs.declared.setup.Range.{Range}
 use Rattle.host_commands.specs.declared.command.Command.{Command}
 use Rattle.host_commands.specs.declared.command.Command.TheVariants as command
-use Rattle.counted_io.specs.Pieces.{joined}
+use Rattle.byte_io.specs.Pieces.{joined}
 use Rattle.simfile.specs.declared.lines.Version.{Version}
 use Rattle.simfile.specs.declared.lines.Version.TheVariants as version
-use Rattle.line_fields.specs.Texts.{is_later, is_listed, list_text}
+use Rattle.text_lines.specs.Texts.{is_later, is_listed, list_text}
 use Rattle.simfile.specs.Fields.{is_name, IsList, numbers_of, hex, is_hex_digit, bytes_of}
-use Rattle.line_fields.specs.Fronts.{list_below, after, number_at, before, or_else, ◌>>=◌}
+use Rattle.text_lines.specs.Fronts.{list_below, after, number_at, before, or_else, ◌>>=◌}
 use Rattle.simfile.specs.Reading.{list_at, buffer_at, write_at, fill_at, copy_at, read_at, release_at, buffer_argument_at, value_argument_at, local_argument_at, argument_at, listed_offset_at, offset_at, uniform_at, offsets_of, range_of, program_at, kernel_at, arg_at, launch_at, command_at}
 use Rattle.simfile.specs.Script.{IsText, IsSetting, IsOffset, IsUniform, space, line_feed}
 use Rattle.simfile.specs.Laws.{Takes, Again}
-use Rattle.line_fields.proofs.FieldLaws.{bind_some, read_then, before_is, before_again, after_takes, number_takes, number_again, value_takes, value_again, space_ends_list, feed_ends_list}
+use Rattle.text_lines.proofs.FieldLaws.{bind_some, read_then, before_is, before_again, after_takes, number_takes, number_again, value_takes, value_again, space_ends_list, feed_ends_list}
 use Rattle.fault_lines.proofs.FieldLaws.{number_before, number_before_again}
 use Rattle.fault_lines.proofs.ReaderSteps.{joined_onto, joined-append, Parted, begins, ◌▸◌, word_takes, read_is, by_word}
 use Rattle.simfile.proofs.FieldLaws.{name_takes, name_before, name_before_again, name_again, list_takes, list_before, list_before_again, list_again, list_back, hex_before, hex_before_again, hex_back, source_takes, source_again}

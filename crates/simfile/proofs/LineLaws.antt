@@ -11,12 +11,12 @@ use Rattle.clmodel.specs.declared.setup.Argument.{Argument}
 use Rattle.clmodel.specs.declared.setup.Argument.TheVariants as argument
 use Rattle.host_commands.specs.declared.command.Command.{Command}
 use Rattle.host_commands.specs.declared.command.Command.TheVariants as command
-use Rattle.counted_io.specs.Pieces.{joined}
+use Rattle.byte_io.specs.Pieces.{joined}
 use Rattle.simfile.specs.declared.lines.Version.{Version}
 use Rattle.simfile.specs.declared.lines.Version.TheVariants as version
-use Rattle.line_fields.specs.Texts.{is_later, is_listed, is_list_below, list_text, IsValue}
-use Rattle.line_fields.specs.Fronts.{◌>>=◌, after, before, front_length, number_at, list_below}
-use Rattle.line_fields.proofs.FieldLaws.{and_true, if_some, read_then, after_takes, front_passes, name_later, feed_ends, feed_ends_list, decimal_digits}
+use Rattle.text_lines.specs.Texts.{is_later, is_listed, is_list_below, list_text, IsValue}
+use Rattle.text_lines.specs.Fronts.{◌>>=◌, after, before, front_length, number_at, list_below}
+use Rattle.text_lines.proofs.FieldLaws.{and_true, if_some, read_then, after_takes, front_passes, name_later, feed_ends, feed_ends_list, decimal_digits}
 use Rattle.fault_lines.proofs.FieldLaws.{number_before, number_before_again}
 use Rattle.fault_lines.proofs.ReaderSteps.{joined_onto, joined-append, Parted, begins, ◌▸◌, read_is}
 use Rattle.simfile.specs.Fields.{is_name, IsList, AreBytes, hex, is_hex_digit}

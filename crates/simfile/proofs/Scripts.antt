@@ -6,11 +6,11 @@ use Rattle.host_commands.specs.declared.command.Command.{Command}
 use Rattle.host_commands.specs.declared.command.Command.TheVariants as command
 use Rattle.simfile.specs.declared.lines.Version.{Version}
 use Rattle.simfile.specs.declared.lines.Version.TheVariants as version
-use Rattle.line_fields.specs.Fronts.{after, or_else}
+use Rattle.text_lines.specs.Fronts.{after, or_else}
 use Rattle.simfile.specs.Reading.{version_at, command_at}
 use Rattle.simfile.specs.Script.{IsText, IsUniform, Begins, head, IsScript, IsBadLine, line_feeds}
 use Rattle.simfile.specs.Laws.{OneScript, Keeps, EitherOne, NotBoth, OneBadLine}
-use Rattle.line_fields.proofs.FieldLaws.{after_takes}
+use Rattle.text_lines.proofs.FieldLaws.{after_takes}
 use Rattle.simfile.proofs.Grammar.{command_takes, command_again}
 
 -- the bytes give these commands, and the rest follows

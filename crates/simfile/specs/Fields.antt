@@ -2,7 +2,7 @@
 use Rattle.std.specs.Prelude.{ℕ, ◌+◌, ◌-◌, ◌*◌, ◌/◌, ◌%◌, ◌<◌, ◌≤◌, Bool, ◌&&◌, ◌||◌, nat_lt, nat_le, IsTrue, if◌then◌else◌, List, [], ◌∷◌, length}
 use Rattle.std.specs.List.{list_all, flat_map}
 use Rattle.std.specs.Char.{is_ascii_digit}
-use Rattle.line_fields.specs.Texts.{is_name_to, numbers_below, IsListBelow}
+use Rattle.text_lines.specs.Texts.{is_name_to, numbers_below, IsListBelow}
 
 -- 1 to 63 letters, digits and _, no digit first
 abbrev pub is_name : List ℕ → Bool

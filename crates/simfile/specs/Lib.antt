@@ -6,7 +6,7 @@ pub mod Views
 pub mod Laws
 pub mod Faults
 pub mod Stepwise
-pub use Rattle.counted_io.specs.Pieces
+pub use Rattle.byte_io.specs.Pieces
 pub use Rattle.fault_lines.specs.Text
-pub use Rattle.line_fields.specs.Texts
-pub use Rattle.line_fields.specs.Fronts
+pub use Rattle.text_lines.specs.Texts
+pub use Rattle.text_lines.specs.Fronts

@@ -8,7 +8,7 @@ use Rattle.host_commands.specs.declared.command.Command.TheVariants as command
 use Rattle.simfile.specs.declared.lines.Version.{Version}
 use Rattle.simfile.specs.declared.lines.Version.TheVariants as version
 use Rattle.simfile.specs.Script.{head}
-use Rattle.line_fields.specs.Fronts.{◌>>=◌, or_else, after, front_length, before, name_to, number_at, value_at, list_below}
+use Rattle.text_lines.specs.Fronts.{◌>>=◌, or_else, after, front_length, before, name_to, number_at, value_at, list_below}
 use Rattle.simfile.specs.Fields.{numbers_of, is_hex_digit, bytes_of}
 
 -- the letters, digits and _ in front, where they are a name, and the rest

@@ -6,10 +6,10 @@ use Rattle.clmodel.specs.declared.setup.Argument.{Argument}
 use Rattle.clmodel.specs.declared.setup.Argument.TheVariants as argument
 use Rattle.host_commands.specs.declared.command.Command.{Command}
 use Rattle.host_commands.specs.declared.command.Command.TheVariants as command
-use Rattle.counted_io.specs.Pieces.{joined}
+use Rattle.byte_io.specs.Pieces.{joined}
 use Rattle.simfile.specs.declared.lines.Version.{Version}
 use Rattle.simfile.specs.declared.lines.Version.TheVariants as version
-use Rattle.line_fields.specs.Texts.{list_text, IsValue}
+use Rattle.text_lines.specs.Texts.{list_text, IsValue}
 use Rattle.simfile.specs.Fields.{is_name, IsList, AreBytes, hex}
 
 abbrev pub line_feeds : List ℕ → ℕ

@@ -3,7 +3,7 @@ use Rattle.std.specs.Prelude.{◌≡◌, ℕ, ◌<◌, ◌&&◌, nat_lt, nat_le,
 use Rattle.std.specs.Option.{MatchOption}
 use Rattle.host_commands.specs.declared.command.Command.{Command}
 use Rattle.simfile.specs.declared.lines.Version.{Version}
-use Rattle.line_fields.specs.Fronts.{◌>>=◌, after, before, number_at}
+use Rattle.text_lines.specs.Fronts.{◌>>=◌, after, before, number_at}
 use Rattle.simfile.specs.Reading.{name_at, command_at}
 use Rattle.simfile.specs.Script.{AreLines, line_feeds}
 

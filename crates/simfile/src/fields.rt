@@ -4,13 +4,13 @@
 ghost use Rattle.std.specs.Prelude.{◌≡◌, ◌<◌, ◌≤◌, ◌/◌, not, true, length, take, position, IfSome, IfOk};
 ghost use Rattle.std.specs.List.{list_all};
 ghost use Rattle.std.specs.Option.{option_map};
-ghost use Rattle.line_fields.specs.Fronts.{front_length, before};
+ghost use Rattle.text_lines.specs.Fronts.{front_length, before};
 ghost use Rattle.simfile.specs.Fields.{numbers_of, is_hex_digit, hex_value, bytes_of};
 ghost use Rattle.simfile.specs.Reading.{name_at, list_at, hex_at, lines_end, lines_at};
 
 use clmodel::text::{Bytes, Numbers};
-use line_fields::{after, list_below, name_to, number_below};
 use std::alloc::{AllocError, Global};
+use text_lines::{after, list_below, name_to, number_below};
 
 /// The most bytes of a name.
 const MAX_NAME: usize = 63;
@@ -29,7 +29,7 @@ pub fn name_at(bytes: &[u8]) -> Option<(&[u8], &[u8])>
 pub fn name_before(end: u8, bytes: &[u8]) -> Option<(&[u8], &[u8])>
     ensures { option_map (λ read. (read.0.now, read.1.now)) result ≡ before end (name_at bytes.now) }
 {
-    line_fields::name_before(end, MAX_NAME, bytes)
+    text_lines::name_before(end, MAX_NAME, bytes)
 }
 
 /// A list of numbers in front, and the rest.
@@ -43,7 +43,7 @@ pub fn list_at(bytes: &[u8]) -> Option<(&[u8], &[u8])>
 pub fn list_before(end: u8, bytes: &[u8]) -> Option<(&[u8], &[u8])>
     ensures { option_map (λ read. (read.0.now, read.1.now)) result ≡ before end (list_at bytes.now) }
 {
-    line_fields::list_before(end, NUMBER_LIMIT, bytes)
+    text_lines::list_before(end, NUMBER_LIMIT, bytes)
 }
 
 /// The numbers of a list.
@@ -132,7 +132,7 @@ fn hex_at(bytes: &[u8]) -> Option<(&[u8], &[u8])>
 }
 
 /// Pairs of hexadecimal digits, of 1 to 1,048,576 bytes, in front of a byte, and the rest behind that byte.
-#[tactic(auto, unfolding(line_fields::specs::Fronts::before))]
+#[tactic(auto, unfolding(text_lines::specs::Fronts::before))]
 pub fn hex_before(end: u8, bytes: &[u8]) -> Option<(&[u8], &[u8])>
     ensures { option_map (λ read. (read.0.now, read.1.now)) result ≡ before end (hex_at bytes.now) }
 {

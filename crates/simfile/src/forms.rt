@@ -11,7 +11,7 @@ use crate::lines::{
     ArgLine, CopyLine, FillLine, KernelLine, LaunchLine, Line, ReadLine, Setting, Version,
     WriteLine,
 };
-use line_fields::{after, number_at, number_before, value_at};
+use text_lines::{after, number_at, number_before, value_at};
 
 /// The most lines of a source.
 pub(crate) const MAX_SOURCE_LINES: u64 = 65_536;
@@ -235,7 +235,7 @@ fn uniform_at(version: Version, bytes: &[u8]) -> (bool, &[u8])
 }
 
 /// A `launch`, behind that word: its kernel, its lists, `uniform` if it is so, a line feed, and the rest.
-#[tactic(auto, unfolding(crate::specs::Reading::launch_at, line_fields::specs::Fronts::before))]
+#[tactic(auto, unfolding(crate::specs::Reading::launch_at, text_lines::specs::Fronts::before))]
 fn launch_at(version: Version, bytes: &[u8]) -> Option<(Line<'_>, &[u8])>
     ensures { option_map (λ read. (command_of read.0, read.1.now)) result ≡ launch_at version bytes.now }
 {

@@ -3,10 +3,10 @@
 
 ghost use Rattle.std.specs.Prelude.{◌≡◌, ◌<◌, ◌≤◌, ◌*◌, length, take};
 ghost use Rattle.std.specs.List.{flat_map};
-ghost use Rattle.counted_io.specs.Sink.{Puts};
+ghost use Rattle.byte_io.specs.Sink.{Puts};
 ghost use Rattle.simfile.specs.Fields.{byte_text, hex_digit};
 
-use counted_io::{Write, WriteFailed};
+use byte_io::{Write, WriteFailed};
 
 /// The hexadecimal digit of a value, in lower case.
 fn hex_digit(value: u8) -> u8

@@ -2,16 +2,16 @@
 #![tactic(auto)]
 
 ghost use Rattle.std.specs.Prelude.{◌≡◌, [], ◌∷◌, codes};
-ghost use Rattle.counted_io.specs.Pieces.{joined};
-ghost use Rattle.counted_io.specs.Sink.{Puts};
+ghost use Rattle.byte_io.specs.Pieces.{joined};
+ghost use Rattle.byte_io.specs.Sink.{Puts};
 ghost use Rattle.simfile.specs.Fields.{hex};
 ghost use Rattle.simfile.specs.Lines.{syntax_words, syntax_place, type_words, build_words, build_place, refusal_word, fault_of, refused_line, line, check_line};
 
 use crate::hex::write_hex;
+use byte_io::pieces::{Piece, write_pieces};
+use byte_io::{Write, WriteFailed};
 use clmodel::type_fault::TypeFault;
 use clsyntax_lex::token::SyntaxFault;
-use counted_io::pieces::{Piece, write_pieces};
-use counted_io::{Write, WriteFailed};
 use host_commands::command::{BuildFault, Refusal, Reply};
 
 /// A syntax fault's number and name, with the words in front of its place.

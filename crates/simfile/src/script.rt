@@ -11,8 +11,8 @@ use crate::commands::command_of;
 use crate::forms::{line_at, version_at};
 use crate::lines::Line;
 use host_commands::command::Command;
-use source_lines::line_feeds;
 use std::alloc::{AllocError, Global};
+use text_lines::line_feeds;
 
 /// Why a text is no script, or was not read.
 #[derive(Clone, Copy, Debug, PartialEq, Eq)]

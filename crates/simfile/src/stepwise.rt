@@ -13,9 +13,8 @@ use crate::fields::name_before;
 use crate::forms::{MAX_SOURCE_LINES, line_at};
 use crate::lines::Version;
 use host_commands::command::Command;
-use line_fields::{after, number_before};
-use source_lines::line_feeds;
 use std::alloc::{AllocError, Global};
+use text_lines::{after, line_feeds, number_before};
 
 /// The first line of a script of version 2.
 const VERSION_TWO: &[u8] = b"clsim 2\n";

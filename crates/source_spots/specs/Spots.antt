@@ -3,7 +3,7 @@ use Rattle.std.specs.Prelude.{◌≡◌, ℕ, ◌+◌, Some, List, length, min, 
 use Rattle.explanation.specs.Lines.{told_line}
 use Rattle.explanation.specs.declared.places.CallSite.{CallSite}
 use Rattle.explanation.specs.declared.places.LoopSite.{LoopSite}
-use Rattle.source_lines.specs.Lines.{line_of, BeginsLine, EndsLine}
+use Rattle.text_lines.specs.Lines.{line_of, BeginsLine, EndsLine}
 
 -- the line of the byte `at`, the column from the line's beginning, and the line of the script, if the source begins at
 -- its line `first`

@@ -2,13 +2,13 @@
 #![tactic(auto)]
 
 ghost use Rattle.std.specs.Prelude.{◌≡◌, ◌≤◌, ◌<◌, ◌^◌, min, length, string_bytes, IfOk};
-ghost use Rattle.source_lines.specs.Lines.{BeginsLine};
+ghost use Rattle.text_lines.specs.Lines.{BeginsLine};
 ghost use Rattle.source_spots.specs.Spots.{IsPlace, IsToldLine};
 
 use clmodel::tree::Function;
 use explanation::line_as_text;
-use source_lines::{line_text, position_of};
 use std::alloc::{AllocError, Global};
+use text_lines::{line_text, position_of};
 
 /// A source: its bytes, the line of the script in which it begins, from 1, and the functions of its tree.
 #[derive(Clone, Copy)]
@@ -23,7 +23,7 @@ pub struct Source<'a> {
 
 /// The lines and the column of a byte, and where its line begins.
 #[derive(Clone, Copy)]
-pub(crate) struct Place {
+pub(crate) struct LinePosition {
     pub at: usize,
     pub line: usize,
     pub script_line: usize,
@@ -32,7 +32,7 @@ pub(crate) struct Place {
 }
 
 /// Where a byte of a source stands; its end, for a byte that it hasn't.
-pub(crate) fn place_of(source: &Source<'_>, at: u32) -> Place
+pub(crate) fn place_of(source: &Source<'_>, at: u32) -> LinePosition
     ensures at { result.at ≡ min at (length source.now.text.now) }
     ensures place { IsPlace source.now.text.now source.now.first_line result.at result.line result.column result.script_line }
     ensures begins { BeginsLine source.now.text.now result.at result.begin }
@@ -40,7 +40,7 @@ pub(crate) fn place_of(source: &Source<'_>, at: u32) -> Place
 {
     let at = (at as usize).min(source.text.len());
     let found = position_of(source.text, at);
-    Place {
+    LinePosition {
         at,
         line: found.line,
         script_line: source.first_line + found.line - 1,
@@ -53,7 +53,7 @@ pub(crate) fn place_of(source: &Source<'_>, at: u32) -> Place
 pub(crate) fn line_of(
     alloc: Global,
     source: &Source<'_>,
-    place: Place,
+    place: LinePosition,
 ) -> Result<String, AllocError>
     requires begins { BeginsLine source.now.text.now place.at place.begin }
     requires within { place.begin ≤ length source.now.text.now }

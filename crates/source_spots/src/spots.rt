@@ -7,8 +7,8 @@ ghost use Rattle.source_spots.specs.Spots.{AreCalls, HaveTurns, IsCall, IsPlace,
 use crate::loops::loops_of;
 use crate::places::{Source, line_of, place_of};
 use explanation::{CallSite, Code, LoopSite, NodeKind, Spot};
-use source_lines::{Form, extent};
 use std::alloc::{AllocError, Global};
+use text_lines::{Form, extent};
 
 /// How much text of a place is told in short, in bytes.
 const SHORT: usize = 48;

@@ -6,7 +6,7 @@ use Rattle.std.proofs.lemmas.List.{get_or-set_same, get_or-set_other, get_or-tak
 use Rattle.std.proofs.Math.Nat.{min-le_left}
 use Rattle.clmodel.specs.Cells.{Cells, byte_of, joined, number, covers, written}
 use Rattle.clmodel.proofs.Steps.{some_inj}
-use Rattle.spaces_base.proofs.Rows.{written_in, written_out}
+use Rattle.spaces.proofs.Rows.{written_in, written_out}
 use Rattle.spaces.specs.Overlay.{overlaid_byte, overlaid_cells, row_cells, IsCopied, AreNumbered}
 
 -- a page has no copy, or one

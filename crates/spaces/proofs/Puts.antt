@@ -5,7 +5,7 @@ use Rattle.std.proofs.lemmas.Bool.{cases_lt}
 use Rattle.std.proofs.lemmas.List.{get_or-set_same, get_or-set_other}
 use Rattle.std.proofs.lemmas.Nat.{pow-add}
 use Rattle.clmodel.specs.Cells.{Cells, byte_of, written}
-use Rattle.spaces_base.proofs.Rows.{written_in, written_out, written_more}
+use Rattle.spaces.proofs.Rows.{written_in, written_out, written_more}
 use Rattle.spaces.specs.Overlay.{row_cells}
 
 -- a byte that is set

@@ -1,112 +1,124 @@
--- A buffer's bytes as a list.
-use Rattle.std.proofs.Common.{◌≡◌, ℕ, zero, suc, ◌+◌, ◌-◌, ◌/◌, ◌<◌, ◌≤◌, ◌⊎◌, List, [], ◌∷◌, None, Some, length, map, Result, Ok, Err, OnErr, refl, sym, ap, ap₂, ◌∙◌, inl, inr, arith}
-use Rattle.std.specs.Prelude.{◌≢◌, All, slice_index, slice_get}
-use Rattle.std.specs.List.{range_with_len}
-use Rattle.std.proofs.lemmas.Bool.{cases_lt}
-use Rattle.std.proofs.lemmas.List.Elements.{All-get_or}
-use Rattle.std.proofs.lemmas.Option.{slice_get-get_or, slice_get_past}
-use Rattle.clmodel.specs.Cells.{Cells, cells_of, number, written}
-use Rattle.clmodel.proofs.CellLaws.{number_frame, covers_parts}
-use Rattle.spaces_base.proofs.Rows.{written_out}
-use Rattle.spaces.specs.Overlay.{Overlaid, overlaid_byte, overlaid_cells, overlaid, row_cells, IsCopied, AreNumbered}
-use Rattle.spaces.proofs.Copies.{copied_or, lent, written_same}
+-- Rows of bytes: numbers that they hold, and numbers that are written into them.
+use Rattle.std.proofs.Common.{◌≡◌, ℕ, zero, suc, ◌+◌, ◌-◌, ◌*◌, ◌/◌, ◌%◌, ◌^◌, ◌<◌, ◌≤◌, true, false, if◌then◌else◌, Option, None, Some, List, [], ◌∷◌, length, map, get_or, set, ◌⊎◌, inl, inr, refl, sym, ap, ◌∙◌, arith}
+use Rattle.std.proofs.Math.Nat.{pow-le-pow_right, pow-suc, pow-succ', div-div-eq-div-mul, div-one}
+use Rattle.std.proofs.lemmas.Bool.{false≢true, cases_eq}
+use Rattle.clmodel.specs.Cells.{Cells, cells_of, byte_of, joined, number, unset_or, lowest_unset, covers, written}
+use Rattle.clmodel.proofs.CellLaws.{covers_parts, covers_from}
+use Rattle.clmodel.proofs.Steps.{decided}
 
--- ---- lists made of a function
+-- a byte of a row
+pub row_at : {A : Type 0} (f : A → Option ℕ) (cells : List A) (k : ℕ) (d : A) → k < length cells → cells_of (map f cells) k ≡ f (get_or cells k d)
+row_at f [] k d h = absurd (omega (arith, h))
+row_at f (cell ∷ cells) zero d h = refl
+row_at f (cell ∷ cells) (suc k) d h = row_at f cells k d (omega (arith, h))
 
-counted : (f : Cells) (a n k : ℕ) → k < n → cells_of (map f (range_with_len a n)) k ≡ f (a + k)
-counted f a zero k h = absurd (omega (arith, h))
-counted f a (suc n) zero h = ap f (omega arith)
-counted f a (suc n) (suc k) h = counted f (a + 1) n k (omega (arith, h)) ∙ ap f (omega arith)
+-- another byte is as it was where one is set
+pub row_set_other :
+    {A : Type 0} (f : A → Option ℕ) (cells : List A) (k : ℕ) (cell : A) (byte : ℕ) → (byte ≡ k → ⊥) → cells_of (map f (set cells k cell)) byte ≡ cells_of (map f cells) byte
+row_set_other f [] k cell byte h = refl
+row_set_other f (c ∷ cells) zero cell zero h = absurd (h refl)
+row_set_other f (c ∷ cells) zero cell (suc byte) h = refl
+row_set_other f (c ∷ cells) (suc k) cell zero h = refl
+row_set_other f (c ∷ cells) (suc k) cell (suc byte) h = row_set_other f cells k cell byte (λ e. h (ap suc e))
 
-past : (f : Cells) (a n k : ℕ) → n ≤ k → cells_of (map f (range_with_len a n)) k ≡ None
-past f a zero k h = refl
-past f a (suc n) zero h = absurd (omega (arith, h))
-past f a (suc n) (suc k) h = past f (a + 1) n k (omega (arith, h))
+-- the byte that is set
+pub row_set_same : {A : Type 0} (f : A → Option ℕ) (cells : List A) (k : ℕ) (cell : A) → k < length cells → cells_of (map f (set cells k cell)) k ≡ f cell
+row_set_same f [] k cell h = absurd (omega (arith, h))
+row_set_same f (c ∷ cells) zero cell h = refl
+row_set_same f (c ∷ cells) (suc k) cell h = row_set_same f cells k cell (omega (arith, h))
 
-alike : (f g : Cells) (a n : ℕ) → ((k : ℕ) → a ≤ k → k < a + n → f k ≡ g k) → map f (range_with_len a n) ≡ map g (range_with_len a n)
-alike f g a zero h = refl
-alike f g a (suc n) h =
-    ap₂ (λ x xs. x ∷ xs) (h a (omega arith) (omega arith)) (alike f g (a + 1) n (λ k b c. h k (omega (arith, b)) (omega (arith, c))))
+-- the powers that a number's bytes are taken with
+byte_power : (k n : ℕ) → k ≤ n → 256 ^ k ≤ 256 ^ n
+byte_power k n h = pow-le-pow_right {n = 256} (omega arith) {i = k} {j = n} h
 
-many : (f : Cells) (a n : ℕ) → length (map f (range_with_len a n)) ≡ n
-many f a zero = refl
-many f a (suc n) = ap suc (many f (a + 1) n)
+-- one byte before a number
+pub joined_below : (low high n : ℕ) → low < 256 → high < 256 ^ n → low + 256 * high < 256 ^ suc n
+joined_below low high n a b = rw pow-suc (omega (arith, a, b))
 
-shifted : (whole base : List ℕ) (a : ℕ) → ((k : ℕ) → slice_index whole (a + k) ≡ slice_index base k)
-    → map (λ byte. Some (slice_index whole byte)) (range_with_len a (length base)) ≡ map Some base
-shifted whole [] a h = refl
-shifted whole (x ∷ base) a h =
-    ap₂ (λ y ys. Some y ∷ ys) (ap (slice_index whole) {x = a} {y = a + 0} (omega arith) ∙ h 0)
-    (shifted whole base (a + 1) (λ k. ap (slice_index whole) {x = a + 1 + k} {y = a + suc k} (omega arith) ∙ h (suc k)))
+pub joined_fits : (low high n : ℕ) → low < 256 → high < 256 ^ n → n < 8 → low + 256 * high < 2 ^ 64
+joined_fits low high n a b h =
+    let p : 256 ^ suc n ≤ 256 ^ 8 = byte_power (suc n) 8 (omega (arith, h)) in
+    omega (arith, p, joined_below low high n a b)
 
--- ---- the bytes of an overlay
+number_at : (cells : Cells) (a b n m : ℕ) → a ≡ b → n ≡ m → number cells a n ≡ number cells b m
+number_at cells a b n m p q = ap (λ z. number cells z n) p ∙ ap (number cells b) q
 
-pub overlaid_many : (base : List ℕ) (copies : ℕ → ℕ) (cells : List ℕ) → length (overlaid base copies cells) ≡ length base
-unfolding overlaid
-overlaid_many base copies cells = many (overlaid_cells base copies cells) 0 (length base)
+unset_at : (cells : Cells) (a b n m : ℕ) → a ≡ b → n ≡ m → lowest_unset cells a n ≡ lowest_unset cells b m
+unset_at cells a b n m p q = ap (λ z. lowest_unset cells z n) p ∙ ap (lowest_unset cells b) q
 
-pub overlaid_at : (base : List ℕ) (copies : ℕ → ℕ) (cells : List ℕ) (byte : ℕ) → byte < length base → cells_of (overlaid base copies cells) byte ≡ overlaid_cells base copies cells byte
-unfolding overlaid
-overlaid_at base copies cells byte h = counted (overlaid_cells base copies cells) 0 (length base) byte h ∙ ap (overlaid_cells base copies cells) {x = 0 + byte} {y = byte} (omega arith)
+-- the number whose lowest byte and whose other bytes are known
+pub number_joined :
+    (cells : Cells) (first count low high : ℕ) → 0 < count → cells first ≡ Some low → number cells (first + 1) (count - 1) ≡ Some high
+    → number cells first count ≡ Some (low + 256 * high)
+number_joined cells first zero low high h a b = absurd (omega (arith, h))
+number_joined cells first (suc count) low high h a b =
+    ap (λ z. joined z (number cells (suc first) count)) a ∙ ap (joined (Some low)) (number_at cells (suc first) (first + 1) count (suc count - 1) (omega arith) (omega arith) ∙ b)
 
-pub overlaid_past : (base : List ℕ) (copies : ℕ → ℕ) (cells : List ℕ) (byte : ℕ) → length base ≤ byte → cells_of (overlaid base copies cells) byte ≡ None
-unfolding overlaid
-overlaid_past base copies cells byte h = past (overlaid_cells base copies cells) 0 (length base) byte h
+-- the lowest unset byte, where the first is unset and where it is set
+pub unset_here : (cells : Cells) (first count : ℕ) → 0 < count → cells first ≡ None → lowest_unset cells first count ≡ Some first
+unset_here cells first zero h a = absurd (omega (arith, h))
+unset_here cells first (suc count) h a = ap (λ z. unset_or z first (lowest_unset cells (suc first) count)) a
 
--- overlays of the same bytes are the same
-pub overlaid_same : (base : List ℕ) (copies : ℕ → ℕ) (cells : List ℕ) (others : ℕ → ℕ) (more : List ℕ) → ((byte : ℕ) → byte < length base → overlaid_byte base others more byte ≡ overlaid_byte base copies cells byte)
-    → overlaid base others more ≡ overlaid base copies cells
-unfolding overlaid
-overlaid_same base copies cells others more h =
-    alike (overlaid_cells base others more) (overlaid_cells base copies cells) 0 (length base) (λ k a b. ap Some (h k (omega (arith, b))))
+pub unset_later :
+    (cells : Cells) (first count low byte : ℕ) → 0 < count → cells first ≡ Some low → lowest_unset cells (first + 1) (count - 1) ≡ Some byte
+    → lowest_unset cells first count ≡ Some byte
+unset_later cells first zero low byte h a b = absurd (omega (arith, h))
+unset_later cells first (suc count) low byte h a b =
+    ap (λ z. unset_or z first (lowest_unset cells (suc first) count)) a ∙ unset_at cells (suc first) (first + 1) count (suc count - 1) (omega arith) (omega arith) ∙ b
 
--- without copies they are the lent bytes
-pub nothing_copied : (base : List ℕ) (copies : ℕ → ℕ) (cells : List ℕ) → ((page : ℕ) → copies page ≡ 0) → overlaid base copies cells ≡ map Some base
-unfolding overlaid
-nothing_copied base copies cells none =
-    alike (overlaid_cells base copies cells) (row_cells base) 0 (length base) (λ k a b. ap Some (lent base copies cells k (none (k / 256))))
-    ∙ shifted base base 0 (λ k. ap (slice_index base) {x = 0 + k} {y = k} (omega arith))
+-- ---- numbers written into a row
 
--- outside of the pages that have copies they are the lent bytes
-pub unchanged :
-    (base : List ℕ) (copies : ℕ → ℕ) (numbers cells : List ℕ) → AreNumbered copies numbers → (byte : ℕ) → All (λ page. byte / 256 ≢ page) numbers → cells_of (overlaid base copies cells) byte ≡ slice_get base byte
-unchanged base copies numbers cells numbered byte apart = go (cases_lt byte (length base)) (copied_or copies (byte / 256))
+pub written_in : (c : Cells) (first count value byte : ℕ) → first ≤ byte → byte < first + count → written c first count value byte ≡ Some (byte_of (byte - first) value)
+unfolding written
+written_in c first count value byte a b = ap (λ z. if z then Some (byte_of (byte - first) value) else c byte) (covers_from first count byte a b)
+
+pub written_out : (c : Cells) (first count value byte : ℕ) → (first ≤ byte → byte < first + count → ⊥) → written c first count value byte ≡ c byte
+unfolding written
+written_out c first count value byte h =
+    decided (covers first count byte)
+    (λ p. absurd (let r : (first ≤ byte) × (byte < first + count) = covers_parts first count byte p in h r.0 r.1))
+    (λ p. ap (λ z. if z then Some (byte_of (byte - first) value) else c byte) p)
+
+-- a byte further up of a number is one of the number without its lowest byte
+byte_up : (k n value : ℕ) → n ≡ suc k → byte_of k (value / 256) ≡ byte_of n value
+byte_up k n value e =
+    ap (λ z. z % 256) (div-div-eq-div-mul value 256 (256 ^ k) ∙ ap (λ z. value / z) (sym (pow-succ' 256 k))) ∙ ap (λ z. byte_of z value) (sym e)
+
+-- the lowest byte first, and then the others
+pub written_more :
+    (c d : Cells) (first count value byte : ℕ) → 0 < count → d first ≡ Some (value % 256) → ((byte ≡ first → ⊥) → d byte ≡ c byte)
+    → written d (first + 1) (count - 1) (value / 256) byte ≡ written c first count value byte
+written_more c d first count value byte h here there = by_place (trichotomy)
   where
-    go : (byte < length base) ⊎ (length base ≤ byte) → (copies (byte / 256) ≡ 0) ⊎ IsCopied copies (byte / 256) → cells_of (overlaid base copies cells) byte ≡ slice_get base byte
-    go (inr out) o = overlaid_past base copies cells byte out ∙ sym (slice_get_past base byte out)
-    go (inl inside) (inl h) =
-        overlaid_at base copies cells byte inside ∙ ap Some (lent base copies cells byte h) ∙ sym (slice_get-get_or base byte 0 inside)
-    go (inl inside) (inr h) =
-        let r : (copies (byte / 256) ≤ length numbers) × (slice_index numbers (copies (byte / 256) - 1) ≡ byte / 256) = numbered (byte / 256) h in
-        absurd (All-get_or (λ page. byte / 256 ≢ page) numbers (copies (byte / 256) - 1) 0 (omega (arith, h, r.0)) apart (sym r.1))
+    at_first : byte ≡ first → written d (first + 1) (count - 1) (value / 256) byte ≡ written c first count value byte
+    at_first e =
+        written_out d (first + 1) (count - 1) (value / 256) byte (λ a b. omega (arith, a, e))
+        ∙ ap d e ∙ here
+        ∙ ap Some (ap (λ z. z % 256) (sym (div-one value)))
+        ∙ ap (λ z. Some (byte_of z value)) {x = 0} {y = byte - first} (omega (arith, e))
+        ∙ sym (written_in c first count value byte (omega (arith, e)) (omega (arith, e, h)))
 
--- a number of bytes that are there
-pub number_there : (base : List ℕ) (copies : ℕ → ℕ) (cells : List ℕ) (first count value : ℕ) → first + count ≤ length base → number (overlaid_cells base copies cells) first count ≡ Some value
-    → number (cells_of (overlaid base copies cells)) first count ≡ Some value
-number_there base copies cells first count value inside h =
-    number_frame (cells_of (overlaid base copies cells)) (overlaid_cells base copies cells) first count
-    (λ byte c. let r = covers_parts first count byte c in overlaid_at base copies cells byte (omega (arith, r.1, inside))) ∙ h
+    inside : first < byte → byte < first + count → written d (first + 1) (count - 1) (value / 256) byte ≡ written c first count value byte
+    inside a b =
+        written_in d (first + 1) (count - 1) (value / 256) byte (omega (arith, a)) (omega (arith, a, b))
+        ∙ ap Some (byte_up (byte - (first + 1)) (byte - first) value (omega (arith, a)))
+        ∙ sym (written_in c first count value byte (omega (arith, a)) b)
 
--- the bytes once a value is put into them
-pub put_whole :
-    (base : List ℕ) (copies : ℕ → ℕ) (cells : List ℕ) (others : ℕ → ℕ) (more : List ℕ) (first count value : ℕ) → first + count ≤ length base
-    → ((byte : ℕ) → overlaid_cells base others more byte ≡ written (overlaid_cells base copies cells) first count value byte)
-    → (byte : ℕ) → cells_of (overlaid base others more) byte ≡ written (cells_of (overlaid base copies cells)) first count value byte
-put_whole base copies cells others more first count value inside h byte = go (cases_lt byte (length base))
-  where
-    go : (byte < length base) ⊎ (length base ≤ byte) → cells_of (overlaid base others more) byte ≡ written (cells_of (overlaid base copies cells)) first count value byte
-    go (inl there) =
-        overlaid_at base others more byte there
-        ∙ h byte
-        ∙ written_same (overlaid_cells base copies cells) (cells_of (overlaid base copies cells)) first count value byte (sym (overlaid_at base copies cells byte there))
-    go (inr out) =
-        overlaid_past base others more byte out
-        ∙ sym (written_out (cells_of (overlaid base copies cells)) first count value byte (λ a b. omega (arith, a, b, out, inside)) ∙ overlaid_past base copies cells byte out)
+    outside : (byte ≡ first → ⊥) → (first ≤ byte → byte < first + count → ⊥) → written d (first + 1) (count - 1) (value / 256) byte ≡ written c first count value byte
+    outside e f =
+        written_out d (first + 1) (count - 1) (value / 256) byte (λ a b. f (omega (arith, a)) (omega (arith, a, b, h)))
+        ∙ there e
+        ∙ sym (written_out c first count value byte f)
 
--- an overlay's bytes, by its parts
-pub as_many : (o : Overlaid) (base : List ℕ) (copies : ℕ → ℕ) (cells : List ℕ) → o ≡ record { base = base; bytes = overlaid base copies cells } → length o.bytes ≡ length base
-as_many o base copies cells h = ap (λ z. length z.bytes) h ∙ overlaid_many base copies cells
+    by_place : (byte ≡ first) ⊎ (byte ≡ first → ⊥) → written d (first + 1) (count - 1) (value / 256) byte ≡ written c first count value byte
+    by_place (inl e) = at_first e
+    by_place (inr e) =
+        decided (covers first count byte)
+        (λ p. let r : (first ≤ byte) × (byte < first + count) = covers_parts first count byte p in inside (above e r.0) r.1)
+        (λ p. outside e (λ a b. false≢true (sym p ∙ covers_from first count byte a b)))
+      where
+        above : (byte ≡ first → ⊥) → first ≤ byte → first < byte
+        above n a = omega (arith, a, n)
 
-pub on_err : {T E P : Type 0} (r : Result T E) → P → OnErr r P
-on_err (Ok t) p = tt
-on_err (Err e) p = p
+    trichotomy : (byte ≡ first) ⊎ (byte ≡ first → ⊥)
+    trichotomy = cases_eq byte first

@@ -2,12 +2,12 @@
 
 ghost use Rattle.std.specs.Prelude.{◌≡◌, ◌≢◌, ◌<◌, ◌≤◌, ◌+◌, ◌/◌, ◌^◌, ℕ, Some, length, map, true, false, All, OnOk, OnErr, slice_get, nat_le};
 ghost use Rattle.clmodel.specs.Cells.{byte_count, cells_of, number, written};
-ghost use Rattle.spaces_base.specs.Space.{Becomes, IsChanged, IsStored, IsUpdated, IsFetched};
+ghost use Rattle.spaces.specs.Space.{Becomes, IsChanged, IsStored, IsUpdated, IsFetched};
 
+use crate::cells::{fetched, is_inside, updated_word};
 use crate::pages::Pages;
+use crate::{Space, SpaceFault};
 use clmodel::access::{Class, FetchOp, Width};
-use spaces_base::cells::{fetched, is_inside, updated_word};
-use spaces_base::{Space, SpaceFault};
 use std::alloc::{AllocError, Global};
 use std::marker::Model;
 

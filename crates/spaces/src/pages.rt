@@ -3,7 +3,7 @@
 ghost use Rattle.std.specs.Prelude.{◌≡◌, ◌<◌, ◌≤◌, ◌+◌, ◌*◌, ◌/◌, ◌%◌, ◌^◌, ℕ, Some, [], length, slice_index, IfOk, OnOk, OnErr};
 ghost use Rattle.clmodel.specs.Cells.{byte_count, cells_of, number, written};
 ghost use Rattle.spaces.specs.Overlay.{copies, overlaid_byte, overlaid_cells, overlaid, IsCopied, AreNumbered};
-ghost use Rattle.spaces_base.specs.Space.{Becomes};
+ghost use Rattle.spaces.specs.Space.{Becomes};
 
 use crate::element::{number_in, put_in};
 use crate::page_table::PageTable;

@@ -1,11 +1,11 @@
 //! Access logs, called directly: which accesses are kept, and which conflict.
 
 ghost use Rattle.std.specs.Prelude.{◌<◌};
-ghost use Rattle.shadow_list.specs.Log.{IsPlaced};
+ghost use Rattle.access_list.specs.Log.{IsPlaced};
 
 use crate::footprints::ADD;
+use access_list::{AccessLog, Accesses, Entry, Fenced, Hit, ListLog};
 use clmodel::access::{Access, AccessKind, Class, Operation, Region, Width};
-use shadow_list::{AccessLog, Accesses, Entry, Fenced, Hit, ListLog};
 
 /// The item, the first of four bytes of buffer 0, and the kind of an access; the byte of its conflict; how many
 /// accesses are then kept.

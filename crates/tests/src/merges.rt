@@ -5,6 +5,7 @@ ghost use Rattle.clmodel.specs.Setup.{item_count, group_items};
 ghost use Rattle.item_step.specs.Launches.{setup_of};
 ghost use Rattle.launches.specs.Groups.{HasGroups};
 
+use access_list::ListLog;
 use clmodel::access::Clash;
 use clmodel::fault::Fault;
 use clmodel::outcome::Outcome;
@@ -12,14 +13,13 @@ use clmodel::schedule::EventRun;
 use clmodel::setup::{Argument, Range};
 use clmodel::text::{Bytes, Name, Numbers};
 use cltypes::Checked;
+use group_join::{has_stopped, merge, one_group, run_launch};
 use host_commands::build::build;
 use host_commands::ranges::{group_items, is_bad_dimension, is_bad_group, is_too_many};
 use item_step::{Launch, Setup, is_local_too_large};
 use launches::group_count;
 use lower::lower_kernel;
-use shadow_list::ListLog;
-use snapshot_merge::{has_stopped, merge, one_group, run_launch};
-use spaces_base::Buffers;
+use spaces::Buffers;
 use std::alloc::{AllocError, Global};
 
 /// What a launch comes to: the bytes of its buffer, or a fault after these runs.

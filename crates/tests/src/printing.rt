@@ -1,10 +1,10 @@
 //! Trees that are printed.
 
+use byte_io::Output;
 use clsyntax::read;
 use clsyntax_print::print;
 use std::alloc::Global;
 use std::io::BufWriter;
-use streams::Output;
 
 /// An output whose bytes are kept. None where memory runs out.
 pub(crate) fn kept_output(alloc: Global) -> Option<Output<Vec<u8>>> {

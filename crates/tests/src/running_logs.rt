@@ -1,12 +1,12 @@
 //! The log of a running group, called directly: which conflicts it tells, and which accesses last for other groups.
 
-ghost use Rattle.shadow_list.specs.Log.{IsPlaced};
+ghost use Rattle.access_list.specs.Log.{IsPlaced};
 
 use crate::logs::{STORES, is_on};
+use access_list::{AccessLog, Entry, Fenced, ListLog};
 use clmodel::access::{Operation, Region, Width};
 use group_log::GroupLog;
 use shadow::{AccessSummary, GroupAccesses};
-use shadow_list::{AccessLog, Entry, Fenced, ListLog};
 use std::alloc::Global;
 
 /// The buffer that is accessed.

@@ -1,10 +1,9 @@
 //! The program's reader and writer over streams that are slow, that are interrupted, and that fail.
 
-use counted_io::{Read, ReadFault, Write};
+use byte_io::{Input, Output, Read, ReadFault, Write};
 use std::alloc::Global;
 use std::io;
 use std::io::{BufWriter, Error, ErrorKind};
-use streams::{Input, Output};
 
 /// The nine bytes that are written and read.
 const TEXT: &str = "clean\nok\n";

@@ -13,11 +13,11 @@ use Rattle.group_run.specs.declared.result.GroupEnd.{GroupEnd}
 use Rattle.group_run.specs.declared.result.GroupEnd.TheVariants.{Done, Stopped}
 use Rattle.joining.specs.Parts.{Part, OnePart}
 use Rattle.joining.specs.Steps.{HasGroup}
-use Rattle.shadow_list.specs.Log.{Log}
+use Rattle.access_list.specs.Log.{Log}
 use Rattle.shadow.specs.Lasting.{StandsWith}
 use Rattle.shadow.specs.declared.group_accesses.AccessSummary.{AccessSummary}
-use Rattle.snapshot_merge.specs.declared.heap_log.HeapLog.{HeapLog}
-use Rattle.snapshot_merge.specs.Launches.{Followed, heap_log, is_stop, is_stopped}
+use Rattle.group_join.specs.declared.heap_log.HeapLog.{HeapLog}
+use Rattle.group_join.specs.Launches.{Followed, heap_log, is_stop, is_stopped}
 use Rattle.spaces.specs.Overlay.{Overlaid}
 use Rattle.workers_draw.specs.Groups.{AreResults}
 use Rattle.workers.specs.Results.{IsListed, AreOfRound, IsOfGroup, IsStopping, place_among}

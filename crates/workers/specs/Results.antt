@@ -6,7 +6,7 @@ use Rattle.group_run.specs.declared.result.GroupResult.{GroupResult}
 use Rattle.joining.specs.Parts.{Part, IsPart}
 use Rattle.joining.specs.Steps.{HasGroup}
 use Rattle.shadow.specs.declared.group_accesses.AccessSummary.{AccessSummary}
-use Rattle.snapshot_merge.specs.Launches.{IsShortResult, AreResultsTo}
+use Rattle.group_join.specs.Launches.{IsShortResult, AreResultsTo}
 use Rattle.spaces.specs.Overlay.{Overlaid}
 
 -- the result of a group, that of its canonical run on the launch's first memory (3.2), where a list stands for its log

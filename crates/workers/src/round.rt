@@ -8,18 +8,17 @@ ghost use Rattle.group_run.specs.Results.{IsResult};
 ghost use Rattle.item_step.specs.Launches.{setup_of};
 ghost use Rattle.launches.specs.Groups.{HasGroups};
 ghost use Rattle.shadow.specs.Lasting.{StandsWith};
-ghost use Rattle.snapshot_merge.specs.Launches.{heap_log, is_stopped};
-ghost use Rattle.spaces_base.specs.Buffers.{bytes_in};
+ghost use Rattle.group_join.specs.Launches.{heap_log, is_stopped};
+ghost use Rattle.spaces.specs.Buffers.{bytes_in};
 ghost use Rattle.workers.specs.Results.{IsListed, IsOfGroup, IsStopping, place_among};
 
 use crate::spare::SpareLogs;
+use group_join::{HeapLog, has_stopped, one_group};
 use group_run::GroupResult;
 use item_step::Launch;
 use joining::one_part;
 use shadow::AccessSummary;
-use snapshot_merge::{HeapLog, has_stopped, one_group};
-use spaces::Overlay;
-use spaces_base::Buffers;
+use spaces::{Buffers, Overlay};
 use std::alloc::{AllocError, Global};
 use workers_draw::work::Work;
 

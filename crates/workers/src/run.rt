@@ -5,17 +5,15 @@ ghost use Rattle.clmodel.specs.Next.{launch_of};
 ghost use Rattle.clmodel.specs.Outcome.{Concludes};
 ghost use Rattle.item_step.specs.Launches.{setup_of};
 ghost use Rattle.launches.specs.Groups.{HasGroups};
-ghost use Rattle.spaces_base.specs.Buffers.{bytes_in};
+ghost use Rattle.spaces.specs.Buffers.{bytes_in};
 
 use crate::overlap::{join_and_run, run_round};
 use crate::round_size::{first_round, next_round};
 use crate::spare::SpareLogs;
 use clmodel::outcome::Outcome;
+use group_join::{JoinEnd, JoinedGroups, group_count, join_round, outcome_of, run_launch_around};
 use item_step::Launch;
-use snapshot_merge::{
-    JoinEnd, JoinedGroups, group_count, join_round, outcome_of, run_launch_around,
-};
-use spaces_base::Buffers;
+use spaces::Buffers;
 use std::alloc::{AllocError, Global};
 use std::sync::Wait;
 use std::thread::Threads;

@@ -11,9 +11,9 @@ use clmodel::setup::{Argument, Range};
 use clmodel::text::Name;
 use clmodel::tree::{Parameter, Statement};
 use clnum::IntType;
+use group_join::heap_logs_are_sent;
 use regcode::Code;
-use snapshot_merge::heap_logs_are_sent;
-use spaces_base::Buffers;
+use spaces::Buffers;
 use std::marker::Sync;
 use steps::Step;
 

@@ -1,10 +1,10 @@
 //! Logs of groups that are done, for groups that are to run.
 
 ghost use Rattle.std.specs.Prelude.{◌≡◌, ◌<◌, IfOk, IfSome};
-ghost use Rattle.shadow_list.specs.Log.{fresh_log};
-ghost use Rattle.snapshot_merge.specs.Launches.{heap_log};
+ghost use Rattle.access_list.specs.Log.{fresh_log};
+ghost use Rattle.group_join.specs.Launches.{heap_log};
 
-use snapshot_merge::HeapLog;
+use group_join::HeapLog;
 use std::alloc::{AllocError, Global};
 use std::hint::spin_loop;
 use std::sync::{Mutex, MutexGuard};

@@ -27,7 +27,7 @@ impl TableRule<u8, Hand, u64> for Drawing {
 pub type Board = Shared<u8, Hand, u64, Drawing>;
 
 /// A worker's seat. It takes no bytes.
-pub type Place = Seat<u8, Hand>;
+pub type WorkerSeat = Seat<u8, Hand>;
 
 /// The next number is drawn.
 pub struct Draw;

@@ -5,7 +5,7 @@ ghost use denote.Param.Send.{IsSend};
 ghost use Rattle.workers_draw.specs.Board.{both};
 ghost use Rattle.workers_draw.specs.Groups.{IsFresh, DidWork};
 
-use crate::board::{Board, Deal, Place, Together};
+use crate::board::{Board, Deal, Together, WorkerSeat};
 use crate::gate::Gate;
 use crate::work::Work;
 use crate::worker::{Worker, work_at};
@@ -15,7 +15,7 @@ use std::thread;
 use std::thread::Threads;
 
 /// A seat with one of the parts.
-fn deal(board: &Board, seat: &mut Place) -> Place
+fn deal(board: &Board, seat: &mut WorkerSeat) -> WorkerSeat
     requires board { board.now.table_id.words ≡ 2 }
     requires fresh { IsFresh board.now.table_id seat.old.me.0.parts seat.old }
     requires some { 0 < seat.old.me.0.parts }
@@ -26,7 +26,7 @@ fn deal(board: &Board, seat: &mut Place) -> Place
 }
 
 /// Takes a worker's seat back.
-fn join_seats(board: &Board, seat: &mut Place, other: Place)
+fn join_seats(board: &Board, seat: &mut WorkerSeat, other: WorkerSeat)
     requires board { (seat.old.table_id ≡ board.now.table_id) × (board.now.table_id.words ≡ 2) }
     requires other { (other.table_id ≡ board.now.table_id) × (other.me.1 ≡ []) }
     ensures { (seat.new.table_id ≡ seat.old.table_id) × (seat.new.me ≡ (both seat.old.me.0 other.me.0, seat.old.me.1)) }
@@ -69,7 +69,7 @@ pub(crate) fn crew<W: Work, G: Gate, R: Threads + Wait + Sync, F: FnOnce() -> T,
     work: &W,
     gate: &G,
     board: &Board,
-    mut seat: Place,
+    mut seat: WorkerSeat,
     workers: usize,
     call: F,
 ) -> (Result<Worker<W::Output>, AllocError>, T)

@@ -3,7 +3,7 @@ ghost use Rattle.std.specs.Prelude.{◌≡◌, ◌⊎◌, ℕ, ◌<◌, ◌≤�
 ghost use Rattle.workers_draw.specs.Board.{Has};
 ghost use Rattle.workers_draw.specs.Groups.{IsDone, IsFresh, DidWork, AreResults};
 
-use crate::board::{Drawing, Hand, Place};
+use crate::board::{Drawing, Hand, WorkerSeat};
 use crate::crew::crew;
 use crate::gate::Gate;
 use crate::gather::{accept_all, in_order, places};
@@ -19,7 +19,7 @@ pub(crate) type WorkTable = Table<u8, Hand, u64, Drawing, Global>;
 
 /// Ends the table with the seat that has all parts: each group was drawn, and each least fault that was seen is known
 /// to stop.
-fn finish(table: WorkTable, seat: Place)
+fn finish(table: WorkTable, seat: WorkerSeat)
     requires table { seat.table_id ≡ table.shared.table_id }
     requires slots { table.shared.table_id.slots ≡ 0 }
     requires all { seat.me.0.parts ≡ 16 }
@@ -31,7 +31,7 @@ fn finish(table: WorkTable, seat: Place)
 }
 
 /// The two words where nothing is drawn, and the seat that has all parts. An error is out of memory.
-fn open(alloc: Global, count: u32) -> Result<(WorkTable, Place), AllocError>
+fn open(alloc: Global, count: u32) -> Result<(WorkTable, WorkerSeat), AllocError>
     ensures { IfOk result (λ t. (t.0.shared.table_id.words ≡ 2) × (t.0.shared.table_id.slots ≡ 0) × (t.0.shared.key ≡ count) × IsFresh t.0.shared.table_id 16 t.1) }
 {
     WorkTable::of_words(alloc, &[0, u64::from(count)], &u64::from(count))

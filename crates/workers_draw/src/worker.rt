@@ -3,7 +3,7 @@ ghost use Rattle.std.specs.Prelude.{◌≡◌, ℕ, ◌<◌, ◌^◌, [], ◌∷
 ghost use Rattle.workers_draw.specs.Board.{hand, total, is_past};
 ghost use Rattle.workers_draw.specs.Groups.{IsFresh, DidWork, IsNoted, IsTried};
 
-use crate::board::{Board, Draw, Look, Lower, Place};
+use crate::board::{Board, Draw, Look, Lower, WorkerSeat};
 use crate::gate::Gate;
 use crate::work::Work;
 use std::alloc::{AllocError, Global};
@@ -13,13 +13,13 @@ use std::sync::Wait;
 #[derive(Drop)]
 pub struct Worker<T> {
     /// Its place at the board, which knows which numbers it drew.
-    pub seat: Place,
+    pub seat: WorkerSeat,
     /// The results of the groups that it ran, in the order in which it drew them.
     pub outputs: Vec<T>,
 }
 
 /// The next number, which no other draw gives.
-pub(crate) fn draw(board: &Board, seat: &mut Place) -> u64
+pub(crate) fn draw(board: &Board, seat: &mut WorkerSeat) -> u64
     requires board { (seat.old.table_id ≡ board.now.table_id) × (board.now.table_id.words ≡ 2) × (board.now.key < 2 ^ 32) }
     requires room { total (is_past board.now.key) seat.old.me.0.drawn < seat.old.me.0.parts }
     ensures same { (seat.new.table_id ≡ seat.old.table_id) × (seat.new.id ≡ seat.old.id) }
@@ -29,7 +29,7 @@ pub(crate) fn draw(board: &Board, seat: &mut Place) -> u64
 }
 
 /// A group whose run stops, or the count of groups.
-pub(crate) fn look(board: &Board, seat: &mut Place) -> u64
+pub(crate) fn look(board: &Board, seat: &mut WorkerSeat) -> u64
     requires board { (seat.old.table_id ≡ board.now.table_id) × (board.now.table_id.words ≡ 2) }
     ensures same { (seat.new.table_id ≡ seat.old.table_id) × (seat.new.id ≡ seat.old.id) }
     ensures looked { seat.new.me ≡ (hand seat.old.me.0.parts seat.old.me.0.drawn (seat.old.me.0.seen ++ result ∷ []) seat.old.me.0.stopped, seat.old.me.1) }
@@ -38,7 +38,7 @@ pub(crate) fn look(board: &Board, seat: &mut Place) -> u64
 }
 
 /// Lets all know that the run of a group stops.
-pub(crate) fn lower(board: &Board, seat: &mut Place, group: u64)
+pub(crate) fn lower(board: &Board, seat: &mut WorkerSeat, group: u64)
     requires board { (seat.old.table_id ≡ board.now.table_id) × (board.now.table_id.words ≡ 2) }
     requires part { 0 < seat.old.me.0.parts }
     ensures same { (seat.new.table_id ≡ seat.old.table_id) × (seat.new.id ≡ seat.old.id) }
@@ -48,7 +48,7 @@ pub(crate) fn lower(board: &Board, seat: &mut Place, group: u64)
 }
 
 /// Lets all know where the run of a group stopped.
-fn note<W: Work>(work: &W, board: &Board, seat: &mut Place, group: u64, output: &W::Output)
+fn note<W: Work>(work: &W, board: &Board, seat: &mut WorkerSeat, group: u64, output: &W::Output)
     requires board { (seat.old.table_id ≡ board.now.table_id) × (board.now.table_id.words ≡ 2) }
     requires part { 0 < seat.old.me.0.parts }
     requires gives { W.gives work.now group output.now }
@@ -66,7 +66,7 @@ fn try_group<W: Work>(
     alloc: Global,
     work: &W,
     board: &Board,
-    seat: &mut Place,
+    seat: &mut WorkerSeat,
     group: u32,
 ) -> Result<Option<W::Output>, AllocError>
     requires board { (seat.old.table_id ≡ board.now.table_id) × (board.now.table_id.words ≡ 2) }
@@ -90,7 +90,7 @@ fn try_at<W: Work, G: Gate>(
     work: &W,
     gate: &G,
     board: &Board,
-    seat: &mut Place,
+    seat: &mut WorkerSeat,
     group: u32,
 ) -> Result<Option<W::Output>, AllocError>
     requires board { (seat.old.table_id ≡ board.now.table_id) × (board.now.table_id.words ≡ 2) }
@@ -112,7 +112,7 @@ pub(crate) fn work_at<W: Work, G: Gate, R: Wait>(
     work: &W,
     gate: &G,
     board: &Board,
-    mut seat: Place,
+    mut seat: WorkerSeat,
 ) -> Result<Worker<W::Output>, AllocError>
     requires board { (board.now.key ≡ W.count work.now) × (board.now.table_id.words ≡ 2) }
     requires small { W.count work.now < 2 ^ 32 }

@@ -7,7 +7,7 @@ use clmodel::outcome::Outcome;
 use clmodel::text::Name;
 use device::{Command, Device, Driver, Reply, close, open};
 use host_queue::{Client, Queue, Request};
-use spaces_base::Buffers;
+use spaces::Buffers;
 use std::alloc::{AllocError, Global};
 use std::sync::Wait;
 use std::thread::Threads;

@@ -10,7 +10,7 @@ use Rattle.clmodel.specs.Setup.{buffer_names}
 use Rattle.item_step.specs.Launches.{setup_of, started}
 use Rattle.item_step.specs.Running.{Running}
 use Rattle.launches.specs.Groups.{IsRunnable, filled}
-use Rattle.spaces_base.specs.Buffers.{bytes_in}
+use Rattle.spaces.specs.Buffers.{bytes_in}
 use Rattle.launches.specs.declared.loaded.LoadedLaunch.{LoadedLaunch}
 use Rattle.replay.specs.States.{IsAt}
 use Rattle.replay.proofs.Showing.{never}

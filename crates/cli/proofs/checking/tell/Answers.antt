@@ -1,8 +1,8 @@
 use Rattle.std.proofs.Common.{[], ◌++◌}
 use Rattle.std.proofs.lemmas.List.{append-nil}
-use Rattle.counted_io.specs.Sink.{Puts}
+use Rattle.byte_io.specs.Sink.{Puts}
 use Rattle.simfile.specs.Lines.{check_line}
-use Rattle.counted_io.proofs.Puts.{puts_then}
+use Rattle.byte_io.proofs.Puts.{puts_then}
 use Rattle.cli.proofs.checking.tell.Goals as goal
 
 pub returns-clause-line : goal.returns-clause-line

@@ -1,8 +1,8 @@
 use Rattle.std.proofs.Common.{ℕ, []}
 use Rattle.device.specs.Machine.{machine_of}
-use Rattle.peers.specs.Talk.{Conversation}
+use Rattle.byte_io.specs.Talk.{Conversation}
 use Rattle.serving.specs.Serving.{HasLine}
-use Rattle.script_runs.specs.Session.{end_of}
+use Rattle.cli.specs.Session.{end_of}
 use Rattle.cli.specs.Serves.{Serves}
 use Rattle.cli.proofs.dialogue.take_turns.Given as goal
 

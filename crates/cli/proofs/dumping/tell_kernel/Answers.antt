@@ -1,8 +1,8 @@
 use Rattle.std.proofs.Common.{[], ◌++◌}
 use Rattle.std.proofs.lemmas.List.{append-nil}
 use Rattle.std.proofs.lemmas.Result.{err_from_is_err_and}
-use Rattle.counted_io.specs.Sink.{Stopped}
-use Rattle.counted_io.proofs.Puts.{stopped_then}
+use Rattle.byte_io.specs.Sink.{Stopped}
+use Rattle.byte_io.proofs.Puts.{stopped_then}
 use Rattle.code_text.specs.Text.{text_of}
 use Rattle.cli.proofs.dumping.tell_kernel.Goals as goal
 

@@ -1,7 +1,7 @@
 use Rattle.std.proofs.Common.{◌≡◌, ℕ, List, [], ◌++◌, rules, subst}
 use Rattle.std.proofs.lemmas.List.{append-nil}
-use Rattle.counted_io.specs.Sink.{Puts}
-use Rattle.counted_io.proofs.Puts.{puts_then}
+use Rattle.byte_io.specs.Sink.{Puts}
+use Rattle.byte_io.proofs.Puts.{puts_then}
 use Rattle.cli.specs.Replaying.{answer_line}
 use Rattle.cli.proofs.replaying.tell.Goals as goal
 

@@ -1,6 +1,6 @@
 use Rattle.std.proofs.Common.{◌≡◌, ◌∙◌, ap, decimal, nat_abs}
 use Rattle.std.proofs.lemmas.Result.{err_from_is_err_and}
-use Rattle.counted_io.proofs.Puts.{stopped_more, puts_then}
+use Rattle.byte_io.proofs.Puts.{stopped_more, puts_then}
 use Rattle.clsyntax_print.proofs.tokens.write_number.Goals as goal
 
 pub returns-in_err-write : goal.returns-in_err-write

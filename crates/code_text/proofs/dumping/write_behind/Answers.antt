@@ -1,5 +1,5 @@
 use Rattle.std.proofs.lemmas.Result.{err_from_is_err_and}
-use Rattle.counted_io.proofs.Puts.{stopped_more, puts_then}
+use Rattle.byte_io.proofs.Puts.{stopped_more, puts_then}
 use Rattle.code_text.specs.Parts.{part_text}
 use Rattle.code_text.proofs.dumping.write_behind.Goals as goal
 

@@ -1,6 +1,6 @@
 use Rattle.std.specs.Prelude.{codes}
 use Rattle.std.proofs.lemmas.Result.{err_from_is_err_and}
-use Rattle.counted_io.proofs.Puts.{wrote_then, stopped_then, stopped_more, puts_then}
+use Rattle.byte_io.proofs.Puts.{wrote_then, stopped_then, stopped_more, puts_then}
 use Rattle.code_text.specs.Parts.{behind}
 use Rattle.code_text.proofs.Dumped.{puts_line, stopped_line, stopped_head}
 use Rattle.code_text.proofs.dumping.write_line.Goals as goal

@@ -1,5 +1,5 @@
 use Rattle.std.proofs.Common.{take}
-use Rattle.counted_io.specs.Sink.{Wrote}
+use Rattle.byte_io.specs.Sink.{Wrote}
 use Rattle.code_text.specs.Text.{text_of}
 use Rattle.code_text.proofs.dumping.write_lines.Given as goal
 

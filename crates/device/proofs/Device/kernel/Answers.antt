@@ -1,5 +1,5 @@
 use Rattle.std.proofs.Common.{ap, sym, ◌∙◌}
-use Rattle.spaces_base.specs.Tables.{find}
+use Rattle.spaces.specs.Tables.{find}
 use Rattle.device.proofs.Kept.{code_acts, code_has_few, code_is_of}
 use Rattle.device.proofs.Device.kernel.Goals as goal
 

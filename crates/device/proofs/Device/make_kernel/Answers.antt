@@ -4,7 +4,7 @@ use Rattle.clmodel.specs.Typing.Sizes.{parameter_limit}
 use Rattle.clmodel.specs.declared.tree.Parameter.{Parameter}
 use Rattle.lower.specs.Lowers.{IsLowered}
 use Rattle.host_commands.specs.Kernels.{new_kernel}
-use Rattle.spaces_base.specs.Tables.{find}
+use Rattle.spaces.specs.Tables.{find}
 use Rattle.device.specs.Kept.{IsCodeOf}
 use Rattle.device.specs.declared.compiled.CompiledKernel.{CompiledKernel}
 use Rattle.device.proofs.Kept.{kept_after_kernel, made_has_few, made_is_compiled}

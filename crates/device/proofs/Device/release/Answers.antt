@@ -2,7 +2,7 @@ use Rattle.std.proofs.Common.{◌≡◌, ℕ, false, List, map, refl, ap, sym, �
 use Rattle.std.specs.Map.{remove_entry}
 use Rattle.clmodel.specs.Tree.{program}
 use Rattle.cltypes.specs.declared.checked.Checked.{Checked}
-use Rattle.spaces_base.specs.Tables.{Table, is}
+use Rattle.spaces.specs.Tables.{Table, is}
 use Rattle.device.specs.declared.compiled.CompiledKernel.{CompiledKernel}
 use Rattle.device.specs.Kept.{AllCompiled}
 use Rattle.device.specs.Machine.{Machine, machine_of, is_in_use}

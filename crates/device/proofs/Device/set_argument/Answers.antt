@@ -1,7 +1,7 @@
 use Rattle.std.proofs.Common.{length, refl, ap, sym, ◌∙◌, subst}
 use Rattle.std.proofs.lemmas.Option.{slice_get_read}
 use Rattle.clmodel.specs.Tree.{program}
-use Rattle.spaces_base.specs.Tables.{Table}
+use Rattle.spaces.specs.Tables.{Table}
 use Rattle.device.specs.declared.compiled.CompiledKernel.{CompiledKernel}
 use Rattle.device.specs.Kept.{AllCompiled}
 use Rattle.device.specs.Machine.{Machine, machine_of}

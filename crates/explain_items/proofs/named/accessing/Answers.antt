@@ -1,7 +1,7 @@
 use Rattle.std.proofs.Common.{◌≡◌, ◌≤◌, Some, ap, count_by, option_copied, subst, ◌∙◌}
 use Rattle.std.specs.Option.{IfNone, IfSome}
 use Rattle.std.proofs.lemmas.Result.{IfOk-weaker}
-use Rattle.explain_play.specs.PlayedOut.{MadeAccess, is_access}
+use Rattle.fault_play.specs.PlayedOut.{MadeAccess, is_access}
 use Rattle.explain_items.specs.Named.{AtAccess, IsHere, IsBefore, stand_of}
 use Rattle.explain_items.specs.Spotted.{StandsInside}
 use Rattle.explain_items.proofs.Spotting.{access_stand, access_stand_back, named_at}

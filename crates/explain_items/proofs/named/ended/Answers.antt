@@ -1,7 +1,7 @@
 use Rattle.std.proofs.Common.{◌≡◌, Some, length, refl, ap, option_copied, subst, ◌∙◌}
 use Rattle.std.specs.Option.{IfSome}
 use Rattle.std.proofs.lemmas.Option.{IfSome_then}
-use Rattle.explain_play.specs.PlayedOut.{IsEventOf, IsLastEvent, acts_at}
+use Rattle.fault_play.specs.PlayedOut.{IsEventOf, IsLastEvent, acts_at}
 use Rattle.explain_items.specs.Named.{IsItemStand, stand_of}
 use Rattle.explain_items.specs.Spotted.{StandsInside}
 use Rattle.explain_items.proofs.Spotting.{item_stand, item_stand_back, none_at}

@@ -1,7 +1,7 @@
 use Rattle.std.proofs.Common.{[], ◌++◌}
 use Rattle.std.proofs.lemmas.List.{append-nil}
-use Rattle.counted_io.specs.Sink.{Puts}
-use Rattle.counted_io.proofs.Puts.{puts_then}
+use Rattle.byte_io.specs.Sink.{Puts}
+use Rattle.byte_io.proofs.Puts.{puts_then}
 use Rattle.explaining.proofs.answers.tell.Goals as goal
 
 pub returns-clause-text : goal.returns-clause-text

@@ -2,7 +2,7 @@ use Rattle.clmodel.specs.Law.{Reaches}
 use Rattle.clmodel.specs.Next.{launch_of}
 use Rattle.clmodel.specs.Outcome.{events_of}
 use Rattle.item_step.specs.Launches.{setup_of}
-use Rattle.spaces_base.specs.Buffers.{bytes_in}
+use Rattle.spaces.specs.Buffers.{bytes_in}
 use Rattle.explaining.proofs.Telling.{nowhere}
 use Rattle.explaining.proofs.Writing.{explained, if_some}
 use Rattle.explaining.proofs.told.whole_of.Goals as goal

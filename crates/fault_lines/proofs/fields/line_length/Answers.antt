@@ -1,5 +1,5 @@
 use Rattle.fault_lines.specs.Reading.{is_inner}
-use Rattle.line_fields.proofs.FieldLemmas.{front_of_position}
+use Rattle.text_lines.proofs.FieldLemmas.{front_of_position}
 use Rattle.fault_lines.proofs.fields.line_length.Goals as goal
 
 pub returns-clause-value : goal.returns-clause-value

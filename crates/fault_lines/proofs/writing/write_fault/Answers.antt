@@ -1,8 +1,8 @@
 use Rattle.std.proofs.Common.{ℕ, List, [], ◌∷◌, ◌++◌, decimal}
 use Rattle.std.proofs.lemmas.Result.{err_from_is_err_and}
-use Rattle.counted_io.specs.Sink.{Wrote, Stopped, Puts}
-use Rattle.counted_io.proofs.Puts.{stopped_more, puts_then}
-use Rattle.counted_io.specs.Pieces.{joined}
+use Rattle.byte_io.specs.Sink.{Wrote, Stopped, Puts}
+use Rattle.byte_io.proofs.Puts.{stopped_more, puts_then}
+use Rattle.byte_io.specs.Pieces.{joined}
 use Rattle.fault_lines.specs.Text.{fault_words, fault_item, fault_details}
 use Rattle.fault_lines.proofs.ReaderSteps.{joined-append}
 use Rattle.fault_lines.proofs.writing.write_fault.Goals as goal

@@ -1,7 +1,7 @@
 use Rattle.std.proofs.Common.{rules}
 use Rattle.std.proofs.lemmas.Result.{err_from_is_err_and}
 use Rattle.fault_lines.specs.Parts.{part_text}
-use Rattle.counted_io.proofs.Puts.{stopped_item, wrote_item}
+use Rattle.byte_io.proofs.Puts.{stopped_item, wrote_item}
 use Rattle.fault_lines.proofs.writing.write_parts.Goals as goal
 
 pub returns-in_err-write_part : goal.returns-in_err-write_part

@@ -1,6 +1,6 @@
 use Rattle.std.proofs.Common.{take}
 use Rattle.std.specs.List.{flat_map}
-use Rattle.counted_io.specs.Sink.{Wrote}
+use Rattle.byte_io.specs.Sink.{Wrote}
 use Rattle.fault_lines.specs.Parts.{part_text}
 use Rattle.fault_lines.proofs.writing.write_parts.Given as goal
 

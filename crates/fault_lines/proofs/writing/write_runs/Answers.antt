@@ -1,7 +1,7 @@
 use Rattle.std.proofs.Common.{rules}
 use Rattle.std.proofs.lemmas.Result.{err_from_is_err_and}
 use Rattle.fault_lines.specs.Text.{run_text}
-use Rattle.counted_io.proofs.Puts.{stopped_at, wrote_more}
+use Rattle.byte_io.proofs.Puts.{stopped_at, wrote_more}
 use Rattle.fault_lines.proofs.writing.write_runs.Goals as goal
 
 pub returns-in_err-write_run : goal.returns-in_err-write_run

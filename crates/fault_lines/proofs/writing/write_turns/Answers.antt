@@ -1,5 +1,5 @@
 use Rattle.std.proofs.lemmas.Result.{err_from_is_err_and}
-use Rattle.counted_io.proofs.Puts.{stopped_more, puts_then}
+use Rattle.byte_io.proofs.Puts.{stopped_more, puts_then}
 use Rattle.fault_lines.proofs.writing.write_turns.Goals as goal
 
 pub returns-in_err-write_pieces : goal.returns-in_err-write_pieces

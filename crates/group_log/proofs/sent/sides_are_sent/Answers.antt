@@ -5,4 +5,4 @@ use Rattle.group_log.proofs.sent.sides_are_sent.Goals as goal
 
 pub returns : goal.returns
 returns c =
-    declared_send Side.the_type (search sendable, (search sendable, (c.lines_are_sent.ensures, (search sendable, (c.traces_are_sent.ensures, (search sendable, tt))))))
+    declared_send Side.the_type (search sendable, (search sendable, (c.progressions_are_sent.ensures, (search sendable, (c.traces_are_sent.ensures, (search sendable, tt))))))

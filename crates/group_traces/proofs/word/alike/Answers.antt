@@ -4,7 +4,7 @@ use Rattle.clmodel.specs.Cells.{byte_of}
 use Rattle.shadow.specs.Seen.{one_sort, byte_mark}
 use Rattle.shadow.specs.declared.words.WordMark.{WordMark}
 use Rattle.shadow.proofs.Meetings.{sort_from}
-use Rattle.shadow_list.specs.Kinds.{kind_number}
+use Rattle.access_list.specs.Kinds.{kind_number}
 use Rattle.group_traces.proofs.Fours.{each_of_four}
 use Rattle.group_traces.proofs.KindNumbers.{same_kind}
 use Rattle.group_traces.proofs.word.alike.Goals as goal

@@ -1,5 +1,5 @@
 use Rattle.std.proofs.Common.{arith}
-use Rattle.origins.specs.declared.node.Halt.TheVariants as halt
+use Rattle.origins.specs.declared.node.WalkEnd.TheVariants as halt
 use Rattle.origins.proofs.Walking.{is_long}
 use Rattle.origins.proofs.functions.length_of.Goals as goal
 

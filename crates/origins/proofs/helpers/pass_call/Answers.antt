@@ -4,7 +4,7 @@ use Rattle.origins.specs.Helpers.{LengthsKnown}
 use Rattle.origins.specs.Origins.{node_of}
 use Rattle.origins.specs.Settings.{inside_in, calls_in}
 use Rattle.origins.specs.Walks.{Walks}
-use Rattle.origins.specs.declared.node.Halt.TheVariants as halt
+use Rattle.origins.specs.declared.node.WalkEnd.TheVariants as halt
 use Rattle.origins.proofs.Settling.{settle}
 use Rattle.origins.proofs.Entering.{enters, is_none, loses, passes}
 use Rattle.origins.proofs.helpers.pass_call.Goals as goal

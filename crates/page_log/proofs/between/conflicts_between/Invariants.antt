@@ -1,6 +1,6 @@
 use Rattle.std.proofs.Common.{◌≡◌}
 use Rattle.std.specs.Prelude.{drop}
-use Rattle.shadow_list.specs.Log.{across}
+use Rattle.access_list.specs.Log.{across}
 use Rattle.page_log.proofs.between.conflicts_between.Given as goal
 
 abbrev pub invariant-loop-i : goal.invariant-loop-i

@@ -1,6 +1,6 @@
 use Rattle.std.proofs.Common.{◌++◌, ◌∷◌, [], take, sym, ap, ap₂, ◌∙◌, arith}
 use Rattle.std.proofs.lemmas.List.{take_more}
-use Rattle.shadow_list.specs.Log.{hit}
+use Rattle.access_list.specs.Log.{hit}
 use Rattle.page_log.specs.Tally.{lower_hit}
 use Rattle.page_log.proofs.Joined.{joined, no_hit}
 use Rattle.page_log.proofs.between.hit_in.Goals as goal

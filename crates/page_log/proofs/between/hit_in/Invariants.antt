@@ -1,5 +1,5 @@
 use Rattle.std.proofs.Common.{◌≡◌, take}
-use Rattle.shadow_list.specs.Log.{hit}
+use Rattle.access_list.specs.Log.{hit}
 use Rattle.page_log.proofs.between.hit_in.Given as goal
 
 abbrev pub invariant-loop-i : goal.invariant-loop-i

@@ -1,5 +1,5 @@
 use Rattle.std.proofs.Common.{◌≡◌, Some, map, take}
-use Rattle.spaces_base.specs.Buffers.{bytes_in}
+use Rattle.spaces.specs.Buffers.{bytes_in}
 use Rattle.replay.proofs.buffers.copies.Given as goal
 
 abbrev pub invariant-loop-name : goal.invariant-loop-name

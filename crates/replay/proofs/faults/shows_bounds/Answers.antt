@@ -9,7 +9,7 @@ use Rattle.replay.specs.Nexts.{access_of, TellsNext}
 use Rattle.replay.proofs.Playing.{is_none}
 use Rattle.replay.proofs.Showing.{never, no_bounds, never_bounds, bounds}
 use Rattle.replay.proofs.Telling.{tells}
-use Rattle.shadow_list.proofs.Hits.{none_if}
+use Rattle.access_list.proofs.Hits.{none_if}
 use Rattle.replay.proofs.faults.shows_bounds.Goals as goal
 
 pub returns-in_default : goal.returns-in_default

@@ -4,7 +4,7 @@ use Rattle.std.proofs.lemmas.Bool.{false≢true}
 use Rattle.std.proofs.lemmas.Result.{IfOk-weaker}
 use Rattle.clmodel.specs.Law.{Shows}
 use Rattle.clmodel.specs.declared.fault.Fault.TheVariants as fault
-use Rattle.told_conflicts.specs.Spots.{is_conflict}
+use Rattle.replay.specs.Spots.{is_conflict}
 use Rattle.replay.proofs.Showing.{fails_shown}
 use Rattle.replay.proofs.faults.shows_next.Goals as goal
 

@@ -4,10 +4,10 @@ use Rattle.clmodel.specs.Launch.{Launch}
 use Rattle.clmodel.specs.Next.{launch_of}
 use Rattle.item_step.specs.Launches.{setup_of}
 use Rattle.joining.specs.Steps.{HasGroup}
-use Rattle.snapshot_merge.specs.Launches.{AreResults}
-use Rattle.snapshot_merge.proofs.Ending.{below_there}
-use Rattle.spaces_base.specs.Buffers.{bytes_in}
-use Rattle.snapshot_merge.proofs.Leading.{Lead, lead_more, lead_stopped, lead_all}
+use Rattle.group_join.specs.Launches.{AreResults}
+use Rattle.group_join.proofs.Ending.{below_there}
+use Rattle.spaces.specs.Buffers.{bytes_in}
+use Rattle.group_join.proofs.Leading.{Lead, lead_more, lead_stopped, lead_all}
 use Rattle.same_logs.proofs.results.run_groups.Goals as goal
 
 pub loop-group-init : goal.loop-group-init

@@ -1,7 +1,7 @@
 use Rattle.clmodel.specs.Next.{launch_of}
 use Rattle.item_step.specs.Launches.{setup_of}
-use Rattle.spaces_base.specs.Buffers.{bytes_in}
-use Rattle.snapshot_merge.proofs.Leading.{Lead}
+use Rattle.spaces.specs.Buffers.{bytes_in}
+use Rattle.group_join.proofs.Leading.{Lead}
 use Rattle.same_logs.proofs.results.run_groups.Given as goal
 
 abbrev pub invariant-loop-group : goal.invariant-loop-group

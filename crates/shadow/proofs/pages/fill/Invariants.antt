@@ -1,5 +1,5 @@
 use Rattle.std.proofs.Common.{◌≡◌, ℕ, ◌-◌, ◌≤◌, length, get_or}
-use Rattle.shadow.specs.declared.words.Word.TheVariants as word
+use Rattle.shadow.specs.declared.words.MarkedWord.TheVariants as word
 use Rattle.shadow.proofs.pages.fill.Given as goal
 
 abbrev pub invariant-loop-row : goal.invariant-loop-row

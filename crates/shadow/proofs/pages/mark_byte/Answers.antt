@@ -2,7 +2,7 @@ use Rattle.std.proofs.Common.{◌≡◌, ◌/◌, ◌%◌, ◌<◌, ◌∙◌, s
 use Rattle.std.proofs.lemmas.List.{get_or_default}
 use Rattle.shadow.specs.Seen.{row_of, word_in, IsApart}
 use Rattle.shadow.specs.declared.words.Bytes.{Bytes}
-use Rattle.shadow.specs.declared.words.Word.TheVariants as word
+use Rattle.shadow.specs.declared.words.MarkedWord.TheVariants as word
 use Rattle.shadow.proofs.Cells.{was_row, was_word, apart_placed}
 use Rattle.shadow.proofs.Marking.{part_put}
 use Rattle.shadow.proofs.pages.mark_byte.Goals as goal

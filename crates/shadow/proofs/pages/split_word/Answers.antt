@@ -3,7 +3,7 @@ use Rattle.std.specs.Vec.{with_item}
 use Rattle.std.proofs.lemmas.List.{length-set}
 use Rattle.shadow.specs.Seen.{row_of, byte_seen, IsApart, word_in, cell_in}
 use Rattle.shadow.specs.declared.seen.Seen.TheVariants.{Untouched}
-use Rattle.shadow.specs.declared.words.Word.TheVariants as word
+use Rattle.shadow.specs.declared.words.MarkedWord.TheVariants as word
 use Rattle.shadow.proofs.Cells.{was_row, was_word, put}
 use Rattle.shadow.proofs.Marking.{split_is, split_others, split_same}
 use Rattle.shadow.proofs.pages.split_word.Goals as goal

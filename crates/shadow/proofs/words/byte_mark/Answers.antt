@@ -1,5 +1,5 @@
 use Rattle.std.proofs.Common.{ℕ, ◌%◌, ap}
-use Rattle.shadow_list.proofs.Bytes.{shifted}
+use Rattle.access_list.proofs.Bytes.{shifted}
 use Rattle.shadow.specs.declared.seen.Mark.{Mark}
 use Rattle.shadow.proofs.words.byte_mark.Goals as goal
 

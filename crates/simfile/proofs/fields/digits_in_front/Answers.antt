@@ -1,5 +1,5 @@
 use Rattle.simfile.specs.Fields.{is_hex_digit}
-use Rattle.line_fields.proofs.FieldLemmas.{front_of_position}
+use Rattle.text_lines.proofs.FieldLemmas.{front_of_position}
 use Rattle.simfile.proofs.fields.digits_in_front.Goals as goal
 
 pub returns-clause-value : goal.returns-clause-value

@@ -1,7 +1,7 @@
 use Rattle.std.proofs.Common.{arith, ap, ◌∙◌, ◌+◌}
 use Rattle.std.proofs.lemmas.List.{take_rest}
 use Rattle.simfile.specs.Fields.{is_hex_digit}
-use Rattle.line_fields.specs.Fronts.{front_length}
+use Rattle.text_lines.specs.Fronts.{front_length}
 use Rattle.simfile.proofs.FieldLemmas.{front_past}
 use Rattle.simfile.proofs.fields.hex_length.Goals as goal
 

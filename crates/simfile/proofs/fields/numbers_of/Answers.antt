@@ -2,7 +2,7 @@ use Rattle.std.proofs.Common.{◌∙◌, ℕ, Ok, rules, tests}
 use Rattle.std.proofs.lemmas.Iterator.{items_from_collect, YieldsList-from_map}
 use Rattle.std.proofs.lemmas.Iterator.Consumers.{YieldsList-at}
 use Rattle.std.proofs.lemmas.Iterator.Splits.{YieldsList-from_slice_split}
-use Rattle.line_fields.specs.Texts.{number_below}
+use Rattle.text_lines.specs.Texts.{number_below}
 use Rattle.simfile.proofs.fields.numbers_of.Goals as goal
 
 pub returns : goal.returns

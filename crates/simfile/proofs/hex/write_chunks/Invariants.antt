@@ -1,6 +1,6 @@
 use Rattle.std.proofs.Common.{◌*◌, take}
 use Rattle.std.specs.List.{flat_map}
-use Rattle.counted_io.specs.Sink.{Wrote}
+use Rattle.byte_io.specs.Sink.{Wrote}
 use Rattle.simfile.specs.Fields.{byte_text}
 use Rattle.simfile.proofs.hex.write_chunks.Given as goal
 

@@ -1,7 +1,7 @@
 use Rattle.std.proofs.Common.{◌*◌, ◌/◌, length, arith}
 use Rattle.std.proofs.lemmas.Result.{err_from_is_err_and}
 use Rattle.simfile.specs.Fields.{byte_text}
-use Rattle.counted_io.proofs.Puts.{stopped_more, puts_then}
+use Rattle.byte_io.proofs.Puts.{stopped_more, puts_then}
 use Rattle.simfile.proofs.FieldLemmas.{flat_rest}
 use Rattle.simfile.proofs.hex.write_hex.Goals as goal
 

@@ -1,5 +1,5 @@
 use Rattle.std.proofs.lemmas.Result.{err_from_is_err_and}
-use Rattle.counted_io.proofs.Puts.{stopped_more, stopped_then, puts_then}
+use Rattle.byte_io.proofs.Puts.{stopped_more, stopped_then, puts_then}
 use Rattle.simfile.proofs.replies.write_data.Goals as goal
 
 pub returns-in_err-write : goal.returns-in_err-write

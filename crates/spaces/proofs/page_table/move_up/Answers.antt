@@ -2,7 +2,7 @@ use Rattle.std.proofs.Common.{◌≡◌, ◌+◌, ◌-◌, ◌∙◌, ◌++◌, 
 use Rattle.std.proofs.lemmas.List.{take_all}
 use Rattle.std.specs.Prelude.{vec_len}
 use Rattle.spaces.specs.Overlay.{copy_at}
-use Rattle.spaces.proofs.Tables.{moved_row, turned}
+use Rattle.spaces.proofs.PageTables.{moved_row, turned}
 use Rattle.spaces.proofs.page_table.move_up.Goals as goal
 
 pub returns-clause-same : goal.returns-clause-same

@@ -1,7 +1,7 @@
 use Rattle.std.proofs.Common.{◌≡◌, ◌-◌, ◌∙◌, ◌++◌, [], ◌∷◌, sym, ap, arith}
 use Rattle.std.proofs.lemmas.List.{nil_from_length}
 use Rattle.spaces.specs.Overlay.{copy_at}
-use Rattle.spaces.proofs.Tables.{empty_row, zero_row, same_row}
+use Rattle.spaces.proofs.PageTables.{empty_row, zero_row, same_row}
 use Rattle.spaces.proofs.page_table.reach.Goals as goal
 
 pub returns-then-is_empty-clause-same : goal.returns-then-is_empty-clause-same

@@ -1,8 +1,8 @@
 use Rattle.clmodel.specs.Next.{launch_of}
 use Rattle.item_step.specs.Launches.{setup_of}
-use Rattle.snapshot_merge.specs.Launches.{list_log}
-use Rattle.spaces_base.specs.Buffers.{bytes_in}
-use Rattle.snapshot_merge.proofs.Leading.{Lead}
+use Rattle.group_join.specs.Launches.{list_log}
+use Rattle.spaces.specs.Buffers.{bytes_in}
+use Rattle.group_join.proofs.Leading.{Lead}
 use Rattle.tests.proofs.merges.merged.Given as goal
 
 abbrev pub invariant-loop-group : goal.invariant-loop-group

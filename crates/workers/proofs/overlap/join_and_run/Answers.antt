@@ -6,7 +6,7 @@ use Rattle.group_run.specs.declared.result.GroupResult.{GroupResult}
 use Rattle.item_step.specs.Launches.{setup_of}
 use Rattle.shadow.specs.declared.group_accesses.AccessSummary.{AccessSummary}
 use Rattle.spaces.specs.Overlay.{Overlaid}
-use Rattle.spaces_base.specs.Buffers.{bytes_in}
+use Rattle.spaces.specs.Buffers.{bytes_in}
 use Rattle.workers.proofs.Runs.{are_of_round}
 use Rattle.workers.proofs.overlap.join_and_run.Goals as goal
 

@@ -2,7 +2,7 @@ use Rattle.std.proofs.Common.{ap₂}
 use denote.Param.Send.{sendable}
 use Rattle.clmodel.specs.Next.{launch_of}
 use Rattle.item_step.specs.Launches.{setup_of}
-use Rattle.spaces_base.specs.Buffers.{bytes_in}
+use Rattle.spaces.specs.Buffers.{bytes_in}
 use Rattle.workers.proofs.Runs.{are_of_round}
 use Rattle.workers.proofs.overlap.run_round.Goals as goal
 

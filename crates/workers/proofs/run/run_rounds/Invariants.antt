@@ -1,8 +1,8 @@
 use Rattle.std.proofs.Common.{◌-◌, ◌≤◌}
 use Rattle.clmodel.specs.Next.{launch_of}
 use Rattle.item_step.specs.Launches.{setup_of}
-use Rattle.snapshot_merge.specs.JoinedGroups.{HoldsGroups}
-use Rattle.spaces_base.specs.Buffers.{bytes_in}
+use Rattle.group_join.specs.JoinedGroups.{HoldsGroups}
+use Rattle.spaces.specs.Buffers.{bytes_in}
 use Rattle.workers.specs.Results.{AreOfRound}
 use Rattle.workers.proofs.run.run_rounds.Given as goal
 

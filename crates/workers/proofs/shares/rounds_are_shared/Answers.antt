@@ -1,7 +1,7 @@
 use denote.Param.Send.{sendable, IsSync}
 use denote.Param.SendFields.{declared_sync}
 use Rattle.clmodel.specs.contracts.text.Bytes as Bytes
-use Rattle.spaces_base.specs.contracts.table.Table as Table
+use Rattle.spaces.specs.contracts.table.Table as Table
 use Rattle.workers.specs.contracts.round.Round as Round
 use Rattle.workers.proofs.shares.rounds_are_shared.Goals as goal
 

@@ -1,7 +1,7 @@
 use Rattle.std.proofs.Common.{◌≡◌, false, None, sym, ap, ◌∙◌}
 use Rattle.clmodel.specs.Launch.{within_group}
-use Rattle.shadow_list.specs.Log.{stamped, in_buffer, hit}
-use Rattle.shadow_list.specs.declared.log.Entry.{Entry}
+use Rattle.access_list.specs.Log.{stamped, in_buffer, hit}
+use Rattle.access_list.specs.declared.log.Entry.{Entry}
 use Rattle.group_log.specs.Lasting.{all_of}
 use Rattle.group_log.specs.declared.group.GroupLog.{GroupLog}
 use Rattle.group_log.proofs.Shortened.{log_of}

@@ -1,8 +1,8 @@
 use Rattle.std.proofs.Common.{Bool, not, true, false, [], ◌∷◌, ◌++◌, if◌then◌else◌, refl, sym, ap, ◌∙◌, subst, inr}
 use Rattle.std.proofs.lemmas.Bool.{false≢true}
 use Rattle.group_log.proofs.Taking.{not_true}
-use Rattle.shadow_list.specs.Log.{IsKept}
-use Rattle.shadow_list.specs.declared.log.Entry.{Entry}
+use Rattle.access_list.specs.Log.{IsKept}
+use Rattle.access_list.specs.declared.log.Entry.{Entry}
 use Rattle.group_log.specs.Side.{TakesOf}
 use Rattle.group_log.specs.Lasting.{all_of, short_of, last_of, made, LeavesOut}
 use Rattle.group_log.specs.declared.group.GroupLog.{GroupLog}

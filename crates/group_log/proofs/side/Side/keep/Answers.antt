@@ -1,6 +1,6 @@
 use Rattle.std.proofs.Common.{◌++◌, ◌∷◌, [], sym, ap, ◌∙◌, subst}
 use Rattle.std.proofs.lemmas.Result.{on_ok_weaker, on_err_weaker}
-use Rattle.shadow_list.specs.declared.log.Entry.{Entry}
+use Rattle.access_list.specs.declared.log.Entry.{Entry}
 use Rattle.std.specs.Prelude.{List}
 use Rattle.group_log.specs.Stands.{AllStand}
 use Rattle.group_log.proofs.side.Side.keep.Goals as goal

@@ -25,7 +25,7 @@ use denote.Triple.Entry.{alive}
 use denote.Triple.Spec.{Meets, triple_of}
 use denote.Triple.Table.{entered}
 use denote.Triple.Walked.{says, Stays, stay_dropped, walk_of, ends_at, walk_Meets, Goes-dropped}
-use Rattle.shadow_list.specs.contracts.log.Entry as Entry
+use Rattle.access_list.specs.contracts.log.Entry as Entry
 use Rattle.group_log.specs.contracts.whole.Whole as Whole
 use Rattle.group_log.specs.contracts.whole.Whole.with as F
 use Rattle.group_log.specs.contracts.whole.Whole.with.Key.{name as key}

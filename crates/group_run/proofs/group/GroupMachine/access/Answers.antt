@@ -8,7 +8,7 @@ use Rattle.clmodel.specs.Launch.{region_of, location_of, kind_of}
 use Rattle.clmodel.specs.declared.fault.Fault.TheVariants as fault
 use Rattle.launches.specs.Objects.{ObjectsHold, IsMoved}
 use Rattle.joining.specs.Group.{Plan}
-use Rattle.shadow_list.specs.Log.{entry_of}
+use Rattle.access_list.specs.Log.{entry_of}
 use Rattle.group_run.specs.Logs.{IsJudged}
 use Rattle.group_run.proofs.Stepping.{access_made, unset_made, access_room, place_read}
 use Rattle.group_run.specs.Items.{acts_at}

@@ -5,7 +5,7 @@ use Rattle.group_traces.specs.Cells.{word_trace}
 use Rattle.group_traces.specs.Traces.{passes, tells, takes}
 use Rattle.group_traces.specs.declared.trace.Trace.{Trace}
 use Rattle.group_traces.proofs.Looking.{all_with}
-use Rattle.group_traces.proofs.cell.Word.bytes_sight.Goals as goal
+use Rattle.group_traces.proofs.cell.TracedWord.bytes_sight.Goals as goal
 
 pub loop-byte-preserved : goal.loop-byte-preserved
 loop-byte-preserved c =

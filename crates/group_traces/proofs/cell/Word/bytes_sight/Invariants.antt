@@ -2,7 +2,7 @@ use Rattle.std.proofs.Common.{◌≡◌, ℕ, ◌%◌, ◌<◌, ◌≤◌, true}
 use Rattle.shadow.specs.Seen.{mark_of}
 use Rattle.group_traces.specs.Cells.{word_trace}
 use Rattle.group_traces.specs.Traces.{passes, tells, takes}
-use Rattle.group_traces.proofs.cell.Word.bytes_sight.Given as goal
+use Rattle.group_traces.proofs.cell.TracedWord.bytes_sight.Given as goal
 
 abbrev pub invariant-loop-byte : goal.invariant-loop-byte
 invariant-loop-byte l =

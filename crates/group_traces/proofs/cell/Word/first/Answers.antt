@@ -2,7 +2,7 @@ use Rattle.std.proofs.Common.{◌%◌, sym, ap, ◌∙◌, arith}
 use Rattle.std.proofs.lemmas.Bool.{false≢true}
 use Rattle.group_traces.specs.Traces.{untouched, part_with}
 use Rattle.group_traces.proofs.Keeping.{whole_part}
-use Rattle.group_traces.proofs.cell.Word.first.Goals as goal
+use Rattle.group_traces.proofs.cell.TracedWord.first.Goals as goal
 
 pub returns-then-count-eq-WORD_BYTES-clause-with : goal.returns-then-count-eq-WORD_BYTES-clause-with
 returns-then-count-eq-WORD_BYTES-clause-with c apart key n k small =

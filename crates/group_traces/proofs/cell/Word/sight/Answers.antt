@@ -3,7 +3,7 @@ use Rattle.shadow.specs.declared.seen.Mark.{Mark}
 use Rattle.group_traces.specs.Traces.{passes, tells, takes}
 use Rattle.group_traces.specs.declared.trace.Trace.{Trace}
 use Rattle.group_traces.proofs.Looking.{whole_byte}
-use Rattle.group_traces.proofs.cell.Word.sight.Goals as goal
+use Rattle.group_traces.proofs.cell.TracedWord.sight.Goals as goal
 
 pub returns-in-Whole-clause-clear : goal.returns-in-Whole-clause-clear
 returns-in-Whole-clause-clear c h byte lo hi =

@@ -1,6 +1,6 @@
 use Rattle.std.proofs.Common.{◌≡◌, ℕ, ◌+◌, ◌≤◌, true, length, drop, Some}
 use Rattle.std.specs.Prelude.{slice_get}
-use Rattle.shadow_list.specs.declared.log.Entry.{Entry}
+use Rattle.access_list.specs.declared.log.Entry.{Entry}
 use Rattle.page_log.specs.Pages.{share_page}
 use Rattle.page_log.specs.Tally.{IsTally}
 use Rattle.page_log.proofs.list.PagedList.compare.Given as goal

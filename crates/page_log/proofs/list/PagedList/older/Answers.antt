@@ -1,7 +1,7 @@
 use Rattle.std.proofs.Common.{◌≡◌, Some, sym, subst, ◌∙◌, arith}
 use Rattle.std.specs.Prelude.{slice_get}
 use Rattle.std.proofs.lemmas.List.{get_or_read}
-use Rattle.shadow_list.specs.declared.log.Entry.{Entry}
+use Rattle.access_list.specs.declared.log.Entry.{Entry}
 use Rattle.page_log.specs.Pages.{page_of, begins_in, IsNewest, IsOnOnePage}
 use Rattle.page_log.proofs.Sharing.{one_page, shares_as_begins}
 use Rattle.page_log.proofs.Walks.{linked, there_is, all_at}

@@ -2,8 +2,8 @@ use Rattle.std.proofs.Common.{◌≡◌, ◌+◌, ◌++◌, ◌∷◌, [], Some,
 use Rattle.std.specs.Prelude.{All}
 use Rattle.std.specs.HashMap.{get}
 use Rattle.std.proofs.lemmas.List.Elements.{All-push}
-use Rattle.shadow_list.specs.Log.{IsPlaced}
-use Rattle.shadow_list.specs.declared.log.Entry.{Entry}
+use Rattle.access_list.specs.Log.{IsPlaced}
+use Rattle.access_list.specs.declared.log.Entry.{Entry}
 use Rattle.page_log.specs.Pages.{page_of, same_page, newest_of, IsIndexed, IsOnOnePage}
 use Rattle.page_log.proofs.Walks.{indexed}
 use Rattle.page_log.proofs.list.PagedList.push.Goals as goal

@@ -3,7 +3,7 @@ use Rattle.std.specs.Prelude.{reverse}
 use Rattle.std.proofs.lemmas.List.{take_all}
 use Rattle.shadow.specs.Lasting.{StandsWith, TellsNews}
 use Rattle.shadow.specs.Seen.{IsFootprint}
-use Rattle.shadow_list.specs.declared.log.Entry.{Entry}
+use Rattle.access_list.specs.declared.log.Entry.{Entry}
 use Rattle.shadow.proofs.Listing.{take_one, accesses_one, stands_more, news_more}
 use Rattle.shadow.proofs.group_accesses.AccessSummary.of.Goals as goal
 

@@ -2,8 +2,8 @@ use Rattle.std.proofs.Common.{All, [], take, map}
 use Rattle.std.specs.Prelude.{reverse}
 use Rattle.shadow.specs.Lasting.{StandsWith, TellsNews}
 use Rattle.shadow.specs.Seen.{IsFootprint}
-use Rattle.shadow_list.specs.Log.{IsPlaced}
-use Rattle.shadow_list.specs.declared.log.Entry.{Entry}
+use Rattle.access_list.specs.Log.{IsPlaced}
+use Rattle.access_list.specs.declared.log.Entry.{Entry}
 use Rattle.shadow.proofs.group_accesses.AccessSummary.of.Given as goal
 
 abbrev pub invariant-loop-i : goal.invariant-loop-i

@@ -2,7 +2,7 @@ use Rattle.std.proofs.Common.{◌∙◌, sym, ap, subst}
 use Rattle.std.specs.Prelude.{slice_get, ◌≢◌, ◌/◌, All}
 use Rattle.clmodel.specs.Cells.{cells_of}
 use Rattle.spaces.specs.Overlay.{copies}
-use Rattle.spaces.proofs.Rows.{unchanged}
+use Rattle.spaces.proofs.PageRows.{unchanged}
 use Rattle.spaces.proofs.overlay.Overlay.changed.Goals as goal
 
 pub returns : goal.returns

@@ -1,7 +1,7 @@
 use Rattle.std.proofs.Common.{◌+◌, ◌∙◌, sym, ap}
 use Rattle.std.specs.Prelude.{nat_le}
 use Rattle.spaces.specs.Overlay.{copies}
-use Rattle.spaces.proofs.Rows.{as_many}
+use Rattle.spaces.proofs.PageRows.{as_many}
 use Rattle.spaces.proofs.overlay.Overlay.is_inside.Goals as goal
 
 pub returns : goal.returns

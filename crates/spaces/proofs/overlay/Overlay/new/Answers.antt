@@ -1,5 +1,5 @@
 use Rattle.spaces.specs.Overlay.{copies}
-use Rattle.spaces.proofs.Rows.{nothing_copied}
+use Rattle.spaces.proofs.PageRows.{nothing_copied}
 use Rattle.spaces.proofs.overlay.Overlay.new.Goals as goal
 
 pub returns-clause-bytes : goal.returns-clause-bytes

@@ -1,7 +1,7 @@
 use Rattle.std.proofs.Common.{◌+◌, ◌≤◌, ◌∙◌, sym, ap, subst}
 use Rattle.clmodel.specs.Cells.{byte_count, cells_of, number}
 use Rattle.spaces.specs.Overlay.{copies}
-use Rattle.spaces.proofs.Rows.{as_many, number_there}
+use Rattle.spaces.proofs.PageRows.{as_many, number_there}
 use Rattle.spaces.proofs.overlay.Overlay.number.Goals as goal
 
 pub number-requires : goal.number-requires

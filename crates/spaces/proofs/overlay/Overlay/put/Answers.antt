@@ -1,9 +1,9 @@
 use Rattle.std.proofs.Common.{◌≡◌, ◌+◌, ◌≤◌, sym, ap, subst}
 use Rattle.std.specs.Prelude.{OnOk, OnErr}
 use Rattle.clmodel.specs.Cells.{byte_count, cells_of, written}
-use Rattle.spaces_base.specs.Space.{Becomes}
+use Rattle.spaces.specs.Space.{Becomes}
 use Rattle.spaces.specs.Overlay.{copies, overlaid}
-use Rattle.spaces.proofs.Rows.{as_many}
+use Rattle.spaces.proofs.PageRows.{as_many}
 use Rattle.spaces.proofs.overlay.Overlay.put.Goals as goal
 
 pub change-requires : goal.change-requires

@@ -1,6 +1,6 @@
 use Rattle.std.proofs.Common.{sym}
 use Rattle.spaces.specs.Overlay.{copies}
-use Rattle.spaces.proofs.Rows.{as_many}
+use Rattle.spaces.proofs.PageRows.{as_many}
 use Rattle.spaces.proofs.overlay.OverlaySpace.size.Goals as goal
 
 pub returns : goal.returns

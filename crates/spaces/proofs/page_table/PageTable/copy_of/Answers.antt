@@ -1,7 +1,7 @@
 use Rattle.std.proofs.Common.{◌-◌, ◌∙◌, sym, ap, arith}
 use Rattle.std.specs.Prelude.{slice_index}
 use Rattle.spaces.specs.Overlay.{copies}
-use Rattle.spaces.proofs.Tables.{copy_before, copy_from}
+use Rattle.spaces.proofs.PageTables.{copy_before, copy_from}
 use Rattle.spaces.proofs.page_table.PageTable.copy_of.Goals as goal
 
 pub returns-then-page-self : goal.returns-then-page-self

@@ -1,6 +1,6 @@
 use Rattle.std.proofs.Common.{◌∙◌, ap}
 use Rattle.spaces.specs.Overlay.{copy_at}
-use Rattle.spaces.proofs.Tables.{empty_row}
+use Rattle.spaces.proofs.PageTables.{empty_row}
 use Rattle.spaces.proofs.page_table.PageTable.new.Goals as goal
 
 pub returns : goal.returns

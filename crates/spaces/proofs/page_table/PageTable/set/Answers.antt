@@ -1,6 +1,6 @@
 use Rattle.std.proofs.Common.{◌∙◌, ap}
 use Rattle.spaces.specs.Overlay.{copies}
-use Rattle.spaces.proofs.Tables.{new_entry, other_entry}
+use Rattle.spaces.proofs.PageTables.{new_entry, other_entry}
 use Rattle.spaces.proofs.page_table.PageTable.set.Goals as goal
 
 pub returns-clause-here : goal.returns-clause-here

@@ -1,7 +1,7 @@
 use Rattle.std.proofs.Common.{◌≡◌, ◌+◌, ◌*◌, ◌-◌, ◌<◌, ◌^◌, suc, sym, ap, subst, arith, rules}
 use Rattle.std.specs.Prelude.{Some}
 use Rattle.spaces.specs.Overlay.{copies, overlaid_cells}
-use Rattle.spaces_base.proofs.Rows.{joined_fits, joined_below, number_joined}
+use Rattle.spaces.proofs.Rows.{joined_fits, joined_below, number_joined}
 use Rattle.spaces.proofs.pages.Pages.+number_by_bytes.Goals as goal
 
 pub overflow_mul-result : goal.overflow_mul-result

@@ -1,7 +1,7 @@
 use Rattle.std.proofs.Common.{◌≡◌, ◌+◌, ◌*◌, ◌-◌, ◌/◌, ◌%◌, ◌<◌, ◌∙◌, sym, ap, subst, arith}
 use Rattle.std.specs.Prelude.{Some, slice_set}
 use Rattle.spaces.specs.Overlay.{copies, overlaid_cells}
-use Rattle.spaces_base.proofs.Rows.{written_out, written_more}
+use Rattle.spaces.proofs.Rows.{written_out, written_more}
 use Rattle.spaces.proofs.Copies.{put_here, put_there, place_there}
 use Rattle.spaces.proofs.pages.Pages.+put_by_bytes.Goals as goal
 

@@ -3,7 +3,7 @@ use Rattle.std.specs.Prelude.{length}
 use Rattle.clmodel.specs.Cells.{byte_count, written}
 use Rattle.spaces.specs.Overlay.{copies, overlaid_cells, row_cells}
 use Rattle.spaces.proofs.Copies.{put_back, put_in_copy}
-use Rattle.spaces.proofs.Rows.{overlaid_many, put_whole}
+use Rattle.spaces.proofs.PageRows.{overlaid_many, put_whole}
 use Rattle.spaces.proofs.pages.Pages.change.Goals as goal
 
 pub returns-then-at-count-le-PAGE-clause-changed : goal.returns-then-at-count-le-PAGE-clause-changed

@@ -3,7 +3,7 @@ use Rattle.std.specs.Prelude.{length}
 use Rattle.clmodel.specs.Cells.{byte_count, cells_of, written}
 use Rattle.spaces.specs.Overlay.{copies, overlaid, overlaid_cells, row_cells}
 use Rattle.spaces.proofs.Copies.{put_back, put_in_copy}
-use Rattle.spaces.proofs.Rows.{overlaid_many, overlaid_same, put_whole, on_err}
+use Rattle.spaces.proofs.PageRows.{overlaid_many, overlaid_same, put_whole, on_err}
 use Rattle.spaces.proofs.pages.Pages.change_new.Goals as goal
 
 pub returns-in_err-copy-clause-same : goal.returns-in_err-copy-clause-same

@@ -1,7 +1,7 @@
 use Rattle.std.proofs.Common.{◌+◌, ap, ◌∙◌}
 use Rattle.clmodel.specs.Next.{launch_of}
 use Rattle.item_step.specs.Launches.{setup_of}
-use Rattle.spaces_base.specs.Buffers.{bytes_in}
+use Rattle.spaces.specs.Buffers.{bytes_in}
 use Rattle.workers.proofs.Runs.{is_numbered, place_of, stopped_stops, stops_stopped}
 use Rattle.workers.specs.Results.{place_among}
 use Rattle.workers.proofs.round.RoundWork.laws.Goals as goal

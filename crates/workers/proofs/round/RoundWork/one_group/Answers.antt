@@ -2,7 +2,7 @@ use Rattle.std.proofs.Common.{◌+◌, arith}
 use Rattle.clmodel.specs.Launch.{Launch}
 use Rattle.clmodel.specs.Next.{launch_of}
 use Rattle.item_step.specs.Launches.{setup_of}
-use Rattle.spaces_base.specs.Buffers.{bytes_in}
+use Rattle.spaces.specs.Buffers.{bytes_in}
 use Rattle.workers.proofs.Runs.{below_there, listed_of_group}
 use Rattle.workers.proofs.round.RoundWork.one_group.Goals as goal
 

@@ -1,0 +1,320 @@
+//! A whole run: a script in, its replies out.
+#![tactic(auto)]
+
+ghost use Rattle.std.specs.Prelude.{◌≡◌, ◌≤◌, ℕ, IfOk, IfErr, OnErr, length};
+ghost use Rattle.device.specs.Machine.{machine_of, opening};
+ghost use Rattle.host_commands.specs.declared.command.Reply.{Reply as ReplyOf};
+ghost use Rattle.host_queue.specs.declared.view.Request.TheVariants.{Answered as AnsweredBy};
+ghost use Rattle.byte_io.specs.Sink.{Wrote, Stopped};
+ghost use Rattle.simfile.specs.Lines.{line};
+ghost use Rattle.cli.specs.Session.{one_end, Answered, Broken, Unanswered, Ran, Failed, status_of};
+
+use crate::only_client::OnlyClient;
+use crate::reading::commands_of;
+use byte_io::{Read, Write, WriteFailed};
+use code_text::DumpFault;
+use fault_lines::ReadFault as FileFault;
+use host_commands::command::{Command, Reply};
+use host_queue::Request;
+use lower::LowerFault;
+use serving::ServeFault;
+use simfile::replies::write_reply;
+use simfile::script::ScriptFault;
+use std::alloc::{AllocError, AllocFailed, Global};
+use std::marker::Sync;
+use std::sync::Wait;
+use std::thread::Threads;
+use thiserror::Error;
+
+/// What is given to a run beside its script.
+#[derive(Clone, Copy, Debug, PartialEq, Eq)]
+pub struct Options {
+    /// The most ticks of a work-item of a launch, from 1 to 1,000,000
+    pub budget: u32,
+    /// How many workers run a launch, from 1 to 16. No reply depends on it
+    pub workers: u32,
+    pub ghost limited: { budget ≤ 1000000 },
+    pub ghost counted: { (1 ≤ workers) × (workers ≤ 16) },
+}
+
+impl Options {
+    /// The budget where none is given.
+    pub const DEFAULT_BUDGET: u32 = 100_000;
+
+    /// The number of workers where none is given.
+    pub const DEFAULT_WORKERS: u32 = 1;
+}
+
+impl Default for Options {
+    ghost is_default = { λ options. (options.budget ≡ 100000) × (options.workers ≡ 1) };
+
+    fn default() -> Self {
+        Options {
+            budget: Self::DEFAULT_BUDGET,
+            workers: Self::DEFAULT_WORKERS,
+        }
+    }
+}
+
+/// What the replies of a run come to.
+#[derive(Clone, Copy, Debug, PartialEq, Eq)]
+pub struct RunEnd {
+    /// A launch ended in a fault
+    pub faulted: bool,
+    /// A command was refused
+    pub refused: bool,
+}
+
+/// One of the readers of a command.
+#[derive(Clone, Copy, Debug, PartialEq, Eq)]
+pub enum Reader {
+    /// The script's or the source's
+    First,
+    /// The schedule file's
+    Second,
+}
+
+/// Why a run, a check, a dump or a replay failed.
+#[derive(Clone, Copy, Debug, PartialEq, Eq, Error)]
+pub enum RunFault {
+    /// 1: this reader failed. Nothing was written
+    #[error("cannot read")]
+    Read(Reader),
+    /// 2: the writer failed. A beginning of the text was written
+    #[error("cannot write")]
+    Write,
+    /// 3: the lowest bad line of a text that is no script, counted from 1. Nothing was written
+    #[error("line {0}: bad line")]
+    BadLine(usize),
+    /// 4: no memory is left. Nothing was written
+    #[error("out of memory")]
+    OutOfMemory,
+    /// 5: no kernel of the source has the name. Nothing was written
+    #[error("no such kernel")]
+    NoSuchKernel,
+    /// 6: a text is no schedule file. Nothing was written
+    #[error("bad schedule file")]
+    BadSchedule,
+    /// 7: the command of the schedule file's ticket is no launch, or there is none. Nothing was written
+    #[error("command {0} is not a launch")]
+    NotALaunch(u64),
+    /// 8: the launch of the schedule file's ticket is refused, and not for want of memory. Nothing was written
+    #[error("command {0} is refused")]
+    CommandRefused(u64),
+}
+
+impl From<AllocError> for RunFault {
+    ghost use Rattle.std.specs.Prelude.{◌≡◌};
+    ghost use Rattle.cli.specs.declared.session.RunFault.TheVariants as run_fault;
+
+    ghost from_gives = { λ _ made. made ≡ run_fault.OutOfMemory };
+
+    fn from(_: AllocError) -> Self {
+        RunFault::OutOfMemory
+    }
+}
+
+impl<T: Drop> From<AllocFailed<T>> for RunFault {
+    ghost use Rattle.std.specs.Prelude.{◌≡◌};
+    ghost use Rattle.cli.specs.declared.session.RunFault.TheVariants as run_fault;
+
+    ghost from_gives = { λ _ made. made ≡ run_fault.OutOfMemory };
+
+    fn from(_: AllocFailed<T>) -> Self {
+        RunFault::OutOfMemory
+    }
+}
+
+impl From<WriteFailed> for RunFault {
+    ghost use Rattle.std.specs.Prelude.{◌≡◌};
+    ghost use Rattle.cli.specs.declared.session.RunFault.TheVariants as run_fault;
+
+    ghost from_gives = { λ _ made. made ≡ run_fault.Write };
+
+    fn from(_: WriteFailed) -> Self {
+        RunFault::Write
+    }
+}
+
+impl From<ScriptFault> for RunFault {
+    ghost use Rattle.std.specs.Prelude.{◌≡◌};
+    ghost use Rattle.cli.specs.Faults.{script_fault};
+
+    ghost from_gives = { λ fault made. made ≡ script_fault fault };
+
+    fn from(fault: ScriptFault) -> Self {
+        match fault {
+            ScriptFault::BadLine(number) => RunFault::BadLine(number),
+            ScriptFault::OutOfMemory => RunFault::OutOfMemory,
+        }
+    }
+}
+
+impl From<FileFault> for RunFault {
+    ghost use Rattle.std.specs.Prelude.{◌≡◌};
+    ghost use Rattle.cli.specs.Faults.{file_fault};
+
+    ghost from_gives = { λ fault made. made ≡ file_fault fault };
+
+    fn from(fault: FileFault) -> Self {
+        match fault {
+            FileFault::BadText => RunFault::BadSchedule,
+            FileFault::OutOfMemory => RunFault::OutOfMemory,
+        }
+    }
+}
+
+impl From<LowerFault> for RunFault {
+    ghost use Rattle.std.specs.Prelude.{◌≡◌};
+    ghost use Rattle.cli.specs.Faults.{lower_fault};
+
+    ghost from_gives = { λ fault made. made ≡ lower_fault fault };
+
+    fn from(fault: LowerFault) -> Self {
+        match fault {
+            LowerFault::NoSuchKernel => RunFault::NoSuchKernel,
+            LowerFault::OutOfMemory => RunFault::OutOfMemory,
+        }
+    }
+}
+
+impl From<DumpFault> for RunFault {
+    ghost use Rattle.std.specs.Prelude.{◌≡◌};
+    ghost use Rattle.cli.specs.declared.session.RunFault.TheVariants as run_fault;
+
+    ghost from_gives = { λ _ made. made ≡ run_fault.Write };
+
+    fn from(fault: DumpFault) -> Self {
+        match fault {
+            DumpFault::Write => RunFault::Write,
+        }
+    }
+}
+
+impl From<ServeFault> for RunFault {
+    ghost use Rattle.std.specs.Prelude.{◌≡◌};
+    ghost use Rattle.cli.specs.Faults.{serve_fault};
+
+    ghost from_gives = { λ fault made. made ≡ serve_fault fault };
+
+    fn from(fault: ServeFault) -> Self {
+        match fault {
+            ServeFault::Hear => RunFault::Read(Reader::First),
+            ServeFault::Tell => RunFault::Write,
+            ServeFault::BadLine(number) => RunFault::BadLine(number),
+            ServeFault::OutOfMemory => RunFault::OutOfMemory,
+        }
+    }
+}
+
+/// What the replies come to with one more.
+pub fn one_end(reply: &Reply, end: RunEnd) -> RunEnd
+    ensures { result ≡ one_end reply.now end }
+{
+    match reply {
+        Reply::Fault { .. } => RunEnd {
+            faulted: true,
+            ..end
+        },
+        Reply::Refused(_) => RunEnd {
+            refused: true,
+            ..end
+        },
+        Reply::Done | Reply::Data(_) | Reply::Clean => end,
+    }
+}
+
+/// Writes a reply's line. Answers what the replies come to with this one.
+fn write_answer<W: Write>(reply: &Reply, end: RunEnd, writer: &mut W) -> Result<RunEnd, WriteFailed>
+    ensures ok { IfOk result (λ next. Wrote (W.sink writer.old) (W.sink writer.new) (line reply.now) × (next ≡ one_end reply.now end)) }
+    ensures err { OnErr result (Stopped (W.sink writer.old) (W.sink writer.new) (line reply.now)) }
+{
+    write_reply(reply, writer)?;
+    Ok(one_end(reply, end))
+}
+
+/// Writes the line of the reply in a box.
+fn write_answered<W: Write>(
+    request: &Request<Command, Reply>,
+    end: RunEnd,
+    writer: &mut W,
+) -> Result<RunEnd, WriteFailed>
+    requires answered { (reply : ReplyOf) × (request.now ≡ AnsweredBy reply) }
+    ensures ok { (reply : ReplyOf) → request.now ≡ AnsweredBy reply → IfOk result (λ next. Wrote (W.sink writer.old) (W.sink writer.new) (line reply) × (next ≡ one_end reply end)) }
+    ensures err { (reply : ReplyOf) → request.now ≡ AnsweredBy reply → OnErr result (Stopped (W.sink writer.old) (W.sink writer.new) (line reply)) }
+{
+    match request {
+        Request::Answered(reply) => write_answer(reply, end, writer),
+        Request::Asked(_) => unreachable!(),
+    }
+}
+
+/// Performs the commands in order, all in the one box, and writes a line for each reply.
+fn answer_all<T: Threads + Wait + Sync, W: Write>(
+    rt: &T,
+    client: &mut OnlyClient,
+    mut request: Box<Request<Command, Reply>>,
+    commands: Vec<Command>,
+    writer: &mut W,
+) -> Result<RunEnd, WriteFailed>
+    requires new { length client.old.driver.driver.seat.me.0.known ≡ 0 }
+    requires few { length commands.items ≤ 4096 }
+    ensures ok { IfOk result (λ end. (budget : ℕ) → machine_of client.old.driver.driver.machine ≡ opening budget → Answered budget commands.items (W.sink writer.old) (W.sink writer.new) end) }
+    ensures err { OnErr result ((budget : ℕ) → machine_of client.old.driver.driver.machine ≡ opening budget → Broken budget commands.items (W.sink writer.old) (W.sink writer.new)) }
+{
+    let mut end = RunEnd {
+        faulted: false,
+        refused: false,
+    };
+    for command in commands {
+        request = client.ask(rt, request, command);
+        end = write_answered(&request, end, writer)?;
+    }
+    writer.flush()?;
+    Ok(end)
+}
+
+/// Performs the commands in order through the queue of a new device, and writes a line for each reply. The queue and
+/// the box of all requests are made before anything is written.
+fn perform<T: Threads + Wait + Sync, W: Write>(
+    rt: &T,
+    alloc: Global,
+    options: Options,
+    commands: Vec<Command>,
+    writer: &mut W,
+) -> Result<RunEnd, RunFault>
+    requires few { length commands.items ≤ 4096 }
+    ensures ok { IfOk result (λ end. Answered options.budget commands.items (W.sink writer.old) (W.sink writer.new) end) }
+    ensures err { IfErr result (Unanswered options.budget commands.items (W.sink writer.old) (W.sink writer.new)) }
+{
+    let mut client = OnlyClient::open(alloc, options)?;
+    let request = Box::new(alloc, Request::Answered(Reply::Done))?;
+    Ok(answer_all(rt, &mut client, request, commands, writer)?)
+}
+
+/// Reads a script, hands its commands to the queue of a new device, each for the next ticket, and writes a line for
+/// each reply, in order and nothing else.
+pub fn run<T: Threads + Wait + Sync, R: Read, W: Write>(
+    rt: &T,
+    alloc: Global,
+    reader: &mut R,
+    writer: &mut W,
+    options: Options,
+) -> Result<RunEnd, RunFault>
+    ensures ran { IfOk result (Ran (R.rest reader.old) options.budget (W.sink writer.old) (W.sink writer.new)) }
+    ensures failed { IfErr result
+        (Failed (R.rest reader.old) (R.failures reader.old) (R.failures reader.new) options.budget (W.sink writer.old) (W.sink writer.new)) }
+{
+    let commands = commands_of(alloc, reader)?;
+    perform(rt, alloc, options, commands, writer)
+}
+
+/// The status of a run: 2 where a command was refused or the run failed, else 1 where a launch faulted, else 0.
+pub fn status(outcome: &Result<RunEnd, RunFault>) -> u8
+    ensures { result ≡ status_of outcome.now }
+{
+    match outcome {
+        Ok(end) if !end.refused => u8::from(end.faulted),
+        _ => 2,
+    }
+}

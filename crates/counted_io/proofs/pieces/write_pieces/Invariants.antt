@@ -1,8 +1,0 @@
-use Rattle.std.proofs.Common.{take}
-use Rattle.std.specs.List.{flat_map}
-use Rattle.counted_io.specs.Sink.{Wrote}
-use Rattle.counted_io.specs.Pieces.{piece_text}
-use Rattle.counted_io.proofs.pieces.write_pieces.Given as goal
-
-abbrev pub invariant-loop-piece : goal.invariant-loop-piece
-invariant-loop-piece g l = Wrote (g.W.Write.sink l.initial.writer) (g.W.Write.sink l.writer) (flat_map piece_text (take l.piece-index l.pieces))

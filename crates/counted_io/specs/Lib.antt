@@ -1,3 +1,0 @@
-pub mod Sink
-pub mod Source
-pub mod Pieces

@@ -1,2 +1,0 @@
-mod Lining
-mod Places

@@ -1,7 +1,0 @@
-use Rattle.std.proofs.Common.{◌≡◌, ℕ, ◌+◌, ◌<◌, ◌≤◌}
-use Rattle.std.specs.Prelude.{slice_index_or}
-use Rattle.entry_lines.specs.Lines.{entry_at, no_entry}
-use Rattle.entry_lines.proofs.rounds.is_told.Given as goal
-
-abbrev pub invariant-loop-k : goal.invariant-loop-k
-invariant-loop-k l = (k : ℕ) → l.line.period ≤ k → k < l.k → entry_at l.heads l.steps l.line.head l.line.period l.line.step k ≡ slice_index_or l.heads (l.line.head + k) no_entry

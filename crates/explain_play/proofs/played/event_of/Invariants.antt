@@ -1,6 +1,0 @@
-use Rattle.std.proofs.Common.{◌≡◌, ◌+◌, count_by, take}
-use Rattle.explain_play.specs.PlayedOut.{is_access}
-use Rattle.explain_play.proofs.played.event_of.Given as goal
-
-abbrev pub invariant-loop-number : goal.invariant-loop-number
-invariant-loop-number l = l.left + count_by (λ mark. is_access mark.event) (take l.number l.marks) ≡ l.access

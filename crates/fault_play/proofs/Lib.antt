@@ -1,0 +1,3 @@
+mod Lasts
+pub mod Following
+pub mod Marking

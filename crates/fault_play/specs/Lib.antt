@@ -1,0 +1,4 @@
+pub mod PlayedOut
+pub mod Marks
+pub mod Pairs
+pub mod Replicas

@@ -1,0 +1,172 @@
+-- Numbers whose bytes are what the bytes of an access become.
+use Rattle.std.proofs.Common.{◌≡◌, ℕ, zero, suc, ◌+◌, ◌-◌, ◌*◌, ◌/◌, ◌%◌, ◌^◌, ◌<◌, ◌≤◌, ◌⊎◌, Bool, true, Option, None, Some, List, [], ◌∷◌, length, set, take, refl, sym, ap, ap₂, ◌∙◌, subst, inl, inr, arith}
+use Rattle.std.specs.Prelude.{slice_get, min}
+use Rattle.std.specs.Int.{to_le_bytes, bytes_low_first, byte_at, w64}
+use Rattle.std.proofs.Math.Nat.{pow-succ', div-div-eq-div-mul, div-one}
+use Rattle.std.proofs.lemmas.List.{length-take-le}
+use Rattle.clmodel.specs.Cells.{Cells, byte_count, byte_of, covers, joined, number}
+use Rattle.clmodel.specs.declared.access.Access.{Access}
+use Rattle.clmodel.specs.declared.access.AccessKind.{AccessKind}
+use Rattle.clmodel.specs.declared.access.AccessKind.TheVariants as kind
+use Rattle.clmodel.specs.declared.access.Class.{Class}
+use Rattle.clmodel.specs.declared.access.Region.{Region}
+use Rattle.clmodel.specs.declared.access.Region.TheVariants as region
+use Rattle.clmodel.proofs.CellLaws.{covers_parts, covers_from}
+use Rattle.clmodel.proofs.Steps.{none_some, some_inj, if_true}
+use Rattle.joining.specs.Memory.{writes}
+use Rattle.group_join.specs.declared.changes.Change.{Change}
+use Rattle.group_join.specs.Changes.{ByteChange, byte_changes, changes_at, access_changes, bytes_of, number_or_0, joined_value, value_of, cells_at, filled_at, buffer_at, AreChanged, IsValue, AreBytes, IsKept}
+use Rattle.group_join.proofs.Numbers.{one_byte, first_or_later}
+use Rattle.group_join.proofs.Changing.{with_row, take_get, changed_put}
+
+-- ---- the bytes of a number
+
+byte_first : (low high : ℕ) → low < 256 → byte_of 0 (low + 256 * high) ≡ low
+byte_first low high h = ap (λ z. z % 256) (div-one (low + 256 * high)) ∙ omega (arith, h)
+
+byte_later : (low high k : ℕ) → low < 256 → byte_of (suc k) (low + 256 * high) ≡ byte_of k high
+byte_later low high k h =
+    let x : ℕ = low + 256 * high in
+    let up : x / 256 ≡ high = omega (arith, h) in
+    ap (λ z. z % 256) (ap (λ z. x / z) (pow-succ' 256 k) ∙ sym (div-div-eq-div-mul x 256 (256 ^ k)) ∙ ap (λ z. z / 256 ^ k) up)
+
+-- a byte of a number is what that byte becomes, if the lowest and the others are
+byte_is : (first byte low high : ℕ) (f : ℕ → ℕ) → low < 256 → low ≡ f first → (suc first ≤ byte → byte_of (byte - suc first) high ≡ f byte) → (first ≡ byte) ⊎ (suc first ≤ byte)
+    → byte_of (byte - first) (low + 256 * high) ≡ f byte
+byte_is first byte low high f b here there (inl e) =
+    let z : byte - first ≡ 0 = omega (arith, e) in ap (λ k. byte_of k (low + 256 * high)) z ∙ byte_first low high b ∙ here ∙ ap f e
+byte_is first byte low high f b here there (inr h) =
+    let z : byte - first ≡ suc (byte - suc first) = omega (arith, h) in ap (λ k. byte_of k (low + 256 * high)) z ∙ byte_later low high (byte - suc first) b ∙ there h
+
+-- the bytes of the number of set cells are these cells
+pub number_bytes :
+    (cells : Cells) (first count v byte : ℕ) → number cells first count ≡ Some v → AreBytes cells first count → covers first count byte ≡ true → byte_of (byte - first) v ≡ number_or_0 cells byte 1
+number_bytes cells first zero v byte h b c = let p = covers_parts first zero byte c in absurd (omega (arith, p.0, p.1))
+number_bytes cells first (suc count) v byte h b c =
+    go (cells first) (number cells (suc first) count) refl refl
+    (λ high f l. number_bytes cells (suc first) count high byte f fewer (covers_from (suc first) count byte l (omega (arith, covers_parts first (suc count) byte c))))
+  where
+    fewer : AreBytes cells (suc first) count
+    fewer =
+        record {
+          each = λ k w q. let p = covers_parts (suc first) count k q in b.each k w (covers_from first (suc count) k (omega (arith, p.0)) (omega (arith, p.1)));
+        }
+
+    go : (o r : Option ℕ) → cells first ≡ o → number cells (suc first) count ≡ r
+        → ((high : ℕ) → number cells (suc first) count ≡ Some high → suc first ≤ byte → byte_of (byte - suc first) high ≡ number_or_0 cells byte 1) → byte_of (byte - first) v ≡ number_or_0 cells byte 1
+    go None r e f later = absurd (none_some v (ap (λ z. joined z (number cells (suc first) count)) (sym e) ∙ h))
+    go (Some low) None e f later = absurd (none_some v (ap₂ joined (sym e) (sym f) ∙ h))
+    go (Some low) (Some high) e f later =
+        let is : v ≡ low + 256 * high = some_inj v (low + 256 * high) (sym h ∙ ap₂ joined e f) in
+        let fits : low < 256 = b.each first low (covers_from first (suc count) first (omega arith) (omega arith)) e in
+        ap (byte_of (byte - first)) is
+        ∙ byte_is first byte low high (λ k. number_or_0 cells k 1) fits (sym (one_byte cells first low e)) (later high f) (first_or_later first byte (covers_parts first (suc count) byte c).0)
+
+-- ---- what the bytes of an access become
+
+-- the further group's own number, where it is set
+pub own_number :
+    (cells : Cells) (first count : ℕ) (found : Option ℕ) (v : ℕ) → found ≡ number cells first count → found ≡ Some v → AreBytes cells first count
+    → IsValue first count (λ byte. number_or_0 cells byte 1) v
+own_number cells first count found v e f b = record { each = λ byte c. number_bytes cells first count v byte (sym e ∙ f) b c }
+
+abbrev buffer_of : Region → ℕ
+buffer_of (region.Buffer n) = n
+buffer_of (region.Local group n) = n
+
+-- the number of what the bytes of an update become is kept of it
+pub update_kept :
+    (first lower : List (List ℕ)) (wrote : ℕ → ℕ → Bool) (own : List (List (Option ℕ))) (n : ℕ) (class : Class) (x : Access) (count v : ℕ) → x.kind ≡ kind.Update class → x.region ≡ region.Buffer n
+    → count ≡ byte_count x.width
+    → IsValue x.first count (λ byte. joined_value (kind.Update class) (wrote n byte) (filled_at first n) (filled_at lower n) (cells_at own n) byte) v
+    → IsKept (value_of first lower wrote own) own x (Some v)
+update_kept first lower wrote own n class x count v k r e is = λ m q.
+    let same : n ≡ m = ap buffer_of (sym r ∙ q) in
+    record {
+      each = λ byte c.
+          is.each byte (subst (λ z. covers x.first z byte ≡ true) (sym e) c)
+          ∙ ap (λ z. joined_value (kind.Update class) (wrote z byte) (filled_at first z) (filled_at lower z) (cells_at own z) byte) same
+          ∙ ap (λ z. joined_value z (wrote m byte) (filled_at first m) (filled_at lower m) (cells_at own m) byte) (sym k);
+    }
+
+-- no bytes, and one more byte below others
+pub value_none : (first : ℕ) (f : ℕ → ℕ) (v : ℕ) → IsValue first 0 f v
+value_none first f v = record { each = λ byte c. let p = covers_parts first 0 byte c in absurd (omega (arith, p.0, p.1)) }
+
+pub value_more : (first count : ℕ) (f : ℕ → ℕ) (low high : ℕ) → 0 < count → low < 256 → low ≡ f first → IsValue (first + 1) (count - 1) f high → IsValue first count f (low + 256 * high)
+value_more first count f low high some fits here there =
+    record {
+      each = λ byte c.
+          let p = covers_parts first count byte c in
+          byte_is first byte low high f fits here
+          (λ l. let z : first + 1 ≡ suc first = omega arith in
+          ap (λ k. byte_of (byte - k) high) (sym z) ∙ there.each byte (covers_from (first + 1) (count - 1) byte (omega (arith, l)) (omega (arith, l, p.1, some)))) (first_or_later first byte p.0);
+    }
+
+pub writes_unless : (k : AccessKind) → (k ≡ kind.Load → ⊥) → writes k ≡ true
+writes_unless kind.Load h = absurd (h refl)
+writes_unless kind.Store h = refl
+writes_unless (kind.Update class) h = refl
+writes_unless kind.Fetch h = refl
+
+-- ---- the changes of an access
+
+same_changes : (n first count : ℕ) (f g : ℕ → ℕ) → ((byte : ℕ) → covers first count byte ≡ true → f byte ≡ g byte) → byte_changes n first count f ≡ byte_changes n first count g
+same_changes n first zero f g h = refl
+same_changes n first (suc count) f g h =
+    ap₂ (λ v (rest : List ByteChange). record { buffer = n; byte = first; value = v } ∷ rest) (h first (covers_from first (suc count) first (omega arith) (omega arith)))
+    (same_changes n (first + 1) count f g
+    (λ byte c. let p = covers_parts (first + 1) count byte c in h byte (covers_from first (suc count) byte (omega (arith, p.0)) (omega (arith, p.1)))))
+
+-- the change of an access that wrote bytes of a buffer
+pub change_made :
+    (value : ℕ → Access → ℕ → ℕ) (old new : List (List ℕ)) (n : ℕ) (x : Access) (v : ℕ) → writes x.kind ≡ true → x.region ≡ region.Buffer n → IsValue x.first (byte_count x.width) (value n x) v
+    → AreChanged old new (bytes_of (record { buffer = n; width = x.width; first = x.first; value = v })) → AreChanged old new (access_changes value x)
+change_made value old new n x v w r is =
+    subst (AreChanged old new)
+    (same_changes n x.first (byte_count x.width) (λ byte. byte_of (byte - x.first) v) (value n x) is.each
+    ∙ ap (changes_at value x) (sym r)
+    ∙ sym (if_true (writes x.kind) (changes_at value x x.region) [] w))
+
+-- the further group's own number, where nothing is kept of an access
+pub own_kept :
+    (value : ℕ → Access → ℕ → ℕ) (own : List (List (Option ℕ))) (n : ℕ) (x : Access) (v : ℕ) → writes x.kind ≡ true → x.region ≡ region.Buffer n → IsKept value own x None
+    → IsValue x.first (byte_count x.width) (λ byte. number_or_0 (cells_at own n) byte 1) v → IsValue x.first (byte_count x.width) (value n x) v
+own_kept value own n x v w r kept is = record { each = λ byte c. is.each byte c ∙ sym (kept n w r byte c) }
+
+-- ---- a number as a row of bytes
+
+low_first : (i n v k : ℕ) → k < n → slice_get (bytes_low_first i n v) k ≡ Some (byte_at (i + k) v)
+low_first i zero v k h = absurd (omega (arith, h))
+low_first i (suc n) v zero h = let z : i ≡ i + 0 = omega arith in ap (λ j. Some (byte_at j v)) z
+low_first i (suc n) v (suc k) h = let z : suc i + k ≡ i + suc k = omega arith in low_first (suc i) n v k (omega (arith, h)) ∙ ap (λ j. Some (byte_at j v)) z
+
+byte_there : (k v : ℕ) → byte_at k v ≡ byte_of k v
+byte_there zero v = ap (λ z. z % 256) (sym (div-one v))
+byte_there (suc k) v = refl
+
+pub le_byte : (v k : ℕ) → k < 8 → slice_get (to_le_bytes w64 v) k ≡ Some (byte_of k v)
+le_byte v k h = let z : 0 + k ≡ k = omega arith in low_first 0 8 v k h ∙ ap Some (ap (λ j. byte_at j v) z ∙ byte_there k v)
+
+-- the low bytes of a number are put in place of those that a buffer has
+pub change_put :
+    (old : List (List ℕ)) (c : Change) (whole row new : List ℕ) (k : ℕ) → new ≡ with_row whole c.first row → row ≡ take k (to_le_bytes w64 c.value) → k ≡ min (byte_count c.width) (length whole - c.first)
+    → whole ≡ buffer_at old c.buffer → c.buffer < length old → c.first < length whole → byte_count c.width ≤ 8 → AreChanged old (set old c.buffer new) (bytes_of c)
+change_put old c whole row new k e low many is there inside short =
+    subst (λ z. AreChanged old (set old c.buffer z) (bytes_of c)) (sym (e ∙ ap (λ z. with_row z c.first row) is))
+    (changed_put old c.buffer c.first (byte_count c.width) row (λ byte. byte_of (byte - c.first) c.value) there (omega (arith, long, many, same, inside)) (omega (arith, long, many))
+    (λ h. omega (arith, long, many, same, inside, h)) each)
+  where
+    same : length whole ≡ length (buffer_at old c.buffer)
+    same = ap length is
+
+    long : length row ≡ k
+    long = ap length low ∙ length-take-le k (to_le_bytes w64 c.value) (omega (arith, many, short))
+
+    each : (j : ℕ) → j < length row → slice_get row j ≡ Some (byte_of (c.first + j - c.first) c.value)
+    each j h =
+        let z : j ≡ c.first + j - c.first = omega arith in
+        ap (λ y. slice_get y j) low
+        ∙ take_get (to_le_bytes w64 c.value) k j (omega (arith, long, h))
+        ∙ le_byte c.value j (omega (arith, long, h, many, short))
+        ∙ ap (λ y. Some (byte_of y c.value)) z

@@ -1,0 +1,312 @@
+//! What the work-groups of a launch come to, one after another.
+
+ghost use Rattle.std.specs.Prelude.{◌≡◌, ◌+◌, ◌*◌, ◌++◌, ◌<◌, ℕ, List, Option, Some, None, [], map, suc, take, true, IfOk, OnOk};
+ghost use Rattle.clmodel.specs.Next.{launch_of};
+ghost use Rattle.clmodel.specs.Launch.{Launch as TheLaunch};
+ghost use Rattle.clmodel.specs.Outcome.{events_of, Concludes, IsMerged};
+ghost use Rattle.clmodel.specs.Run.{start};
+ghost use Rattle.clmodel.specs.declared.access.Access.{Access as TheAccess};
+ghost use Rattle.clmodel.specs.declared.access.Region.TheVariants as region;
+ghost use Rattle.group_run.specs.Logs.{accesses_of, IsLogged};
+ghost use Rattle.group_run.specs.Results.{Leaves};
+ghost use Rattle.item_step.specs.Launches.{setup_of};
+ghost use Rattle.joining.specs.Group.{IsRun, plan_of};
+ghost use Rattle.joining.specs.Memory as joining;
+ghost use Rattle.joining.specs.Parts.{IsGrouped};
+ghost use Rattle.joining.specs.Steps.{HasGroup};
+ghost use Rattle.shadow.specs.Lasting.{StandsWith};
+ghost use Rattle.shadow.specs.Seen.{IsFootprint};
+ghost use Rattle.access_list.specs.Log.{Log};
+ghost use Rattle.spaces.specs.Buffers.{bytes_in};
+ghost use Rattle.group_join.specs.Changes.{AreChanged, AreUpdates, AllWroteBytes, changes_of, value_of};
+ghost use Rattle.group_join.specs.Comparing.{met_of, KeepsUpdates};
+ghost use Rattle.group_join.specs.Launches.{IsShortResult};
+ghost use Rattle.group_join.specs.Meetings.{AreOthers, IsFirstMet, report_at};
+ghost use Rattle.group_join.specs.Runs.{Adds, MayFollow};
+ghost use Rattle.group_join.specs.JoinedGroups.{HoldsGroups, IsStopped, CameOfDone, CameOfNext, HandsBack};
+
+use crate::changes::{Before, JoinedUpdate, join_accesses};
+use crate::comparing::{Compared, first_conflict};
+use crate::cutting::{add_all, add_first, add_runs};
+use crate::laws::laws;
+use crate::meetings::{FirstConflict, report_at};
+use clmodel::fault::Fault;
+use clmodel::outcome::Outcome;
+use clmodel::schedule::{EventRun, Schedule};
+use clmodel::text::{Bytes, Name};
+use group_run::{GroupEnd, GroupResult};
+use item_step::Launch;
+use launches::Described;
+use shadow::{Footprint, GroupAccesses};
+use spaces::{Buffers, Overlay};
+use std::alloc::{AllocError, Global};
+use std::mem::replace;
+
+/// What the groups so far come to: what they leave in the launch's buffers, the bytes that they accessed, and their
+/// events.
+#[derive(Drop)]
+pub struct JoinedGroups<'a> {
+    /// The bytes of the launch's buffers before any group.
+    pub(crate) first: Vec<&'a [u8]>,
+    pub(crate) contents: Vec<Bytes>,
+    pub(crate) footprint: Footprint,
+    pub(crate) runs: Vec<EventRun>,
+}
+
+/// What comes of joining one or more groups.
+#[derive(Drop)]
+pub enum JoinEnd<T> {
+    /// Nothing to report so far. This is handed on.
+    Continues(T),
+    /// What the launch comes to.
+    Ends(Outcome),
+}
+
+/// The number of a group, and whether a further group is to be joined after it.
+#[derive(Clone, Copy)]
+struct GroupPlace {
+    group: u32,
+    further: bool,
+}
+
+/// The bytes of the buffers that have these names, none where there is no such buffer.
+fn rows_of<'a>(
+    alloc: Global,
+    names: &[Name],
+    buffers: &'a Buffers,
+) -> Result<Vec<&'a [u8]>, AllocError>
+    ensures { IfOk result (λ rows. map (λ row. row.now) rows.items ≡ map (bytes_in buffers.now) names.now) }
+{
+    let mut rows = Vec::new(alloc);
+    for i in 0..names.len() {
+        rows.push(buffers.bytes_in(&names[i]))?;
+    }
+    Ok(rows)
+}
+
+/// Copies of rows of bytes.
+fn copies_of(alloc: Global, rows: &[&[u8]]) -> Result<Vec<Bytes>, AllocError>
+    ensures { IfOk result (λ copies. copies.items ≡ map (λ row. row.now) rows.now) }
+{
+    let mut copies = Vec::new(alloc);
+    for i in 0..rows.len() {
+        copies.push(Bytes::copy_of(alloc, rows[i])?)?;
+    }
+    Ok(copies)
+}
+
+impl<'a> JoinedGroups<'a> {
+    /// Before any group. The bytes of the launch's buffers are copied once.
+    pub fn new(alloc: Global, launch: &Launch<'_>, buffers: &'a Buffers) -> Result<Self, AllocError>
+        ensures { IfOk result (HoldsGroups (launch_of (setup_of launch.now) (bytes_in buffers.now)) 0) }
+    {
+        let first = rows_of(alloc, launch.buffer_names(), buffers)?;
+        let contents = copies_of(alloc, first.as_slice())?;
+        Ok(JoinedGroups {
+            first,
+            contents,
+            footprint: Footprint::new(alloc),
+            runs: Vec::new(alloc),
+        })
+    }
+
+    /// Compares a group's accesses with those of the lower groups, by whether the launch is uniform. Group 0 has none
+    /// below it, and isn't walked. An error is out of memory.
+    fn compare<L: GroupAccesses>(
+        &self,
+        alloc: Global,
+        uniform: bool,
+        group: u32,
+        spaces: &[Overlay<'_>],
+        log: &L,
+    ) -> Result<Compared, AllocError>
+        ensures met { IfOk result (λ found. (kept : List TheAccess) → IsFootprint self.now.footprint kept → (group ≡ 0 → kept ≡ []) → AreOthers (L.listed log.now) kept → IsFirstMet uniform (L.has_last log.now) (L.listed log.now) kept (met_of found)) }
+        ensures updates { IfOk result (λ found. (kept : List TheAccess) → IsFootprint self.now.footprint kept → (group ≡ 0 → kept ≡ []) → KeepsUpdates (value_of (map (λ row. row.now) self.now.first.items) self.now.contents.items (λ n b. joining.wrote kept (region.Buffer n) b) (map (λ space. space.bytes) spaces.now)) (map (λ space. space.bytes) spaces.now) (L.listed log.now) found) }
+    {
+        if group == 0 {
+            return Ok(Compared::Apart(Vec::new(alloc)));
+        }
+        let before = Before {
+            first: self.first.as_slice(),
+            lower: self.contents.as_slice(),
+            footprint: &self.footprint,
+            own: spaces,
+        };
+        before.compare(alloc, uniform, log)
+    }
+
+    /// The first access of a group that conflicts with those of the lower groups, by whether the launch is uniform, if
+    /// there is one. Group 0 has none below it, and isn't walked.
+    fn first_conflict<L: GroupAccesses>(
+        &self,
+        uniform: bool,
+        group: u32,
+        log: &L,
+    ) -> Option<FirstConflict>
+        ensures { (kept : List TheAccess) → IsFootprint self.now.footprint kept → (group ≡ 0 → kept ≡ []) → AreOthers (L.listed log.now) kept → IsFirstMet uniform (L.has_last log.now) (L.listed log.now) kept result }
+    {
+        if group > 0 {
+            first_conflict(&self.footprint, uniform, log)
+        } else {
+            None
+        }
+    }
+
+    /// Adds a group of which nothing conflicts: what it leaves, and its accesses and events where a group after it is
+    /// to be joined.
+    fn add<L: GroupAccesses>(
+        &mut self,
+        alloc: Global,
+        further: bool,
+        spaces: &[Overlay<'_>],
+        log: &L,
+        updates: &[JoinedUpdate],
+        runs: &Schedule,
+    ) -> Result<(), AllocError>
+        requires { MayFollow self.old.runs.items runs.now }
+        ensures changed { OnOk result ((value : ℕ → TheAccess → ℕ → ℕ) → AllWroteBytes (map (λ space. space.bytes) spaces.now) (L.listed log.now) → AreUpdates value (map (λ space. space.bytes) spaces.now) 0 (L.listed log.now) updates.now → AreChanged self.old.contents.items self.new.contents.items (changes_of value (L.listed log.now))) }
+        ensures accesses { OnOk result (further ≡ true → (kept : List TheAccess) → IsFootprint self.old.footprint kept → IsFootprint self.new.footprint (accesses_of (L.listed log.now) ++ kept)) }
+        ensures runs { OnOk result (further ≡ true → Adds self.old.runs.items self.new.runs.items runs.now (events_of runs.now)) }
+        ensures first { self.new.first ≡ self.old.first }
+    {
+        join_accesses(
+            alloc,
+            self.contents.as_mut_slice(),
+            &mut self.footprint,
+            further,
+            spaces,
+            log,
+            updates,
+        )?;
+        add_runs(&mut self.runs, further, runs.as_slice())?;
+        Ok(())
+    }
+
+    /// The report where an access of a group conflicts with a lower group's, with the events up to it.
+    fn cross<D: Described>(
+        &mut self,
+        launch: &D,
+        met: &FirstConflict,
+        stopped: Option<Fault>,
+        runs: &Schedule,
+    ) -> Result<Fault, AllocError>
+        requires { MayFollow self.old.runs.items runs.now }
+        ensures report { IfOk result (λ fault. Some fault ≡ report_at (D.launch launch.now) met.now stopped) }
+        ensures runs { IfOk result (λ fault. Adds self.old.runs.items self.new.runs.items runs.now (take (met.now.entry.event + 1) (events_of runs.now))) }
+    {
+        add_first(&mut self.runs, runs.as_slice(), met.entry.event as u64 + 1)?;
+        report_at(launch, met, stopped)
+    }
+
+    /// Joins a group that has ended: the report of its first access that conflicts with a lower group's, if there is
+    /// one.
+    fn join_done<D: Described, L: GroupAccesses>(
+        &mut self,
+        alloc: Global,
+        launch: &D,
+        number: GroupPlace,
+        spaces: &[Overlay<'_>],
+        log: &L,
+        runs: &Schedule,
+    ) -> Result<Option<Fault>, AllocError>
+        requires grouped { IsGrouped (D.launch launch.now) }
+        requires there { HasGroup (D.launch launch.now) number.group }
+        requires further { HasGroup (D.launch launch.now) (suc number.group) → number.further ≡ true }
+        requires so_far { HoldsGroups (D.launch launch.now) number.group self.old }
+        requires merged { IsMerged runs.now }
+        requires ran { (whole : Log) × StandsWith (L.has_last log.now) (L.listed log.now) whole.accesses × IsRun (plan_of (D.launch launch.now) number.group) (Leaves (λ space. space.bytes) (plan_of (D.launch launch.now) number.group) spaces.now whole) (start (D.launch launch.now)) (events_of runs.now) None }
+        ensures { IfOk result (λ report. CameOfDone (D.launch launch.now) number.group report self.new) }
+    {
+        laws();
+        match self.compare(alloc, launch.uniform(), number.group, spaces, log)? {
+            Compared::Conflict(met) => Ok(Some(self.cross(launch, &met, None, runs)?)),
+            Compared::Apart(updates) => {
+                self.add(alloc, number.further, spaces, log, updates.as_slice(), runs)?;
+                Ok(None)
+            }
+        }
+    }
+
+    /// Joins a group that has stopped: its report, or that of its first access that conflicts with a lower group's, if
+    /// there is one.
+    fn join_stopped<D: Described, L: GroupAccesses>(
+        &mut self,
+        alloc: Global,
+        launch: &D,
+        group: u32,
+        fault: Fault,
+        log: &L,
+        runs: &Schedule,
+    ) -> Result<Fault, AllocError>
+        requires grouped { IsGrouped (D.launch launch.now) }
+        requires there { HasGroup (D.launch launch.now) group }
+        requires so_far { HoldsGroups (D.launch launch.now) group self.old }
+        requires merged { IsMerged runs.now }
+        requires ran { (whole : Log) × StandsWith (L.has_last log.now) (L.listed log.now) whole.accesses × IsRun (plan_of (D.launch launch.now) group) (IsLogged (plan_of (D.launch launch.now) group) whole) (start (D.launch launch.now)) (events_of runs.now) (Some fault) }
+        ensures { IfOk result (λ report. IsStopped (D.launch launch.now) report self.new.runs.items) }
+    {
+        laws();
+        match self.first_conflict(launch.uniform(), group, log) {
+            Some(met) => self.cross(launch, &met, Some(fault), runs),
+            None => {
+                add_all(&mut self.runs, runs.as_slice())?;
+                Ok(fault)
+            }
+        }
+    }
+
+    /// What the launch comes to where it ends with this report: the events of the groups so far are its schedule, and
+    /// leave them.
+    fn faulted(&mut self, alloc: Global, report: Fault) -> Outcome
+        ensures { (launch : TheLaunch) → IsStopped launch report self.old.runs.items → Concludes launch result }
+    {
+        let runs = replace(&mut self.runs, Vec::new(alloc));
+        Outcome::Faulted(report, Schedule::new(runs))
+    }
+
+    /// Joins the result of one more group, of so many that the launch has: its log is handed back, or the launch ends
+    /// with its report, or with that of its first access that conflicts with a lower group's, if there is one. The last
+    /// group's accesses and events aren't added. An error is out of memory.
+    pub(crate) fn join<D: Described, L: GroupAccesses + Drop>(
+        &mut self,
+        alloc: Global,
+        launch: &D,
+        groups: u32,
+        group: u32,
+        came: GroupResult<Overlay<'_>, L>,
+    ) -> Result<JoinEnd<L>, AllocError>
+        requires grouped { IsGrouped (D.launch launch.now) }
+        requires counted { groups * (D.launch launch.now).group_size ≡ (D.launch launch.now).items }
+        requires inside { group < groups }
+        requires there { HasGroup (D.launch launch.now) group }
+        requires so_far { HoldsGroups (D.launch launch.now) group self.old }
+        requires result { IsShortResult (λ overlay. overlay.bytes) L.listed L.has_last (D.launch launch.now) group came }
+        ensures came { IfOk result (λ end. CameOfNext (D.launch launch.now) group came.entry.end end self.new) }
+        ensures log { IfOk result (HandsBack came.entry.log) }
+    {
+        let GroupResult { log, runs, end, .. } = came;
+        match end {
+            GroupEnd::Done(spaces) => {
+                let number = GroupPlace {
+                    group,
+                    further: group + 1 < groups,
+                };
+                match self.join_done(alloc, launch, number, spaces.as_slice(), &log, &runs)? {
+                    None => Ok(JoinEnd::Continues(log)),
+                    Some(report) => Ok(JoinEnd::Ends(self.faulted(alloc, report))),
+                }
+            }
+            GroupEnd::Stopped(fault) => {
+                let report = self.join_stopped(alloc, launch, group, fault, &log, &runs)?;
+                Ok(JoinEnd::Ends(self.faulted(alloc, report)))
+            }
+        }
+    }
+
+    /// What the groups left in the launch's buffers.
+    pub fn into_contents(self) -> Vec<Bytes>
+        ensures { result ≡ self.entry.contents }
+    {
+        self.contents
+    }
+}

@@ -1,0 +1,24 @@
+//! The laws by which work-groups are joined.
+
+ghost use Rattle.group_join.specs.Laws.{JoiningLaws};
+
+use joining::{
+    accesses_are_lower, accesses_are_own, bytes_are_joined, events_are_lower, events_are_own,
+    join_ends, join_reports, kept_both, kept_conflicts, lower_byte_first,
+};
+
+/// All laws of joining.
+pub(crate) fn laws()
+    ensures { JoiningLaws }
+{
+    accesses_are_own();
+    accesses_are_lower();
+    events_are_own();
+    events_are_lower();
+    kept_conflicts();
+    lower_byte_first();
+    bytes_are_joined();
+    join_reports();
+    join_ends();
+    kept_both();
+}

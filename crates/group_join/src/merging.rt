@@ -1,0 +1,38 @@
+//! The join of results that are handed in.
+
+ghost use Rattle.std.specs.Prelude.{IfOk};
+ghost use Rattle.clmodel.specs.Next.{launch_of};
+ghost use Rattle.clmodel.specs.Outcome.{Concludes};
+ghost use Rattle.item_step.specs.Launches.{setup_of};
+ghost use Rattle.launches.specs.Groups.{HasGroups};
+ghost use Rattle.spaces.specs.Buffers.{bytes_in};
+ghost use Rattle.group_join.specs.Launches.{AreResults};
+
+use crate::joined_groups::JoinedGroups;
+use crate::rounds::{join_round, outcome_of};
+use access_list::Accesses;
+use clmodel::outcome::Outcome;
+use group_run::GroupResult;
+use item_step::Launch;
+use launches::group_count;
+use spaces::{Buffers, Overlay};
+use std::alloc::{AllocError, Global};
+
+/// What the results of a launch's work-groups come to, joined in the order of the groups: what its canonical run comes
+/// to (OpenCL 1.2, section 3.2). The results are those of all groups, or up to and with one that stopped. An error is
+/// out of memory.
+pub fn merge<'a, L: Accesses + Drop>(
+    alloc: Global,
+    launch: &Launch<'_>,
+    buffers: &'a Buffers,
+    results: Vec<GroupResult<Overlay<'a>, L>>,
+) -> Result<Outcome, AllocError>
+    requires whole { HasGroups (setup_of launch.now) }
+    requires results { AreResults (λ overlay. overlay.bytes) L.log (launch_of (setup_of launch.now) (bytes_in buffers.now)) 0 results.items }
+    ensures { IfOk result (Concludes (launch_of (setup_of launch.now) (bytes_in buffers.now))) }
+{
+    let groups = group_count(launch);
+    let so_far = JoinedGroups::new(alloc, launch, buffers)?;
+    let end = join_round(alloc, launch, buffers, so_far, 0, groups, results)?;
+    Ok(outcome_of(launch, buffers, end, groups))
+}

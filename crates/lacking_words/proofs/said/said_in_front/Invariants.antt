@@ -1,6 +1,0 @@
-use Rattle.std.proofs.Common.{◌≡◌, drop}
-use Rattle.lacking_words.specs.Tables.{rows, row_in_front}
-use Rattle.lacking_words.proofs.said.said_in_front.Given as goal
-
-abbrev pub invariant-loop-row : goal.invariant-loop-row
-invariant-loop-row l = row_in_front (rows (drop l.row-index l.table)) l.bytes ≡ row_in_front (rows l.table) l.bytes

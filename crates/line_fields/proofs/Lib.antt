@@ -1,2 +1,0 @@
-pub mod FieldLemmas
-pub mod FieldLaws

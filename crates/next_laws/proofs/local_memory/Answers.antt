@@ -1,8 +1,0 @@
-use Rattle.next_laws.proofs.Examples as examples
-use Rattle.next_laws.proofs.local_memory.Goals as goal
-
-pub returns-clause-store : goal.returns-clause-store
-returns-clause-store c = examples.local_is_stored
-
-pub returns-clause-load : goal.returns-clause-load
-returns-clause-load c = examples.local_is_loaded

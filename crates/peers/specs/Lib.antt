@@ -1,2 +1,0 @@
-pub mod Talk
-pub use Rattle.counted_io.specs.Sink

@@ -1,0 +1,8 @@
+use Rattle.std.proofs.Common.{ap, ◌∙◌, bit_xor}
+use Rattle.std.proofs.lemmas.Nat.{xor_mod}
+use Rattle.register_values.specs.Words.{word}
+use Rattle.register_values.proofs.WordLemmas.{computed_on_bits}
+use Rattle.register_values.proofs.operations.xored_words.Goals as goal
+
+pub returns : goal.returns
+returns c x y p q = c.wrapped_word.ensures ∙ ap word (computed_on_bits bit_xor xor_mod c.args.kind x y c.args.left c.args.right p q)

@@ -1,4 +1,0 @@
-use Rattle.snapshot_merge.proofs.changes.+own_by_bytes.Given as goal
-
-abbrev pub decreases-own_by_bytes : goal.decreases-own_by_bytes
-decreases-own_by_bytes l = l.count

@@ -1,0 +1,128 @@
+//! Bytes in a row.
+
+ghost use Rattle.std.specs.Prelude.{◌≡◌, Some, None, map, length, replicate, false, IfOk};
+ghost use Rattle.spaces.specs.Space.{IsChanged};
+
+use crate::cells::{Cell, fetched, is_inside, put, read, updated_word};
+use crate::space::{Space, SpaceFault};
+use clmodel::access::{Class, FetchOp, Width};
+use std::alloc::{AllocError, Global};
+use std::marker::Model;
+
+/// A space with cells of its own, each for a byte.
+#[derive(Drop)]
+pub struct Row<C: Cell> {
+    cells: Vec<C>,
+}
+
+impl<C: Cell> Model for Row<C> {
+    ghost use Rattle.std.specs.Prelude.{ℕ, List, Option, map};
+
+    ghost Value = { List (Option ℕ) };
+
+    ghost view = { λ row. map C.content row.cells.items };
+}
+
+/// Bytes that are all set: what a buffer holds (OpenCL 1.2, section 5.2.1).
+pub type Plain = Row<u8>;
+
+/// A local object of a work-group: its bytes are unset at the start of the group (OpenCL 1.2, section 6.5.2).
+pub type LocalMem = Row<Option<u8>>;
+
+/// A private array of a work-item: its bytes are unset when it is made and after each execution of its declaration
+/// (OpenCL 1.2, section 6.5.4; C99 6.2.4).
+pub type PrivateArray = Row<Option<u8>>;
+
+impl Row<u8> {
+    /// A space of these bytes.
+    pub fn new(bytes: Vec<u8>) -> Self
+        ensures { result ≡ map Some bytes.items }
+    {
+        Row { cells: bytes }
+    }
+
+    /// Its bytes.
+    pub fn into_bytes(self) -> Vec<u8>
+        ensures { map Some result.items ≡ self }
+    {
+        self.cells
+    }
+}
+
+impl Row<Option<u8>> {
+    /// n unset bytes. An error is out of memory.
+    pub fn new(alloc: Global, size: usize) -> Result<Self, AllocError>
+        ensures { IfOk result (λ row. row ≡ replicate size None) }
+    {
+        let mut cells = Vec::with_capacity(alloc, size)?;
+        cells.resize(size, None)?;
+        Ok(Row { cells })
+    }
+
+    /// Makes all its bytes unset.
+    pub fn unset(&mut self)
+        ensures { self.new ≡ replicate (length self.old) None }
+    {
+        self.cells.as_mut_slice().fill(None);
+    }
+}
+
+impl<C: Cell> Row<C> {
+    /// Puts what a function makes of the number of 4 bytes in its place, and gives the number that was there (OpenCL
+    /// 1.2, section 6.12.11: "old"). An error says why nothing is changed.
+    fn change<F: FnOnce(u32) -> u32>(&mut self, at: u64, makes: F) -> Result<u32, SpaceFault>
+        requires { F.IsAlwaysCallable makes }
+        ensures { IsChanged false self.old at (F.post makes) self.new result }
+    {
+        if !is_inside(self.cells.len(), at, 4) {
+            return Err(SpaceFault::Bounds);
+        }
+        let found = read(self.cells.as_slice(), at as usize, 4)? as u32;
+        let value = makes(found);
+        put(self.cells.as_mut_slice(), at as usize, 4, value as u64);
+        Ok(found)
+    }
+}
+
+impl<C: Cell> Space for Row<C> {
+    ghost bytes = { λ row. row };
+
+    ghost read_only = { false };
+
+    ghost may_want = { false };
+
+    fn size(&self) -> u64 {
+        self.cells.len() as u64
+    }
+
+    fn load(&self, at: u64, width: Width) -> Result<u64, SpaceFault> {
+        let count = width.bytes();
+        if !is_inside(self.cells.len(), at, count) {
+            return Err(SpaceFault::Bounds);
+        }
+        Ok(read(self.cells.as_slice(), at as usize, count as usize)?)
+    }
+
+    fn store(&mut self, at: u64, width: Width, value: u64) -> Result<(), SpaceFault> {
+        let count = width.bytes();
+        if !is_inside(self.cells.len(), at, count) {
+            return Err(SpaceFault::Bounds);
+        }
+        put(
+            self.cells.as_mut_slice(),
+            at as usize,
+            count as usize,
+            value,
+        );
+        Ok(())
+    }
+
+    fn update(&mut self, at: u64, class: Class, operand: u32) -> Result<(), SpaceFault> {
+        self.change(at, |found| updated_word(class, found, operand))?;
+        Ok(())
+    }
+
+    fn fetch(&mut self, at: u64, op: FetchOp, operand: u32) -> Result<u32, SpaceFault> {
+        self.change(at, |found| fetched(op, found, operand))
+    }
+}

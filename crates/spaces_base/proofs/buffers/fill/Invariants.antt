@@ -1,6 +1,0 @@
-use Rattle.std.proofs.Common.{◌≡◌, ◌*◌}
-use Rattle.spaces_base.specs.Buffers.{with_bytes, repeated}
-use Rattle.spaces_base.proofs.buffers.fill.Given as goal
-
-abbrev pub invariant-loop-i : goal.invariant-loop-i
-invariant-loop-i l = l.buffer ≡ with_bytes l.fn.buffer l.offset (repeated l.pattern (l.i * 256))

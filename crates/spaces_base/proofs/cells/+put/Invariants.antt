@@ -1,4 +1,0 @@
-use Rattle.spaces_base.proofs.cells.+put.Given as goal
-
-abbrev pub decreases-put : goal.decreases-put
-decreases-put g l = l.count

@@ -1,4 +1,0 @@
-pub mod Space
-pub mod Tables
-pub mod Buffers
-pub mod Operations

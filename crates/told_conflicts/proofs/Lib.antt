@@ -1,2 +1,0 @@
-pub mod Spots
-mod Shown

@@ -1,2 +1,0 @@
-pub mod WordLemmas
-mod QuotientLemmas

@@ -1,7 +1,0 @@
-use Rattle.std.proofs.Common.{ap, ◌∙◌}
-use Rattle.words.specs.Words.{word}
-use Rattle.words.proofs.WordLemmas.{computed, products}
-use Rattle.words.proofs.operations.multiplied_words.Goals as goal
-
-pub returns : goal.returns
-returns c x y p q = c.wrapped_word.ensures ∙ ap word (computed _ _ products c.args.kind x y c.args.left c.args.right p q)
