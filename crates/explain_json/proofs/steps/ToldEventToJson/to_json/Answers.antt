@@ -1,5 +1,5 @@
 use Rattle.std.proofs.Common.{refl}
-use Rattle.explain_json.proofs.steps.StepToJson.to_json.Goals as goal
+use Rattle.explain_json.proofs.steps.ToldEventToJson.to_json.Goals as goal
 
 pub returns-in-Release : goal.returns-in-Release
 returns-in-Release c = rw c.in-Release.is (c.finish.ensures _ (
