@@ -1,6 +1,6 @@
 //! Readers and writers of the standard library, with their failed calls counted.
 //!
-//! `Input` and `Output` keep the promises of `counted_io`'s traits where the standard library promises the bytes. A
+//! `Input` and `Output` keep the promises of the traits `Read` and `Write` where the standard library promises the bytes. A
 //! failure that is counted is answered. That none is counted where no call failed is only tested.
 #![tactic(auto)]
 

@@ -1,7 +1,7 @@
 //! A log of a work-group's accesses with an index by object and page of 64 bytes, which says with how many accesses it
 //! compared each new one.
 //!
-//! `PageLog` is an access log as `ListLog` of `shadow_list` is: it keeps the same list, judges a new access in the same
+//! `PageLog` is an access log as `ListLog` of `access_list` is: it keeps the same list, judges a new access in the same
 //! way, and can be asked for its accesses by their places. `note_counted` promises the number of comparisons exactly:
 //! as many as the list has accesses of the same object that touch the same page. `conflicts_between` judges the logs of
 //! two groups, whatever their types.
