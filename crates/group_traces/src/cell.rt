@@ -6,7 +6,7 @@ ghost use Rattle.group_traces.specs.Traces.{untouched, passes, tells, takes, par
 ghost use Rattle.group_traces.specs.Cells.{apart_at, own_trace, word_trace, Holds, IsWhole, IsApart, FitsWith};
 ghost use Rattle.group_traces.specs.declared.cell.Apart.{Apart as TheApart};
 
-use crate::single::{How, Singles, Who};
+use crate::single::{SingleBytes, Singles, SingleItems};
 use crate::trace::{Sight, Trace};
 use crate::word::WordTrace;
 use access_list::WORD_BYTES;
@@ -23,7 +23,7 @@ pub enum TracedWord {
     /// Of all four at once, as long as each access was to all four
     Whole(WordTrace),
     /// Of bytes that were accessed once each: the two parts of `Singles`, which take less memory so than as one
-    Single(How, Who),
+    Single(SingleBytes, SingleItems),
     /// Of each byte, at this place of a list of those
     Apart(usize),
 }
