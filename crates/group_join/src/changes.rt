@@ -166,7 +166,8 @@ impl Before<'_, '_, '_, '_> {
         ensures { (log : List TheAccess) → IsFootprint self.now.footprint.now log → result ≡ joined_value (kind.Update class) (joining.wrote log (region.Buffer number) byte) (filled_at (map (λ row. row.now) self.now.first.now) number) (filled_at self.now.lower.now number) (cells_at (map (λ space. space.bytes) self.now.own.now) number) byte }
     {
         if self.footprint.is_written(number, byte) {
-            byte_of(byte % 4, u64::from(self.joined_word(class, number, byte / 4 * 4)))
+            let word = self.joined_word(class, number, byte / 4 * 4);
+            byte_of(byte % 4, word as u64)
         } else {
             own_byte(self.own, number, byte)
         }

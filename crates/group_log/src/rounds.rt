@@ -81,7 +81,10 @@ fn is_told(heads: &[Entry], steps: &[EntryStride], progression: &Progression) ->
     ensures { IsTrue result → (k : ℕ) → progression.now.period ≤ k → k < progression.now.count → entry_at heads.now steps.now progression.now.head progression.now.period progression.now.step k ≡ slice_index_or heads.now (progression.now.head + k) no_entry }
 {
     for k in progression.period..progression.count {
-        if !is_same(&progression.entry(heads, steps, k), &heads[progression.head + k]) {
+        if !is_same(
+            &progression.entry(heads, steps, k),
+            &heads[progression.head + k],
+        ) {
             return false;
         }
     }

@@ -131,7 +131,12 @@ pub fn declare_parameters(scope: &mut Scope, parameters: &[Parameter]) -> Result
 }
 
 /// The instruction that gives a parameter its argument at a level; one without an argument is unset.
-fn pass_one(parameter: Parameter, arguments: &[RegisterNumber], place: usize, level: Level) -> Instruction
+fn pass_one(
+    parameter: Parameter,
+    arguments: &[RegisterNumber],
+    place: usize,
+    level: Level,
+) -> Instruction
     requires { level.0 < 2 ^ 28 }
     ensures { result ∷ [] ≡ spec.pass_code (parameter ∷ []) (numbers (drop place arguments.now)) level.0 }
 {

@@ -354,7 +354,11 @@ pub fn call_only(
 }
 
 /// The call of a built-in function that gives a value.
-fn value_call(function: Option<BuiltIn>, to: RegisterNumber, arguments: &[RegisterNumber]) -> Instruction
+fn value_call(
+    function: Option<BuiltIn>,
+    to: RegisterNumber,
+    arguments: &[RegisterNumber],
+) -> Instruction
     ensures { result ∷ [] ≡ expressions.call_code function to.0 (numbers arguments.now) }
 {
     match function {
@@ -426,7 +430,11 @@ fn dimensions(to: RegisterNumber, arguments: &[RegisterNumber]) -> Instruction
 }
 
 /// The call of a work-item function.
-fn query(to: RegisterNumber, function: WorkItemFunction, arguments: &[RegisterNumber]) -> Instruction
+fn query(
+    to: RegisterNumber,
+    function: WorkItemFunction,
+    arguments: &[RegisterNumber],
+) -> Instruction
     ensures { result ∷ [] ≡ expressions.call_code (Some (built_in_function.WorkItem function)) to.0 (numbers arguments.now) }
 {
     match arguments {
