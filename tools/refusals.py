@@ -12,9 +12,9 @@ come of a run with one request refused is one of these:
   - `refused 16 OutOfMemory` for one command whose row in docs/use/script.md lists it, and for all others what comes of
     the script without that command: so it has changed nothing, and given again it is answered as if for the first time.
 Of a script with a command that takes memory, some run has to come to the last of these: a program that gives up
-wherever a request is refused would else pass. `clsim serve` reads the same commands from standard input. There, `clsim: out of memory` may also end a talk, behind
-whole replies. A script's first launch and the commands before it have to be answered as its row says. No run may leave
-more blocks of memory than the run with none refused."""
+wherever a request is refused would else pass. `clsim serve` reads the same commands from standard input. There,
+`clsim: out of memory` may also end a talk, behind whole replies. A script's first launch and the commands before it
+have to be answered as its row says. No run may leave more blocks of memory than the run with none refused."""
 
 import os
 import re
