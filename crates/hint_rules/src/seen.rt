@@ -135,7 +135,7 @@ impl Seen {
     }
 }
 
-/// What is known of tokens.
+/// Summarizes tokens.
 pub(crate) fn seen_of(tokens: &[Token]) -> Seen
     ensures { result ≡ seen.seen_of tokens.now }
 {
