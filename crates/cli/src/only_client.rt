@@ -1,7 +1,7 @@
 //! The only client of a queue over a device.
 #![tactic(auto)]
 
-ghost use Rattle.std.specs.Prelude.{◌≡◌, ◌≤◌, ◌<◌, ◌+◌, IfOk, length};
+ghost use Rattle.std.specs.Prelude.{◌≡◌, ◌≤◌, ◌<◌, ◌+◌, IfOk};
 ghost use Rattle.std.specs.Box.{box_value};
 ghost use Rattle.device.specs.Machine.{Step, machine_of, opening};
 ghost use Rattle.host_commands.specs.declared.command.Reply.{Reply as ReplyOf};
