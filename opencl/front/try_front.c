@@ -37,30 +37,36 @@ static void show_places(const judged_source *s) {
     }
 }
 
-int main(int count, char **words) {
-    arena a = {NULL};
-    text options = {.arena = &a};
+static int try_source(arena *a, const char *path, const char *options) {
     tree tree;
     judged_source judged;
     refusal wrong;
-    if (setjmp(a.failed)) return 3;
-    if (count < 2) return 2;
-    add(&options, "");
-    for (int i = 2; i < count; i++) addf(&options, "%s%s", i > 2 ? " " : "", words[i]);
-    const char *source = whole_file(&a, words[1]);
+    const char *source = whole_file(a, path);
     if (!source) return 2;
-    if (!read_source(&a, source, options.at, &tree)) {
+    if (!read_source(a, source, options, &tree)) {
         fprintf(stderr, "%s", tree.log);
         return 1;
     }
-    if (!translate(&a, &tree, &judged, &wrong)) {
+    if (!translate(a, &tree, &judged, &wrong)) {
         fprintf(stderr, "%s:%u:%u: error: %s\n", wrong.at.file, wrong.at.line, wrong.at.column, wrong.message);
         return 1;
     }
     fwrite(judged.text, 1, judged.length, stdout);
     fprintf(stderr, "%s", judged.notes);
-    for (unsigned i = 0; getenv("TRY_FRONT_PARAMETERS") && i < judged.kernel_count; i++) show_kernel(&judged.kernels[i]);
+    for (unsigned i = 0; getenv("TRY_FRONT_PARAMETERS") && i < judged.kernel_count; i++)
+        show_kernel(&judged.kernels[i]);
     if (getenv("TRY_FRONT_PLACES")) show_places(&judged);
-    free_arena(&a);
     return 0;
+}
+
+int main(int count, char **words) {
+    arena a = {NULL};
+    text options = {.arena = &a};
+    if (setjmp(a.failed)) return 3;
+    if (count < 2) return 2;
+    add(&options, "");
+    for (int i = 2; i < count; i++) addf(&options, "%s%s", i > 2 ? " " : "", words[i]);
+    int status = try_source(&a, words[1], options.at);
+    free_arena(&a);
+    return status;
 }
