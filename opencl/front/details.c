@@ -252,6 +252,7 @@ static void name_details(builder *b, node *n, const dump_line *line, const char 
         put_id(b->arena, &b->nodes, id, of);
     }
     n->declaration = of;
+    if (of->kind == FUNCTION_DECLARATION) n->is_lvalue = false; // (older versions call some built-in functions so)
     reference *r = take(b->arena, sizeof *r);
     *r = (reference){.next = b->names, .node = n, .to = get_id(&b->declarations, id)};
     if (r->to) b->names = r;

@@ -141,6 +141,7 @@ static void open_expression(builder *b, const rule *r, const dump_line *line) {
     const char *s = line->rest;
     node *n = make_node(b, r->kind, line->begin);
     n->type = need_type(b, &s);
+    if (!n->place.line && top(b)->node) n->place = top(b)->node->place; // zeros that nobody wrote
     s = read_value_kind(n, s);
     if (r->details) r->details(b, n, line, s);
     push(b, r, line, n);
@@ -529,7 +530,7 @@ static void open_node(builder *b, const rule *r, const dump_line *line) {
     case TYPE_NAME_SHAPE: open_type_name(b, r, line); break;
     case ATTRIBUTE_SHAPE: open_attribute(b, r, line); break;
     case UNKNOWN_SHAPE: add_unknown(b, r, line); break;
-    case IDLE_SHAPE: add_idle(b, push(b, r, line, NULL)); // fall through
+    case IDLE_SHAPE: add_idle(b, &(frame){.own = line->own}); // fall through
     default: b->skipped = line->depth; break;
     }
 }
