@@ -1,7 +1,7 @@
 #define _GNU_SOURCE
 #include "ast.h"
+#include "../options.h"
 #include "../session.h"
-#include "../tokens.h"
 #include "known.h"
 #include "nodes.h"
 #include <errno.h>
@@ -113,7 +113,7 @@ static const char *const for_all[] = {"-target", "spir64", "-x", "cl", "-cl-std=
 static const char *const for_source[] = {
     "-Xclang", "-finclude-default-header", "-D__OPENCL_VERSION__=120", "-U__IMAGE_SUPPORT__",
     "-D__builtin_offsetof(t,...)=(sizeof(char[__builtin_offsetof(t,__VA_ARGS__)+1])-1)", NULL};
-static const char *const for_preprocessing[] = {"-w", "-E", NULL};
+static const char *const for_preprocessing[] = {"-w", "-E", "-dD", NULL};
 static const char *const for_checking[] = {"-fsyntax-only", NULL};
 static const char *const for_dump[] = {"-w", "-cl-no-stdinc", "-Xclang", "-x", "-Xclang", "cl-cpp-output",
                                        "-fsyntax-only", "-Xclang", "-ast-dump", NULL};

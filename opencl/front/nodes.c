@@ -229,6 +229,7 @@ static void close_node(builder *b, const frame *f) {
     if (n->kind == CASE_STATEMENT && n->part_count != 2) stop_at(b, "CaseStmt with %u parts", n->part_count);
     check_parts(b, f);
     if (n->kind == SIZE_EXPRESSION) close_size(b, n);
+    if (n->kind == COMPONENT_EXPRESSION) n->is_arrow = n->parts[0]->type->kind == POINTER_TYPE;
     if (n->kind == UNKNOWN_STATEMENT) n->part_count = 0;
     add_part(b, n);
 }

@@ -13,8 +13,18 @@ typedef struct listing {
     unsigned count;
 } listing;
 
+// A macro that takes arguments.
+typedef struct macro {
+    struct macro *next;
+    const char *name;
+    size_t length;
+} macro;
+
+enum { BUCKETS = 512 };
+
 struct rows {
     arena *arena;
+    macro *macros[BUCKETS];
     const char *text;
     row *rows;
     unsigned count;
@@ -148,7 +158,42 @@ static bool is_same(const word *a, const word *b) {
     return a->length == b->length && !memcmp(a->at, b->at, a->length);
 }
 
+// ---- macros with arguments ----
+
+static unsigned bucket_of(const char *name, size_t length) {
+    unsigned h = 2166136261u;
+    for (size_t i = 0; i < length; i++) h = (h ^ (unsigned char)name[i]) * 16777619u;
+    return h % BUCKETS;
+}
+
+static bool takes_arguments(const rows *r, const word *w) {
+    for (const macro *m = r->macros[bucket_of(w->at, w->length)]; m; m = m->next)
+        if (m->length == w->length && !memcmp(m->name, w->at, w->length)) return true;
+    return false;
+}
+
+// A line `#define NAME(..` or `#undef ..` becomes empty, since it is done already. False where it is none.
+static bool read_definition(rows *r, char *s, char *end) {
+    static const char define[] = "#define ", undefine[] = "#undef ";
+    size_t n = sizeof define - 1, m = sizeof undefine - 1;
+    bool is_define = (size_t)(end - s) > n && !memcmp(s, define, n);
+    if (!is_define && ((size_t)(end - s) < m || memcmp(s, undefine, m))) return false;
+    const char *name = s + n, *behind = name;
+    while (is_define && behind < end && is_name_byte(*behind)) behind++;
+    if (is_define && behind < end && *behind == '(') {
+        size_t length = (size_t)(behind - name);
+        macro *made = take(r->arena, sizeof *made), **bucket = &r->macros[bucket_of(name, length)];
+        *made = (macro){*bucket, copy_text(r->arena, name, length), length};
+        *bucket = made;
+    }
+    memset(s, ' ', (size_t)(end - s));
+    return true;
+}
+
+// ---- columns ----
+
 typedef struct {
+    const rows *rows;
     word *of;           // the preprocessed words
     const word *client; // those of the client's line
     unsigned count, client_count;
@@ -173,12 +218,19 @@ static unsigned behind_brackets(const pair *p, unsigned j) {
     return p->client_count;
 }
 
+static int bracket_step(const word *w) {
+    return w->length != 1 ? 0 : (*w->at == '(' || *w->at == '{') - (*w->at == ')' || *w->at == '}');
+}
+
 // How far what a macro stands for reaches, where the client's text goes on with word j: the word from which on most
-// are the same, and all up to the end before all else.
-static unsigned end_of_macro(const pair *p, unsigned i, unsigned j, unsigned *best) {
+// are the same, and all up to the end before all else. With `is_balanced`, as many brackets are closed there as are
+// opened.
+static unsigned end_of_macro(const pair *p, unsigned i, unsigned j, bool is_balanced, unsigned *best) {
     unsigned found = p->count;
+    int open = 0;
     *best = j == p->client_count;
-    for (unsigned k = i; k < p->count; k++) {
+    for (unsigned k = i; k < p->count && open >= 0; open += is_balanced ? bracket_step(&p->of[k]) : 0, k++) {
+        if (open) continue;
         unsigned run = run_length(p, k, j);
         bool is_whole = k + run == p->count && j + run == p->client_count;
         if (is_whole) run += p->client_count;
@@ -186,14 +238,15 @@ static unsigned end_of_macro(const pair *p, unsigned i, unsigned j, unsigned *be
         *best = run;
         found = k;
     }
-    return found;
+    return is_balanced && !*best ? end_of_macro(p, i, j, false, best) : found;
 }
 
 // What stands in the client's line from a macro's name at word j on. Moves both behind the macro.
 static void step_over_macro(const pair *p, unsigned *i, unsigned *j) {
     unsigned alone, called, after = behind_brackets(p, *j + 1);
-    unsigned end = end_of_macro(p, *i, *j + 1, &alone), end_of_call = end_of_macro(p, *i, after, &called);
-    bool is_call = after > *j + 1 && called >= alone;
+    unsigned end = end_of_macro(p, *i, *j + 1, true, &alone);
+    unsigned end_of_call = end_of_macro(p, *i, after, true, &called);
+    bool is_call = after > *j + 1 && (called >= alone || takes_arguments(p->rows, &p->client[*j]));
     unsigned to = is_call ? end_of_call : end;
     for (; *i < to; ++*i) p->of[*i].client_column = p->client[*j].column;
     *j = is_call ? after : *j + 1;
@@ -214,7 +267,7 @@ static void find_words(rows *r, row *w) {
     for (unsigned i = 0; i < w->word_count; i++) w->words[i].client_column = w->words[i].column;
     const listing *l = w->file && w->line ? listing_of(r, w->file) : NULL;
     if (!l || w->line > l->count) return;
-    pair p = {.of = w->words, .count = w->word_count};
+    pair p = {.rows = r, .of = w->words, .count = w->word_count};
     p.client = words_of(r->arena, l->lines[w->line - 1], l->lines[w->line] - 1, &p.client_count);
     if ((uint64_t)p.count * p.client_count <= MOST_PAIRS) find_columns(&p);
 }
@@ -260,6 +313,7 @@ rows *read_rows(arena *a, char *text, size_t length, const char *source) {
         end = memchr(s, '\n', (size_t)(text + length - s));
         if (!end) end = text + length;
         bool is_marker = read_marker(r, s, end, &next);
+        if (!is_marker && next.file) read_definition(r, s, end);
         if (!r->first && next.file && !strcmp(next.file, own_name)) r->first = n + 1;
         r->rows[n++] = (row){(size_t)(s - text), (size_t)(end - text), r->first ? next.file : NULL, next.line, NULL, 0};
         if (!is_marker) next.line++;

@@ -21,8 +21,8 @@ typedef struct {
 
 typedef struct rows rows;
 
-// Takes apart what `clang -E` writes of a source whose name is "source". The lines that name places become empty in
-// `text`, which keeps its length.
+// Takes apart what `clang -E -dD` writes of a source whose name is "source". The lines that name places, and those that
+// define macros, become empty in `text`, which keeps its length.
 rows *read_rows(arena *a, char *text, size_t length, const char *source);
 // The row of a number, from 1 on. NULL where there is none.
 row *row_at(const rows *r, unsigned number);
