@@ -14,7 +14,7 @@
 
 // What a source is read with: the limits of clang, and of what it writes.
 enum { SECONDS = 60, MOST_SECONDS = 86400 };
-static const uint64_t memory = 4ull << 30, most_text = 64ull << 20, most_dump = 2ull << 30;
+static const uint64_t memory = 4ull << 30, most_text = 64ull << 20, most_dump = 1ull << 30;
 
 // ---- running clang ----
 
@@ -87,17 +87,23 @@ static bool is_done(const outcome *o) {
     return !o->fault && !o->is_late && !o->wrong && is_clean;
 }
 
+// The signal that ended it; 0 where none did but those that come of no longer being read.
+static int signal_of(const outcome *o) {
+    int by = o->status != -1 && WIFSIGNALED(o->status) ? WTERMSIG(o->status) : 0;
+    return o->wrong && (by == SIGKILL || by == SIGPIPE) ? 0 : by;
+}
+
 // Why it isn't, in words for a log.
 static void explain_outcome(text *log, const char *clang, const outcome *o) {
-    bool is_signal = o->status != -1 && WIFSIGNALED(o->status) && !o->wrong;
+    int by = signal_of(o), status = o->status != -1 && WIFEXITED(o->status) ? WEXITSTATUS(o->status) : 0;
     if (o->fault) addf(log, "cannot start %s: %s\n", clang, strerror(o->fault));
     else if (o->is_late) addf(log, "%s takes longer than %u seconds for this source\n", clang, most_seconds());
-    else if (tells_errors(o) && !is_signal) add(log, o->told);
-    else if (is_signal)
-        addf(log, "%s was ended by signal %d (%s) at this source\n%s", clang, WTERMSIG(o->status),
-             strsignal(WTERMSIG(o->status)), o->told);
-    else if (o->wrong) addf(log, "%s writes a tree of this source that Clsim can't read: %s\n", clang, o->wrong);
-    else addf(log, "%s ends with status %d\n%s", clang, o->status == -1 ? -1 : WEXITSTATUS(o->status), o->told);
+    else if (by) addf(log, "%s was ended by signal %d (%s) at this source\n%s", clang, by, strsignal(by), o->told);
+    else if (tells_errors(o)) add(log, o->told);
+    else if (status) addf(log, "%s ends with status %d\n%s", clang, status, o->told);
+    else
+        addf(log, "%s writes a tree of this source that Clsim can't read: %s\n", clang,
+             o->wrong ? o->wrong : "it isn't known how it ended");
 }
 
 // ---- its words ----

@@ -29,8 +29,8 @@ typedef struct {
 // The call on one object, as an expression.
 static const char *atomic_text(translator *t, object *o, const atomic *a) {
     const place *at = &a->node->place;
-    if (o->space == IN_PRIVATE) refuse(t, at, "Clsim has no atomic functions on private memory");
-    if (o->space == IN_CONSTANT) refuse(t, at, "constant memory can't be stored to");
+    if (o->space == IN_PRIVATE) refuse_at(t, at, "Clsim has no atomic functions on private memory");
+    if (o->space == IN_CONSTANT) refuse_at(t, at, "constant memory can't be stored to");
     if (o->space == NOWHERE) return format(t, "%s%s[-1]", mark_here(t, at), null_name(t));
     linear offset = aligned(t, a->offset, 4);
     learn(t, &o->types, 1u << a->type);
@@ -40,7 +40,7 @@ static const char *atomic_text(translator *t, object *o, const atomic *a) {
     const char *name = is_local ? o->judged : view_of(t, o, a->type);
     bool has_order = !strcmp(a->operation, "min") || !strcmp(a->operation, "max");
     if (is_local && has_order && o->array_element != a->type && width_of(o->array_element) == 4)
-        refuse(t, at, "Clsim has no atomic_%s on local memory that is both int and uint", a->operation);
+        refuse_at(t, at, "Clsim has no atomic_%s on local memory that is both int and uint", a->operation);
     text all = {.arena = &t->pass};
     addf(&all, "%satomic_%s(&%s[%s]", mark_here(t, at), a->operation, name, in_units(t, offset, 4).text);
     for (unsigned i = 1; i < a->count; i++) addf(&all, ",%s", forced(t, a->given[i].value.integer).text);
@@ -60,7 +60,7 @@ static void call_on(translator *t, object *o, void *with) {
 value atomic_value(translator *t, const node *n, const char *operation, bool is_used) {
     const type *number = n->part_count > 1 ? n->parts[1]->type->of : NULL;
     if (!number || number->kind != INTEGER_TYPE || number->width != 4)
-        refuse(t, &n->place, "Clsim has atomic functions of int and uint only");
+        refuse_at(t, &n->place, "Clsim has atomic functions of int and uint only");
     atomic a = {.node = n, .operation = operation, .type = core_type(number), .count = n->part_count - 1};
     a.given = take(&t->pass, a.count * sizeof *a.given);
     for (unsigned i = 0; i < a.count; i++) a.given[i] = (operand){.node = n->parts[1 + i]};

@@ -226,7 +226,7 @@ static const struct {
 // ---- arguments of calls ----
 
 static void evaluate_arguments(translator *t, const node *n, operand *to, unsigned count, unsigned wanted) {
-    if (count != wanted) refuse(t, &n->place, "too few or too many arguments");
+    if (count != wanted) refuse_at(t, &n->place, "too few or too many arguments");
     for (unsigned i = 0; i < count; i++) to[i] = (operand){.node = n->parts[1 + i]};
     evaluate(t, to, count);
     t->at = &n->place;
@@ -245,7 +245,7 @@ static value numeric_value(translator *t, const node *n, unsigned which) {
     evaluate_arguments(t, n, given, n->part_count - 1, count);
     for (unsigned i = 0; i < count; i++) {
         if (given[i].value.kind != INTEGER_VALUE && given[i].value.kind != VECTOR_VALUE)
-            refuse(t, &n->place, "Clsim has this function of whole numbers only");
+            refuse_at(t, &n->place, "Clsim has this function of whole numbers only");
         given[i].value = kept_value(t, given[i].value);
     }
     for (unsigned i = 0; i < length; i++) {
@@ -402,7 +402,7 @@ static bool is_of(const char *name, const char *const *names, size_t count) {
 #define IS_OF(name, list) is_of(name, list, sizeof(list) / sizeof *(list))
 
 static value work_item_value(translator *t, const node *n, const char *name) {
-    if (n->part_count != 2) refuse(t, &n->place, "too few or too many arguments");
+    if (n->part_count != 2) refuse_at(t, &n->place, "too few or too many arguments");
     integer v = exactly(t, evaluate_value(t, n->parts[1]).integer, UINT);
     const char *text = v.is_literal ? literal(t, v.value, INT).text : v.text;
     integer result = variable(format(t, "%s(%s)", name, text), ULONG, v.is_fixed);
@@ -416,7 +416,7 @@ static value barrier_value(translator *t, const node *n) {
     evaluate_arguments(t, n, given, n->part_count - 1, 1);
     integer v = given[0].value.integer;
     if (!v.is_literal || v.value < 1 || v.value > 3)
-        refuse(t, &n->place, "a barrier takes CLK_LOCAL_MEM_FENCE, CLK_GLOBAL_MEM_FENCE or both");
+        refuse_at(t, &n->place, "a barrier takes CLK_LOCAL_MEM_FENCE, CLK_GLOBAL_MEM_FENCE or both");
     static const char *const fences[] = {"CLK_LOCAL_MEM_FENCE", "CLK_GLOBAL_MEM_FENCE",
                                          "CLK_LOCAL_MEM_FENCE | CLK_GLOBAL_MEM_FENCE"};
     emit(t, "%sbarrier(%s);", mark_here(t, &n->place), fences[v.value - 1]);
@@ -456,6 +456,6 @@ value builtin_value(translator *t, const node *n, const char *name, bool is_used
     if (!strcmp(name, "any") || !strcmp(name, "all")) return bits_value(t, n, name[1] == 'l');
     for (unsigned i = 0; i < sizeof functions / sizeof *functions; i++)
         if (!strcmp(name, functions[i].name)) return numeric_value(t, n, i);
-    if (is_floating(n->type)) refuse(t, &n->place, "Clsim has no floating point");
-    refuse(t, &n->place, "Clsim has no function %s", name);
+    if (is_floating(n->type)) refuse_at(t, &n->place, "Clsim has no floating point");
+    refuse_at(t, &n->place, "Clsim has no function %s", name);
 }

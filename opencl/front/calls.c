@@ -159,8 +159,8 @@ static value translate_call(translator *t, const node *n, const node *function, 
 static value inline_call(translator *t, const node *n, const node *function, bool is_used) {
     unsigned count = function->part_count;
     operand *arguments = take(&t->pass, (count + 1) * sizeof *arguments);
-    if (is_recursive(t, function)) refuse(t, &n->place, "a function calls itself");
-    if (n->part_count - 1 != count) refuse(t, &n->place, "too few or too many arguments");
+    if (is_recursive(t, function)) refuse_at(t, &n->place, "a function calls itself");
+    if (n->part_count - 1 != count) refuse_at(t, &n->place, "too few or too many arguments");
     for (unsigned i = 0; i < count; i++) arguments[i] = (operand){.node = n->parts[1 + i]};
     evaluate(t, arguments, count);
     t->at = &n->place;
@@ -172,14 +172,14 @@ static value inline_call(translator *t, const node *n, const node *function, boo
 
 static void judge_function(translator *t, const node *function, const place *at) {
     for (const attribute *a = function->attributes; a; a = a->next)
-        if (a->kind == UNKNOWN_ATTRIBUTE) refuse(t, at, "Clsim doesn't know the attribute %s", a->name);
+        if (a->kind == UNKNOWN_ATTRIBUTE) refuse_at(t, at, "Clsim doesn't know the attribute %s", a->name);
 }
 
 value call_value(translator *t, const node *n, bool is_used) {
     const node *called = n->parts[0];
     while (called->kind == CAST_EXPRESSION) called = called->parts[0];
     const node *function = called->kind == NAME_EXPRESSION ? called->declaration : NULL;
-    if (!function || function->kind != FUNCTION_DECLARATION) refuse(t, &n->place, "Clsim has no calls over pointers");
+    if (!function || function->kind != FUNCTION_DECLARATION) refuse_at(t, &n->place, "Clsim has no calls over pointers");
     if (!function->body) return builtin_value(t, n, function->name, is_used);
     judge_function(t, function, &n->place);
     go_deeper(t, &n->place);

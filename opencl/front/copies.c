@@ -50,7 +50,7 @@ void wait_for_copies(translator *t, const node *n) {
     static const char *const next[] = {"clsim_lo[(clsim_k+1)%3]=2147483647;", "clsim_hi[(clsim_k+1)%3]=-2147483647;"};
     const place *at = &n->place;
     operand given[2];
-    if (n->part_count != 3) refuse(t, at, "too few or too many arguments");
+    if (n->part_count != 3) refuse_at(t, at, "too few or too many arguments");
     for (unsigned i = 0; i < 2; i++) given[i] = (operand){.node = n->parts[1 + i]};
     evaluate(t, given, 2);
     t->at = at;
@@ -85,7 +85,7 @@ value copy_value(translator *t, const node *n, bool is_strided) {
     const place *at = &n->place;
     operand given[5];
     unsigned count = is_strided ? 5 : 4, hashed = 0;
-    if (n->part_count != count + 1) refuse(t, at, "too few or too many arguments");
+    if (n->part_count != count + 1) refuse_at(t, at, "too few or too many arguments");
     for (unsigned i = 0; i < count; i++) given[i] = (operand){.node = n->parts[1 + i]};
     evaluate(t, given, count);
     t->at = at;

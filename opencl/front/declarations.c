@@ -16,8 +16,8 @@ void add_local(translator *t, object *o) {
 static void declare_local(translator *t, const node *n, bool is_outermost) {
     object *o = variable_object(t, n);
     if (t->call || !is_outermost)
-        refuse(t, &n->place, "local memory is declared in the outermost block of a kernel");
-    if (n->part_count) refuse(t, &n->place, "a variable in local memory has no initial value");
+        refuse_at(t, &n->place, "local memory is declared in the outermost block of a kernel");
+    if (n->part_count) refuse_at(t, &n->place, "a variable in local memory has no initial value");
     new_object(t, o, IN_LOCAL, n->type, n->name);
     o->size = size_of_type(t, n->type, &n->place);
     o->has_size = true;
@@ -94,7 +94,7 @@ static bool is_braces(const node *n) {
 
 static void judge_attributes(translator *t, const node *n) {
     for (const attribute *a = n->attributes; a; a = a->next)
-        if (a->kind == UNKNOWN_ATTRIBUTE) refuse(t, &a->place, "Clsim doesn't know the attribute %s", a->name);
+        if (a->kind == UNKNOWN_ATTRIBUTE) refuse_at(t, &a->place, "Clsim doesn't know the attribute %s", a->name);
 }
 
 static bool is_whole(const type *t) { return t->kind == ARRAY_TYPE || t->kind == RECORD_TYPE; }
@@ -136,7 +136,7 @@ static void declare_private(translator *t, object *o, const node *n) {
 void declare_variable(translator *t, const node *n, bool is_outermost) {
     judge_attributes(t, n);
     if (n->type->space == CONSTANT_SPACE) return; // a table, where it is used
-    if (n->is_static) refuse(t, &n->place, "Clsim has no static variables in functions");
+    if (n->is_static) refuse_at(t, &n->place, "Clsim has no static variables in functions");
     if (n->type->space == LOCAL_SPACE) declare_local(t, n, is_outermost);
     else declare_private(t, variable_object(t, n), n);
 }

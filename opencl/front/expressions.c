@@ -12,7 +12,7 @@ static storage name_storage(translator *t, const node *n) {
         o = declared_object(t, d);
         if (!o && d->kind == VARIABLE_DECLARATION) o = table_of(t, d);
     }
-    if (!o) refuse(t, &n->place, "the name %s stands for nothing that Clsim has", n->name ? n->name : "");
+    if (!o) refuse_at(t, &n->place, "the name %s stands for nothing that Clsim has", n->name ? n->name : "");
     return whole(pointer_to(t, o), n->type);
 }
 
@@ -76,7 +76,7 @@ static storage member_storage(translator *t, const node *n) {
     if (n->is_arrow) s = whole(evaluate_value(t, from).pointer, from->type->of);
     else if (from->is_lvalue) s = evaluate_storage(t, from);
     else s = evaluate_value(t, from).storage;
-    if (!n->field) refuse(t, &n->place, "Clsim has no such member");
+    if (!n->field) refuse_at(t, &n->place, "Clsim has no such member");
     size_of_type(t, s.type, &n->place); // its layout is known
     unsigned known = s.align ? s.align : s.type->align < 8 ? (unsigned)s.type->align : 0;
     storage member = whole(shifted(s.at, (int64_t)n->field->offset), n->type);
@@ -131,7 +131,7 @@ static storage storage_of(translator *t, const node *n, bool is_address) {
     case CAST_EXPRESSION:
         if (n->is_lvalue && (n->cast == NO_OP || n->cast == LVALUE_BIT_CAST)) {
             storage s = evaluate_storage(t, n->parts[0]);
-            if (s.components) refuse(t, &n->place, "Clsim has no such cast");
+            if (s.components) refuse_at(t, &n->place, "Clsim has no such cast");
             s.type = n->type;
             return s;
         }
@@ -144,7 +144,7 @@ static storage storage_of(translator *t, const node *n, bool is_address) {
         break;
     default: break;
     }
-    if (n->is_lvalue) refuse(t, &n->place, "Clsim has no such place to store to or to load from");
+    if (n->is_lvalue) refuse_at(t, &n->place, "Clsim has no such place to store to or to load from");
     return variable_storage(t, n, "value");
 }
 
@@ -161,7 +161,7 @@ static pointer address(translator *t, const node *n) {
     storage s = storage_of(t, of, true);
     t->depth--;
     if (!s.components) return s.at;
-    if (s.component_count != 1) refuse(t, &n->place, "Clsim has no address of several components");
+    if (s.component_count != 1) refuse_at(t, &n->place, "Clsim has no address of several components");
     return shifted(s.at, (int64_t)(s.components[0] * s.type->size));
 }
 
@@ -171,7 +171,7 @@ static pointer address(translator *t, const node *n) {
 static integer floating_literal(translator *t, const node *n, integer v) {
     const type *to = n->type;
     bool is_known = v.is_literal && to->kind == FLOATING_TYPE && (to->width == 4 || to->width == 8);
-    if (!is_known) refuse(t, &n->place, "Clsim has no floating point");
+    if (!is_known) refuse_at(t, &n->place, "Clsim has no floating point");
     bool has_sign = is_signed(type_of(&v));
     uint64_t bits = 0;
     double d = has_sign ? (double)(int64_t)v.value : (double)v.value;
@@ -185,7 +185,7 @@ static integer floating_cast(translator *t, const node *n, integer v) {
     unsigned from = n->parts[0]->type->width, to = n->type->width;
     uint64_t bits = 0;
     if (from == to) return v;
-    if (!v.is_literal || from + to != 12) refuse(t, &n->place, "Clsim has no floating point");
+    if (!v.is_literal || from + to != 12) refuse_at(t, &n->place, "Clsim has no floating point");
     float f = 0;
     double d = 0;
     if (from == 4) {
@@ -212,7 +212,7 @@ static value read_value(translator *t, const node *n, const node *from) {
 static value integral_cast(translator *t, const node *n) {
     value v = evaluate_value(t, n->parts[0]);
     const type *to = n->type->kind == VECTOR_TYPE ? n->type->of : n->type;
-    if (to->kind != INTEGER_TYPE) refuse(t, &n->place, "Clsim has no cast to %s", n->type->name);
+    if (to->kind != INTEGER_TYPE) refuse_at(t, &n->place, "Clsim has no cast to %s", n->type->name);
     return converted_value(t, v, n->type);
 }
 
@@ -223,7 +223,7 @@ static value bit_cast(translator *t, const node *n) {
 }
 
 static value cast_of_integer(translator *t, const node *n) {
-    if (is_floating(n->parts[0]->type) || is_floating(n->type)) refuse(t, &n->place, "Clsim has no floating point");
+    if (is_floating(n->parts[0]->type) || is_floating(n->type)) refuse_at(t, &n->place, "Clsim has no floating point");
     integer v = evaluate_value(t, n->parts[0]).integer;
     if (n->cast == INTEGRAL_TO_BOOLEAN) return integer_value(cast_to(t, is_not_zero(t, v), UCHAR));
     return integer_value(cast_to(t, unary(t, MINUS, cast_to(t, v, INT), INT), core_type(n->type)));
@@ -256,13 +256,13 @@ static value cast_value(translator *t, const node *n) {
     case FLOATING_CAST:
         if (n->type->kind == FLOATING_TYPE) return integer_value(floating_cast(t, n, evaluate_value(t, from).integer));
         break;
-    case POINTER_TO_INTEGRAL: refuse(t, &n->place, "Clsim has no addresses as numbers");
-    case INTEGRAL_TO_POINTER: refuse(t, &n->place, "Clsim has no numbers as addresses");
+    case POINTER_TO_INTEGRAL: refuse_at(t, &n->place, "Clsim has no addresses as numbers");
+    case INTEGRAL_TO_POINTER: refuse_at(t, &n->place, "Clsim has no numbers as addresses");
     case FLOATING_TO_INTEGRAL:
     case FLOATING_TO_BOOLEAN: break;
-    default: refuse(t, &n->place, "Clsim has no such cast (%s)", n->name ? n->name : "");
+    default: refuse_at(t, &n->place, "Clsim has no such cast (%s)", n->name ? n->name : "");
     }
-    refuse(t, &n->place, "Clsim has no floating point");
+    refuse_at(t, &n->place, "Clsim has no floating point");
 }
 
 value converted_value(translator *t, value v, const type *type) {
@@ -283,7 +283,7 @@ static value implicit_value(translator *t, const node *n) {
     case VECTOR_TYPE: return splat(t, literal(t, 0, core_type(n->type->of)), (unsigned)n->type->length);
     case POINTER_TYPE: return pointer_value(pointer_to(t, t->null));
     case EVENT_TYPE: return integer_value(literal(t, 0, INT));
-    default: refuse(t, &n->place, "Clsim has no value of the type %s", n->type->name);
+    default: refuse_at(t, &n->place, "Clsim has no value of the type %s", n->type->name);
     }
 }
 
@@ -293,7 +293,7 @@ static value size_value(translator *t, const node *n) {
     if (!strcmp(n->name, "sizeof")) return integer_value(literal(t, size, ULONG));
     if (!strcmp(n->name, "alignof") || !strcmp(n->name, "__alignof"))
         return integer_value(literal(t, of->align, ULONG));
-    if (strcmp(n->name, "vec_step")) refuse(t, &n->place, "Clsim has no %s", n->name);
+    if (strcmp(n->name, "vec_step")) refuse_at(t, &n->place, "Clsim has no %s", n->name);
     uint64_t step = of->kind != VECTOR_TYPE ? 1 : of->length == 3 ? 4 : of->length;
     return integer_value(literal(t, step, ULONG));
 }
@@ -328,7 +328,7 @@ static value name_value(translator *t, const node *n) {
 }
 
 static value exact_value(translator *t, const node *n, const char *what) {
-    if (!n->is_exact) refuse(t, &n->place, "Clsim doesn't know %s", what);
+    if (!n->is_exact) refuse_at(t, &n->place, "Clsim doesn't know %s", what);
     return integer_value(literal(t, n->value, core_type(n->type)));
 }
 
@@ -364,7 +364,7 @@ static value value_of(translator *t, const node *n) {
     case SIZE_EXPRESSION: return size_value(t, n);
     case AS_TYPE_EXPRESSION: return as_type(t, read_value(t, n, n->parts[0]), n->type, &n->place);
     case STATEMENT_EXPRESSION: return statement_value(t, n, true);
-    default: refuse(t, &n->place, "Clsim has no such expression (%s)", n->name ? n->name : "");
+    default: refuse_at(t, &n->place, "Clsim has no such expression (%s)", n->name ? n->name : "");
     }
 }
 

@@ -247,7 +247,7 @@ typedef struct translator {
 } translator;
 
 // ---- translate.c ----
-void refuse(translator *t, const place *at, const char *format, ...) __attribute__((noreturn, format(printf, 3, 4)));
+void refuse_at(translator *t, const place *at, const char *format, ...) __attribute__((noreturn, format(printf, 3, 4)));
 const char *format(translator *t, const char *format, ...) __attribute__((format(printf, 2, 3)));
 const char *format_values(translator *t, const char *format, va_list values);
 void add_note(translator *t, const char *text);

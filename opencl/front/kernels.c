@@ -36,7 +36,7 @@ static void take_pointer(translator *t, written_parameters *all, unsigned argume
     const type *pointed = p->type->of;
     object_space space = space_of(pointed);
     object *o = find_object(t, 0, p->number, POINTED_TO_BY), *self = find_object(t, 0, p->number, ITSELF);
-    if (space == IN_PRIVATE) refuse(t, &p->place, "a kernel has no pointers to private memory as parameters");
+    if (space == IN_PRIVATE) refuse_at(t, &p->place, "a kernel has no pointers to private memory as parameters");
     if (pointed->kind != VOID_TYPE) size_of_type(t, pointed, &p->place);
     new_object(t, o, space, pointed, p->name);
     if (space == IN_LOCAL) add_local(t, o);
@@ -85,7 +85,7 @@ static void take_value(translator *t, written_parameters *all, unsigned argument
     object *o = find_object(t, 0, p->number, ITSELF);
     bool is_taken = type->kind == INTEGER_TYPE || type->kind == FLOATING_TYPE || type->kind == VECTOR_TYPE ||
                     type->kind == RECORD_TYPE;
-    if (!is_taken) refuse(t, &p->place, "Clsim has no parameter of the type %s", type->name);
+    if (!is_taken) refuse_at(t, &p->place, "Clsim has no parameter of the type %s", type->name);
     number_place *numbers = numbers_in(t, type, &p->place, &count);
     new_variable(t, o, type, p->name, &p->place);
     o->is_fixed = !t->is_modified[p->number] && type->kind == INTEGER_TYPE;
@@ -94,7 +94,7 @@ static void take_value(translator *t, written_parameters *all, unsigned argument
     for (unsigned i = 0; i < count; i++) {
         const number_place *n = &numbers[i];
         if (n->type->kind != INTEGER_TYPE && n->type->kind != FLOATING_TYPE)
-            refuse(t, &p->place, "Clsim has no parameter of the type %s", n->type->name);
+            refuse_at(t, &p->place, "Clsim has no parameter of the type %s", n->type->name);
         const leaf *l = direct ? find_leaf(o, n->offset, n->type->width) : NULL;
         written_parameter w = {.argument = argument, .offset = n->offset, .type = core_type(n->type)};
         if (l && l->name) w.type = l->variable;
@@ -258,7 +258,7 @@ static void translate_body(translator *t, const node *function, written_paramete
 
 static void judge_attributes(translator *t, const node *function) {
     for (const attribute *a = function->attributes; a; a = a->next)
-        if (a->kind == UNKNOWN_ATTRIBUTE) refuse(t, &a->place, "Clsim doesn't know the attribute %s", a->name);
+        if (a->kind == UNKNOWN_ATTRIBUTE) refuse_at(t, &a->place, "Clsim doesn't know the attribute %s", a->name);
 }
 
 void translate_kernel(translator *t, const node *function, judged_kernel *k, text *to) {
@@ -267,13 +267,13 @@ void translate_kernel(translator *t, const node *function, judged_kernel *k, tex
     *k = (judged_kernel){.function = function};
     begin_kernel_of_objects(t);
     do {
-        if (t->pass_number == MAX_PASSES) refuse(t, at, "Clsim can't follow the pointers of this kernel");
+        if (t->pass_number == MAX_PASSES) refuse_at(t, at, "Clsim can't follow the pointers of this kernel");
         all = (written_parameters){NULL, 0, 0};
         begin_pass(t, function);
         judge_attributes(t, function);
         translate_body(t, function, &all);
     } while (t->is_changed);
-    if (t->is_incomplete) refuse(t, at, "Clsim can't follow the pointers of this kernel");
+    if (t->is_incomplete) refuse_at(t, at, "Clsim can't follow the pointers of this kernel");
     write_head(t, k, &all, to);
     list begin = t->uses_null ? one_text(t, "uchar clsim_null[1];", at) : (list){NULL, NULL};
     if (t->uses_copies) append_list(&begin, begin_of_copies(t, at));

@@ -9,14 +9,14 @@ bool is_floating(const type *t) {
 }
 
 void refuse_floating(translator *t, const type *type, const place *at) {
-    if (is_floating(type)) refuse(t, at, "Clsim has no floating point (%s)", type->name);
+    if (is_floating(type)) refuse_at(t, at, "Clsim has no floating point (%s)", type->name);
 }
 
 static void judge_record(translator *t, const record *r, const place *at) {
-    if (!r->is_complete) refuse(t, at, "the type %s is incomplete", r->name);
-    if (r->unknown_attribute) refuse(t, at, "Clsim doesn't know the attribute %s", r->unknown_attribute);
+    if (!r->is_complete) refuse_at(t, at, "the type %s is incomplete", r->name);
+    if (r->unknown_attribute) refuse_at(t, at, "Clsim doesn't know the attribute %s", r->unknown_attribute);
     for (unsigned i = 0; i < r->field_count; i++)
-        if (r->fields[i].is_bit_field) refuse(t, &r->fields[i].place, "Clsim has no bit-fields");
+        if (r->fields[i].is_bit_field) refuse_at(t, &r->fields[i].place, "Clsim has no bit-fields");
 }
 
 uint64_t size_of_type(translator *t, const type *type, const place *at) {
@@ -28,7 +28,7 @@ uint64_t size_of_type(translator *t, const type *type, const place *at) {
     case FLOATING_TYPE:
     case EVENT_TYPE:
     case POINTER_TYPE: return type->size;
-    default: refuse(t, at, "Clsim has no %s", type->name);
+    default: refuse_at(t, at, "Clsim has no %s", type->name);
     }
 }
 
@@ -51,7 +51,7 @@ typedef struct {
 static unsigned smaller(uint64_t a, uint64_t b) { return (unsigned)(a < b ? a : b); }
 
 static void add_number(numbers *n, const type *type, uint64_t offset, unsigned align) {
-    if (n->count == MAX_NUMBERS) refuse(n->t, n->at, "an object of more than %d numbers", MAX_NUMBERS);
+    if (n->count == MAX_NUMBERS) refuse_at(n->t, n->at, "an object of more than %d numbers", MAX_NUMBERS);
     n->numbers = grown(&n->t->pass, n->numbers, n->count, &n->room, sizeof *n->numbers);
     n->numbers[n->count++] = (number_place){offset, type, align};
 }

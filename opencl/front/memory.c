@@ -291,7 +291,7 @@ static void store_to(translator *t, object *o, linear l, integer_type type, inte
         emit(t, "%s%s[-1]=%s;", mark_here(t, at), null_name(t), assigned(t, v, UCHAR));
         return;
     }
-    if (o->space == IN_CONSTANT) refuse(t, at, "constant memory can't be stored to");
+    if (o->space == IN_CONSTANT) refuse_at(t, at, "constant memory can't be stored to");
     if (o->space == IN_PRIVATE && is_inside(o, l, width)) {
         if (!o->is_array) {
             store_leaf(t, o, (uint64_t)l.constant, type, v, at);

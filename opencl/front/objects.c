@@ -156,7 +156,7 @@ integer_type array_element_of(translator *t, const object *o, unsigned types) {
         if (types & 1u << i && width_of(i) < width) width = width_of(i);
     if (!o->atomic_types || !(types & (types - 1))) return one_type(types, width);
     if (width < 4 || o->atomic_types & (o->atomic_types - 1))
-        refuse(t, t->at, "Clsim has no atomic functions on local memory that is also accessed in another width");
+        refuse_at(t, t->at, "Clsim has no atomic functions on local memory that is also accessed in another width");
     return one_type(o->atomic_types, 4);
 }
 
@@ -190,7 +190,7 @@ static void name_leaves(translator *t, object *o) {
 
 static void name_array(translator *t, object *o, const place *at) {
     unsigned types = o->types_before;
-    if (o->pointer_count) refuse(t, at, "Clsim has no pointers in an array or a struct that is indexed");
+    if (o->pointer_count) refuse_at(t, at, "Clsim has no pointers in an array or a struct that is indexed");
     for (unsigned i = 0; i < o->leaf_count; i++) types |= o->leaves[i].types_before;
     integer_type element = array_element_of(t, o, types);
     for (unsigned i = 0; i < o->leaf_count; i++)

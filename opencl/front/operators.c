@@ -107,7 +107,7 @@ value step(translator *t, const node *n, bool is_used) {
 
 static value unary_value(translator *t, const node *n) {
     refuse_floats(t, n);
-    if (n->operation == UNKNOWN_OPERATION) refuse(t, &n->place, "Clsim has no such operator (%s)", n->name ? n->name : "");
+    if (n->operation == UNKNOWN_OPERATION) refuse_at(t, &n->place, "Clsim has no such operator (%s)", n->name ? n->name : "");
     value v = evaluate_value(t, n->parts[0]);
     bool negates = n->operation == LOGICAL_NOT;
     if (v.kind == POINTER_VALUE) return integer_value(unary(t, LOGICAL_NOT, is_not_null(t, v.pointer), INT));
@@ -156,7 +156,7 @@ static value pointer_operation(translator *t, const node *n, value a, value b) {
     if (a.kind == POINTER_VALUE && b.kind == POINTER_VALUE) {
         if (!back) return integer_value(compare_pointers(t, n->operation, a.pointer, b.pointer, &n->place));
         uint64_t size = pointed_size(t, n->parts[0]->type, &n->place);
-        if (!size) refuse(t, &n->place, "Clsim has no difference of pointers to what has no size");
+        if (!size) refuse_at(t, &n->place, "Clsim has no difference of pointers to what has no size");
         return integer_value(difference(t, a.pointer, b.pointer, size, &n->place));
     }
     uint64_t size = pointed_size(t, n->type, &n->place);
@@ -167,7 +167,7 @@ value operation_value(translator *t, const node *n) {
     if (n->kind == UNARY_EXPRESSION) return unary_value(t, n);
     operation op = n->operation;
     bool is_logical = op == LOGICAL_AND || op == LOGICAL_OR;
-    if (op == UNKNOWN_OPERATION) refuse(t, &n->place, "Clsim has no such operator (%s)", n->name ? n->name : "");
+    if (op == UNKNOWN_OPERATION) refuse_at(t, &n->place, "Clsim has no such operator (%s)", n->name ? n->name : "");
     if (is_logical && n->type->kind != VECTOR_TYPE) return logical(t, n);
     operand parts[] = {{.node = n->parts[0]}, {.node = n->parts[1]}};
     evaluate(t, parts, 2);
@@ -176,7 +176,7 @@ value operation_value(translator *t, const node *n) {
     refuse_floats(t, n);
     const type *left = n->parts[0]->type, *right = n->parts[1]->type;
     bool is_number = left->kind == INTEGER_TYPE || left->kind == VECTOR_TYPE;
-    if (!is_number) refuse(t, &n->place, "Clsim has no operator on the type %s", left->name);
+    if (!is_number) refuse_at(t, &n->place, "Clsim has no operator on the type %s", left->name);
     if (n->type->kind == VECTOR_TYPE)
         return vector_operation(t, op, a, b, n->type, left->kind == VECTOR_TYPE ? left : right);
     return arithmetic(t, op, a, b, left);

@@ -7,7 +7,7 @@
 // The private object that a pointer lies in, at a constant place.
 static object *home_of(translator *t, pointer at, const place *place) {
     if (at.count != 1 || at.objects[0]->space != IN_PRIVATE || !is_constant(at.offset))
-        refuse(t, place, "Clsim has no pointers that are kept in memory, or behind an index");
+        refuse_at(t, place, "Clsim has no pointers that are kept in memory, or behind an index");
     return at.objects[0];
 }
 
@@ -130,14 +130,14 @@ integer compare_pointers(translator *t, operation op, pointer a, pointer b, cons
         integer other = is_not_null(t, is_null(&a) ? b : a);
         return op == NOT_EQUAL ? is_not_zero(t, other) : unary(t, LOGICAL_NOT, other, INT);
     }
-    if (!is_one_object(&a, &b)) refuse(t, at, "Clsim has no comparison of pointers into two objects");
+    if (!is_one_object(&a, &b)) refuse_at(t, at, "Clsim has no comparison of pointers into two objects");
     uint64_t unit = common_unit(&a, &b);
     return binary(t, op, offset_of(t, &a, unit), offset_of(t, &b, unit), LONG);
 }
 
 integer difference(translator *t, pointer a, pointer b, uint64_t size, const place *at) {
     if (!a.count || !b.count) return unknown(t, LONG);
-    if (!is_one_object(&a, &b)) refuse(t, at, "Clsim has no difference of pointers into two objects");
+    if (!is_one_object(&a, &b)) refuse_at(t, at, "Clsim has no difference of pointers into two objects");
     uint64_t unit = common_unit(&a, &b);
     integer d = binary(t, SUBTRACT, offset_of(t, &a, unit), offset_of(t, &b, unit), LONG);
     if (unit % size == 0) return binary(t, MULTIPLY, d, literal(t, unit / size, LONG), LONG);

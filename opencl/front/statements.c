@@ -206,7 +206,7 @@ static void translate_return(translator *t, const node *n) {
     function_frame *f = t->frame;
     const node *given = n->part_count ? n->parts[0] : NULL;
     if (f->is_kernel) {
-        if (given) refuse(t, &n->place, "a kernel returns no value");
+        if (given) refuse_at(t, &n->place, "a kernel returns no value");
         emit(t, "return;");
         return;
     }
@@ -237,7 +237,7 @@ static void translate_declarations(translator *t, const node *n, bool is_outermo
         const node *d = n->parts[i];
         if (d->kind == VARIABLE_DECLARATION) declare_variable(t, d, is_outermost);
         else if (d->kind != IDLE_DECLARATION && d->kind != FUNCTION_DECLARATION)
-            refuse(t, &d->place, "Clsim has no such declaration (%s)", d->name ? d->name : "");
+            refuse_at(t, &d->place, "Clsim has no such declaration (%s)", d->name ? d->name : "");
     }
 }
 
@@ -255,10 +255,10 @@ static void statement_of(translator *t, const node *n, bool is_outermost) {
     case CONTINUE_STATEMENT: emit(t, "continue;"); break;
     case RETURN_STATEMENT: translate_return(t, n); break;
     case LABEL_STATEMENT: translate_parts(t, n, false); break;
-    case GOTO_STATEMENT: refuse(t, &n->place, "Clsim has no goto");
+    case GOTO_STATEMENT: refuse_at(t, &n->place, "Clsim has no goto");
     case CASE_STATEMENT:
-    case DEFAULT_STATEMENT: refuse(t, &n->place, "Clsim has no case inside of another statement");
-    case UNKNOWN_STATEMENT: refuse(t, &n->place, "Clsim has no such statement (%s)", n->name ? n->name : "");
+    case DEFAULT_STATEMENT: refuse_at(t, &n->place, "Clsim has no case inside of another statement");
+    case UNKNOWN_STATEMENT: refuse_at(t, &n->place, "Clsim has no such statement (%s)", n->name ? n->name : "");
     default: evaluate_effects(t, n);
     }
 }

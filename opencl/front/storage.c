@@ -46,7 +46,7 @@ value get(translator *t, storage s, const place *at) {
     case POINTER_TYPE: return pointer_value(load_pointer(t, s.at, at));
     case RECORD_TYPE: return record_value(s);
     case EVENT_TYPE: return integer_value(literal(t, 0, INT));
-    default: refuse(t, at, "Clsim has no value of the type %s", s.type->name);
+    default: refuse_at(t, at, "Clsim has no value of the type %s", s.type->name);
     }
 }
 
@@ -118,7 +118,7 @@ void put(translator *t, storage s, value v, const place *at) {
     case POINTER_TYPE: store_pointer(t, s.at, v.pointer, at); break;
     case RECORD_TYPE: copy_record(t, s, v.storage, at); break;
     case EVENT_TYPE: break;
-    default: refuse(t, at, "Clsim has no store of the type %s", s.type->name);
+    default: refuse_at(t, at, "Clsim has no store of the type %s", s.type->name);
     }
 }
 

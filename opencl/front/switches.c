@@ -40,7 +40,7 @@ static void add_label(sections *s, section *to, const node *label) {
         return;
     }
     integer v = evaluate_value(t, label->parts[0]).integer;
-    if (!v.is_literal) refuse(t, &label->place, "Clsim has no case whose value isn't known here");
+    if (!v.is_literal) refuse_at(t, &label->place, "Clsim has no case whose value isn't known here");
     to->values = grown(&t->pass, to->values, to->value_count, &to->value_room, sizeof *to->values);
     to->values[to->value_count++] = converted(v.value, type_of(&s->value));
 }
@@ -50,7 +50,7 @@ static void declare_in_front(sections *s, const node *n) {
     translator *t = s->t;
     if (n->kind != DECLARATION_STATEMENT) return; // never reached
     for (unsigned i = 0; i < n->part_count; i++)
-        if (n->parts[i]->part_count) refuse(t, &n->parts[i]->place, "Clsim has no value in front of the first case");
+        if (n->parts[i]->part_count) refuse_at(t, &n->parts[i]->place, "Clsim has no value in front of the first case");
     translate_statement(t, n, false);
 }
 

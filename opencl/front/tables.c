@@ -13,7 +13,7 @@ typedef struct {
 static void fill(translator *t, memory m, uint64_t offset, const type *type, const node *n);
 
 static void fill_number(translator *t, memory m, uint64_t offset, const type *type, integer v, const node *n) {
-    if (!v.is_literal) refuse(t, &n->place, "Clsim has no initial value of constant memory that isn't known here");
+    if (!v.is_literal) refuse_at(t, &n->place, "Clsim has no initial value of constant memory that isn't known here");
     uint64_t bits = type->is_bool ? v.value != 0 : v.value;
     if (offset + type->width <= m.size) memcpy(m.bytes + offset, &bits, type->width);
 }
@@ -38,7 +38,7 @@ static void fill_fields(translator *t, memory m, uint64_t offset, const record *
 static void fill_value(translator *t, memory m, uint64_t offset, const type *type, const node *n) {
     bool is_number = type->kind == INTEGER_TYPE || type->kind == FLOATING_TYPE;
     if (!is_number && type->kind != VECTOR_TYPE)
-        refuse(t, &n->place, "Clsim has no initial value of the type %s", type->name);
+        refuse_at(t, &n->place, "Clsim has no initial value of the type %s", type->name);
     value v = evaluate_value(t, n);
     if (is_number) fill_number(t, m, offset, type, v.integer, n);
     else
@@ -96,8 +96,8 @@ static object *table_object(translator *t, const node *n, const char *name, cons
 
 object *table_of(translator *t, const node *declaration) {
     if (declaration->type->space != CONSTANT_SPACE)
-        refuse(t, &declaration->place, "a variable outside of functions stands in constant memory");
-    if (!declaration->part_count) refuse(t, &declaration->place, "Clsim has no constant memory without a value");
+        refuse_at(t, &declaration->place, "a variable outside of functions stands in constant memory");
+    if (!declaration->part_count) refuse_at(t, &declaration->place, "Clsim has no constant memory without a value");
     return table_object(t, declaration, declaration->name, declaration->parts[0]);
 }
 

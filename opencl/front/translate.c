@@ -25,7 +25,7 @@ const char *format(translator *t, const char *format, ...) {
     return s;
 }
 
-void refuse(translator *t, const place *at, const char *format, ...) {
+void refuse_at(translator *t, const place *at, const char *format, ...) {
     va_list values;
     va_start(values, format);
     const char *message = format_values(t, format, values);
@@ -52,7 +52,7 @@ void *grown(arena *a, void *list, unsigned count, unsigned *room, size_t size) {
 }
 
 void go_deeper(translator *t, const place *at) {
-    if (++t->depth > MAX_DEPTH) refuse(t, at, "this is nested more than %d deep, calls counted", MAX_DEPTH);
+    if (++t->depth > MAX_DEPTH) refuse_at(t, at, "this is nested more than %d deep, calls counted", MAX_DEPTH);
 }
 
 // ---- what is known of the whole tree ----

@@ -36,7 +36,7 @@ const unsigned char *components_of(translator *t, const char *name, unsigned len
     for (const char *c = name + by_number; !is_half && *c && n < 16; c++)
         components[n++] = (unsigned char)component_index(*c, by_number);
     for (unsigned i = 0; i < n; i++)
-        if (components[i] >= length) refuse(t, at, "Clsim has no component .%s of this vector", name);
+        if (components[i] >= length) refuse_at(t, at, "Clsim has no component .%s of this vector", name);
     *count = n;
     return components;
 }
@@ -111,7 +111,7 @@ value as_type(translator *t, value v, const type *type, const place *at) {
     unsigned count = type->kind == VECTOR_TYPE ? (unsigned)type->length : 1, n = 0;
     if ((v.kind != INTEGER_VALUE && v.kind != VECTOR_VALUE) ||
         (number->kind != INTEGER_TYPE && number->kind != FLOATING_TYPE))
-        refuse(t, at, "Clsim has no such value as the type %s", type->name);
+        refuse_at(t, at, "Clsim has no such value as the type %s", type->name);
     v = kept_value(t, v);
     const integer *from = v.kind == INTEGER_VALUE ? &v.integer : v.components;
     unsigned from_count = v.kind == INTEGER_VALUE ? 1 : v.count;
@@ -126,7 +126,7 @@ value as_type(translator *t, value v, const type *type, const place *at) {
     }
     bool is_padding = n == 3 && count == 4; // the last one of a vector of three is undefined
     if (is_padding) to[n++] = literal(t, 0, core_type(number));
-    if (n < count) refuse(t, at, "Clsim has no such value as the type %s", type->name);
+    if (n < count) refuse_at(t, at, "Clsim has no such value as the type %s", type->name);
     return type->kind == VECTOR_TYPE ? vector_value(to, count) : integer_value(to[0]);
 }
 
