@@ -58,7 +58,7 @@ module _ {D C R : Type 0} {m : Ghosts D C R} (step : D → C → R → D → Typ
   DidRequest request answer old new =
       (c : C) × (r : R) × (request ≡ Asked c) × (answer ≡ AnsweredBy r) × step old.machine c r new.machine × (known_of new.seat ≡ known_of old.seat ++ entry c r ∷ [])
 
-  -- the driver did the request of its only client at once; or all tickets are answered, and nothing changed (3.2.1, own)
+  -- the driver did its only client's request at once; or all tickets are answered, and nothing changed (3.2.1, own)
   pub record AnsweredAtOnce (request : Box (Request C R) Global) (old new : Driver D C R m) (client client' : Client D C R m) (result : Result (Box (Request C R) Global) (Full C R)) : Type 0 where
     pub one : (new.seat.table_id ≡ old.seat.table_id) × (client'.seat.table_id ≡ client.seat.table_id)
     pub only : IsOnly new.seat client'.seat
