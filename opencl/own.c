@@ -157,6 +157,19 @@ static void read_block(words *w, kernel_form *k) {
     }
 }
 
+bool is_own_program(prepared *p, session *device) {
+    text command = {.arena = &p->arena};
+    if (p->lines > MAX_LINES) return false;
+    addf(&command, "program p0 %u\n", p->lines);
+    add_bytes(&command, p->text, p->length);
+    session_record(device, false);
+    const char *reply = session_ask(device, command.at, command.length);
+    bool takes = reply && !strcmp(reply, "ok");
+    if (takes) session_askf(device, "release p0\n");
+    session_record(device, true);
+    return takes;
+}
+
 void list_own_kernels(prepared *p) {
     words w = {.arena = &p->arena, .at = p->text};
     unsigned room = 0;

@@ -139,8 +139,6 @@ static cl_int make_tables(cl_program p) {
     return CL_SUCCESS;
 }
 
-enum { MAX_LINES = 65536 }; // of a program in a script
-
 // Sends a prepared program to the device.
 static cl_int build_prepared(cl_program p) {
     unsigned number = ++p->context->names;
@@ -178,21 +176,6 @@ static cl_int judge_options(cl_context c, const char *options, option_kind kind,
     return unknown ? fault : CL_SUCCESS;
 }
 
-// Whether the device takes a text as it is. It forgets it again, and nothing of it is recorded.
-static bool takes_as_it_is(void *with, const char *text, size_t length, unsigned lines) {
-    session *s = with;
-    char *command = lines <= MAX_LINES ? malloc(length + 64) : NULL;
-    if (!command) return false;
-    size_t at = (size_t)snprintf(command, 64, "program p0 %u\n", lines);
-    memcpy(command + at, text, length);
-    session_record(s, false);
-    bool takes = is_ok(session_ask(s, command, at + length));
-    if (takes) session_askf(s, "release p0\n");
-    session_record(s, true);
-    free(command);
-    return takes;
-}
-
 static cl_int build(cl_program p, const char *options) {
     if (p->uses) return CL_INVALID_OPERATION;
     release_built(p);
@@ -204,7 +187,7 @@ static cl_int build(cl_program p, const char *options) {
         p->form.log = "source: error: a byte 0 stands in the source\n";
         return CL_BUILD_PROGRAM_FAILURE;
     }
-    preparation done = prepare_source(&p->form, p->source, options, takes_as_it_is, p->context->session);
+    preparation done = prepare_source(&p->form, p->source, options, p->context->session);
     if (done == NO_MEMORY) return CL_OUT_OF_HOST_MEMORY;
     cl_int fault = done == PREPARED ? build_prepared(p) : CL_BUILD_PROGRAM_FAILURE;
     if (!fault) p->status = CL_BUILD_SUCCESS;

@@ -105,7 +105,17 @@ value step(translator *t, const node *n, bool is_used) {
 
 // ---- one operand ----
 
+// The sign of a floating-point literal.
+static value signed_literal(translator *t, const node *n) {
+    integer v = evaluate_value(t, n->parts[0]).integer;
+    uint64_t sign = UINT64_C(1) << (8 * n->type->width - 1);
+    if (!v.is_literal) refuse_floats(t, n);
+    return integer_value(literal(t, n->operation == MINUS ? v.value ^ sign : v.value, core_type(n->type)));
+}
+
 static value unary_value(translator *t, const node *n) {
+    bool is_sign = n->operation == MINUS || n->operation == PLUS;
+    if (is_sign && n->type->kind == FLOATING_TYPE) return signed_literal(t, n);
     refuse_floats(t, n);
     if (n->operation == UNKNOWN_OPERATION) refuse_at(t, &n->place, "Clsim has no such operator (%s)", n->name ? n->name : "");
     value v = evaluate_value(t, n->parts[0]);
