@@ -107,10 +107,11 @@ static void read_parameters(words *w, kernel_form *k) {
         const type *number = is_pointer ? p.type->of : p.type;
         bool is_local = is_pointer && number->space == LOCAL_SPACE;
         integer_type core = integer_of(number->width, number->is_signed);
-        k->judged[k->judged_count++] = (judged_parameter){
-            .kind = is_local ? LOCAL_PARAMETER : is_pointer ? BUFFER_PARAMETER : VALUE_PARAMETER,
-            .type = core,
-            .argument = k->count};
+        k->judged[k->judged_count++] = (judged_parameter){.kind = is_local     ? LOCAL_PARAMETER
+                                                                  : is_pointer ? BUFFER_PARAMETER
+                                                                               : VALUE_PARAMETER,
+                                                          .type = core,
+                                                          .argument = k->count};
         if (is_local) k->locals[k->local_count++] = (local_object){p.name, p.name, number, core, true, k->count};
         k->parameters[k->count++] = p;
         if (is_word(w, ",")) next_word(w);

@@ -148,7 +148,7 @@ static cl_int build_prepared(cl_program p) {
     memcpy(command + at, p->form.text, p->form.length);
     // more lines than a script can say are more bytes than a source can have
     const char *reply = p->form.lines > MAX_LINES ? "refused 10 BuildFailed syntax 5 TooLong at 65536"
-                                              : session_ask(p->context->session, command, at + p->form.length);
+                                                  : session_ask(p->context->session, command, at + p->form.length);
     free(command);
     if (is_ok(reply)) {
         p->number = number;
@@ -277,8 +277,7 @@ CL_API_ENTRY cl_int CL_API_CALL clGetProgramInfo(cl_program p, cl_program_info n
             return CL_OUT_OF_HOST_MEMORY;
         }
         add(&names, "");
-        for (unsigned i = 0; i < p->form.kernel_count; i++)
-            addf(&names, "%s%s", i ? ";" : "", p->form.kernels[i].name);
+        for (unsigned i = 0; i < p->form.kernel_count; i++) addf(&names, "%s%s", i ? ";" : "", p->form.kernels[i].name);
         cl_int given = give_text(names.at, room, to, size);
         free_arena(&a);
         return given;
@@ -338,8 +337,8 @@ static cl_kernel new_kernel(cl_program p, const kernel_form *form, cl_int *errco
     bool made = !fault;
     for (unsigned i = 0; !fault && i < form->judged_count; i++)
         if (form->judged[i].kind == TABLE_PARAMETER)
-            fault = error_of(
-                session_askf(s, "arg k%u %u buffer b%u\n", k->number, i, p->tables[form->judged[i].argument]));
+            fault =
+                error_of(session_askf(s, "arg k%u %u buffer b%u\n", k->number, i, p->tables[form->judged[i].argument]));
     if (fault) {
         if (made) session_askf(s, "release k%u\n", k->number);
         free(arguments);

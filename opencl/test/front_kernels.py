@@ -105,7 +105,6 @@ class Kernel:
             lambda: f"({t})MIX((uint){one('uint')}, (uint){two('uint')})",
             lambda: f"({t})({one(other)}, {two(other)})",
             lambda: f"({t})add({one('ulong')}, {two('uchar')})",
-            lambda: f"({t})step({one('uint')}, &{r.choice(['x0', 'x1'])})",
             lambda: f"({t})(({{ {other} z = {one(other)}; z ^ 1; }}))",
             lambda: self.builtin(t, depth), lambda: self.builtin(t, depth),
         ]
@@ -195,11 +194,13 @@ class Kernel:
         sign = r.choice(["=", "=", "^=", "|=", "&="] + (["+=", "-=", "*="] if t in ("uint", "ulong") else []))
         return r.choice([
             lambda: f"{place} {sign} {self.number(t, 3)};", lambda: f"{place} {sign} {self.number(t, 3)};",
-            lambda: f"{r.choice(['x0', 'x1', 'a[1]', '*pa'])}{r.choice(['++', '--'])};",
+            lambda: f"{r.choice(['x0', 'x1', 'a[1]', '(*pa)'])}{r.choice(['++', '--'])};",
+            lambda: f"a[2] = (uint)step({self.number('uint', 2)}, &{r.choice(['x0', 'x1', 'a[3]'])});",
+            lambda: f"a[1] = (uint)step({self.number('uint', 2)}, pa == a ? &x1 : &x0);",
             lambda: "swap(&a[g & 3], &x1);", lambda: f"pa = &a[{r.choice(list(self.scalars))} & 1];",
             lambda: f"ps = {r.choice(['&s', '&other', f'({self.leaf(chr(105) + chr(110) + chr(116))} ? &s : &other)'])};",
             lambda: f"other = {r.choice(['s', '*ps', 'change(s, x0)'])};",
-            lambda: f"*(ushort *)&a[{r.randint(0, 3)}] = {self.number('ushort', 1)};",
+            lambda: f"*(int *)&a[{r.randint(0, 3)}] = {self.number('int', 1)};",
             lambda: f"((uchar *)a)[{r.choice(list(self.scalars))} & 15] ^= {self.number('uchar', 1)};",
             lambda: f"vstore4({self.vector_of('uchar', 4, 1)}, {r.randint(0, 1)}, bytes);",
         ])()
