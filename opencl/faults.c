@@ -219,8 +219,7 @@ static void tell_name(cl_kernel k, const char *reply) {
     else if (is_null) tell("  the pointer is NULL");
     else if (!shown || shown == name) {
         if (!k->program->form.is_own) tell("  %.*s holds a part of an expression", (int)n, name);
-    } else if (strlen(shown) != n || strncmp(shown, name, n))
-        tell("  %.*s is the client's %s", (int)n, name, shown);
+    } else if (strlen(shown) != n || strncmp(shown, name, n)) tell("  %.*s is the client's %s", (int)n, name, shown);
 }
 
 // ---- where it stands in the source ----

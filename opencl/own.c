@@ -107,10 +107,11 @@ static void read_parameters(words *w, kernel_form *k) {
         const type *number = is_pointer ? p.type->of : p.type;
         bool is_local = is_pointer && number->space == LOCAL_SPACE;
         integer_type core = integer_of(number->width, number->is_signed);
-        k->judged[k->judged_count++] = (judged_parameter){
-            .kind = is_local ? LOCAL_PARAMETER : is_pointer ? BUFFER_PARAMETER : VALUE_PARAMETER,
-            .type = core,
-            .argument = k->count};
+        k->judged[k->judged_count++] = (judged_parameter){.kind = is_local     ? LOCAL_PARAMETER
+                                                                  : is_pointer ? BUFFER_PARAMETER
+                                                                               : VALUE_PARAMETER,
+                                                          .type = core,
+                                                          .argument = k->count};
         if (is_local) k->locals[k->local_count++] = (local_object){p.name, p.name, number, core, true, k->count};
         k->parameters[k->count++] = p;
         if (is_word(w, ",")) next_word(w);
@@ -155,6 +156,19 @@ static void read_block(words *w, kernel_form *k) {
         else if (k && (is_word(w, "__local") || is_word(w, "local"))) read_local(w, k, &room);
         next_word(w);
     }
+}
+
+bool is_own_program(prepared *p, session *device) {
+    text command = {.arena = &p->arena};
+    if (p->lines > MAX_LINES) return false;
+    addf(&command, "program p0 %u\n", p->lines);
+    add_bytes(&command, p->text, p->length);
+    session_record(device, false);
+    const char *reply = session_ask(device, command.at, command.length);
+    bool takes = reply && !strcmp(reply, "ok");
+    if (takes) session_askf(device, "release p0\n");
+    session_record(device, true);
+    return takes;
 }
 
 void list_own_kernels(prepared *p) {

@@ -139,8 +139,6 @@ static cl_int make_tables(cl_program p) {
     return CL_SUCCESS;
 }
 
-enum { MAX_LINES = 65536 }; // of a program in a script
-
 // Sends a prepared program to the device.
 static cl_int build_prepared(cl_program p) {
     unsigned number = ++p->context->names;
@@ -150,7 +148,7 @@ static cl_int build_prepared(cl_program p) {
     memcpy(command + at, p->form.text, p->form.length);
     // more lines than a script can say are more bytes than a source can have
     const char *reply = p->form.lines > MAX_LINES ? "refused 10 BuildFailed syntax 5 TooLong at 65536"
-                                              : session_ask(p->context->session, command, at + p->form.length);
+                                                  : session_ask(p->context->session, command, at + p->form.length);
     free(command);
     if (is_ok(reply)) {
         p->number = number;
@@ -178,21 +176,6 @@ static cl_int judge_options(cl_context c, const char *options, option_kind kind,
     return unknown ? fault : CL_SUCCESS;
 }
 
-// Whether the device takes a text as it is. It forgets it again, and nothing of it is recorded.
-static bool takes_as_it_is(void *with, const char *text, size_t length, unsigned lines) {
-    session *s = with;
-    char *command = lines <= MAX_LINES ? malloc(length + 64) : NULL;
-    if (!command) return false;
-    size_t at = (size_t)snprintf(command, 64, "program p0 %u\n", lines);
-    memcpy(command + at, text, length);
-    session_record(s, false);
-    bool takes = is_ok(session_ask(s, command, at + length));
-    if (takes) session_askf(s, "release p0\n");
-    session_record(s, true);
-    free(command);
-    return takes;
-}
-
 static cl_int build(cl_program p, const char *options) {
     if (p->uses) return CL_INVALID_OPERATION;
     release_built(p);
@@ -204,7 +187,7 @@ static cl_int build(cl_program p, const char *options) {
         p->form.log = "source: error: a byte 0 stands in the source\n";
         return CL_BUILD_PROGRAM_FAILURE;
     }
-    preparation done = prepare_source(&p->form, p->source, options, takes_as_it_is, p->context->session);
+    preparation done = prepare_source(&p->form, p->source, options, p->context->session);
     if (done == NO_MEMORY) return CL_OUT_OF_HOST_MEMORY;
     cl_int fault = done == PREPARED ? build_prepared(p) : CL_BUILD_PROGRAM_FAILURE;
     if (!fault) p->status = CL_BUILD_SUCCESS;
@@ -294,8 +277,7 @@ CL_API_ENTRY cl_int CL_API_CALL clGetProgramInfo(cl_program p, cl_program_info n
             return CL_OUT_OF_HOST_MEMORY;
         }
         add(&names, "");
-        for (unsigned i = 0; i < p->form.kernel_count; i++)
-            addf(&names, "%s%s", i ? ";" : "", p->form.kernels[i].name);
+        for (unsigned i = 0; i < p->form.kernel_count; i++) addf(&names, "%s%s", i ? ";" : "", p->form.kernels[i].name);
         cl_int given = give_text(names.at, room, to, size);
         free_arena(&a);
         return given;
@@ -355,8 +337,8 @@ static cl_kernel new_kernel(cl_program p, const kernel_form *form, cl_int *errco
     bool made = !fault;
     for (unsigned i = 0; !fault && i < form->judged_count; i++)
         if (form->judged[i].kind == TABLE_PARAMETER)
-            fault = error_of(
-                session_askf(s, "arg k%u %u buffer b%u\n", k->number, i, p->tables[form->judged[i].argument]));
+            fault =
+                error_of(session_askf(s, "arg k%u %u buffer b%u\n", k->number, i, p->tables[form->judged[i].argument]));
     if (fault) {
         if (made) session_askf(s, "release k%u\n", k->number);
         free(arguments);

@@ -1,6 +1,5 @@
 #include "source.h"
 #include "own.h"
-#include "session.h"
 #include <stdio.h>
 #include <stdlib.h>
 #include <string.h>
@@ -253,7 +252,7 @@ static bool has_macros(const char *options) { return options && strstr(options, 
 
 // Whether the source is judged as it is: it is a program in Clsim's language. CLSIM_REWRITE=0 takes every source for
 // one, 1 none.
-static bool is_judged_as_it_is(prepared *p, const char *options, language_test *is_language, void *with) {
+static bool is_judged_as_it_is(prepared *p, const char *options, session *device) {
     const char *rewriting = setting("CLSIM_REWRITE");
     text whole = {.arena = &p->arena};
     if (has_macros(options) || (rewriting && !strcmp(rewriting, "1"))) return false;
@@ -262,19 +261,19 @@ static bool is_judged_as_it_is(prepared *p, const char *options, language_test *
     p->text = whole.at;
     p->length = whole.length;
     p->is_own = rewriting && !strcmp(rewriting, "0");
-    if (!p->is_own) p->is_own = is_language(with, p->text, p->length, lines_in(p->text));
+    p->lines = lines_in(p->text);
+    if (!p->is_own) p->is_own = is_own_program(p, device);
     return p->is_own;
 }
 
-preparation prepare_source(prepared *p, const char *source, const char *options, language_test *is_language,
-                           void *with) {
+preparation prepare_source(prepared *p, const char *source, const char *options, session *device) {
     memset(p, 0, sizeof *p);
     if (setjmp(p->arena.failed)) {
         free_prepared(p);
         return NO_MEMORY;
     }
     p->source = copy_text(&p->arena, source, strlen(source));
-    if (is_judged_as_it_is(p, options, is_language, with)) list_own_kernels(p);
+    if (is_judged_as_it_is(p, options, device)) list_own_kernels(p);
     else if (!translate_source(p, options)) return NOT_PREPARED;
     p->lines = lines_in(p->text);
     return PREPARED;

@@ -2,6 +2,9 @@
 #ifndef CLSIM_SOURCE_H
 #define CLSIM_SOURCE_H
 #include "front/translate.h"
+#include "session.h"
+
+enum { MAX_LINES = 65536 }; // of a program in a script
 
 typedef struct {
     const char *name;
@@ -40,12 +43,9 @@ typedef struct {
 
 typedef enum { PREPARED, NOT_PREPARED, NO_MEMORY } preparation;
 
-// Whether a text of whole lines is a program in Clsim's language.
-typedef bool language_test(void *with, const char *text, size_t length, unsigned lines);
-
-// Makes a source ready by the options of a build. The text and the log live until it is freed.
-preparation prepare_source(prepared *p, const char *source, const char *options, language_test *is_language,
-                           void *with);
+// Makes a source ready by the options of a build. The device says whether it is a program in Clsim's language. The text
+// and the log live until it is freed.
+preparation prepare_source(prepared *p, const char *source, const char *options, session *device);
 void free_prepared(prepared *p);
 // The log of a build that the device refused, from its reply. NULL where memory is refused.
 const char *build_log(prepared *p, const char *reply);

@@ -55,6 +55,7 @@ static void do_run(run *r, arena *a, char **words, const char *text, size_t leng
     o->fault = r->input < 0 ? errno : 0;
     if (!o->fault) o->fault = start_child(&r->child, a, words, r->input, (child_limits){most_seconds(), memory});
     r->is_started = !o->fault;
+    if (o->fault == ENOMEM) longjmp(a->failed, 1);
     if (o->fault) return;
     o->wrong = read(to, &r->child);
     o->told = r->child.told;

@@ -3,7 +3,7 @@
 #include <string.h>
 
 bool is_atomic(const char *name, const char **operation) {
-    static const char *const operations[] = {"add", "sub", "min", "max", "and",     "or",
+    static const char *const operations[] = {"add", "sub", "min", "max",  "and",    "or",
                                              "xor", "inc", "dec", "xchg", "cmpxchg"};
     if (!strncmp(name, "atomic_", 7)) name += 7;
     else if (!strncmp(name, "atom_", 5)) name += 5;

@@ -123,8 +123,8 @@ static integer saturated_longs(arguments a, operation op) {
     integer sum = kept(a.t, in(a, op, X, Y, LONG)), zero = number(a, 0, LONG);
     integer other = op == ADD ? in(a, BIT_XOR, Y, sum, LONG) : in(a, BIT_XOR, X, Y, LONG);
     integer left = in(a, BIT_AND, in(a, BIT_XOR, X, sum, LONG), other, LONG);
-    integer limit = choice(a.t, in(a, LESS, X, zero, LONG), number(a, least(LONG), LONG),
-                           number(a, greatest(LONG), LONG), LONG);
+    integer limit =
+        choice(a.t, in(a, LESS, X, zero, LONG), number(a, least(LONG), LONG), number(a, greatest(LONG), LONG), LONG);
     return choice(a.t, in(a, LESS, left, zero, LONG), limit, sum, LONG);
 }
 
@@ -232,9 +232,7 @@ static void evaluate_arguments(translator *t, const node *n, operand *to, unsign
     t->at = &n->place;
 }
 
-static integer component(const value *v, unsigned i) {
-    return v->kind == VECTOR_VALUE ? v->components[i] : v->integer;
-}
+static integer component(const value *v, unsigned i) { return v->kind == VECTOR_VALUE ? v->components[i] : v->integer; }
 
 static value numeric_value(translator *t, const node *n, unsigned which) {
     unsigned count = functions[which].count, length = n->type->kind == VECTOR_TYPE ? (unsigned)n->type->length : 1;

@@ -7,11 +7,7 @@ static call *find_call(translator *t, const node *function, const node *site) {
     for (call *c = t->calls[bucket]; c; c = c->next)
         if (c->up == t->call && c->site == site) return c;
     call *c = take(&t->kernel, sizeof *c);
-    *c = (call){.up = t->call,
-                .next = t->calls[bucket],
-                .number = ++t->call_count,
-                .function = function,
-                .site = site};
+    *c = (call){.up = t->call, .next = t->calls[bucket], .number = ++t->call_count, .function = function, .site = site};
     t->calls[bucket] = c;
     return c;
 }
@@ -144,8 +140,8 @@ static value translate_call(translator *t, const node *n, const node *function, 
     else {
         frame.label = take(&t->pass, sizeof *frame.label);
         if (n->type->kind != VOID_TYPE)
-            frame.result = new_variable(t, find_object(t, number, n->number, RESULT_OF), n->type, function->name,
-                                        &n->place);
+            frame.result =
+                new_variable(t, find_object(t, number, n->number, RESULT_OF), n->type, function->name, &n->place);
         body_with_returns(t, function, frame.result);
     }
     t->call = call_before;
@@ -165,8 +161,7 @@ static value inline_call(translator *t, const node *n, const node *function, boo
     evaluate(t, arguments, count);
     t->at = &n->place;
     unsigned number = find_call(t, function, n)->number;
-    for (unsigned i = 0; i < count; i++)
-        give_argument(t, number, function->parts[i], arguments[i].value, &n->place);
+    for (unsigned i = 0; i < count; i++) give_argument(t, number, function->parts[i], arguments[i].value, &n->place);
     return translate_call(t, n, function, is_used);
 }
 
@@ -179,7 +174,8 @@ value call_value(translator *t, const node *n, bool is_used) {
     const node *called = n->parts[0];
     while (called->kind == CAST_EXPRESSION) called = called->parts[0];
     const node *function = called->kind == NAME_EXPRESSION ? called->declaration : NULL;
-    if (!function || function->kind != FUNCTION_DECLARATION) refuse_at(t, &n->place, "Clsim has no calls over pointers");
+    if (!function || function->kind != FUNCTION_DECLARATION)
+        refuse_at(t, &n->place, "Clsim has no calls over pointers");
     if (!function->body) return builtin_value(t, n, function->name, is_used);
     judge_function(t, function, &n->place);
     go_deeper(t, &n->place);

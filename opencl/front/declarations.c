@@ -73,7 +73,8 @@ static bool declare_with(translator *t, object *o, const value *v, const type *t
     for (unsigned i = 0; i < count; i++) {
         const leaf *l = find_leaf(o, i * number->size, (unsigned)number->size);
         integer one = v->kind == VECTOR_VALUE ? v->components[i] : v->integer;
-        emit(t, "%s %s=%s;", name_of(l->variable), l->name, assigned(t, cast_to(t, one, core_type(number)), l->variable));
+        emit(t, "%s %s=%s;", name_of(l->variable), l->name,
+             assigned(t, cast_to(t, one, core_type(number)), l->variable));
     }
     return true;
 }

@@ -33,7 +33,7 @@ static uint64_t row_length(const node *array) {
 // An index, or one far in front of every object where it leaves its row. The address of the element behind the last
 // one may be taken (C99 6.5.3.2).
 static integer index_in_row(translator *t, integer index, uint64_t length, bool is_address) {
-    uint64_t far = (uint64_t)-(INT64_C(1) << 40);
+    uint64_t far = (uint64_t) - (INT64_C(1) << 40);
     uint64_t limit = length + is_address;
     if (index.is_literal) return index.value < limit ? index : literal(t, far, LONG);
     index = cast_to(t, kept(t, index), LONG);
@@ -109,8 +109,8 @@ static storage variable_storage(translator *t, const node *n, const char *name) 
 }
 
 static storage literal_storage(translator *t, const node *n) {
-    object *o = declare(t, find_object(t, t->call ? t->call->number : 0, n->number, ITSELF), n->type, "literal",
-                        &n->place);
+    object *o =
+        declare(t, find_object(t, t->call ? t->call->number : 0, n->number, ITSELF), n->type, "literal", &n->place);
     initialize(t, pointer_to(t, o), n->type, n->parts[0], &n->place);
     return whole(pointer_to(t, o), n->type);
 }
@@ -237,8 +237,7 @@ static value cast_value(translator *t, const node *n) {
     case INTEGRAL_CAST: return integral_cast(t, n);
     case INTEGRAL_TO_BOOLEAN:
     case BOOLEAN_TO_SIGNED_INTEGRAL: return cast_of_integer(t, n);
-    case POINTER_TO_BOOLEAN:
-        return integer_value(cast_to(t, is_not_null(t, evaluate_value(t, from).pointer), UCHAR));
+    case POINTER_TO_BOOLEAN: return integer_value(cast_to(t, is_not_null(t, evaluate_value(t, from).pointer), UCHAR));
     case ARRAY_TO_POINTER_DECAY: return pointer_value(evaluate_storage(t, from).at);
     case NULL_TO_POINTER: return pointer_value(pointer_to(t, t->null));
     case BIT_CAST:
@@ -302,8 +301,8 @@ static value initializer_value(translator *t, const node *n) {
     if (n->type->kind == VECTOR_TYPE) return vector_literal(t, n);
     if (n->type->kind == INTEGER_TYPE || n->type->kind == FLOATING_TYPE || n->type->kind == POINTER_TYPE)
         return n->part_count ? evaluate_value(t, n->parts[0]) : implicit_value(t, n);
-    object *o = declare(t, find_object(t, t->call ? t->call->number : 0, n->number, ITSELF), n->type, "value",
-                        &n->place);
+    object *o =
+        declare(t, find_object(t, t->call ? t->call->number : 0, n->number, ITSELF), n->type, "value", &n->place);
     initialize(t, pointer_to(t, o), n->type, n, &n->place);
     return record_value(whole(pointer_to(t, o), n->type));
 }

@@ -116,7 +116,8 @@ static judged_parameter *add_parameter(translator *t, judged_kernel *k, unsigned
 
 static void write_pointer(translator *t, judged_kernel *k, unsigned *room, text *to, const object *o,
                           judged_parameter p, const char *name) {
-    static const char *const spaces[] = {[IN_GLOBAL] = "__global", [IN_CONSTANT] = "__constant", [IN_LOCAL] = "__local"};
+    static const char *const spaces[] = {
+        [IN_GLOBAL] = "__global", [IN_CONSTANT] = "__constant", [IN_LOCAL] = "__local"};
     bool is_const = o->space == IN_GLOBAL && !o->was_stored;
     *add_parameter(t, k, room, to) = p;
     addf(to, "%s %s%s *%s", spaces[o->space], is_const ? "const " : "", name_of(p.type), name);
@@ -166,8 +167,7 @@ static const char *kept_text(translator *t, const char *s) { return s ? copy_tex
 static void keep_names(translator *t, judged_kernel *k) {
     k->names = take(t->result, (t->shown_count + 1) * sizeof *k->names);
     for (unsigned i = 0; i < t->shown_count; i++)
-        k->names[k->name_count++] =
-            (shown_name){kept_text(t, t->shown[i].judged), kept_text(t, t->shown[i].shown)};
+        k->names[k->name_count++] = (shown_name){kept_text(t, t->shown[i].judged), kept_text(t, t->shown[i].shown)};
 }
 
 static void keep_locals(translator *t, judged_kernel *k) {
@@ -187,29 +187,26 @@ static void keep_locals(translator *t, judged_kernel *k) {
 
 // ---- passes ----
 
+// The words of the language, and the driver's own names.
+static const char reserved[] =
+    "__kernel kernel __global global __local local __constant constant const void char uchar short ushort int uint "
+    "long ulong size_t if else while do for break continue return float double half bool unsigned signed struct union "
+    "enum typedef switch case default goto sizeof static extern inline volatile restrict register auto __private "
+    "private get_work_dim get_global_id get_local_id get_group_id get_global_offset get_global_size get_local_size "
+    "get_num_groups min max abs clz popcount rotate barrier atomic_add atomic_sub atomic_min atomic_max atomic_and "
+    "atomic_or atomic_xor atomic_inc atomic_dec atomic_xchg atomic_cmpxchg CLK_LOCAL_MEM_FENCE CLK_GLOBAL_MEM_FENCE "
+    "clsim_lo clsim_hi clsim_async clsim_k clsim_h clsim_null";
+
 static void take_reserved_names(translator *t) {
-    static const char *const names[] = {
-        "__kernel",     "kernel",        "__global",     "global",        "__local",      "local",
-        "__constant",   "constant",      "const",        "void",          "char",         "uchar",
-        "short",        "ushort",        "int",          "uint",          "long",         "ulong",
-        "size_t",       "if",            "else",         "while",         "do",           "for",
-        "break",        "continue",      "return",       "float",         "double",       "half",
-        "bool",         "unsigned",      "signed",       "struct",        "union",        "enum",
-        "typedef",      "switch",        "case",         "default",       "goto",         "sizeof",
-        "static",       "extern",        "inline",       "volatile",      "restrict",     "register",
-        "auto",         "__private",     "private",      "get_work_dim",  "get_global_id", "get_local_id",
-        "get_group_id", "get_global_offset", "get_global_size", "get_local_size", "get_num_groups", "min",
-        "max",          "abs",           "clz",          "popcount",      "rotate",       "barrier",
-        "atomic_add",   "atomic_sub",    "atomic_min",   "atomic_max",    "atomic_and",   "atomic_or",
-        "atomic_xor",   "atomic_inc",    "atomic_dec",   "atomic_xchg",   "atomic_cmpxchg", "CLK_LOCAL_MEM_FENCE",
-        "CLK_GLOBAL_MEM_FENCE", "clsim_lo", "clsim_hi",  "clsim_async",   "clsim_k",      "clsim_h",
-        "clsim_null"};
-    for (size_t i = 0; i < sizeof names / sizeof *names; i++) take_name(t, names[i]);
-    for (unsigned i = 0; i < t->tree->declaration_count; i++)
-        if (t->tree->declarations[i]->kind == FUNCTION_DECLARATION) {
-            const char *name = t->tree->declarations[i]->name;
-            if (name && !is_taken(t, name)) take_name(t, name);
-        }
+    for (const char *at = reserved; *at;) {
+        size_t n = strcspn(at, " ");
+        take_name(t, copy_text(&t->pass, at, n));
+        at += n + strspn(at + n, " ");
+    }
+    for (unsigned i = 0; i < t->tree->declaration_count; i++) {
+        const node *d = t->tree->declarations[i];
+        if (d->kind == FUNCTION_DECLARATION && d->name && !is_taken(t, d->name)) take_name(t, d->name);
+    }
 }
 
 static void begin_pass(translator *t, const node *function) {

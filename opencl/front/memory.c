@@ -271,8 +271,7 @@ static void store_pieces(translator *t, object *o, pieces p, integer_type type, 
     if (count > 1) v = kept(t, v);
     for (unsigned i = 0; i < count; i++) {
         integer index = in_units(t, plus(p.at, (int64_t)i * step), element), piece = v;
-        if (count > 1)
-            piece = binary(t, SHIFT_RIGHT, cast_to(t, v, whole), literal(t, 8 * i * step, INT), whole);
+        if (count > 1) piece = binary(t, SHIFT_RIGHT, cast_to(t, v, whole), literal(t, 8 * i * step, INT), whole);
         emit(t, "%s%s[%s]=%s;", mark_here(t, at), array.name, index.text, assigned(t, piece, array.element));
     }
 }

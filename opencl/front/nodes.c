@@ -55,7 +55,11 @@ void stop_at(builder *b, const char *format, ...) {
     longjmp(b->stop, 1);
 }
 
+// A node takes some 300 bytes with its place among others. The largest tree that was met has 480,000.
+enum { MOST_NODES = 4000000 };
+
 node *make_node(builder *b, node_kind kind, position at) {
+    if (b->tree->node_count >= MOST_NODES) stop_at(b, "it has more than %d nodes", MOST_NODES);
     node *n = take(b->arena, sizeof *n);
     n->kind = kind;
     n->number = ++b->tree->node_count;
@@ -564,7 +568,7 @@ static void read_node(builder *b, const dump_line *line) {
         follow_type(b, line);
         return;
     }
-    if (line->depth != f->depth + 1) stop_at(b, "a line that is indented too far");
+    if (line->depth != f->depth + 1) stop_at(b, "a line that can't be read: %.100s", line->rest);
     if (line->kind == NULL_LINE && f->node && f->node->kind == FOR_STATEMENT) add_part(b, NULL);
     else if (line->kind == VALUE_LINE && f->shape == WRAPPER_SHAPE) return;
     else if (!r) stop_at(b, "a line that can't be read: %.100s", line->rest);
@@ -579,8 +583,10 @@ static void read_unit(builder *b) {
                    !memcmp(line.word, unit.word, line.length);
     if (!is_unit) stop_at(b, "it doesn't begin as a tree");
     push(b, &unit, &line, NULL);
-    for (b->skipped = UINT32_MAX; (line = next_line(b->dump)).kind != NO_LINE;) {
+    unsigned last_depth = 0;
+    for (b->skipped = UINT32_MAX; (line = next_line(b->dump)).kind != NO_LINE; last_depth = line.depth) {
         if (line.kind == BROKEN_LINE) stop_at(b, "a line that can't be read, or half of one");
+        if (line.depth > last_depth + 1) stop_at(b, "a line that is indented too far");
         if (line.depth > b->skipped) {
             peek(b, &line);
             continue;

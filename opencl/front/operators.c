@@ -48,8 +48,7 @@ static value move_pointer(translator *t, const node *n, bool is_used) {
     evaluate(t, parts, 2);
     t->at = &n->place;
     uint64_t size = pointed_size(t, n->parts[0]->type, &n->place);
-    value v = pointer_value(
-        moved(t, parts[0].value.pointer, parts[1].value.integer, n->operation == SUBTRACT, size));
+    value v = pointer_value(moved(t, parts[0].value.pointer, parts[1].value.integer, n->operation == SUBTRACT, size));
     if (is_used) v = kept_value(t, v);
     put(t, parts[0].storage, v, &n->place);
     return v;
@@ -82,8 +81,7 @@ static value stepped(translator *t, const node *n, value old) {
     }
     integer_type wide = promoted(core_type(number_of(type)));
     value one = integer_value(literal(t, 1, wide));
-    if (type->kind == VECTOR_TYPE)
-        return vector_operation(t, back ? SUBTRACT : ADD, old, one, type, type);
+    if (type->kind == VECTOR_TYPE) return vector_operation(t, back ? SUBTRACT : ADD, old, one, type, type);
     integer v = binary(t, back ? SUBTRACT : ADD, old.integer, one.integer, wide);
     if (type->is_bool) v = is_not_zero(t, v);
     return integer_value(cast_to(t, v, core_type(type)));
@@ -105,9 +103,20 @@ value step(translator *t, const node *n, bool is_used) {
 
 // ---- one operand ----
 
+// The sign of a floating-point literal.
+static value signed_literal(translator *t, const node *n) {
+    integer v = evaluate_value(t, n->parts[0]).integer;
+    uint64_t sign = UINT64_C(1) << (8 * n->type->width - 1);
+    if (!v.is_literal) refuse_floats(t, n);
+    return integer_value(literal(t, n->operation == MINUS ? v.value ^ sign : v.value, core_type(n->type)));
+}
+
 static value unary_value(translator *t, const node *n) {
+    bool is_sign = n->operation == MINUS || n->operation == PLUS;
+    if (is_sign && n->type->kind == FLOATING_TYPE) return signed_literal(t, n);
     refuse_floats(t, n);
-    if (n->operation == UNKNOWN_OPERATION) refuse_at(t, &n->place, "Clsim has no such operator (%s)", n->name ? n->name : "");
+    if (n->operation == UNKNOWN_OPERATION)
+        refuse_at(t, &n->place, "Clsim has no such operator (%s)", n->name ? n->name : "");
     value v = evaluate_value(t, n->parts[0]);
     bool negates = n->operation == LOGICAL_NOT;
     if (v.kind == POINTER_VALUE) return integer_value(unary(t, LOGICAL_NOT, is_not_null(t, v.pointer), INT));
@@ -190,8 +199,7 @@ static value choice_of_components(translator *t, const node *n) {
     operand parts[] = {{.node = n->parts[0]}, {.node = n->parts[1]}, {.node = n->parts[2]}};
     integer *components = take(&t->pass, count * sizeof *components);
     evaluate(t, parts, 3);
-    value test = kept_value(t, parts[0].value), a = kept_value(t, parts[1].value),
-          b = kept_value(t, parts[2].value);
+    value test = kept_value(t, parts[0].value), a = kept_value(t, parts[1].value), b = kept_value(t, parts[2].value);
     if (a.kind == INTEGER_VALUE) a = splat(t, a.integer, count);
     if (b.kind == INTEGER_VALUE) b = splat(t, b.integer, count);
     for (unsigned i = 0; i < count; i++) {

@@ -32,9 +32,9 @@ static bool selector_of(translator *t, const pointer_leaf *home, const pointer *
         unsigned index = base_index(home, p->objects[i]);
         if (index == home->count_before) return false;
         integer number = literal(t, index, INT);
-        *selector = i + 1 == p->count ? number
-                                      : choice(t, binary(t, EQUAL, *p->selector, literal(t, i, INT), INT), number,
-                                               *selector, INT);
+        *selector = i + 1 == p->count
+                        ? number
+                        : choice(t, binary(t, EQUAL, *p->selector, literal(t, i, INT), INT), number, *selector, INT);
     }
     return true;
 }

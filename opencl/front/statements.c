@@ -59,8 +59,7 @@ static list with_break(translator *t, const loop_test *c, const place *at) {
     return l;
 }
 
-static void append_loop(translator *t, unsigned number, const char *head, list body, const char *end,
-                        const place *at) {
+static void append_loop(translator *t, unsigned number, const char *head, list body, const char *end, const place *at) {
     statement *s = new_loop(t, head, body, end, at);
     s->loop = number;
     append(t, s);

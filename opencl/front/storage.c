@@ -169,8 +169,7 @@ static void initialize_fields(translator *t, pointer p, const record *r, const n
 void initialize(translator *t, pointer p, const type *type, const node *n, const place *at) {
     go_deeper(t, at);
     if (n->kind == INITIALIZER_LIST && type->kind == ARRAY_TYPE) initialize_elements(t, p, type, n, at);
-    else if (n->kind == INITIALIZER_LIST && type->kind == RECORD_TYPE)
-        initialize_fields(t, p, type->record, n, at);
+    else if (n->kind == INITIALIZER_LIST && type->kind == RECORD_TYPE) initialize_fields(t, p, type->record, n, at);
     else if (n->kind == IMPLICIT_VALUE) put_zeros(t, p, type, at);
     else if (n->kind == STRING_LITERAL && type->kind == ARRAY_TYPE) initialize_text(t, p, type, n, at);
     else put(t, whole(p, type), evaluate_value(t, n), at);

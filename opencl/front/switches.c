@@ -66,8 +66,8 @@ static void add_statement(sections *s, const node *n) {
         return;
     }
     if (n->kind == NULL_STATEMENT) return;
-    last->statements = grown(&s->t->pass, last->statements, last->statement_count, &last->statement_room,
-                             sizeof *last->statements);
+    last->statements =
+        grown(&s->t->pass, last->statements, last->statement_count, &last->statement_room, sizeof *last->statements);
     last->statements[last->statement_count++] = n;
 }
 

@@ -72,8 +72,8 @@ static unsigned table_number(translator *t, const node *n, const char *name, con
     m.bytes = take(t->result, m.size + 1);
     fill(t, m, 0, n->type, initial);
     to->tables = grown(t->result, to->tables, to->table_count, &t->table_room, sizeof *to->tables);
-    to->tables[to->table_count] = (constant_table){copy_text(t->result, name, strlen(name)), m.bytes, m.size,
-                                                   width_of(element_of(n->type))};
+    to->tables[to->table_count] =
+        (constant_table){copy_text(t->result, name, strlen(name)), m.bytes, m.size, width_of(element_of(n->type))};
     *number = ++to->table_count;
     return *number - 1;
 }

