@@ -247,9 +247,8 @@ static bool add_buffer(text *t, cl_context c, unsigned number, size_t size) {
     return true;
 }
 
-// A script of the one launch: the buffers that it names, its program, its kernel with the arguments. Its line in which
-// the judged text begins goes into `first_line`.
-static bool add_script(text *t, cl_kernel k, const launch_sizes *s, unsigned long *first_line) {
+// A script of the one launch: the buffers that it names, its program, its kernel with the arguments.
+static bool add_script(text *t, cl_kernel k, const launch_sizes *s) {
     const kernel_form *form = k->form;
     const prepared *source = &k->program->form;
     add(t, "clsim 2\n");
@@ -263,8 +262,6 @@ static bool add_script(text *t, cl_kernel k, const launch_sizes *s, unsigned lon
         if (uses_table(form, i) && !add_buffer(t, k->context, k->program->tables[i], source->tables[i].size))
             return false;
     addf(t, "program p%u %u\n", k->program->number, source->lines);
-    *first_line = 1;
-    for (size_t i = 0; i < t->length; i++) *first_line += t->at[i] == '\n';
     add_bytes(t, source->text, source->length);
     addf(t, "kernel k%u p%u %s\n", k->number, k->program->number, form->name);
     for (unsigned i = 0; i < form->count; i++) add(t, k->arguments[i].command);
@@ -357,13 +354,13 @@ static void tell_spot(const prepared *source, json item) {
 }
 
 // Tells the items of an explanation, whose members docs/use/explain.md has, and why it is a fault.
-static void tell_spots(cl_kernel k, unsigned long first_line, const char *explanation) {
+static void tell_spots(cl_kernel k, const char *explanation) {
     const prepared *source = &k->program->form;
     json whole = json_text(explanation, strlen(explanation)), items = json_member(whole, "items");
     unsigned long version;
-    if (json_number(json_member(whole, "version"), &version) && version != 1) return;
+    if (json_number(json_member(whole, "version"), &version) && version != 2) return;
     for (json i = json_first(items); i.at; i = json_next(items, i)) tell_spot(source, i);
-    tell_reasons(source, k->form, first_line, json_member(whole, "why"));
+    tell_reasons(source, k->form, json_member(whole, "why"));
 }
 
 static void explain(cl_kernel k, const launch_sizes *s) {
@@ -377,12 +374,11 @@ static void explain(cl_kernel k, const launch_sizes *s) {
         free_arena(&a);
         return;
     }
-    unsigned long first_line = 1;
     session_record(k->context->session, false); // reading changes nothing
-    bool whole = add_script(&script, k, s, &first_line) && script.length <= MAX_EXPLAINED_BYTES;
+    bool whole = add_script(&script, k, s) && script.length <= MAX_EXPLAINED_BYTES;
     session_record(k->context->session, true);
     char *explanation = whole ? explain_script(script.at, script.length) : NULL;
-    if (explanation) tell_spots(k, first_line, explanation);
+    if (explanation) tell_spots(k, explanation);
     free(explanation);
     free_arena(&a);
 }

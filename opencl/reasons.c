@@ -1,103 +1,194 @@
-// The sentences that say why a fault is one. They are about the script, and name lines of it, what stands there and
-// names that the driver wrote: what is told of them is in the client's terms.
+// Why a fault is one. A reason that names a place or an object of the script is worded here, in the client's terms. Of
+// each other one the sentence of the explanation is told, which has neither.
 #include "reasons.h"
 #include "session.h"
 #include <stdio.h>
-#include <stdlib.h>
 #include <string.h>
 
+// What a reason is told of: a client's source, and the kernel that was launched.
 typedef struct {
     const prepared *source;
     const kernel_form *kernel;
-    unsigned long first_line;
-} script_form;
+} client_form;
 
-// Reads a place ` at LINE:COLUMN` of the script, and gives what stands behind it. NULL where none stands there.
-static const char *read_place(const char *at, unsigned long *line, unsigned long *column) {
-    char *end;
-    if (strncmp(at, " at ", 4) || at[4] < '0' || at[4] > '9') return NULL;
-    *line = strtoul(at + 4, &end, 10);
-    if (*end != ':' || end[1] < '0' || end[1] > '9') return NULL;
-    *column = strtoul(end + 1, &end, 10);
-    return end;
+// ---- words ----
+
+static const char *plural(unsigned long n) { return n == 1 ? "" : "s"; }
+
+// Adds text in one line.
+static void add_line(text *t, const char *words) {
+    for (; *words; words++) add_bytes(t, (unsigned char)*words < ' ' ? " " : words, 1);
 }
 
-// Where a place of the script is in the judged text. NULL where it isn't in it.
-static const char *judged_at(const script_form *s, unsigned long line, unsigned long column) {
-    const char *at = s->source->text;
-    if (line < s->first_line || !column) return NULL;
-    for (unsigned long n = line - s->first_line; n; n--) {
-        at = strchr(at, '\n');
-        if (!at) return NULL;
-        at++;
+// What a string of an explanation stands for. NULL where it is none.
+static char *take_string(arena *a, json string) {
+    size_t room = (size_t)(string.end - string.at) + 1;
+    char *words = take(a, room);
+    return json_string(string, words, room) ? words : NULL;
+}
+
+// Adds where a place of an explanation is in the client's form, behind a word. Nothing where that isn't known.
+static void add_place(text *t, const client_form *form, const char *word, json place) {
+    char room[512];
+    unsigned long offset;
+    if (json_number(json_member(place, "offset"), &offset) && place_of(form->source, offset, room, sizeof room))
+        addf(t, "%s at %s", word, room);
+}
+
+static bool number_of(json object, const char *name, unsigned long *n) {
+    return json_number(json_member(object, name), n);
+}
+
+static bool is_word(json v, const char *word) {
+    char room[32];
+    return json_word(v, room, sizeof room) && !strcmp(room, word);
+}
+
+// ---- kinds of reasons. Each adds its sentence, or answers false where a member is missing ----
+
+static bool add_barrier(text *t, const client_form *form, json reason) {
+    unsigned long group;
+    bool is_local = is_word(json_member(reason, "memory"), "local");
+    if (!number_of(reason, "group", &group)) return false;
+    addf(t, "group %lu passes a barrier between the two accesses", group);
+    add_place(t, form, ",", json_member(reason, "barrier"));
+    addf(t, ", but it does not fence %s memory: CLK_%s_MEM_FENCE is missing", is_local ? "local" : "global",
+         is_local ? "LOCAL" : "GLOBAL");
+    return true;
+}
+
+static bool add_elements(text *t, const client_form *form, json reason) {
+    unsigned long bytes, elements, width;
+    const char *name = take_string(t->arena, json_member(reason, "name"));
+    if (!name || !number_of(reason, "bytes", &bytes) || !number_of(reason, "elements", &elements) ||
+        !number_of(reason, "width", &width))
+        return false;
+    const char *shown = form->source->is_own ? name : shown_as(form->kernel, name, strlen(name));
+    add_line(t, shown ? shown : name);
+    addf(t, " has %lu byte%s, which %s %lu element%s of %lu byte%s, numbered from 0", bytes, plural(bytes),
+         elements == 1 ? "is" : "are", elements, plural(elements), width, plural(width));
+    return true;
+}
+
+typedef struct {
+    unsigned long byte, bytes, item;
+    json place;
+} stored_bytes;
+
+static bool read_stored(json v, stored_bytes *s) {
+    s->place = json_member(v, "place");
+    return number_of(v, "byte", &s->byte) && number_of(v, "bytes", &s->bytes) && s->bytes &&
+           number_of(v, "item", &s->item);
+}
+
+static void add_stored(text *t, const client_form *form, const stored_bytes *s) {
+    addf(t, "%lu", s->byte);
+    if (s->bytes > 1) addf(t, " to %lu", s->byte + (s->bytes - 1));
+    addf(t, ", by work-item %lu", s->item);
+    add_place(t, form, ",", s->place);
+}
+
+static bool add_nearest(text *t, const client_form *form, json reason) {
+    stored_bytes sides[2];
+    unsigned n = 0;
+    n += read_stored(json_member(reason, "below"), &sides[n]);
+    n += read_stored(json_member(reason, "above"), &sides[n]);
+    if (!n) return false;
+    add(t, n == 1 && sides[0].bytes == 1 ? "the nearest byte that was set is " : "the nearest bytes that were set are ");
+    add_stored(t, form, &sides[0]);
+    if (n == 2) {
+        add(t, ", and ");
+        add_stored(t, form, &sides[1]);
     }
-    return column - 1 <= strcspn(at, "\n") ? at + (column - 1) : NULL;
+    add(t, "; if another work-item sets this byte later, a barrier between the two is missing");
+    return true;
 }
 
-// What stands behind a place of the script with the text of the script that stands there in front of it. NULL where a
-// sentence doesn't go on like this.
-static const char *read_text(const script_form *s, const char *words, unsigned long *line, unsigned long *column) {
-    for (const char *at = strstr(words, " at "); at; at = strstr(at + 1, " at ")) {
-        const char *end = read_place(at, line, column), *judged = end ? judged_at(s, *line, *column) : NULL;
-        if (judged && !strncmp(judged, words, (size_t)(at - words))) return end;
+// What stands in front of an entry of a list in a sentence, of which so many are left with it.
+static const char *before_entry(bool is_first, unsigned long left) {
+    return is_first ? ": " : left == 1 ? " and " : ", ";
+}
+
+static void add_loop(text *t, const client_form *form, json loop) {
+    unsigned long turns = 0;
+    json counted = json_member(loop, "counted");
+    number_of(loop, "turns", &turns);
+    addf(t, "%s%lu of the loop", is_word(counted, "seen") ? "at least " : "", turns);
+    add_place(t, form, "", loop);
+    if (is_word(counted, "since_entered")) add(t, " since it was entered");
+}
+
+// Adds the loops that the turns of a budget went to. `unseen` is how many turns aren't among theirs.
+static void add_loops(text *t, const client_form *form, json reason, unsigned long unseen) {
+    json loops = json_member(reason, "loops"), others = json_member(reason, "other_loops");
+    unsigned long count = 0, turns = 0, left = unseen ? 1 : 0;
+    bool is_first = true, has_others = number_of(others, "loops", &count) && number_of(others, "turns", &turns);
+    left += has_others;
+    for (json l = json_first(loops); l.at; l = json_next(loops, l)) left++;
+    for (json l = json_first(loops); l.at; l = json_next(loops, l)) {
+        add(t, before_entry(is_first, left--));
+        add_loop(t, form, l);
+        is_first = false;
     }
-    return NULL;
-}
-
-// Adds a place of the script as one in the client's source, behind a word. Nothing where that isn't known.
-static void add_place(text *t, const script_form *s, const char *word, unsigned long line, unsigned long column) {
-    const char *judged = judged_at(s, line, column);
-    char place[512];
-    if (judged && place_of(s->source, (size_t)(judged - s->source->text), place, sizeof place))
-        addf(t, "%s at %s", word, place);
-}
-
-// Adds the name that a sentence begins with, as the client's source has it, and gives what stands behind it: the whole
-// sentence where it begins otherwise.
-static const char *add_name(text *t, const script_form *s, const char *words) {
-    size_t n = strcspn(words, " ");
-    const char *shown = strncmp(words + n, " has ", 5) ? NULL : shown_as(s->kernel, words, n);
-    if (!shown || shown == words) return words;
-    add(t, shown);
-    return words + n;
-}
-
-// A sentence in the client's terms. The text of a place is left out: it may be what the driver wrote.
-static void add_sentence(text *t, const script_form *s, const char *words) {
-    unsigned long line, column;
-    words = add_name(t, s, words);
-    while (*words) {
-        const char *end = strncmp(words, ", ", 2) ? NULL : read_text(s, words + 2, &line, &column);
-        const char *word = end ? "," : "";
-        if (!end) end = read_place(words, &line, &column);
-        if (end) {
-            add_place(t, s, word, line, column);
-            words = end;
-        } else {
-            add_bytes(t, (unsigned char)*words < ' ' ? " " : words, 1);
-            words++;
-        }
+    if (has_others) {
+        add(t, before_entry(is_first, left));
+        addf(t, "%s%lu of %lu other loop%s", unseen ? "at least " : "", turns, count, plural(count));
+        is_first = false;
     }
+    if (unseen)
+        addf(t, "%s%lu of loops that it had left, which no access or barrier shows", before_entry(is_first, 1), unseen);
 }
 
-// Tells one sentence. Where memory is refused, it is left out.
-static void tell_reason(const script_form *s, json sentence) {
+static bool add_budget(text *t, const client_form *form, json reason) {
+    unsigned long ticks, accesses, barriers, turns, unseen;
+    if (!number_of(reason, "ticks", &ticks) || !number_of(reason, "accesses", &accesses) ||
+        !number_of(reason, "barriers", &barriers) || !number_of(reason, "turns", &turns) ||
+        !number_of(reason, "unseen", &unseen))
+        return false;
+    addf(t, "the budget of %lu tick%s went to %lu access%s, %lu barrier%s and %lu turn%s of loops", ticks, plural(ticks),
+         accesses, accesses == 1 ? "" : "es", barriers, plural(barriers), turns, plural(turns));
+    add_loops(t, form, reason, unseen);
+    add(t, "; a loop without end uses up any budget");
+    return true;
+}
+
+static const struct {
+    const char *kind;
+    bool (*add)(text *t, const client_form *form, json reason);
+} worded[] = {
+    {"unfenced_barrier", add_barrier},
+    {"elements", add_elements},
+    {"nearest_stores", add_nearest},
+    {"budget", add_budget},
+};
+
+// Adds the sentence of an explanation.
+static bool add_sentence(text *t, json reason) {
+    const char *words = take_string(t->arena, json_member(reason, "text"));
+    if (words) add_line(t, words);
+    return words;
+}
+
+static bool add_reason(text *t, const client_form *form, json reason) {
+    json kind = json_member(reason, "kind");
+    for (size_t i = 0; i < sizeof worded / sizeof *worded; i++)
+        if (is_word(kind, worded[i].kind)) return worded[i].add(t, form, reason);
+    return add_sentence(t, reason);
+}
+
+// Tells one reason. Where memory is refused, it is left out.
+static void tell_reason(const client_form *form, json reason) {
     arena a = {0};
     text told = {.arena = &a};
-    size_t room = (size_t)(sentence.end - sentence.at) + 1;
     if (setjmp(a.failed)) {
         free_arena(&a);
         return;
     }
-    char *words = take(&a, room);
-    if (json_string(sentence, words, room)) {
-        add_sentence(&told, s, words);
-        if (told.length) tell("  why: %s", told.at);
-    }
+    if (add_reason(&told, form, reason) && told.length) tell("  why: %s", told.at);
     free_arena(&a);
 }
 
-void tell_reasons(const prepared *source, const kernel_form *kernel, unsigned long first_line, json list) {
-    script_form s = {source, kernel, first_line};
-    for (json w = json_first(list); w.at; w = json_next(list, w)) tell_reason(&s, w);
+void tell_reasons(const prepared *source, const kernel_form *kernel, json list) {
+    client_form form = {source, kernel};
+    for (json r = json_first(list); r.at; r = json_next(list, r)) tell_reason(&form, r);
 }

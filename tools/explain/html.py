@@ -8,7 +8,9 @@ name, and a picture of the schedule, a lane a work-item. The status is 0, or 2 w
 import re
 from xml.sax.saxutils import escape
 
-from reading import argument_texts, explanations, is_refusal, item_text, lines_of, place_of, run, title_of
+from reading import (
+    argument_texts, explanations, is_refusal, item_text, lines_of, place_of, reason_texts, run, title_of,
+)
 
 # the picture: how far lanes and events stand from one another, and where the first ones stand, in pixels
 LANE = 132
@@ -235,7 +237,7 @@ def section(whole):
     ]
     parts += [f'<p class="dim">{quoted(text)}</p>' for text in argument_texts(whole)]
     parts += [f"<p>{quoted(item_text(item))}</p>" for item in whole["items"]]
-    parts += [f"<p><b>Why:</b> {quoted(sentence)}</p>" for sentence in whole["why"]]
+    parts += [f"<p><b>Why:</b> {quoted(sentence)}</p>" for sentence in reason_texts(whole)]
     parts += ["<h2>Source</h2>", f'<div class="wide">{source_table(whole)}</div>']
     if whole["steps"]:
         events = "1 event" if schedule["events"] == 1 else f"{schedule['events']} events"

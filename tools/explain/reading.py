@@ -3,7 +3,7 @@
 import json
 import sys
 
-VERSION = 1
+VERSION = 2
 # what `clsim explain --format json` writes where there is nothing to explain
 NOTHING = ("clean", "no", "ok")
 
@@ -107,6 +107,11 @@ def argument_texts(whole):
         element = f": byte {memory['byte']} lies in element {parameter['element']}" if inside else ""
         found.append(f"argument {parameter['index']} of the kernel: {parameter['type']} {parameter['name']}{element}")
     return found
+
+
+def reason_texts(whole):
+    """Why a fault comes about, a sentence a reason."""
+    return [reason["text"] for reason in whole["why"]]
 
 
 def place_of(item):

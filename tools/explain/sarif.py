@@ -9,7 +9,7 @@ import json
 import re
 from urllib.parse import quote
 
-from reading import argument_texts, explanations, is_refusal, item_text, lines_of, place_of, run
+from reading import argument_texts, explanations, is_refusal, item_text, lines_of, place_of, reason_texts, run
 
 SCHEMA = "https://json.schemastore.org/sarif-2.1.0.json"
 
@@ -168,7 +168,7 @@ def result(whole):
     found = {
         "ruleId": "clsim/" + whole["fault"]["name"],
         "level": "error",
-        "message": {"text": "; ".join([whole["fault"]["line"], *argument_texts(whole), *whole["why"]])},
+        "message": {"text": "; ".join([whole["fault"]["line"], *argument_texts(whole), *reason_texts(whole)])},
         "locations": places[:1],
         "partialFingerprints": {"clsim/v1": fingerprint(whole, [spot for _, spot in spots])},
     }

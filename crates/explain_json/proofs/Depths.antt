@@ -1,10 +1,15 @@
 -- How deep an explanation nests in JSON.
-use Rattle.std.proofs.Common.{ℕ, ◌≤◌, List, [], ◌∷◌, Option, None, Some, map, arith}
-use Rattle.serde_json.specs.Data.{Data, depth, items_depth}
+use Rattle.std.proofs.Common.{ℕ, ◌≤◌, List, [], ◌∷◌, Option, None, Some, map, arith, sym, subst}
+use Rattle.serde_json.specs.Data.{Data, array, depth, items_depth}
 use Rattle.serde_json.specs.View.{items_of}
 use Rattle.explanation.specs.declared.places.CallSite.{CallSite}
 use Rattle.explanation.specs.declared.places.LoopSite.{LoopSite}
 use Rattle.explanation.specs.declared.places.Spot.{Spot}
+use Rattle.explanation.specs.declared.reasons.LoopTurns.{LoopTurns}
+use Rattle.explanation.specs.declared.reasons.OtherLoops.{OtherLoops}
+use Rattle.explanation.specs.declared.reasons.Reason.{Reason}
+use Rattle.explanation.specs.declared.reasons.Reason.TheVariants as reason
+use Rattle.explanation.specs.declared.reasons.StoredBytes.{StoredBytes}
 use Rattle.explanation.specs.declared.steps.Code.{Code}
 use Rattle.explanation.specs.declared.steps.ToldEvent.{ToldEvent}
 use Rattle.explanation.specs.declared.steps.ToldEvent.TheVariants as step
@@ -15,7 +20,8 @@ use Rattle.explanation.specs.declared.told.LaunchFacts.{LaunchFacts}
 use Rattle.explanation.specs.declared.told.Memory.{Memory}
 use Rattle.explanation.specs.declared.told.NamedItem.{NamedItem}
 use Rattle.explanation.specs.declared.told.ParameterFacts.{ParameterFacts}
-use Rattle.explain_json.specs.Members.{number_data, text_data, or_null, call_data, loop_data, spot_data, code_data, barrier_data, item_data, parameter_data, group_of, element_data, memory_data, value_data, step_data, launch_data, explanation_data}
+use Rattle.explain_json.specs.Members.{left_data, number_data, or_null, call_data, loop_data, spot_data, code_data, barrier_data, item_data, parameter_data, group_of, element_data, memory_data, value_data, step_data, launch_data, explanation_data}
+use Rattle.explain_json.specs.Reasons.{AreReasons, loop_turns_data, other_loops_data, reason_data, reasons_data, stored_data}
 
 many : {A : Type 0} (f : A → Data) (n : ℕ) → ((x : A) → depth (f x) ≤ n) → (xs : List A) → items_depth (items_of (map f xs)) ≤ n
 many f n h [] = omega arith
@@ -93,11 +99,57 @@ launch_depth l =
     let offset : items_depth (items_of (map number_data l.offset.items)) ≤ 0 = numbers_depth l.offset.items in
     omega arith
 
-pub explanation_depth : (e : Explanation) → depth (explanation_data e) ≤ 6
-explanation_depth e =
+stored_depth : (s : StoredBytes) → depth (stored_data s) ≤ 2
+stored_depth s = let place : depth (or_null code_data s.code) ≤ 1 = some code_data 1 code_depth s.code in omega arith
+
+reason_depth : (r : Reason) (text : List ℕ) → depth (reason_data r text) ≤ 3
+reason_depth (reason.UnfencedBarrier group memory barrier) text = let place : depth (or_null code_data barrier) ≤ 1 = some code_data 1 code_depth barrier in omega arith
+reason_depth (reason.NoBarrier group) text = omega arith
+reason_depth (reason.OtherGroups group other) text = omega arith
+reason_depth (reason.Classes class other) text = omega arith
+reason_depth (reason.Elements name bytes elements width) text = omega arith
+reason_depth reason.OrderShown text = omega arith
+reason_depth reason.StoreAndLoad text = omega arith
+reason_depth reason.SameStores text = omega arith
+reason_depth reason.TwoStores text = omega arith
+reason_depth reason.StoreAndUpdate text = omega arith
+reason_depth reason.StoreAndFetch text = omega arith
+reason_depth reason.AtomicAndLoad text = omega arith
+reason_depth reason.ShorterArray text = omega arith
+reason_depth reason.NeverTogether text = omega arith
+reason_depth reason.VariableWithoutValue text = omega arith
+reason_depth reason.ElementWithoutValue text = omega arith
+reason_depth reason.QuotientTooLarge text = omega arith
+reason_depth reason.NothingStored text = omega arith
+reason_depth (reason.ZeroDivisor left) text = let number : depth (or_null left_data left) ≤ 0 = some left_data 0 (λ l. omega arith) left in omega arith
+reason_depth (reason.NearestStores below above) text =
+    let lower : depth (or_null stored_data below) ≤ 2 = some stored_data 2 stored_depth below in
+    let upper : depth (or_null stored_data above) ≤ 2 = some stored_data 2 stored_depth above in
+    omega arith
+reason_depth (reason.Budget spent) text =
+    let loops : items_depth (items_of (map loop_turns_data spent.loops.items)) ≤ 1 = many loop_turns_data 1 (λ l. omega arith) spent.loops.items in
+    let others : depth (or_null other_loops_data spent.others) ≤ 1 = some other_loops_data 1 (λ o. omega arith) spent.others in
+    omega arith
+
+reasons_depth : (why : List Reason) (texts : List (List ℕ)) → items_depth (items_of (reasons_data why texts)) ≤ 3
+reasons_depth [] texts = omega arith
+reasons_depth (r ∷ why) [] = omega arith
+reasons_depth (r ∷ why) (text ∷ texts) =
+    let here : depth (reason_data r text) ≤ 3 = reason_depth r text in
+    let rest : items_depth (items_of (reasons_data why texts)) ≤ 3 = reasons_depth why texts in
+    omega arith
+
+why_depth : (why : List Reason) (d : Data) → AreReasons why d → depth d ≤ 4
+why_depth why d are =
+    let each : items_depth (items_of (reasons_data why are.sentences)) ≤ 3 = reasons_depth why are.sentences in
+    let whole : depth (array (items_of (reasons_data why are.sentences))) ≤ 4 = omega arith in
+    subst (λ (x : Data). depth x ≤ 4) (sym are.is) whole
+
+pub explanation_depth : (e : Explanation) (why : Data) → AreReasons e.why.items why → depth (explanation_data e why) ≤ 6
+explanation_depth e why are =
     let items : items_depth (items_of (map item_data e.items.items)) ≤ 4 = many item_data 4 item_depth e.items.items in
     let launch : depth (launch_data e.launch) ≤ 2 = launch_depth e.launch in
     let memory : depth (or_null memory_data e.memory) ≤ 3 = some memory_data 3 memory_depth e.memory in
     let steps : items_depth (items_of (map step_data e.steps.items)) ≤ 2 = many step_data 2 step_depth e.steps.items in
-    let why : items_depth (items_of (map text_data e.why.items)) ≤ 0 = many text_data 0 (λ t. omega arith) e.why.items in
+    let reasons : depth why ≤ 4 = why_depth e.why.items why are in
     omega arith

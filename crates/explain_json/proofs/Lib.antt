@@ -1,2 +1,4 @@
 mod Depths
+mod Floats
 mod RefusalDepths
+mod Told

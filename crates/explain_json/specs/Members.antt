@@ -1,4 +1,4 @@
--- An explanation in JSON (RFC 8259; the members are this project's own, version 1). Members stand in the order of their
+-- An explanation in JSON (RFC 8259; the members are this project's own, version 2). Members stand in the order of their
 -- names.
 use Rattle.std.specs.Prelude.{ℕ, ℤ, String, Option, None, Some, List, map, codes, decimal, string_bytes}
 use Rattle.std.specs.Fmt.{signed_decimal}
@@ -85,7 +85,8 @@ spot_data s =
 
 abbrev pub code_data : Code → Data
 code_data c =
-    object (member (codes "column") (number_data c.column) (member (codes "script_line") (number_data c.script_line) (member (codes "text") (text_data c.text) no_members)))
+    object (member (codes "column") (number_data c.column) (member (codes "length") (number_data c.length) (member (codes "line") (number_data c.line)
+    (member (codes "offset") (number_data c.offset) (member (codes "script_line") (number_data c.script_line) (member (codes "text") (text_data c.text) no_members))))))
 
 -- Items.
 
@@ -120,6 +121,10 @@ group_of memory.Variable = None
 
 abbrev pub element_data : ℤ → Data
 element_data element = string (signed_decimal element)
+
+-- the left operand of a division
+abbrev pub left_data : ℤ → Data
+left_data left = string (signed_decimal left)
 
 abbrev pub memory_data : Memory → Data
 memory_data m =
@@ -158,9 +163,10 @@ abbrev pub fault_data : FaultFacts → Data
 fault_data f =
     object (member (codes "line") (text_data f.line) (member (codes "name") (text_data f.name) (member (codes "number") (number_data f.number) no_members)))
 
-abbrev pub explanation_data : Explanation → Data
-explanation_data e =
+-- with the reasons as they are told
+abbrev pub explanation_data : Explanation → Data → Data
+explanation_data e why =
     object (member (codes "fault") (fault_data e.fault) (member (codes "items") (list_data item_data e.items.items) (member (codes "launch") (launch_data e.launch)
     (member (codes "memory") (or_null memory_data e.memory) (member (codes "schedule") (schedule_data e.schedule) (member (codes "script") (text_data e.script)
-    (member (codes "steps") (list_data step_data e.steps.items) (member (codes "steps_left") (number_data e.steps_left) (member (codes "version") (number_data 1)
-    (member (codes "why") (list_data text_data e.why.items) no_members))))))))))
+    (member (codes "steps") (list_data step_data e.steps.items) (member (codes "steps_left") (number_data e.steps_left) (member (codes "version") (number_data 2)
+    (member (codes "why") why no_members))))))))))

@@ -1,12 +1,13 @@
 //! An explanation as JSON, and a source that doesn't build: its fault, where it lies, and what to write. It knows both
-//! as data alone. What it writes, by the kit's `serde_json`, reads back as the value that was made of the data, whose
-//! member `version` is 1.
+//! as data alone. What it writes, by the kit's `serde_json`, is one line: the writer's text of the value that was made of
+//! the data, whose member `version` is 2. It reads back as this value. The sentences are those of `explain_text`.
 #![tactic(auto)]
 
 mod items;
 mod memory;
 mod object;
 mod places;
+mod reasons;
 mod refusals;
 mod steps;
 mod values;

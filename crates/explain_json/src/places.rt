@@ -83,6 +83,9 @@ impl ToJson for Code {
         Object::new(alloc)
             .with("text", &self.text)
             .with("script_line", &self.script_line)
+            .with("offset", &self.offset)
+            .with("line", &self.line)
+            .with("length", &self.length)
             .with("column", &self.column)
             .finish()
     }

@@ -1,18 +1,15 @@
 //! A source that doesn't build, as JSON, by the kit's `serde_json`: its fault, where it lies, and what to write. What
-//! it writes reads back as the value that was made of the refusal, whose member `version` is 1.
+//! it writes is the writer's text of the value that was made of the refusal, whose member `version` is 2.
 #![tactic(auto)]
 
 ghost use Rattle.std.specs.Prelude.{◌≡◌, string_bytes, option_copied, IfOk};
 ghost use Rattle.serde_json.specs.View.{view};
 ghost use Rattle.explain_json.specs.RefusalMembers.{fault_data, spot_data, hints_data, refusal_data, IsRefusedLine};
 
+use crate::whole::VERSION;
 use build_hints::{Refusal, Refused, refusal_of};
 use serde_json::{Value, json};
 use std::alloc::{AllocError, Global};
-
-/// The version of the members' names and meanings, which is that of a fault's explanation. A member more doesn't change
-/// it.
-const VERSION: u32 = 1;
 
 /// The fault of a refusal as a JSON value: its kind, its number and its name.
 fn fault_value(alloc: Global, refusal: &Refusal) -> Result<Value, AllocError>

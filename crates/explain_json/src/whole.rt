@@ -1,19 +1,20 @@
 //! An explanation as a whole.
 #![tactic(auto)]
 
-ghost use Rattle.std.specs.Prelude.{◌≡◌, ◌++◌, [], ◌∷◌, Some, List, ℕ, string_bytes, IfOk};
-ghost use Rattle.serde_json.specs.Read.{read};
+ghost use Rattle.std.specs.Prelude.{IfOk, string_bytes};
 ghost use Rattle.serde_json.specs.View.{view};
-ghost use Rattle.explain_json.specs.Members.{launch_data, fault_data, explanation_data};
+ghost use Rattle.explain_json.specs.Lines.{IsExplanationData, IsExplanationLine};
+ghost use Rattle.explain_json.specs.Members.{launch_data, fault_data};
 
 use crate::object::Object;
+use crate::reasons::reasons_value;
 use crate::values::ToJson;
 use explanation::{Explanation, FaultFacts, LaunchFacts};
 use serde_json::Value;
 use std::alloc::{AllocError, Global};
 
-/// The version of the members' names and meanings. A member more doesn't change it.
-pub const VERSION: u32 = 1;
+/// The version of the members' names and meanings, also of those of a refusal. A member more doesn't change it.
+pub(crate) const VERSION: u32 = 2;
 
 impl ToJson for LaunchFacts {
     ghost json = { launch_data };
@@ -49,10 +50,11 @@ impl ToJson for FaultFacts {
 
 /// An explanation as a JSON value.
 pub fn value_of(alloc: Global, whole: &Explanation) -> Result<Value, AllocError>
-    ensures { IfOk result (λ value. view value ≡ explanation_data whole.now) }
+    ensures { IfOk result (λ value. IsExplanationData whole.now (view value)) }
 {
+    let why = reasons_value(alloc, whole.why.as_slice())?;
     Object::new(alloc)
-        .with("why", &whole.why)
+        .with_value("why", Ok(why))
         .with("version", &VERSION)
         .with("steps_left", &whole.steps_left)
         .with("steps", &whole.steps)
@@ -65,9 +67,9 @@ pub fn value_of(alloc: Global, whole: &Explanation) -> Result<Value, AllocError>
         .finish()
 }
 
-/// An explanation as one line of JSON, which reads back as its value.
+/// An explanation as one line of JSON, which the writer makes of its value, and which reads back as this value.
 pub fn json_of(alloc: Global, whole: &Explanation) -> Result<String, AllocError>
-    ensures { IfOk result (λ json. (line : List ℕ) × (string_bytes json ≡ line ++ 10 ∷ []) × (read line ≡ Some (explanation_data whole.now))) }
+    ensures { IfOk result (λ json. IsExplanationLine whole.now (string_bytes json)) }
 {
     let value = value_of(alloc, whole)?;
     let mut text = value.to_string(alloc)?;

@@ -2,14 +2,11 @@
 #![tactic(auto)]
 
 use clmodel::text::Name;
-use clmodel::tree::{Expression, Function, Statement};
+use clmodel::tree::Statement;
 use explain_items::Context;
 use fault_play::Stand;
-use origins::Node;
+use source_spots::{DEPTH, function_at, inside, last_begun, statement_at};
 use std::alloc::AllocError;
-
-/// How deep statements are looked into: no source is nested so deep.
-const DEPTH: u32 = 256;
 
 /// A private array: how many elements it has, and how many bytes each of them has.
 #[derive(Clone, Copy)]
@@ -31,11 +28,6 @@ struct Wanted<'a> {
     names: &'a [Name],
     name: &'a Name,
     at: u32,
-}
-
-/// The byte of the source at which a statement begins.
-fn begin_of(statement: &Statement) -> u32 {
-    Node::Statement(statement).at()
 }
 
 /// Whether a number stands for the name of the wanted array.
@@ -75,7 +67,7 @@ fn declared_in(
 ) -> Option<PrivateArray> {
     let mut found = known;
     for statement in body {
-        if begin_of(statement) > wanted.at {
+        if statement_at(statement) > wanted.at {
             return found;
         }
         if let Some(array) = declared(statement, wanted) {
@@ -83,59 +75,6 @@ fn declared_in(
         }
     }
     found
-}
-
-/// The last statement of a list that begins at this byte or before it.
-fn last_begun(body: &[Statement], at: u32) -> Option<&Statement> {
-    let mut last = None;
-    for statement in body {
-        if begin_of(statement) > at {
-            return last;
-        }
-        last = Some(statement);
-    }
-    last
-}
-
-/// A statement, if it begins at this byte or before it.
-fn begun(statement: &Statement, at: u32) -> Option<&Statement> {
-    if begin_of(statement) <= at {
-        Some(statement)
-    } else {
-        None
-    }
-}
-
-/// The body of a `do`, if a byte stands in it, and not in the condition behind it.
-fn do_body<'a>(body: &'a Statement, condition: &Expression, at: u32) -> Option<&'a Statement> {
-    if Node::Expression(condition).at() <= at {
-        return None;
-    }
-    begun(body, at)
-}
-
-/// The statement in another one, which is no block, in which this byte stands, if there is one.
-fn inside(statement: &Statement, at: u32) -> Option<&Statement> {
-    match statement {
-        Statement::If { chosen, .. } => begun(chosen, at),
-        Statement::IfElse {
-            chosen,
-            otherwise,
-            ..
-        } => {
-            if begin_of(otherwise) <= at {
-                return Some(otherwise);
-            }
-            begun(chosen, at)
-        }
-        Statement::While { body, .. } | Statement::For { body, .. } => begun(body, at),
-        Statement::DoWhile {
-            body,
-            condition,
-            ..
-        } => do_body(body, condition, at),
-        _ => None,
-    }
 }
 
 /// The wanted array, as the innermost declaration round its use declares it.
@@ -148,23 +87,10 @@ fn array_in(body: &[Statement], wanted: &Wanted<'_>) -> Option<PrivateArray> {
         };
         if let Statement::Block { body, .. } = statement {
             found = declared_in(body.as_slice(), wanted, found);
-            next = last_begun(body.as_slice(), wanted.at);
-        } else {
-            next = inside(statement, wanted.at);
         }
+        next = inside(statement, wanted.at);
     }
     found
-}
-
-/// The last function whose body begins at this byte or before it.
-fn function_at(functions: &[Function], at: u32) -> Option<&Function> {
-    let mut last = None;
-    for function in functions {
-        if function.body_at <= at {
-            last = Some(function);
-        }
-    }
-    last
 }
 
 /// The private array of a name that is used where an item stands, if its declaration is found. An error is out of

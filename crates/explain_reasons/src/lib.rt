@@ -8,7 +8,6 @@ mod reasons;
 mod schedule_steps;
 mod turns;
 mod unset;
-mod wording;
 
 pub use arrays::{PrivateArray, array_of};
 pub use reasons::reasons_of;

@@ -1,16 +1,15 @@
-//! Why a fault comes about, in sentences.
+//! Why a fault comes about.
 #![tactic(auto)]
 
 use crate::arrays::array_of;
-use crate::budget::budget_reason;
+use crate::budget::budget_use;
 use crate::unset::unset_reason;
-use crate::wording::counted;
-use clmodel::access::{AccessKind, Clash, Class};
+use clmodel::access::{AccessKind, Clash};
 use clmodel::fault::{Fault, Location};
 use clmodel::text::Name;
 use explain_items::{Context, is_release};
-use explanation::Memory;
-use fault_play::{Mark, Played, Stand, event_of};
+use explanation::{FencedMemory, Memory, Reason};
+use fault_play::{Mark, Played, event_of};
 use std::alloc::{AllocError, Global};
 
 /// The last release of a group between two events, if there is one.
@@ -33,55 +32,29 @@ fn barrier_between(played: &Played, group: u32) -> Option<&Mark> {
     release_between(marks, group, from, to)
 }
 
-/// What a barrier has to fence to order accesses at a location, and the flag for it (OpenCL 1.2, section 6.12.8).
-fn fence_of(location: &Location) -> (&'static str, &'static str) {
+/// What a barrier has to fence to order accesses at a location (OpenCL 1.2, section 6.12.8).
+fn memory_of(location: &Location) -> FencedMemory {
     match location {
-        Location::Buffer(_) => ("global", "CLK_GLOBAL_MEM_FENCE"),
-        Location::Local { .. } => ("local", "CLK_LOCAL_MEM_FENCE"),
+        Location::Buffer(_) => FencedMemory::Global,
+        Location::Local { .. } => FencedMemory::Local,
     }
 }
 
-/// The text where an item stands behind a comma, if it is known.
-pub(crate) fn text_at(context: &Context<'_>, stand: Option<&Stand>) -> Result<String, AllocError> {
-    let alloc = context.alloc;
-    match context.code(stand)? {
-        Some(code) => {
-            let (line, column, text) = (code.script_line, code.column, code.text.as_str());
-            format!(in alloc; ", {text} at {line}:{column}")
-        }
-        None => Ok(String::new(alloc)),
-    }
-}
-
-/// Why a barrier between two accesses of its group doesn't order them.
-fn unfenced_reason(
-    context: &Context<'_>,
-    group: u32,
-    barrier: &Mark,
-    location: &Location,
-) -> Result<String, AllocError> {
-    let alloc = context.alloc;
-    let (space, flag) = fence_of(location);
-    let at = text_at(context, barrier.stand.as_ref())?;
-    let at = at.as_str();
-    format!(in alloc;
-        "group {group} passes a barrier between the two accesses{at}, but it does not fence {space} memory: {flag} is missing"
-    )
-}
-
-/// Why no barrier orders two accesses of one group.
+/// Why no barrier orders two accesses of one group: the last one between them doesn't fence their memory, or there is
+/// none.
 fn unordered_reason(
     context: &Context<'_>,
     played: &Played,
     group: u32,
     location: &Location,
-) -> Result<String, AllocError> {
-    let alloc = context.alloc;
+) -> Result<Reason, AllocError> {
     match barrier_between(played, group) {
-        Some(barrier) => unfenced_reason(context, group, barrier, location),
-        None => format!(in alloc;
-            "both work-items are of group {group}, and no barrier of it stands between the two accesses"
-        ),
+        Some(barrier) => Ok(Reason::UnfencedBarrier {
+            group,
+            memory: memory_of(location),
+            barrier: context.code(barrier.stand.as_ref())?,
+        }),
+        None => Ok(Reason::NoBarrier { group }),
     }
 }
 
@@ -90,36 +63,13 @@ fn order_reason(
     context: &Context<'_>,
     played: &Played,
     location: &Location,
-) -> Result<String, AllocError> {
-    let alloc = context.alloc;
+) -> Result<Reason, AllocError> {
     let size = context.launch.group_size();
     let (group, other) = (played.first.item / size, played.second.item / size);
     if group == other {
         return unordered_reason(context, played, group, location);
     }
-    format!(in alloc;
-        "the work-items are of groups {group} and {other}, and no barrier orders two work-groups of a launch"
-    )
-}
-
-/// The word for a class of atomic updates, the same for signed and unsigned ones.
-fn class_word(class: Class) -> &'static str {
-    match class {
-        Class::Add => "add",
-        Class::And => "and",
-        Class::Or => "or",
-        Class::Xor => "xor",
-        Class::SignedMin | Class::UnsignedMin => "min",
-        Class::SignedMax | Class::UnsignedMax => "max",
-    }
-}
-
-/// Why the order of two updates of different classes matters.
-fn classes_reason(alloc: Global, one: Class, other: Class) -> Result<String, AllocError> {
-    let (one, two) = (class_word(one), class_word(other));
-    format!(in alloc;
-        "atomic {one} and atomic {two} do not commute: what is left depends on which comes first"
-    )
+    Ok(Reason::OtherGroups { group, other })
 }
 
 /// The number that an access of a log leaves, where it is known.
@@ -147,64 +97,52 @@ fn store_the_same(played: &Played) -> bool {
 }
 
 /// Why the order of two stores matters.
-fn two_stores_words(played: &Played) -> &'static str {
+fn stores_reason(played: &Played) -> Reason {
     if store_the_same(played) {
-        "both store the same value, which is a race in a launch that isn't uniform"
+        Reason::SameStores
     } else {
-        "both store: which value is left depends on which comes last"
+        Reason::TwoStores
     }
 }
 
 /// Why the order of two accesses matters of which one stores, by the kind of the other one.
-fn store_race_words(played: &Played, other: AccessKind) -> &'static str {
+fn store_reason(played: &Played, other: AccessKind) -> Reason {
     match other {
-        AccessKind::Load =>
-            "one of the two stores: what the other one finds depends on which comes first",
-        AccessKind::Store => two_stores_words(played),
-        AccessKind::Update(_) =>
-            "one of the two is an atomic function, the other one a plain store: what is left depends on which comes first",
-        AccessKind::Fetch =>
-            "one of the two is an atomic function, the other one a plain store: what the function gives and what is left depend on which comes first",
+        AccessKind::Load => Reason::StoreAndLoad,
+        AccessKind::Store => stores_reason(played),
+        AccessKind::Update(_) => Reason::StoreAndUpdate,
+        AccessKind::Fetch => Reason::StoreAndFetch,
     }
 }
 
 /// Why the order of two accesses matters that are a race: at least one isn't by an atomic function, and at least one
 /// isn't a load.
-fn race_words(played: &Played, kinds: (AccessKind, AccessKind)) -> &'static str {
+fn race_reason(played: &Played, kinds: (AccessKind, AccessKind)) -> Reason {
     match kinds {
-        (AccessKind::Store, other) | (other, AccessKind::Store) => store_race_words(played, other),
-        _ =>
-            "one of the two is an atomic function, the other one a plain load: what the load finds depends on which comes first",
+        (AccessKind::Store, other) | (other, AccessKind::Store) => store_reason(played, other),
+        _ => Reason::AtomicAndLoad,
     }
 }
 
 /// Why the order of two accesses matters.
-fn clash_reason(
-    alloc: Global,
-    played: &Played,
-    clash: Clash,
-    kinds: (AccessKind, AccessKind),
-) -> Result<String, AllocError> {
-    if let (AccessKind::Update(one), AccessKind::Update(two)) = kinds {
-        return classes_reason(alloc, one, two);
+fn clash_reason(played: &Played, clash: Clash, kinds: (AccessKind, AccessKind)) -> Reason {
+    if let (AccessKind::Update(class), AccessKind::Update(other)) = kinds {
+        return Reason::Classes { class, other };
     }
-    let words = match clash {
-        Clash::Order =>
-            "the value that an atomic function gives, or what an exchange leaves, shows which of the two came first",
-        Clash::Race => race_words(played, kinds),
-    };
-    String::from_str(alloc, words)
+    match clash {
+        Clash::Order => Reason::OrderShown,
+        Clash::Race => race_reason(played, kinds),
+    }
 }
 
-/// How many elements an object has, where it has this many bytes.
-fn count_reason(alloc: Global, name: &str, size: u64, width: u64) -> Result<String, AllocError> {
-    let count = if width == 0 { 0 } else { size / width };
-    let bytes = counted(alloc, size, "byte", "s")?;
-    let elements = counted(alloc, count, "element", "s")?;
-    let each = counted(alloc, width, "byte", "s")?;
-    let (bytes, elements, each) = (bytes.as_str(), elements.as_str(), each.as_str());
-    let are = if count == 1 { "is" } else { "are" };
-    format!(in alloc; "{name} has {bytes}, which {are} {elements} of {each}, numbered from 0")
+/// How many elements of a width an object has.
+fn elements_of(name: String, bytes: u64, width: u64) -> Reason {
+    Reason::Elements {
+        name,
+        bytes,
+        elements: if width == 0 { 0 } else { bytes / width },
+        width,
+    }
 }
 
 /// Why an element is out of bounds, where the size of the object and of the element are known.
@@ -212,73 +150,17 @@ fn bounds_reason(
     alloc: Global,
     played: &Played,
     memory: &Option<Memory>,
-) -> Result<Option<String>, AllocError> {
+) -> Result<Option<Reason>, AllocError> {
     let (Some(memory), Some(width)) = (memory, played.first.width) else {
         return Ok(None);
     };
     match memory.size {
-        Some(size) => Ok(Some(count_reason(alloc, memory.name.as_str(), size, width)?)),
+        Some(size) => {
+            let name = String::from_str(alloc, memory.name.as_str())?;
+            Ok(Some(elements_of(name, size, width)))
+        }
         None => Ok(None),
     }
-}
-
-/// Why a fault comes about whose reason needs no number.
-fn plain_reason(fault: &Fault) -> &'static str {
-    match fault {
-        Fault::Divergence { .. } =>
-            "all work-items of a group have to come to the same barrier, in the same turns of the loops round it, before one passes it; these two never will",
-        Fault::UnsetVariable { .. } =>
-            "the variable was declared without a value, and no assignment came before this read",
-        Fault::UnsetElement { .. } =>
-            "a private array begins without values, and no assignment to this element came before this read",
-        Fault::DivideOverflow { .. } =>
-            "the left operand is the least number of its type and the right one is -1: their quotient is one above the greatest",
-        Fault::Conflict { .. }
-        | Fault::Bounds { .. }
-        | Fault::PrivateBounds { .. }
-        | Fault::Unset { .. }
-        | Fault::DivideByZero { .. }
-        | Fault::Budget { .. } => "",
-    }
-}
-
-/// Why a division by zero fails, with the left operand, where it is known.
-fn division_reason(alloc: Global, played: &Played) -> Result<String, AllocError> {
-    match played.first.dividend {
-        Some(value) => {
-            let number = value.number();
-            format!(in alloc; "the right operand is 0, and the left one is {number}")
-        }
-        None => String::from_str(alloc, "the right operand is 0"),
-    }
-}
-
-/// A list of one sentence.
-fn one(alloc: Global, reason: String) -> Result<Vec<String>, AllocError> {
-    let mut reasons = Vec::new(alloc);
-    reasons.push(reason)?;
-    Ok(reasons)
-}
-
-/// A list of two sentences.
-fn both(alloc: Global, reason: String, other: String) -> Result<Vec<String>, AllocError> {
-    let mut reasons = Vec::new(alloc);
-    reasons.push(reason)?;
-    reasons.push(other)?;
-    Ok(reasons)
-}
-
-/// Why a conflict comes about.
-fn conflict_reasons(
-    context: &Context<'_>,
-    played: &Played,
-    clash: Clash,
-    kinds: (AccessKind, AccessKind),
-    location: &Location,
-) -> Result<Vec<String>, AllocError> {
-    let order = order_reason(context, played, location)?;
-    let clash = clash_reason(context.alloc, played, clash, kinds)?;
-    both(context.alloc, order, clash)
 }
 
 /// Why an element is outside of a private array.
@@ -286,15 +168,45 @@ fn private_reason(
     context: &Context<'_>,
     played: &Played,
     name: &Name,
-) -> Result<String, AllocError> {
-    let alloc = context.alloc;
+) -> Result<Reason, AllocError> {
     match array_of(context, played.first.stand.as_ref(), name)? {
         Some(array) => {
-            let name = String::from_utf8_lossy(alloc, name.as_slice())?;
-            count_reason(alloc, name.as_str(), array.bytes(), array.width)
+            let name = String::from_utf8_lossy(context.alloc, name.as_slice())?;
+            Ok(elements_of(name, array.bytes(), array.width))
         }
-        None => String::from_str(alloc, "the array is shorter"),
+        None => Ok(Reason::ShorterArray),
     }
+}
+
+/// Why a division by zero fails, with the left operand, where it is known.
+fn division_reason(played: &Played) -> Reason {
+    Reason::ZeroDivisor {
+        left: match played.first.dividend {
+            Some(value) => Some(value.number()),
+            None => None,
+        },
+    }
+}
+
+/// A list of one reason.
+fn one(alloc: Global, reason: Reason) -> Result<Vec<Reason>, AllocError> {
+    let mut reasons = Vec::new(alloc);
+    reasons.push(reason)?;
+    Ok(reasons)
+}
+
+/// Why a conflict comes about: what doesn't order the two accesses, and why their order matters.
+fn conflict_reasons(
+    context: &Context<'_>,
+    played: &Played,
+    clash: Clash,
+    kinds: (AccessKind, AccessKind),
+    location: &Location,
+) -> Result<Vec<Reason>, AllocError> {
+    let order = order_reason(context, played, location)?;
+    let mut reasons = one(context.alloc, order)?;
+    reasons.push(clash_reason(played, clash, kinds))?;
+    Ok(reasons)
 }
 
 /// Why an element is out of bounds, if more is known than that it is.
@@ -302,7 +214,7 @@ fn bounds_reasons(
     alloc: Global,
     played: &Played,
     memory: &Option<Memory>,
-) -> Result<Vec<String>, AllocError> {
+) -> Result<Vec<Reason>, AllocError> {
     match bounds_reason(alloc, played, memory)? {
         Some(reason) => one(alloc, reason),
         None => Ok(Vec::new(alloc)),
@@ -316,7 +228,7 @@ pub fn reasons_of(
     fault: &Fault,
     memory: &Option<Memory>,
     budget: u32,
-) -> Result<Vec<String>, AllocError> {
+) -> Result<Vec<Reason>, AllocError> {
     let alloc = context.alloc;
     match fault {
         Fault::Conflict {
@@ -326,13 +238,19 @@ pub fn reasons_of(
             location,
             ..
         } => conflict_reasons(context, played, *clash, (*kind, *other_kind), location),
+        Fault::Divergence { .. } => one(alloc, Reason::NeverTogether),
         Fault::Bounds { .. } => bounds_reasons(alloc, played, memory),
         Fault::PrivateBounds { array, .. } => one(alloc, private_reason(context, played, array)?),
         Fault::Unset { location, byte, .. } => {
             one(alloc, unset_reason(context, played, location, *byte)?)
         }
-        Fault::DivideByZero { .. } => one(alloc, division_reason(alloc, played)?),
-        Fault::Budget { .. } => one(alloc, budget_reason(context, played, budget)?),
-        _ => one(alloc, String::from_str(alloc, plain_reason(fault))?),
+        Fault::UnsetVariable { .. } => one(alloc, Reason::VariableWithoutValue),
+        Fault::UnsetElement { .. } => one(alloc, Reason::ElementWithoutValue),
+        Fault::DivideByZero { .. } => one(alloc, division_reason(played)),
+        Fault::DivideOverflow { .. } => one(alloc, Reason::QuotientTooLarge),
+        Fault::Budget { .. } => {
+            let budget = budget_use(context, played, budget)?;
+            one(alloc, Reason::Budget(budget))
+        }
     }
 }

@@ -11,16 +11,18 @@ use fault_play::{Mark, Stand};
 use std::alloc::{AllocError, Global};
 use std::collections::BTreeMap;
 
-/// A loop of the source, by where it begins in the script.
+/// A loop of the source, by where it begins in it and in the script. The byte comes first: it decides the order.
 #[derive(Clone, Copy, PartialEq, Eq, PartialOrd, Ord)]
 pub(crate) struct LoopPlace {
+    pub offset: usize,
     pub line: usize,
+    pub script_line: usize,
     pub column: usize,
 }
 
 /// A loop with turns that it has made.
 #[derive(Clone, Copy)]
-pub(crate) struct LoopTurns {
+pub(crate) struct TurnedLoop {
     pub place: LoopPlace,
     pub turns: u64,
 }
@@ -30,13 +32,17 @@ fn loops_round(alloc: Global, spot: &Spot) -> Result<Vec<LoopPlace>, AllocError>
     let mut loops = Vec::new(alloc);
     for site in &spot.loops {
         loops.push(LoopPlace {
-            line: site.script_line,
+            offset: site.offset,
+            line: site.line,
+            script_line: site.script_line,
             column: site.column,
         })?;
     }
     if spot.node == NodeKind::Loop {
         loops.push(LoopPlace {
-            line: spot.script_line,
+            offset: spot.offset,
+            line: spot.line,
+            script_line: spot.script_line,
             column: spot.column,
         })?;
     }
@@ -44,10 +50,14 @@ fn loops_round(alloc: Global, spot: &Spot) -> Result<Vec<LoopPlace>, AllocError>
 }
 
 /// Loops with their turns, both from the outermost one on.
-fn turned(alloc: Global, loops: &[LoopPlace], turns: &[u32]) -> Result<Vec<LoopTurns>, AllocError> {
+fn turned(
+    alloc: Global,
+    loops: &[LoopPlace],
+    turns: &[u32],
+) -> Result<Vec<TurnedLoop>, AllocError> {
     let mut found = Vec::new(alloc);
     for (place, turns) in loops.iter().zip(turns) {
-        found.push(LoopTurns {
+        found.push(TurnedLoop {
             place: *place,
             turns: u64::from(*turns),
         })?;
@@ -78,7 +88,7 @@ impl KnownLoops {
 
     /// The loops round the place where an item stands, with the turns that they have made there since they were
     /// entered.
-    fn at(&mut self, context: &Context<'_>, stand: &Stand) -> Result<Vec<LoopTurns>, AllocError> {
+    fn at(&mut self, context: &Context<'_>, stand: &Stand) -> Result<Vec<TurnedLoop>, AllocError> {
         self.find(context, stand)?;
         match self.places.get(&stand.place) {
             Some(loops) => turned(self.alloc, loops.as_slice(), stand.turns.as_slice()),
@@ -90,7 +100,7 @@ impl KnownLoops {
 /// The turns that a loop had made when the item was seen last, if it wasn't left since then, as far as its turns tell.
 /// It is asked only where all loops round it are in the same turns as then. A loop that has made fewer turns was
 /// entered again.
-fn before(last: Option<&LoopTurns>, now: &LoopTurns) -> Option<u64> {
+fn before(last: Option<&TurnedLoop>, now: &TurnedLoop) -> Option<u64> {
     match last {
         Some(last) if last.place == now.place && last.turns <= now.turns => Some(last.turns),
         _ => None,
@@ -101,7 +111,7 @@ fn before(last: Option<&LoopTurns>, now: &LoopTurns) -> Option<u64> {
 /// since they were entered; and all turns of each loop.
 #[derive(Drop)]
 pub(crate) struct SeenTurns {
-    pub within: Vec<LoopTurns>,
+    pub within: Vec<TurnedLoop>,
     pub all: BTreeMap<LoopPlace, u64>,
 }
 
@@ -114,7 +124,7 @@ impl SeenTurns {
     }
 
     /// Adds what is new where an item is seen next.
-    fn see(&mut self, now: Vec<LoopTurns>) -> Result<(), AllocError> {
+    fn see(&mut self, now: Vec<TurnedLoop>) -> Result<(), AllocError> {
         let mut is_same = true;
         for (depth, turn) in now.iter().enumerate() {
             let known = if is_same {

@@ -1,12 +1,12 @@
 //! What was set beside an unset byte.
 #![tactic(auto)]
 
-use crate::reasons::text_at;
 use clmodel::access::AccessKind;
 use clmodel::fault::Location;
 use explain_items::{Context, stand_at};
+use explanation::{Reason, StoredBytes};
 use fault_play::{Played, Touch, event_of, same_location};
-use std::alloc::{AllocError, Global};
+use std::alloc::AllocError;
 
 /// A store, by its number, with its distance from a byte.
 #[derive(Clone, Copy)]
@@ -66,54 +66,25 @@ fn nearest_stores(touches: &[Touch], location: &Location, byte: u64) -> Nearest 
 }
 
 /// The bytes of a store, by which item, and where.
-fn store_words(context: &Context<'_>, played: &Played, near: Near) -> Result<String, AllocError> {
-    let alloc = context.alloc;
+fn stored_bytes(
+    context: &Context<'_>,
+    played: &Played,
+    near: Option<Near>,
+) -> Result<Option<StoredBytes>, AllocError> {
+    let Some(near) = near else {
+        return Ok(None);
+    };
     let Some(touch) = played.touches.get(near.number) else {
-        return Ok(String::new(alloc));
+        return Ok(None);
     };
     let marks = played.marks.as_slice();
     let stand = stand_at(marks, event_of(marks, near.number));
-    let at = text_at(context, stand)?;
-    let at = at.as_str();
-    let (item, first) = (touch.item, touch.byte);
-    let last = first.saturating_add(touch.bytes.saturating_sub(1));
-    if last == first {
-        return format!(in alloc; "{first}, by work-item {item}{at}");
-    }
-    format!(in alloc; "{first} to {last}, by work-item {item}{at}")
-}
-
-/// What is missing where an item sets the byte later.
-const MISSING: &str =
-    "if another work-item sets this byte later, a barrier between the two is missing";
-
-/// The bytes of one store.
-fn one_side(context: &Context<'_>, played: &Played, near: Near) -> Result<String, AllocError> {
-    let words = store_words(context, played, near)?;
-    let words = words.as_str();
-    let is_byte = match played.touches.get(near.number) {
-        Some(touch) => touch.bytes == 1,
-        None => false,
-    };
-    let head = if is_byte {
-        "byte that was set is"
-    } else {
-        "bytes that were set are"
-    };
-    format!(in context.alloc; "the nearest {head} {words}; {MISSING}")
-}
-
-/// The bytes of two stores, the lower ones first.
-fn both_sides(
-    context: &Context<'_>,
-    played: &Played,
-    below: Near,
-    above: Near,
-) -> Result<String, AllocError> {
-    let below = store_words(context, played, below)?;
-    let above = store_words(context, played, above)?;
-    let (below, above) = (below.as_str(), above.as_str());
-    format!(in context.alloc; "the nearest bytes that were set are {below}, and {above}; {MISSING}")
+    Ok(Some(StoredBytes {
+        byte: touch.byte,
+        bytes: touch.bytes,
+        item: touch.item,
+        code: context.code(stand)?,
+    }))
 }
 
 /// Which bytes beside an unset one were set, and where: those of the nearest stores, on both sides of it. An error is
@@ -123,14 +94,12 @@ pub(crate) fn unset_reason(
     played: &Played,
     location: &Location,
     byte: u64,
-) -> Result<String, AllocError> {
+) -> Result<Reason, AllocError> {
     let nearest = nearest_stores(played.touches.as_slice(), location, byte);
-    match (nearest.below, nearest.above) {
-        (Some(below), Some(above)) => both_sides(context, played, below, above),
-        (Some(near), None) | (None, Some(near)) => one_side(context, played, near),
-        (None, None) => String::from_str(
-            context.alloc,
-            "no work-item has stored anything there by then: if another one does so later, a barrier between the two is missing",
-        ),
+    let below = stored_bytes(context, played, nearest.below)?;
+    let above = stored_bytes(context, played, nearest.above)?;
+    if below.is_none() && above.is_none() {
+        return Ok(Reason::NothingStored);
     }
+    Ok(Reason::NearestStores { below, above })
 }

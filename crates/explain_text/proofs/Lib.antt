@@ -1,1 +1,2 @@
+mod OneLine
 mod Rendering

@@ -2,9 +2,10 @@
 use Rattle.std.proofs.Common.{◌≡◌, ℕ, List, [], ◌∷◌, ◌++◌, codes, decimal, string_bytes, refl, sym, ap, ◌∙◌, subst, append_assoc}
 use Rattle.std.specs.List.{AllZip, flat_map}
 use Rattle.std.proofs.lemmas.List.{append-nil}
+use Rattle.explanation.specs.declared.reasons.Reason.{Reason}
 use Rattle.explanation.specs.declared.told.Explanation.{Explanation}
 use Rattle.explanation.specs.declared.told.NamedItem.{NamedItem}
-use Rattle.explain_text.specs.Texts.{AreItems, IsItemText, IsLastText, IsSpotText, IsText, ids_text, why_text}
+use Rattle.explain_text.specs.Texts.{AreItems, AreSentences, IsItemText, IsLastText, IsSpotText, IsText, IsWorded, ids_text}
 
 flat_more : (xs : List (List ℕ)) (x : List ℕ) → flat_map (λ part. part) (xs ++ x ∷ []) ≡ flat_map (λ part. part) xs ++ x
 flat_more [] x = append-nil x
@@ -48,18 +49,36 @@ item_added script script' item word ids deed spot spot' last last' old mid new s
       second ∙ ap (λ m. m ++ (spot ++ last)) first ∙ append_assoc old line (spot ++ last),
     )
 
+lines_more : (xs : List (List ℕ)) (x : List ℕ)
+    → flat_map (λ sentence. codes "  why: " ++ sentence ++ codes "\n") (xs ++ x ∷ []) ≡ flat_map (λ sentence. codes "  why: " ++ sentence ++ codes "\n") xs ++ (codes "  why: " ++ x ++ codes "\n")
+lines_more [] x = append-nil _
+lines_more (y ∷ ys) x = ap (λ z. (codes "  why: " ++ y ++ codes "\n") ++ z) (lines_more ys x) ∙ sym (append_assoc (codes "  why: " ++ y ++ codes "\n") _ _)
+
+pub no_sentences : AreSentences [] []
+no_sentences = record { sentences = []; each = tt; whole = refl }
+
+pub one_sentence_more :
+    (why : List Reason) (reason : Reason) (old sentence new : List ℕ) → AreSentences why old → IsWorded reason sentence → new ≡ old ++ (codes "  why: " ++ sentence ++ codes "\n")
+    → AreSentences (why ++ reason ∷ []) new
+one_sentence_more why reason old sentence new are is e = record {
+  sentences = are.sentences ++ sentence ∷ [];
+  each = zip_more IsWorded why are.sentences reason sentence are.each is;
+  whole = e ∙ ap (λ z. z ++ (codes "  why: " ++ sentence ++ codes "\n")) are.whole ∙ sym (lines_more are.sentences sentence);
+}
+
 -- an explanation by the parts that were added to nothing
 pub whole_added :
-    (e : Explanation) (title items items' why steps schedule first second third text : List ℕ) → AreItems (string_bytes e.script) e.items.items items' → items ≡ items' → why ≡ why_text e.why.items
-    → schedule ≡ string_bytes e.schedule.short → first ≡ codes "fault " ++ decimal e.fault.number ++ codes " " ++ title ++ codes "\n" → second ≡ first ++ (items ++ codes "\n")
-    → third ≡ second ++ (why ++ steps) → text ≡ third ++ (codes "  schedule " ++ schedule ++ codes " (replayed: yes)\n") → IsText e text
-whole_added e title items items' why steps schedule first second third text are is_items is_why is_schedule at_first at_second at_third at_end = record {
+    (e : Explanation) (title items items' why why' steps schedule first second third text : List ℕ) → AreItems (string_bytes e.script) e.items.items items' → items ≡ items'
+    → AreSentences e.why.items why' → why ≡ why' → schedule ≡ string_bytes e.schedule.short → first ≡ codes "fault " ++ decimal e.fault.number ++ codes " " ++ title ++ codes "\n"
+    → second ≡ first ++ (items ++ codes "\n") → third ≡ second ++ (why ++ steps) → text ≡ third ++ (codes "  schedule " ++ schedule ++ codes " (replayed: yes)\n") → IsText e text
+whole_added e title items items' why why' steps schedule first second third text are is_items are_why is_why is_schedule at_first at_second at_third at_end = record {
   title = title;
   items = items;
+  why = why;
   steps = steps;
   are_items = subst (λ (t : List ℕ). AreItems (string_bytes e.script) e.items.items t) (sym is_items) are;
+  are_sentences = subst (λ (t : List ℕ). AreSentences e.why.items t) (sym is_why) are_why;
   whole =
       at_end ∙ ap (λ z. z ++ (codes "  schedule " ++ schedule ++ codes " (replayed: yes)\n")) (at_third ∙ ap (λ z. z ++ (why ++ steps)) (at_second ∙ ap (λ z. z ++ (items ++ codes "\n")) at_first))
-      ∙ ap (λ z. (codes "fault " ++ decimal e.fault.number ++ codes " " ++ title ++ codes "\n") ++ (items ++ codes "\n") ++ (z ++ steps) ++ (codes "  schedule " ++ schedule ++ codes " (replayed: yes)\n")) is_why
-      ∙ ap (λ z. (codes "fault " ++ decimal e.fault.number ++ codes " " ++ title ++ codes "\n") ++ (items ++ codes "\n") ++ (why_text e.why.items ++ steps) ++ (codes "  schedule " ++ z ++ codes " (replayed: yes)\n")) is_schedule;
+      ∙ ap (λ z. (codes "fault " ++ decimal e.fault.number ++ codes " " ++ title ++ codes "\n") ++ (items ++ codes "\n") ++ (why ++ steps) ++ (codes "  schedule " ++ z ++ codes " (replayed: yes)\n")) is_schedule;
 }

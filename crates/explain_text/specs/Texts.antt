@@ -1,9 +1,9 @@
 -- The text of an explanation (own): its ids, places, sentences and schedule as they are told. The wording of the rest,
 -- the lines of source and the steps are any text.
-use Rattle.std.specs.Prelude.{◌≡◌, ℕ, ◌==◌, String, Option, None, Some, List, [], ◌∷◌, ◌++◌, length, codes, decimal, string_bytes, if◌then◌else◌}
+use Rattle.std.specs.Prelude.{◌≡◌, ◌≢◌, ℕ, ◌==◌, All, Option, None, Some, List, [], ◌∷◌, ◌++◌, length, codes, decimal, string_bytes, if◌then◌else◌}
 use Rattle.std.specs.List.{AllZip, flat_map}
-use Rattle.std.specs.declared.alloc.Global.{Global}
 use Rattle.explanation.specs.declared.places.Spot.{Spot}
+use Rattle.explanation.specs.declared.reasons.Reason.{Reason}
 use Rattle.explanation.specs.declared.told.Explanation.{Explanation}
 use Rattle.explanation.specs.declared.told.Ids.{Ids}
 use Rattle.explanation.specs.declared.told.NamedItem.{NamedItem}
@@ -64,15 +64,27 @@ pub record AreItems (script : List ℕ) (items : List NamedItem) (text : List �
   pub each : AllZip (IsItemText script) items parts
   pub whole : text ≡ flat_map (λ part. part) parts
 
--- sentences in lines
-abbrev pub why_text : List (String Global) → List ℕ
-why_text why = flat_map (λ sentence. codes "  why: " ++ string_bytes sentence ++ codes "\n") why
+-- a text without a line feed
+abbrev pub IsOneLine : List ℕ → Type 0
+IsOneLine text = All (λ b. b ≢ 10) text
+
+-- the sentence of a reason, in one line; its wording is any
+abbrev pub IsWorded : Reason → List ℕ → Type 0
+IsWorded reason text = IsOneLine text
+
+-- a sentence for each reason, in the order of the reasons, and each in a line of its own
+pub record AreSentences (why : List Reason) (text : List ℕ) : Type 0 where
+  pub sentences : List (List ℕ)
+  pub each : AllZip IsWorded why sentences
+  pub whole : text ≡ flat_map (λ sentence. codes "  why: " ++ sentence ++ codes "\n") sentences
 
 -- a text of an explanation
 pub record IsText (e : Explanation) (text : List ℕ) : Type 0 where
   pub title : List ℕ
   pub items : List ℕ
+  pub why : List ℕ
   pub steps : List ℕ
   pub are_items : AreItems (string_bytes e.script) e.items.items items
-  pub whole : text ≡ (codes "fault " ++ decimal e.fault.number ++ codes " " ++ title ++ codes "\n") ++ (items ++ codes "\n") ++ (why_text e.why.items ++ steps)
+  pub are_sentences : AreSentences e.why.items why
+  pub whole : text ≡ (codes "fault " ++ decimal e.fault.number ++ codes " " ++ title ++ codes "\n") ++ (items ++ codes "\n") ++ (why ++ steps)
       ++ (codes "  schedule " ++ string_bytes e.schedule.short ++ codes " (replayed: yes)\n")

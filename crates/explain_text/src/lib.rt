@@ -7,9 +7,11 @@
 mod items;
 mod lines;
 mod quotes;
+mod reasons;
 mod steps;
 mod whole;
 
 pub use lines::{ids_text, numbers_text, place_text};
 pub use quotes::write_quote;
+pub use reasons::reason_text;
 pub use whole::text_of;

@@ -1,12 +1,30 @@
 //! Parts of lines whose text is promised.
 #![tactic(auto)]
 
-ghost use Rattle.std.specs.Prelude.{◌≡◌, ◌++◌, [], ◌∷◌, length, codes, decimal, string_bytes, IfOk, OnOk};
-ghost use Rattle.explain_text.specs.Texts.{numbers_text, rest_text, list_text, ids_text, place_text};
+ghost use Rattle.std.specs.Prelude.{◌≡◌, ◌≢◌, ◌++◌, [], ◌∷◌, length, codes, decimal, string_bytes, IfOk, OnOk};
+ghost use Rattle.explain_text.specs.Texts.{IsOneLine, numbers_text, rest_text, list_text, ids_text, place_text};
 
 use explanation::Ids;
 use std::alloc::{AllocError, Global};
 use std::fmt::Write;
+
+/// A character, and a blank in place of a line feed.
+fn in_line(letter: char) -> char
+    ensures { result ≢ 10 }
+{
+    if letter == '\n' { ' ' } else { letter }
+}
+
+/// A text in one line: with a blank in place of each line feed.
+pub(crate) fn one_line(alloc: Global, text: &str) -> Result<String, AllocError>
+    ensures { IfOk result (λ line. IsOneLine (string_bytes line)) }
+{
+    let mut line = String::new(alloc);
+    for letter in text.chars() {
+        line.push(in_line(letter))?;
+    }
+    Ok(line)
+}
 
 /// Adds the numbers behind the first, each behind a comma.
 fn push_rest(numbers: &[u64], out: &mut String) -> Result<(), AllocError>

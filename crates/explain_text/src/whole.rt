@@ -1,14 +1,15 @@
 //! An explanation as a whole.
 #![tactic(auto)]
 
-ghost use Rattle.std.specs.Prelude.{◌≡◌, ◌++◌, codes, decimal, string_bytes, IfOk, OnOk};
-ghost use Rattle.explain_text.specs.Texts.{IsText, why_text};
+ghost use Rattle.std.specs.Prelude.{◌≡◌, ◌++◌, List, ℕ, codes, decimal, string_bytes, IfOk, OnOk};
+ghost use Rattle.explain_text.specs.Texts.{AreSentences, IsText, IsWorded};
 
 use crate::items::items_text;
 use crate::lines::push_both;
+use crate::reasons::reason_text;
 use crate::steps::{plural, steps_text};
 use clmodel::access::AccessKind;
-use explanation::{Does, Explanation, Memory, MemoryKind, NamedItem};
+use explanation::{Does, Explanation, Memory, MemoryKind, NamedItem, Reason};
 use std::alloc::{AllocError, Global};
 use std::fmt::Write;
 
@@ -106,20 +107,28 @@ fn title_text(alloc: Global, whole: &Explanation) -> Result<String, AllocError> 
     Ok(out)
 }
 
-/// Adds a sentence that says why.
+/// Adds a line with a sentence that says why.
 fn push_sentence(sentence: &str, out: &mut String) -> Result<(), AllocError>
     ensures { OnOk result (string_bytes out.new ≡ string_bytes out.old ++ (codes "  why: " ++ sentence.now ++ codes "\n")) }
 {
     write!(out, "  why: {sentence}\n")
 }
 
+/// Adds a line with a reason.
+fn push_reason(alloc: Global, reason: &Reason, out: &mut String) -> Result<(), AllocError>
+    ensures { OnOk result ((sentence : List ℕ) × IsWorded reason.now sentence × (string_bytes out.new ≡ string_bytes out.old ++ (codes "  why: " ++ sentence ++ codes "\n"))) }
+{
+    let sentence = reason_text(alloc, reason)?;
+    push_sentence(sentence.as_str(), out)
+}
+
 /// Why it comes about.
-fn reasons_text(alloc: Global, why: &[String]) -> Result<String, AllocError>
-    ensures { IfOk result (λ text. string_bytes text ≡ why_text why.now) }
+fn reasons_text(alloc: Global, why: &[Reason]) -> Result<String, AllocError>
+    ensures { IfOk result (λ text. AreSentences why.now (string_bytes text)) }
 {
     let mut out = String::new(alloc);
-    for sentence in why {
-        push_sentence(sentence.as_str(), &mut out)?;
+    for reason in why {
+        push_reason(alloc, reason, &mut out)?;
     }
     Ok(out)
 }

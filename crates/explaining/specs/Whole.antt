@@ -11,7 +11,7 @@ use Rattle.clmodel.specs.declared.schedule.EventRun.{EventRun}
 use Rattle.clmodel.specs.declared.setup.Range.{Range}
 use Rattle.device.specs.Kept.{IsCodeOf}
 use Rattle.device.specs.Machine.{Machine, opening, kernel_of, program_of, setup_of, bytes_of}
-use Rattle.explain_json.specs.Members.{explanation_data}
+use Rattle.explain_json.specs.Lines.{IsExplanationLine}
 use Rattle.fault_play.specs.PlayedOut.{IsPlayedOut}
 use Rattle.fault_play.specs.declared.played.Played.{Played}
 use Rattle.explain_items.specs.Named.{AreTold, told_items}
@@ -105,10 +105,10 @@ pub record HasWhole (m : Machine) (as_given : Bool) (commands : List Command) (t
   pub explained : IsExplained (launch_of (setup_of m (kernel_of m kernel) range) (bytes_of m)) context ticket range f runs e
   pub schedule : string_bytes e.schedule.given ≡ schedule_words given
 
--- the text of an explanation: one that is defined, or a line of JSON that reads back as the explanation's value
+-- the text of an explanation: one that is defined, or the line of JSON of the explanation's value
 abbrev pub IsTextOf : Format → Explanation → List ℕ → Type 0
 IsTextOf format.Text e text = IsText e text
-IsTextOf format.Json e text = (line : List ℕ) × (text ≡ line ++ 10 ∷ []) × (read line ≡ Some (explanation_data e))
+IsTextOf format.Json e text = IsExplanationLine e text
 
 -- a text of what is told, or the word that there is nothing
 abbrev pub AnswersTo : Format → List ℕ → Option ExplainedCase → Answer → Type 0

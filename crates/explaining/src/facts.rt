@@ -12,7 +12,7 @@ use clmodel::text::Name;
 use explain_items::{Context, named_items};
 use explain_reasons::{array_of, items_in, reasons_of, steps_of};
 use explanation::{
-    Explanation, FaultFacts, LaunchFacts, Memory, NamedItem, ParameterFacts, ScheduleFacts,
+    Explanation, FaultFacts, LaunchFacts, Memory, NamedItem, ParameterFacts, Reason, ScheduleFacts,
 };
 use fault_play::{Mark, Played, Stand, event_of};
 use host_commands::kernel::parameters_of;
@@ -359,7 +359,7 @@ fn head_of(
 struct Body {
     memory: Option<Memory>,
     items: Vec<NamedItem>,
-    why: Vec<String>,
+    why: Vec<Reason>,
 }
 
 /// The memory, the items and the reasons of a fault that was played. An error is out of memory.

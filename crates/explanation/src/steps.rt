@@ -17,9 +17,14 @@ pub struct ScheduleFacts {
     pub replays: u32,
 }
 
-/// A place in the source in short: its line in the script, its column, and a beginning of its text.
+/// A place in the source in short, with a beginning of its text.
 #[derive(Drop)]
 pub struct Code {
+    /// The byte of the source at which it begins, from 0, and how many bytes it has
+    pub offset: usize,
+    pub length: usize,
+    /// The line of the source, and that of the script
+    pub line: usize,
     pub script_line: usize,
     pub column: usize,
     pub text: String,

@@ -2,6 +2,7 @@
 #![tactic(auto)]
 
 use crate::places::Spot;
+use crate::reasons::Reason;
 use crate::steps::{ScheduleFacts, ToldEvent};
 use clmodel::access::AccessKind;
 
@@ -109,8 +110,8 @@ pub struct Explanation {
     pub memory: Option<Memory>,
     /// One or two
     pub items: Vec<NamedItem>,
-    /// Why it comes about, a sentence each
-    pub why: Vec<String>,
+    /// Why it comes about
+    pub why: Vec<Reason>,
     pub schedule: ScheduleFacts,
     /// The first events of the short schedule, 1,000 at most
     pub steps: Vec<ToldEvent>,

@@ -8,5 +8,6 @@ mod loops;
 mod places;
 mod spots;
 
+pub use loops::{DEPTH, function_at, inside, last_begun, statement_at};
 pub use places::Source;
 pub use spots::{code_of, spot_of};

@@ -5,7 +5,7 @@ use clmodel::tree::{Expression, Function, Statement};
 use std::alloc::{AllocError, Global};
 
 /// How deep statements are looked into: no source is nested so deep.
-const DEPTH: u32 = 256;
+pub const DEPTH: u32 = 256;
 
 /// Where an expression begins.
 fn expression_at(expression: &Expression) -> u32 {
@@ -24,7 +24,7 @@ fn expression_at(expression: &Expression) -> u32 {
 }
 
 /// Where a statement begins.
-fn statement_at(statement: &Statement) -> u32 {
+pub fn statement_at(statement: &Statement) -> u32 {
     match statement {
         Statement::Empty { at }
         | Statement::Block { at, .. }
@@ -92,7 +92,7 @@ fn begun(statement: &Statement, at: u32) -> Option<&Statement> {
 }
 
 /// The last statement of a list that begins at this byte or before it.
-fn last_begun(body: &[Statement], at: u32) -> Option<&Statement> {
+pub fn last_begun(body: &[Statement], at: u32) -> Option<&Statement> {
     let mut last = None;
     for statement in body {
         if statement_at(statement) > at {
@@ -104,7 +104,7 @@ fn last_begun(body: &[Statement], at: u32) -> Option<&Statement> {
 }
 
 /// The statement in another one in which this byte stands, if there is one.
-fn inside(statement: &Statement, at: u32) -> Option<&Statement> {
+pub fn inside(statement: &Statement, at: u32) -> Option<&Statement> {
     match statement {
         Statement::Block { body, .. } => last_begun(body.as_slice(), at),
         Statement::If { chosen, .. } => begun(chosen, at),
@@ -134,7 +134,7 @@ fn inside(statement: &Statement, at: u32) -> Option<&Statement> {
 }
 
 /// The last function whose body begins at this byte or before it.
-fn function_at(functions: &[Function], at: u32) -> Option<&Function> {
+pub fn function_at(functions: &[Function], at: u32) -> Option<&Function> {
     let mut last = None;
     for function in functions {
         if function.body_at <= at {

@@ -141,12 +141,16 @@ pub fn code_of(
     node: NodeKind,
     at: u32,
 ) -> Result<Code, AllocError>
-    ensures { IfOk result (λ code. IsPlace source.now.text.now source.now.first_line (min at (length source.now.text.now)) (code.script_line + 1 - source.now.first_line) code.column code.script_line) }
+    ensures at { IfOk result (λ code. code.offset ≡ min at (length source.now.text.now)) }
+    ensures place { IfOk result (λ code. IsPlace source.now.text.now source.now.first_line code.offset code.line code.column code.script_line) }
 {
     let place = place_of(source, at);
-    let count = extent(source.text, place.at, form_of(node)).min(SHORT);
-    let text = short_text(alloc, source.text, place.at, count)?;
+    let length = extent(source.text, place.at, form_of(node));
+    let text = short_text(alloc, source.text, place.at, length.min(SHORT))?;
     Ok(Code {
+        offset: place.at,
+        length,
+        line: place.line,
         script_line: place.script_line,
         column: place.column,
         text,

@@ -1,9 +1,18 @@
-use Rattle.std.proofs.Common.{refl}
+use Rattle.std.proofs.Common.{List, refl, subst}
+use Rattle.std.proofs.lemmas.Result.{IfOk-weaker}
+use Rattle.serde_json.specs.View.{view}
+use Rattle.explanation.specs.declared.reasons.Reason.{Reason}
+use Rattle.explain_json.specs.Reasons.{AreReasons}
 use Rattle.explain_json.proofs.whole.value_of.Goals as goal
 
 pub returns : goal.returns
-returns c = c.finish.ensures _ (
-    c.with-10.ensures _ refl (
+returns c =
+    IfOk-weaker c.finish.result _ _
+    (λ value h. record {
+      why = view c.in_ok-why.why;
+      reasons = subst (λ (l : List Reason). AreReasons l (view c.in_ok-why.why)) c.as_slice.ensures.value c.in_ok-why.ensures;
+      is = h;
+    }) (c.finish.ensures _ (
     c.with-9.ensures _ refl (
     c.with-8.ensures _ refl (
     c.with-7.ensures _ refl (
@@ -12,4 +21,5 @@ returns c = c.finish.ensures _ (
     c.with-4.ensures _ refl (
     c.with-3.ensures _ refl (
     c.with-2.ensures _ refl (
-    c.with.ensures _ tt c.new.ensures))))))))))
+    c.with.ensures _ refl (
+    c.with_value.ensures (view c.in_ok-why.why) refl _ tt c.new.ensures)))))))))))

@@ -1,0 +1,9 @@
+use Rattle.std.proofs.Common.{refl}
+use Rattle.explain_json.proofs.reasons.classes_value.Goals as goal
+
+pub returns : goal.returns
+returns c = c.finish.ensures _ (
+    c.with_text-4.ensures _ c.class_word-2.ensures _ refl (
+    c.with_text-3.ensures _ refl _ refl (
+    c.with_text-2.ensures _ c.class_word.ensures _ refl (
+    c.with_text.ensures _ refl _ tt c.new.ensures))))
