@@ -6,7 +6,7 @@ use Rattle.clmodel.specs.Typing.Sizes.{size_in, row_size, sizes_of}
 use Rattle.clmodel.specs.declared.tree.Parameter.{Parameter}
 use Rattle.clmodel.specs.declared.tree.VariableType.{VariableType}
 use Rattle.regcode.specs.Listing.{Listing}
-use Rattle.regcode.specs.Rules.{loops_at, most_loops, LeadsInside, LeadsInside}
+use Rattle.regcode.specs.Rules.{loops_at, most_loops, MayGoOn, LeadsInside}
 use Rattle.regcode.specs.declared.instruction.Instruction.{Instruction}
 use Rattle.regcode.specs.declared.instruction.Instruction.TheVariants as instruction
 use Rattle.lower_expr.specs.Scope.{Scope}
@@ -107,7 +107,7 @@ kernels_go parameters earlier f distinct few place i is =
     let end_leads = there L b 0 instruction.End end.0 end.1 in
     let body_leads = first_leads L a 0 body b body_stands refl end_leads in
     let same = end.1 in
-    let away : LeadsInside L (a + length body) 0 = end_leads in
+    let away : MayGoOn L (a + length body) 0 = end_leads in
     let going : Going L 0 code =
     going_both L 0 arguments (body ++ last) a (omega arith)
     (first.goes L 0 a (standing_left L 0 0 arguments (body ++ last) all) (omega arith) (record { next = body_leads; broken = away; continued = away; returned = away }) (omega (arith, few)))

@@ -4,23 +4,23 @@ use Rattle.std.proofs.lemmas.List.{length-append}
 use Rattle.std.proofs.lemmas.Option.{slice_get_within}
 use Rattle.clmodel.specs.declared.action.Fences.{Fences}
 use Rattle.regcode.specs.Listing.{Listing}
-use Rattle.regcode.specs.Rules.{loops_at, most_loops, LeadsInside, LeadsInside}
+use Rattle.regcode.specs.Rules.{loops_at, most_loops, MayGoOn, LeadsInside}
 use Rattle.regcode.specs.declared.instruction.Instruction.{Instruction}
 use Rattle.regcode.specs.declared.instruction.Instruction.TheVariants as instruction
 use Rattle.lower_code.specs.Code.{Exits, past}
 use Rattle.code_tables.specs.Tables.{depth_after}
 use Rattle.lower.specs.Accepted.{Stays, Flat, Standing, ends, Going, Opens, Sound}
 
-pub leads_at : (L : Listing) (d p q : ℕ) → p ≡ q → LeadsInside L p d → LeadsInside L q d
-leads_at L d p q e h = subst (λ n. LeadsInside L n d) e h
+pub leads_at : (L : Listing) (d p q : ℕ) → p ≡ q → MayGoOn L p d → MayGoOn L q d
+leads_at L d p q e h = subst (λ n. MayGoOn L n d) e h
 
-pub leads_more : (L : Listing) (p d e : ℕ) → d ≤ e → LeadsInside L p d → LeadsInside L p e
+pub leads_more : (L : Listing) (p d e : ℕ) → d ≤ e → MayGoOn L p d → MayGoOn L p e
 leads_more L p d e more h = let a = h.1 in (h.0, omega (arith, more, a))
 
-pub there : (L : Listing) (at d : ℕ) (i : Instruction) → slice_get L.instructions at ≡ Some i → loops_at L at ≡ d → LeadsInside L at d
+pub there : (L : Listing) (at d : ℕ) (i : Instruction) → slice_get L.instructions at ≡ Some i → loops_at L at ≡ d → MayGoOn L at d
 there L at d i is e = (slice_get_within L.instructions at i is, omega (arith, e))
 
-pub first_leads : (L : Listing) (at d : ℕ) (code : List Instruction) (end : ℕ) → Standing L at d code → at + length code ≡ end → LeadsInside L end d → LeadsInside L at d
+pub first_leads : (L : Listing) (at d : ℕ) (code : List Instruction) (end : ℕ) → Standing L at d code → at + length code ≡ end → MayGoOn L end d → MayGoOn L at d
 first_leads L at d [] end h e leads = leads_at L d end at (omega (arith, e)) leads
 first_leads L at d (i ∷ code) end h e leads = there L at d i h.0 h.1
 
@@ -58,25 +58,25 @@ flat_ends d [] h = refl
 flat_ends d (i ∷ code) h = ap (λ n. ends n code) (stays_depth d i (length code) h.0) ∙ flat_ends d code h.1
 
 -- what stands inside flat code or behind it
-flat_leads : (L : Listing) (at d : ℕ) (code : List Instruction) (end : ℕ) → Flat code → Standing L at d code → at + length code ≡ end → LeadsInside L end d
-    → (by : ℕ) → by ≤ length code → LeadsInside L (at + by) d
+flat_leads : (L : Listing) (at d : ℕ) (code : List Instruction) (end : ℕ) → Flat code → Standing L at d code → at + length code ≡ end → MayGoOn L end d
+    → (by : ℕ) → by ≤ length code → MayGoOn L (at + by) d
 flat_leads L at d code end flat h e leads zero less = leads_at L d at (at + 0) (omega arith) (first_leads L at d code end h e leads)
 flat_leads L at d [] end flat h e leads (suc by) less = absurd (omega (arith, less))
 flat_leads L at d (i ∷ code) end flat h e leads (suc by) less =
     leads_at L d (at + 1 + by) (at + suc by) (omega arith)
     (flat_leads L (at + 1) d code end flat.1 (subst (λ n. Standing L (at + 1) n code) (stays_depth d i (length code) flat.0) h.2) (omega (arith, e)) leads by (omega (arith, less)))
 
-stays_inside : (L : Listing) (at d : ℕ) (i : Instruction) (n : ℕ) → Stays i n → loops_at L at ≡ d → ((by : ℕ) → by ≤ n → LeadsInside L (at + 1 + by) d) → LeadsInside L (at + 1) d → LeadsInside L at i
-stays_inside L at d (instruction.Jump by) n h e into next = subst (λ k. LeadsInside L (at + 1 + by) k) (sym e) (into by h)
-stays_inside L at d (instruction.JumpIfZero register by) n h e into next = (subst (λ k. LeadsInside L (at + 1) k) (sym e) next, subst (λ k. LeadsInside L (at + 1 + by) k) (sym e) (into by h))
+stays_inside : (L : Listing) (at d : ℕ) (i : Instruction) (n : ℕ) → Stays i n → loops_at L at ≡ d → ((by : ℕ) → by ≤ n → MayGoOn L (at + 1 + by) d) → MayGoOn L (at + 1) d → LeadsInside L at i
+stays_inside L at d (instruction.Jump by) n h e into next = subst (λ k. MayGoOn L (at + 1 + by) k) (sym e) (into by h)
+stays_inside L at d (instruction.JumpIfZero register by) n h e into next = (subst (λ k. MayGoOn L (at + 1) k) (sym e) next, subst (λ k. MayGoOn L (at + 1 + by) k) (sym e) (into by h))
 stays_inside L at d (instruction.Barrier site depth fences) n h e into next = absurd h
 stays_inside L at d (instruction.Enter depth) n h e into next = absurd h
 stays_inside L at d (instruction.Turn depth) n h e into next = absurd h
 stays_inside L at d (instruction.Back by) n h e into next = absurd h
 stays_inside L at d instruction.End n h e into next = tt
-stays_inside L at d _ n h e into next = subst (λ k. LeadsInside L (at + 1) k) (sym e) next
+stays_inside L at d _ n h e into next = subst (λ k. MayGoOn L (at + 1) k) (sym e) next
 
-flat_goes : (L : Listing) (at d : ℕ) (code : List Instruction) (end : ℕ) → Flat code → Standing L at d code → at + length code ≡ end → LeadsInside L end d → d ≤ most_loops → Going L at code
+flat_goes : (L : Listing) (at d : ℕ) (code : List Instruction) (end : ℕ) → Flat code → Standing L at d code → at + length code ≡ end → MayGoOn L end d → d ≤ most_loops → Going L at code
 flat_goes L at d [] end flat h e leads few = tt
 flat_goes L at d (i ∷ code) end flat h e leads few =
     let rest = subst (λ n. Standing L (at + 1) n code) (stays_depth d i (length code) flat.0) h.2 in
@@ -98,7 +98,7 @@ sound_more n m d exits code more s = record { balanced = s.balanced; goes = λ L
 
 -- code one after the other, where the first goes on as the second lets it
 pub sound_then : (n d : ℕ) (first exits : Exits) (xs ys : List Instruction)
-    → ((L : Listing) (middle end : ℕ) → middle + length ys ≡ end → LeadsInside L middle d → Opens L d end exits → Opens L d middle first)
+    → ((L : Listing) (middle end : ℕ) → middle + length ys ≡ end → MayGoOn L middle d → Opens L d end exits → Opens L d middle first)
     → Sound n d first xs → Sound n d exits ys → Sound n d exits (xs ++ ys)
 sound_then n d first exits xs ys opens_first a b =
     let all = length-append xs ys in
@@ -113,7 +113,7 @@ sound_then n d first exits xs ys opens_first a b =
           (b.goes L (at + length xs) end rest length_is opens limit);
     }
 
-pub opens_past : (d : ℕ) (exits : Exits) (ys : List Instruction) (L : Listing) (middle end : ℕ) → middle + length ys ≡ end → LeadsInside L middle d → Opens L d end exits → Opens L d middle (past (length ys) exits)
+pub opens_past : (d : ℕ) (exits : Exits) (ys : List Instruction) (L : Listing) (middle end : ℕ) → middle + length ys ≡ end → MayGoOn L middle d → Opens L d end exits → Opens L d middle (past (length ys) exits)
 opens_past d exits ys L middle end e leads o =
     record {
       next = leads;
@@ -126,13 +126,13 @@ pub sound_both : (n d : ℕ) (exits : Exits) (xs ys : List Instruction) → Soun
 sound_both n d exits xs ys a b = sound_then n d (past (length ys) exits) exits xs ys (opens_past d exits ys) a b
 
 -- a way out
-pub sound_exit : (n d : ℕ) (exits : Exits) (by : ℕ) → ((L : Listing) (end : ℕ) → Opens L d end exits → LeadsInside L (end + by) d) → Sound n d exits (instruction.Jump by ∷ [])
+pub sound_exit : (n d : ℕ) (exits : Exits) (by : ℕ) → ((L : Listing) (end : ℕ) → Opens L d end exits → MayGoOn L (end + by) d) → Sound n d exits (instruction.Jump by ∷ [])
 sound_exit n d exits by out =
     record {
       balanced = refl;
       goes = λ L at end h e opens limit.
           let same = h.1 in
-          (subst (λ k. LeadsInside L (at + 1 + by) k) (sym h.1) (leads_at L d (end + by) (at + 1 + by) (omega (arith, e)) (out L end opens)), omega (arith, same, limit), tt);
+          (subst (λ k. MayGoOn L (at + 1 + by) k) (sym h.1) (leads_at L d (end + by) (at + 1 + by) (omega (arith, e)) (out L end opens)), omega (arith, same, limit), tt);
     }
 
 pub sound_barrier : (n d : ℕ) (exits : Exits) (site : ℕ) (named : Fences) → Sound n d exits (instruction.Barrier site d named ∷ [])
@@ -141,7 +141,7 @@ sound_barrier n d exits site named =
       balanced = refl;
       goes = λ L at end h e opens limit.
           let same = h.1 in
-          ((omega (arith, same), subst (λ k. LeadsInside L (at + 1) k) (sym h.1) (leads_at L d end (at + 1) (omega (arith, e)) opens.next)), omega (arith, same, limit), tt);
+          ((omega (arith, same), subst (λ k. MayGoOn L (at + 1) k) (sym h.1) (leads_at L d end (at + 1) (omega (arith, e)) opens.next)), omega (arith, same, limit), tt);
     }
 
 -- the last jump of a condition, which goes past the way back
@@ -152,8 +152,8 @@ sound_test n d exits register one =
       goes = λ L at end h e opens limit.
           let same = h.1 in (
             (
-              subst (λ k. LeadsInside L (at + 1) k) (sym h.1) (leads_at L d end (at + 1) (omega (arith, e)) opens.next),
-              subst (λ k. LeadsInside L (at + 1 + 1) k) (sym h.1) (leads_at L d (end + exits.broken) (at + 1 + 1) (omega (arith, e, one)) opens.broken),
+              subst (λ k. MayGoOn L (at + 1) k) (sym h.1) (leads_at L d end (at + 1) (omega (arith, e)) opens.next),
+              subst (λ k. MayGoOn L (at + 1 + 1) k) (sym h.1) (leads_at L d (end + exits.broken) (at + 1 + 1) (omega (arith, e, one)) opens.broken),
             ),
             omega (arith, same, limit),
             tt,
@@ -169,8 +169,8 @@ sound_branch n d exits register chosen a =
           let same = h.1 in
           let next = first_leads L (at + 1) d chosen end h.2 (omega (arith, e)) opens.next in (
             (
-              subst (λ k. LeadsInside L (at + 1) k) (sym h.1) next,
-              subst (λ k. LeadsInside L (at + 1 + length chosen) k) (sym h.1) (leads_at L d end (at + 1 + length chosen) (omega (arith, e)) opens.next),
+              subst (λ k. MayGoOn L (at + 1) k) (sym h.1) next,
+              subst (λ k. MayGoOn L (at + 1 + length chosen) k) (sym h.1) (leads_at L d end (at + 1 + length chosen) (omega (arith, e)) opens.next),
             ),
             omega (arith, same, limit),
             a.goes L (at + 1) end h.2 (omega (arith, e)) opens limit,
@@ -194,8 +194,8 @@ sound_sides n d exits register chosen otherwise a b =
           let same_jump = rest.1 in
           let length_is : jump + 1 + length otherwise ≡ end = omega (arith, e, all) in (
             (
-              subst (λ k. LeadsInside L (at + 1) k) (sym h.1) (first_leads L (at + 1) d chosen jump (standing_left L (at + 1) d chosen second h.2) refl to_jump),
-              subst (λ k. LeadsInside L (at + 1 + (length chosen + 1)) k) (sym h.1) (leads_at L d (jump + 1) (at + 1 + (length chosen + 1)) (omega arith) other),
+              subst (λ k. MayGoOn L (at + 1) k) (sym h.1) (first_leads L (at + 1) d chosen jump (standing_left L (at + 1) d chosen second h.2) refl to_jump),
+              subst (λ k. MayGoOn L (at + 1 + (length chosen + 1)) k) (sym h.1) (leads_at L d (jump + 1) (at + 1 + (length chosen + 1)) (omega arith) other),
             ),
             omega (arith, same, limit),
             going_both L (at + 1) chosen second jump refl
@@ -206,7 +206,7 @@ sound_sides n d exits register chosen otherwise a b =
                   continued = leads_at L d (end + exits.continued) (jump + (length otherwise + 1 + exits.continued)) (omega (arith, length_is)) opens.continued;
                   returned = leads_at L d (end + exits.returned) (jump + (length otherwise + 1 + exits.returned)) (omega (arith, length_is)) opens.returned;
                 }) limit) (
-                  subst (λ k. LeadsInside L (jump + 1 + length otherwise) k) (sym rest.1) (leads_at L d end (jump + 1 + length otherwise) (omega (arith, length_is)) opens.next),
+                  subst (λ k. MayGoOn L (jump + 1 + length otherwise) k) (sym rest.1) (leads_at L d end (jump + 1 + length otherwise) (omega (arith, length_is)) opens.next),
                   omega (arith, same_jump, limit),
                   b.goes L (jump + 1) end rest.2 length_is opens limit,
                 ),

@@ -2,7 +2,7 @@
 use Rattle.std.proofs.Common.{◌≡◌, ℕ, suc, ◌+◌, ◌-◌, ◌≤◌, IsTrue, List, [], ◌∷◌, ◌++◌, length, slice_get, refl, ap, sym, subst, ◌∙◌, arith}
 use Rattle.std.proofs.lemmas.List.{length-append}
 use Rattle.regcode.specs.Listing.{Listing}
-use Rattle.regcode.specs.Rules.{loops_at, most_loops, is_turn, LeadsInside}
+use Rattle.regcode.specs.Rules.{loops_at, most_loops, is_turn, MayGoOn}
 use Rattle.regcode.specs.declared.instruction.Instruction.{Instruction}
 use Rattle.regcode.specs.declared.instruction.Instruction.TheVariants as instruction
 use Rattle.lower_code.specs.Code.{Exits, body_exits, while_code, do_code, turn_code}
@@ -33,10 +33,10 @@ module _ (n d : ℕ) (exits : Exits) (body condition : List Instruction) (a : So
     way_stands : Standing L (turn + 1 + length body + length condition) (d + 1) way
     way_stands = standing_right L (turn + 1 + length body) (d + 1) condition way (turn + 1 + length body + length condition) (d + 1) refl b.balanced tail_stands
 
-    way_leads : LeadsInside L (turn + 1 + length body + length condition) (d + 1)
+    way_leads : MayGoOn L (turn + 1 + length body + length condition) (d + 1)
     way_leads = there L (turn + 1 + length body + length condition) (d + 1) (instruction.Back by) way_stands.0 way_stands.1
 
-    condition_leads : LeadsInside L (turn + 1 + length body) (d + 1)
+    condition_leads : MayGoOn L (turn + 1 + length body) (d + 1)
     condition_leads = first_leads L (turn + 1 + length body) (d + 1) condition (turn + 1 + length body + length condition) condition_stands refl way_leads
 
     turn_goes : (end : ℕ) → turn + length (turn_code d body condition) ≡ end → Opens L d end exits → d + suc n ≤ most_loops → Going L turn (turn_code d body condition)
@@ -104,7 +104,7 @@ module _ (n d : ℕ) (exits : Exits) (body condition : List Instruction) (a : So
               (omega (arith, same), omega (arith, limit), there L (at + 1) (d + 1) (instruction.Jump (1 + length body)) h.2.0 h.2.1),
               omega (arith, same, limit),
               (
-                subst (λ k. LeadsInside L (at + 1 + 1 + (1 + length body)) k) (sym h.2.1)
+                subst (λ k. MayGoOn L (at + 1 + 1 + (1 + length body)) k) (sym h.2.1)
                     (leads_at L (d + 1) (at + 1 + 1 + 1 + length body) (at + 1 + 1 + (1 + length body)) (omega arith) (condition_leads L (at + 1 + 1) h.2.2)),
                 omega (arith, jump, limit),
                 turn_goes L (at + 1 + 1) h.2.2 end (omega (arith, e)) opens limit,
