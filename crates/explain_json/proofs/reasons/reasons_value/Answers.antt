@@ -1,9 +1,8 @@
-use Rattle.std.proofs.Common.{◌≡◌, ◌+◌, ◌<◌, ◌≤◌, ◌∷◌, [], ◌++◌, List, length, map, rules, take, sym, ap, ◌∙◌, subst, arith}
+use Rattle.std.proofs.Common.{◌≡◌, ◌+◌, ◌<◌, ◌≤◌, ◌∷◌, [], ◌++◌, List, length, map, take, sym, ap, ◌∙◌, subst, arith}
 use Rattle.std.proofs.lemmas.List.{take_all, take_more}
 use Rattle.std.specs.List.{AllZip}
 use Rattle.serde_json.specs.Data.{array}
 use Rattle.serde_json.specs.View.{items_of, view}
-use Rattle.serde_json.specs.declared.value.Value.TheVariants as value
 use Rattle.explanation.specs.declared.reasons.Reason.{Reason}
 use Rattle.explain_text.specs.Texts.{IsWorded}
 use Rattle.explain_json.specs.Reasons.{reasons_data}
@@ -25,9 +24,8 @@ returns c =
     let xs = c.args.why.now in
     let told = c.loop-reason.invariant in
     let all : take c.loop-reason.reason-index xs ≡ xs = take_all c.loop-reason.reason-index xs (omega (arith, c.loop-reason-test.false)) in
-    let listed : view (value.Array c.loop-reason.values) ≡ array (items_of (map view c.loop-reason.values.items)) = search rules in
     record {
       sentences = told.0;
       each = subst (λ (l : List Reason). AllZip IsWorded l told.0) all told.1;
-      is = listed ∙ ap (λ ds. array (items_of ds)) (told.2 ∙ ap (λ l. reasons_data l told.0) all);
+      is = c.array_of.ensures ∙ ap (λ ds. array (items_of ds)) (told.2 ∙ ap (λ l. reasons_data l told.0) all);
     }
