@@ -2,7 +2,8 @@
 #![tactic(auto)]
 
 ghost use Rattle.std.specs.Prelude.{◌≡◌, ◌++◌, [], ◌∷◌, List, ℕ, map, IfOk, OnOk};
-ghost use Rattle.serde_json.specs.View.{view};
+ghost use Rattle.serde_json.specs.Data.{array};
+ghost use Rattle.serde_json.specs.View.{items_of, view};
 ghost use Rattle.explain_text.specs.Texts.{IsWorded};
 ghost use Rattle.explain_json.specs.Members.{or_null, left_data};
 ghost use Rattle.explain_json.specs.Reasons.{AreReasons, budget_data, classes_data, counted_word, divisor_data, elements_data, group_data, groups_data, loop_turns_data, nearest_data, other_loops_data, plain_data, reason_data, space_word, stored_data, unfenced_data};
@@ -266,6 +267,13 @@ fn push_reason(alloc: Global, reason: &Reason, values: &mut Vec<Value>) -> Resul
     Ok(())
 }
 
+/// Values as an array.
+fn array_of(values: Vec<Value>) -> Value
+    ensures { view result ≡ array (items_of (map view values.items)) }
+{
+    Value::Array(values)
+}
+
 /// The reasons of a fault, each with its sentence.
 pub(crate) fn reasons_value(alloc: Global, why: &[Reason]) -> Result<Value, AllocError>
     ensures { IfOk result (λ value. AreReasons why.now (view value)) }
@@ -274,5 +282,5 @@ pub(crate) fn reasons_value(alloc: Global, why: &[Reason]) -> Result<Value, Allo
     for reason in why {
         push_reason(alloc, reason, &mut values)?;
     }
-    Ok(Value::Array(values))
+    Ok(array_of(values))
 }

@@ -1,5 +1,5 @@
-//! Why a fault that was played comes about, in sentences, and the events of its schedule one after another. Sentences
-//! and steps are only tested. It knows a launch with its source, and performs no command.
+//! Why a fault that was played comes about, as data, and the events of its schedule one after another. Reasons and
+//! steps are only tested. It knows a launch with its source, and neither words a reason nor performs a command.
 #![tactic(auto)]
 
 mod arrays;

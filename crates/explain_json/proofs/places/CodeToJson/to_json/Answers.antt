@@ -3,6 +3,9 @@ use Rattle.explain_json.proofs.places.CodeToJson.to_json.Goals as goal
 
 pub returns : goal.returns
 returns c = c.finish.ensures _ (
+    c.with-6.ensures _ refl (
+    c.with-5.ensures _ refl (
+    c.with-4.ensures _ refl (
     c.with-3.ensures _ refl (
     c.with-2.ensures _ refl (
-    c.with.ensures _ tt c.new.ensures)))
+    c.with.ensures _ tt c.new.ensures))))))
