@@ -232,13 +232,18 @@ static const char *read_tree(void *to, child *c) {
 
 // ---- a source ----
 
+static const char last_line[] = "#pragma clsim_end_of_source\n"; // by which a text is known to be whole
+
 // The source with a first line that names it for clang's messages.
 static text named_source(arena *a, const char *source) {
     text named = {.arena = a};
-    addf(&named, "#line 1 \"source\"\n");
-    add(&named, source);
-    add(&named, "\n");
+    addf(&named, "#line 1 \"source\"\n%s\n\n%s", source, last_line);
     return named;
+}
+
+static bool ends_as_source(const whole *w) {
+    size_t n = sizeof last_line - 1;
+    return w->length >= n && !memcmp(w->at + w->length - n, last_line, n);
 }
 
 static outcome check_source(const request *q, const text *named) {
@@ -283,6 +288,7 @@ static bool read_named(request *q, const text *named, const char *source, tree *
     if (q->wants_warnings) o = check_source(q, named);
     if (is_done(&o)) o = run_clang(q->arena, words_for(q, for_preprocessing), named->at, named->length, read_whole, w);
     q->fault = o.fault;
+    if (is_done(&o) && !ends_as_source(w)) o.wrong = "its preprocessed text ends too early";
     if (!is_done(&o)) {
         explain_outcome(log, q->clang, &o);
         return false;

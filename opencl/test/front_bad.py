@@ -40,7 +40,8 @@ DUMPS = {
 }
 TEXTS = {
     "writes a text without end": ("yes 'typedef int t;'", ("it is too long", "takes longer than")),
-    "writes no text": ("exit 0", "it ends too early"),
+    "writes no text": ("exit 0", "its preprocessed text ends too early"),
+    "writes a part of a text": ('printf "%s\\n" "$text" | {clang} "$@" | head -n -3', "ends too early"),
     "dies at the text": ("exit 4", "ends with status 4"),
 }
 FAKE = """#!/bin/bash

@@ -22,7 +22,7 @@ def as_unsigned(t):
 
 
 class Kernel:
-    """A random kernel `f` by its seed: `__global ulong *out, __global const ulong *in, S s`, the last by value."""
+    """A random kernel `f` by its seed: `__global ulong *out, __global const ulong *in, S given`, the last by value."""
 
     def __init__(self, seed):
         self.r = random.Random(seed)
@@ -228,7 +228,8 @@ class Kernel:
 
     def kernel(self):
         r = self.r
-        lines = ["size_t g = get_global_id(0), l = get_local_id(0); S other = s; S *ps = &s;",
+        # (pocl lets work-items share an argument that is a struct, so that nothing is stored into it here)
+        lines = ["size_t g = get_global_id(0), l = get_local_id(0); S s = given, other = s; S *ps = &s;",
                  f"uint x0 = (uint)in[g * {WORDS}], x1 = 7; uint a[4] = {{ (uint)g, 5 }}; uint *pa = a;",
                  f"short grid[2][2] = {{ {{ 1, -2 }}, {{ (short)g }} }}; uchar bytes[8] = {{ 1, 2, 3 }};"]
         self.scalars = {"x0": "uint", "x1": "uint", "g": "ulong"}
@@ -277,5 +278,5 @@ class Kernel:
     def source(self):
         body = self.kernel()
         head = "\n".join(self.head)
-        return (f"{head}\n__kernel void f(__global ulong *out, __global const ulong *in, S s) {{\n    {body}\n}}\n"
+        return (f"{head}\n__kernel void f(__global ulong *out, __global const ulong *in, S given) {{\n    {body}\n}}\n"
                 "__kernel void measure(__global uint *size) { *size = sizeof(S); }\n")
