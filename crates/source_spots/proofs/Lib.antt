@@ -1,1 +1,2 @@
 mod Called
+mod Feeds

@@ -32,6 +32,7 @@ pub(crate) struct LinePosition {
 }
 
 /// Where a byte of a source stands; its end, for a byte that it hasn't.
+#[tactic(auto, using(crate::proofs::Feeds::few_lines))]
 pub(crate) fn place_of(source: &Source<'_>, at: u32) -> LinePosition
     ensures at { result.at ≡ min at (length source.now.text.now) }
     ensures place { IsPlace source.now.text.now source.now.first_line result.at result.line result.column result.script_line }
