@@ -125,6 +125,20 @@ impl<'a> Launch<'a> {
         self.setup.kernel
     }
 
+    /// The code that its items run.
+    pub fn code(&self) -> &'a Code
+        ensures { result.now ≡ code_of self.now }
+    {
+        self.code
+    }
+
+    /// The arguments of its kernel, in the order of the parameters.
+    pub fn arguments(&self) -> &'a [Option<Argument>]
+        ensures { result.now ≡ (setup_of self.now).arguments }
+    {
+        self.setup.arguments
+    }
+
     /// The names of its buffers, in the order of the first arguments that name them.
     pub fn buffer_names(&self) -> &[Name]
         ensures { result.now ≡ buffer_names (setup_of self.now) }
