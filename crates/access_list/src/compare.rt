@@ -53,7 +53,7 @@ fn share(x: &Access, y: &Access, byte: u64) -> bool
 }
 
 /// Byte k of a number, the lowest first.
-pub(crate) fn byte_of(k: u64, value: u64) -> u8
+pub fn byte_of(k: u64, value: u64) -> u8
     ensures { result ≡ byte_of k value }
 {
     if k < VALUE_BYTES {

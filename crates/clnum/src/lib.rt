@@ -15,6 +15,6 @@ mod values;
 pub use builtins::builtin;
 pub use int_type::IntType;
 pub use kinds::{binary_kind, unary_kind};
-pub use operations::{binary, convert, unary};
+pub use operations::{binary, convert, truth, unary};
 pub use operators::{ArithFault, BinaryOperator, Builtin, UnaryOperator};
 pub use values::Value;

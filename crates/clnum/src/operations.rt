@@ -37,8 +37,8 @@ pub fn unary(operator: UnaryOperator, value: Value) -> Value
     }
 }
 
-/// The int 1 or 0.
-fn truth(holds: bool) -> Value
+/// The int 1 or 0 (C99 6.5.8, 6.5.9).
+pub fn truth(holds: bool) -> Value
     ensures { result ≡ operations.truth holds }
 {
     Value::new(IntType::Int, if holds { 1 } else { 0 })

@@ -15,4 +15,5 @@ mod tokens;
 mod words;
 
 pub use lexer::lex;
+pub use pieces::is_name_part;
 pub use tokens::Tokens;

@@ -40,7 +40,7 @@ fn is_name_start(byte: u8) -> bool
 }
 
 /// Whether a byte may stand in a name behind its first (C99 6.4.2.1).
-fn is_name_part(byte: u8) -> bool
+pub fn is_name_part(byte: u8) -> bool
     ensures { result ≡ pieces.is_name_part byte }
 {
     byte.is_ascii_alphanumeric() || byte == b'_'

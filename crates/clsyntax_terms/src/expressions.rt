@@ -1,4 +1,4 @@
-//! What each token does to what is open of an expression (C99 6.5).
+//! The parser's steps inside an expression (C99 6.5): each function takes one token, and answers the state after it.
 #![tactic(auto)]
 
 ghost use Rattle.std.specs.Prelude.{◌≡◌, suc};
@@ -18,7 +18,7 @@ use crate::state::{
 use clmodel::tree::{Expression, InfixOperator, Statement, Target};
 use clsyntax_lex::token::{Token, TokenKind};
 
-/// Where an operand is wanted.
+/// The step of a token where an operand must begin: a number, a name, `&`, `(` or another prefix.
 pub fn on_operand(nesting: Nesting, stack: Stack, token: Token) -> Moved
     ensures { Steps result (machine.on_operand nesting.0 (opened stack) token) }
 {
@@ -55,7 +55,7 @@ pub fn on_operand(nesting: Nesting, stack: Stack, token: Token) -> Moved
     }
 }
 
-/// A call of the named function with these arguments.
+/// The call of a function with these arguments.
 fn call_of(called: Identifier, arguments: Vec<Expression>) -> Expression
     ensures { term result ≡ tree.Call called.at called.name (terms arguments.items) }
 {
@@ -66,7 +66,7 @@ fn call_of(called: Identifier, arguments: Vec<Expression>) -> Expression
     }
 }
 
-/// Where a call's bracket closes.
+/// The step of the `)` of a call: it ends a statement, or an operand.
 pub fn end_call(call: Call, stack: Stack) -> Moved
     ensures { Steps result (machine.end_call call.is_statement call.identifier.at call.identifier.name call.nesting.0 (terms call.arguments.items) (opened stack)) }
 {
@@ -98,7 +98,7 @@ pub fn end_call(call: Call, stack: Stack) -> Moved
     }
 }
 
-/// Where an expression's or an argument's bracket closes.
+/// The step of a `)` behind an expression: it ends a bracket, a call's last argument, or the head of a statement.
 #[tactic(auto, using(crate::proofs::Lists::terms_then))]
 fn on_close_round(value: Box<Expression>, stack: Stack) -> Moved
     ensures { Steps result (machine.on_close_round (term value.value) (opened stack)) }
@@ -116,7 +116,7 @@ fn on_close_round(value: Box<Expression>, stack: Stack) -> Moved
     }
 }
 
-/// Between two arguments.
+/// The step of a `,` behind an expression, which separates two arguments of a call.
 #[tactic(auto, using(crate::proofs::Lists::terms_then))]
 fn on_comma(value: Box<Expression>, stack: Stack) -> Moved
     ensures { Steps result (machine.on_comma (term value.value) (opened stack)) }
@@ -139,7 +139,7 @@ fn on_comma(value: Box<Expression>, stack: Stack) -> Moved
     }
 }
 
-/// Where the index of a target ends.
+/// The step of the `]` that ends the index of a target.
 fn end_part(array: FirstName, index: Box<Expression>, stack: Stack) -> Moved
     ensures { Steps result (machine.go (suc array.nesting.0) (machine.TargetRead array.is_step array.nesting.0 array.identifier.at (tree.TargetElement array.identifier.at array.identifier.name (term index.value))) (opened stack)) }
 {
@@ -162,7 +162,7 @@ fn end_part(array: FirstName, index: Box<Expression>, stack: Stack) -> Moved
     stack.go(inner, Mode::TargetRead(read))
 }
 
-/// Where an index ends.
+/// The step of a `]` behind an expression: it ends the index of an element, of an element's address, or of a target.
 fn on_close_square(index: Box<Expression>, stack: Stack) -> Moved
     ensures { Steps result (machine.on_close_square (term index.value) (opened stack)) }
 {
@@ -196,7 +196,7 @@ fn on_close_square(index: Box<Expression>, stack: Stack) -> Moved
     }
 }
 
-/// Between the two values of a choice.
+/// The step of a `:` behind an expression, which separates the two values of a choice.
 fn on_colon(nesting: Nesting, chosen: Box<Expression>, stack: Stack) -> Moved
     ensures { Steps result (machine.on_colon nesting.0 (term chosen.value) (opened stack)) }
 {
@@ -219,7 +219,7 @@ fn on_colon(nesting: Nesting, chosen: Box<Expression>, stack: Stack) -> Moved
     }
 }
 
-/// Where an assignment follows `*` and an operand.
+/// The step of an assignment's operator behind `*` and an operand, which make its target.
 fn on_assignment(kind: TokenKind, pointer: Box<Expression>, stack: Stack) -> Moved
     ensures { Steps result (machine.on_assignment (grammar.assign_of kind) (term pointer.value) (opened stack)) }
 {
@@ -251,7 +251,7 @@ fn on_assignment(kind: TokenKind, pointer: Box<Expression>, stack: Stack) -> Mov
     }
 }
 
-/// After an expression, at a token that is no operator between two.
+/// The step of a token behind an expression, where the token is no binary operator.
 fn end_expression(kind: TokenKind, nesting: Nesting, folded: Folded) -> Moved
     ensures { Steps result (machine.end_expression kind nesting.0 (folded_of folded)) }
 {
@@ -274,7 +274,8 @@ fn end_expression(kind: TokenKind, nesting: Nesting, folded: Folded) -> Moved
     }
 }
 
-/// How tightly the operators before an expression must bind, so that they take it in front of a token.
+/// The level at which an operator before an expression takes it as its right operand, where this token follows: one
+/// that binds less tightly waits.
 fn asked_level(between: Option<InfixOperator>, kind: TokenKind) -> u32
     ensures { result ≡ machine.asked_level between kind }
 {
@@ -285,7 +286,7 @@ fn asked_level(between: Option<InfixOperator>, kind: TokenKind) -> u32
     }
 }
 
-/// After an expression.
+/// The step of a token behind an expression: the operators before it that bind tightly enough take it first.
 pub fn on_expression_read(read: ExpressionRead, stack: Stack, token: Token) -> Moved
     ensures { Steps result (machine.on_expression_read read.nesting.0 read.from (term read.value.value) (opened stack) token) }
 {

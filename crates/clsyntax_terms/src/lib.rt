@@ -1,7 +1,7 @@
-//! Expressions, and what they stand in: the parts of a parser that takes one token at a time.
+//! The parser's state, and its steps inside expressions. The parser takes one token at a time.
 //!
-//! Each step of the parser is that of the defined machine, and nesting is counted as defined. What is open is kept in a
-//! list of frames, so that a step recurses into none but the frames that it closes.
+//! Each step of the parser is that of the defined machine, and nesting is counted as defined. A stack of frames keeps
+//! the open forms, so that a step recurses only into the frames that it closes.
 #![tactic(auto)]
 
 pub mod closing;

@@ -1,5 +1,5 @@
-//! What the parser holds between two tokens. A `nesting` is that of the next token, or, inside an open frame, the depth
-//! just outside it.
+//! The parser's state between two tokens: a mode, and a stack of frames. The `nesting` of a mode is that of the next
+//! token; the `nesting` of a frame is that just outside the frame.
 #![tactic(auto)]
 
 ghost use Rattle.std.specs.Prelude.{◌≡◌, [], ◌∷◌, suc, IfOk, MatchOption};
@@ -22,7 +22,7 @@ pub struct Identifier {
     pub name: u32,
 }
 
-/// What stands before an operand (C99 6.5.3.2, 6.5.3.3 and 6.5.4).
+/// A prefix of an operand (C99 6.5.3.2, 6.5.3.3 and 6.5.4).
 #[derive(Clone, Copy)]
 pub enum Prefix {
     Operator(UnaryOperator),
@@ -32,7 +32,7 @@ pub enum Prefix {
     Convert(IntType),
 }
 
-/// What a type is read for.
+/// The declaration that a type begins.
 #[derive(Clone, Copy)]
 pub enum Purpose {
     /// A parameter, which may be of type size_t or not
@@ -59,7 +59,7 @@ pub struct Array {
     pub identifier: Identifier,
 }
 
-/// What stands before a function's body.
+/// The head of a function, before its body.
 #[derive(Drop)]
 pub struct Head {
     pub is_kernel: bool,
@@ -137,7 +137,7 @@ pub struct Cast {
     pub target: IntType,
 }
 
-/// Something open.
+/// A form that is begun and not ended.
 #[derive(Drop)]
 pub enum Frame {
     /// An operator that waits for its right operand, and where its left one begins
@@ -266,14 +266,14 @@ pub enum Frame {
     InProgram(Vec<Function>),
 }
 
-/// What is open, from the innermost outwards.
+/// The stack of open frames, the innermost first.
 #[derive(Drop)]
 pub enum Frames {
     Empty,
     Inside(Frame, Box<Frames>),
 }
 
-/// What was read last, and so what may come.
+/// The mode: what the parser read last, which decides what may come next.
 #[derive(Drop)]
 pub enum Mode {
     /// An operand is wanted
@@ -375,7 +375,7 @@ pub enum Mode {
     Head(HeadMode),
 }
 
-/// What was read of a type.
+/// How much of a type the parser has read.
 #[derive(Clone, Copy)]
 pub enum TypeMode {
     /// A pointer's address space
@@ -387,7 +387,7 @@ pub enum TypeMode {
     Whole(VariableType),
 }
 
-/// What was read of an array's declaration.
+/// How much of an array's declaration the parser has read.
 #[derive(Drop)]
 pub enum ArrayMode {
     /// A local array's name
@@ -406,7 +406,7 @@ pub enum ArrayMode {
     },
 }
 
-/// What was read last of a function's head.
+/// How much of a function's head the parser has read.
 #[derive(Clone, Copy)]
 pub enum HeadMode {
     /// Nothing: a function or the program's end is wanted
@@ -437,35 +437,35 @@ pub enum HeadMode {
     HeadDone,
 }
 
-/// Where the parser stands between two tokens: what may come next, and what stands open.
+/// The parser's state between two tokens: its mode, and the open frames.
 #[derive(Drop)]
 pub struct State {
     pub mode: Mode,
     pub frames: Box<Frames>,
 }
 
-/// What a token does.
+/// How the parser takes a token.
 #[derive(Drop)]
 pub enum TokenStep {
-    /// It can't come.
+    /// No source goes on with this token here.
     Refused,
-    /// It is nested too deep.
+    /// The token is nested too deep.
     Deep,
-    /// It has this nesting, and this is the state after it.
+    /// The token has this nesting, and leads to this state.
     To { nesting: Nesting, state: Box<State> },
 }
 
-/// What a token does, if memory suffices.
+/// How the parser takes a token. An error is out of memory.
 pub type Moved = Result<TokenStep, AllocError>;
 
-/// What is open, and where memory for more comes from.
+/// The open frames, and the allocator for more.
 #[derive(Drop)]
 pub struct Stack {
     pub alloc: Global,
     pub frames: Box<Frames>,
 }
 
-/// What a simple statement is read for.
+/// The part of a `for` that a simple statement may be.
 #[derive(Clone, Copy)]
 pub(crate) enum ForPart {
     /// The first part of a `for`
@@ -476,7 +476,7 @@ pub(crate) enum ForPart {
 }
 
 impl Stack {
-    /// What a simple statement in front of the frames is read for.
+    /// The part of a `for` that a simple statement in front of the frames is.
     pub(crate) fn part(&self) -> ForPart
         ensures { result ≡ part_of (opened self.now) }
     {
@@ -487,7 +487,7 @@ impl Stack {
         }
     }
 
-    /// The step of a token with this nesting to a mode.
+    /// The step of a token of this nesting into a mode.
     pub fn go(self, nesting: Nesting, mode: Mode) -> Moved
         ensures { Steps result (machine.go nesting.0 (mode_of mode) (opened self)) }
     {
@@ -505,8 +505,8 @@ impl Stack {
         Ok(Stack { alloc, frames })
     }
 
-    /// The frame in front, and the stack without it. One that doesn't fit is let go by `drop(frame)`: else the drop of
-    /// each variant is written into the function that took it, and proved there.
+    /// The frame in front, and the stack without it. A caller that can't use the frame calls `drop(frame)`: else the
+    /// drop of each variant would be written into the caller, and proved there.
     pub fn pop(self) -> Option<(Frame, Stack)>
         ensures { MatchOption result (opened self ≡ []) (λ popped. opened self ≡ frame_of popped.0 ∷ opened popped.1) }
     {
@@ -517,14 +517,14 @@ impl Stack {
         }
     }
 
-    /// The step to an operand in a frame.
+    /// The step that opens a frame and wants an operand.
     pub fn want(self, nesting: Nesting, frame: Frame) -> Moved
         ensures { Steps result (machine.go nesting.0 (machine.Operand nesting.0) (frame_of frame ∷ opened self)) }
     {
         self.push(frame)?.go(nesting, Mode::Operand { nesting })
     }
 
-    /// The step to an operand in a frame, one deeper.
+    /// The step that opens a frame and wants an operand, one level deeper.
     pub fn open(self, nesting: Nesting, frame: Frame) -> Moved
         ensures { Steps result (machine.go nesting.0 (machine.Operand (suc nesting.0)) (frame_of frame ∷ opened self)) }
     {
@@ -535,14 +535,14 @@ impl Stack {
         }
     }
 
-    /// The step to a statement that a frame controls.
+    /// The step that opens a frame and wants the statement that it controls.
     pub(crate) fn begin(self, nesting: Nesting, frame: Frame) -> Moved
         ensures { Steps result (machine.go nesting.0 (machine.Begin nesting.0) (frame_of frame ∷ opened self)) }
     {
         self.push(frame)?.go(nesting, Mode::Begin { nesting })
     }
 
-    /// The step of a bracket's end, at which an expression was read that begins at an offset.
+    /// The step of a closing bracket, behind which an expression from the offset `from` on is read.
     pub(crate) fn close(self, nesting: Nesting, from: u32, value: Box<Expression>) -> Moved
         ensures { Steps result (machine.go (suc nesting.0) (machine.ExpressionRead nesting.0 from (term value.value)) (opened self)) }
     {

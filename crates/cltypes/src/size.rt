@@ -2,7 +2,7 @@
 #![tactic(auto)]
 
 ghost use Rattle.std.specs.Prelude.{◌≡◌, suc, min};
-ghost use Rattle.clmodel.specs.Tree.{array_length, array_bytes};
+ghost use Rattle.clmodel.specs.Tree.{array_bytes};
 ghost use Rattle.clmodel.specs.Typing.Sizes as counted;
 ghost use Rattle.clmodel.specs.Typing.Sizes.{nothing, leaf, array_size, byte_limit, beside, one_node, one_loop};
 ghost use Rattle.cltypes.specs.Limits.{capped, plain};
@@ -32,20 +32,12 @@ pub struct Size {
     pub nodes: u32,
 }
 
-/// How many elements an array has, by the number in its brackets (C99 6.7.5.2).
-pub fn array_length(length: Value) -> u64
-    ensures { result ≡ array_length length }
-{
-    let number = length.number();
-    if number < 0 { 0 } else { number as u64 }
-}
-
 /// How many bytes an array has (OpenCL 1.2, section 6.1.1), up to one more than a kernel's private arrays may have.
 #[tactic(auto, using(crate::proofs::Sums::capped_bytes))]
 fn array_bytes(element: IntType, length: Value) -> u32
     ensures { result ≡ min (array_bytes element length) (suc byte_limit) }
 {
-    let count = array_length(length).min(u64::from(BYTE_LIMIT + 1)) as u32;
+    let count = length.natural().min(u64::from(BYTE_LIMIT + 1)) as u32;
     (element.bits() / 8 * count).min(BYTE_LIMIT + 1)
 }
 

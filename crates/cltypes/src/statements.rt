@@ -13,7 +13,6 @@ ghost use Rattle.cltypes.specs.Answers.{Ends};
 ghost use Rattle.cltypes.specs.Views.{held, turns_faults};
 
 use crate::assignments::{assignment_fault, check_target, initial_fault};
-use crate::size::array_length;
 use clmodel::declaration::Declaration;
 use clmodel::tree::{Expression, Statement, VariableType};
 use clmodel::type_fault::TypeFault;
@@ -136,7 +135,7 @@ fn array_fault(
 ) -> Option<TypeFault>
     ensures { result ≡ least (array_faults context.now is_local array.at array.name length_at length) }
 {
-    let count = array_length(length);
+    let count = length.natural();
     if !context.is_free(array.name) {
         Some(TypeFault::Redeclared { at: array.at })
     } else if is_local && !context.is_outermost() {

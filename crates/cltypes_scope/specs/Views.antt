@@ -17,7 +17,7 @@ want_of OfTypeBefore = rule.OfTypeBefore
 want_of AtomicPointer = rule.AnAtomicPointer
 want_of (ForParameter kind) = rule.ForParameter kind
 
-abbrev pub spot_of : CallPlace → rule.CallPlace
+abbrev pub spot_of : CallPlace → rule.Spot
 spot_of WholeStatement = rule.WholeStatement
 spot_of RightSide = rule.RightSide
 spot_of Inside = rule.Inside

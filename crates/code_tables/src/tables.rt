@@ -114,6 +114,9 @@ fn register_count(code: &[Instruction]) -> usize
     count
 }
 
+/// How many registers a level has: one for each integer type, and one for each type of pointers.
+const LEVEL_REGISTERS: usize = 16;
+
 /// The kinds of a level's registers.
 const KINDS: [RegisterKind; 16] = [
     RegisterKind::Integer(IntType::Char),
@@ -138,7 +141,7 @@ const KINDS: [RegisterKind; 16] = [
 fn register_kind(register: usize) -> RegisterKind
     ensures { result ≡ spec.register_kind register }
 {
-    KINDS[register % 16]
+    KINDS[register % LEVEL_REGISTERS]
 }
 
 /// Gives the register that a move reads the name that the move has.

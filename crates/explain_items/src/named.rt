@@ -26,7 +26,6 @@ fn ids_of(context: &Context<'_>, item: u32) -> Result<Ids, AllocError>
     let range = context.launch.range();
     let counts = group_counts(alloc, range)?;
     let position = ItemPosition {
-        alloc,
         item,
         range,
         group_counts: counts.as_slice(),

@@ -12,7 +12,7 @@ use crate::known::Known;
 use crate::types::base_type;
 use clmodel::setup::BuiltIn;
 use clmodel::tree::InfixOperator;
-use clnum::{BinaryOperator, IntType, UnaryOperator, Value, binary, builtin, convert};
+use clnum::{BinaryOperator, IntType, UnaryOperator, Value, binary, builtin, convert, truth};
 
 /// An operator on one integer (OpenCL 1.2, section 6.3).
 pub fn unary(operator: UnaryOperator, operand: Option<Value>) -> Option<Value>
@@ -43,14 +43,14 @@ pub fn infix(operator: InfixOperator, left: Option<Value>, right: Option<Value>)
     match operator {
         InfixOperator::Arithmetic(operator) => arithmetic(operator, left, right?),
         InfixOperator::LogicalAnd => if holds(left) {
-            truth(right)
+            truth_of(right)
         } else {
-            Some(int_of(false))
+            Some(truth(false))
         },
         InfixOperator::LogicalOr => if holds(left) {
-            Some(int_of(true))
+            Some(truth(true))
         } else {
-            truth(right)
+            truth_of(right)
         },
     }
 }
@@ -72,19 +72,12 @@ fn holds(value: Value) -> bool
     value.number() != 0
 }
 
-/// The int 1 or 0.
-fn int_of(holds: bool) -> Value
-    ensures { result ≡ operations.truth holds }
-{
-    Value::new(IntType::Int, if holds { 1 } else { 0 })
-}
-
 /// The int of a condition.
-fn truth(value: Option<Value>) -> Option<Value>
+fn truth_of(value: Option<Value>) -> Option<Value>
     ensures { result ≡ constants.truth_constant value }
 {
     match value {
-        Some(value) => Some(int_of(holds(value))),
+        Some(value) => Some(truth(holds(value))),
         None => None,
     }
 }

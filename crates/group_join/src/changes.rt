@@ -16,6 +16,7 @@ ghost use Rattle.shadow.specs.Seen.{IsFootprint};
 ghost use Rattle.group_join.specs.Changes.{number_or_0, joined_value, value_of, access_changes, changes_of, cells_at, filled_at, bytes_of, IsValue, AreBytes, WroteBytes, AllWroteBytes, AreChanged, IsKept, AreUpdates, kept_at, next_after};
 
 use crate::joined_numbers::joined_number;
+use access_list::byte_of;
 use clmodel::access::{Access, AccessKind, Class, Region, Width};
 use clmodel::text::Bytes;
 use shadow::{Footprint, GroupAccesses};
@@ -122,19 +123,6 @@ fn own_value(own: &[Overlay<'_>], number: u32, x: &Access) -> u64
     }
 }
 
-/// A byte of a number, the lowest first.
-fn byte_of(value: u32, byte: u64) -> u8
-    requires { byte < 4 }
-    ensures { result ≡ byte_of byte value }
-{
-    match byte {
-        0 => (value % 256) as u8,
-        1 => (value / 256 % 256) as u8,
-        2 => (value / 65536 % 256) as u8,
-        _ => (value / 16777216 % 256) as u8,
-    }
-}
-
 /// Whether an access is of four bytes from a multiple of four on.
 fn is_word(x: &Access) -> bool
     ensures { result ≡ true → (x.now.first % 4 ≡ 0) × (byte_count x.now.width ≡ 4) }
@@ -178,7 +166,8 @@ impl Before<'_, '_, '_, '_> {
         ensures { (log : List TheAccess) → IsFootprint self.now.footprint.now log → result ≡ joined_value (kind.Update class) (joining.wrote log (region.Buffer number) byte) (filled_at (map (λ row. row.now) self.now.first.now) number) (filled_at self.now.lower.now number) (cells_at (map (λ space. space.bytes) self.now.own.now) number) byte }
     {
         if self.footprint.is_written(number, byte) {
-            byte_of(self.joined_word(class, number, byte / 4 * 4), byte % 4)
+            let word = self.joined_word(class, number, byte / 4 * 4);
+            byte_of(byte % 4, word as u64)
         } else {
             own_byte(self.own, number, byte)
         }

@@ -1,4 +1,4 @@
-//! What the work-groups of a launch come to, one after another.
+//! The join of the results of a launch's work-groups, one group after another.
 
 ghost use Rattle.std.specs.Prelude.{◌≡◌, ◌+◌, ◌*◌, ◌++◌, ◌<◌, ℕ, List, Option, Some, None, [], map, suc, take, true, IfOk, OnOk};
 ghost use Rattle.clmodel.specs.Next.{launch_of};
@@ -42,7 +42,7 @@ use spaces::{Buffers, Overlay};
 use std::alloc::{AllocError, Global};
 use std::mem::replace;
 
-/// What the groups so far come to: what they leave in the launch's buffers, the bytes that they accessed, and their
+/// The groups that are joined so far: what they leave in the launch's buffers, the bytes that they accessed, and their
 /// events.
 #[derive(Drop)]
 pub struct JoinedGroups<'a> {
@@ -53,23 +53,23 @@ pub struct JoinedGroups<'a> {
     pub(crate) runs: Vec<EventRun>,
 }
 
-/// What comes of joining one or more groups.
+/// How a join of one or more groups ends.
 #[derive(Drop)]
 pub enum JoinEnd<T> {
-    /// Nothing to report so far. This is handed on.
+    /// The launch goes on, and this is handed back.
     Continues(T),
-    /// What the launch comes to.
+    /// The launch ends with this outcome.
     Ends(Outcome),
 }
 
-/// The number of a group, and whether a further group is to be joined after it.
+/// A group's number, and whether a further group will be joined after it.
 #[derive(Clone, Copy)]
 struct GroupPlace {
     group: u32,
     further: bool,
 }
 
-/// The bytes of the buffers that have these names, none where there is no such buffer.
+/// The bytes of the buffers with these names. A name without a buffer has no bytes.
 fn rows_of<'a>(
     alloc: Global,
     names: &[Name],
@@ -84,7 +84,7 @@ fn rows_of<'a>(
     Ok(rows)
 }
 
-/// Copies of rows of bytes.
+/// Copies the rows of bytes.
 fn copies_of(alloc: Global, rows: &[&[u8]]) -> Result<Vec<Bytes>, AllocError>
     ensures { IfOk result (λ copies. copies.items ≡ map (λ row. row.now) rows.now) }
 {
@@ -96,7 +96,7 @@ fn copies_of(alloc: Global, rows: &[&[u8]]) -> Result<Vec<Bytes>, AllocError>
 }
 
 impl<'a> JoinedGroups<'a> {
-    /// Before any group. The bytes of the launch's buffers are copied once.
+    /// The join before any group. It copies the bytes of the launch's buffers once.
     pub fn new(alloc: Global, launch: &Launch<'_>, buffers: &'a Buffers) -> Result<Self, AllocError>
         ensures { IfOk result (HoldsGroups (launch_of (setup_of launch.now) (bytes_in buffers.now)) 0) }
     {
@@ -110,8 +110,8 @@ impl<'a> JoinedGroups<'a> {
         })
     }
 
-    /// Compares a group's accesses with those of the lower groups, by whether the launch is uniform. Group 0 has none
-    /// below it, and isn't walked. An error is out of memory.
+    /// Compares a group's accesses with those of the lower groups, by the rule of a uniform launch or of another. Group
+    /// 0 has no group below it, so its accesses aren't walked. An error is out of memory.
     fn compare<L: GroupAccesses>(
         &self,
         alloc: Global,
@@ -135,8 +135,8 @@ impl<'a> JoinedGroups<'a> {
         before.compare(alloc, uniform, log)
     }
 
-    /// The first access of a group that conflicts with those of the lower groups, by whether the launch is uniform, if
-    /// there is one. Group 0 has none below it, and isn't walked.
+    /// A group's first access with a conflict with a lower group's, by the rule of a uniform launch or of another.
+    /// Group 0 has no group below it, so its accesses aren't walked.
     fn first_conflict<L: GroupAccesses>(
         &self,
         uniform: bool,
@@ -152,8 +152,8 @@ impl<'a> JoinedGroups<'a> {
         }
     }
 
-    /// Adds a group of which nothing conflicts: what it leaves, and its accesses and events where a group after it is
-    /// to be joined.
+    /// Adds a group without a conflict: what it leaves in the buffers, and, where a further group will be joined, its
+    /// accesses and events.
     fn add<L: GroupAccesses>(
         &mut self,
         alloc: Global,
@@ -182,7 +182,7 @@ impl<'a> JoinedGroups<'a> {
         Ok(())
     }
 
-    /// The report where an access of a group conflicts with a lower group's, with the events up to it.
+    /// The report of a conflict with a lower group. It adds the group's events up to the access that conflicts.
     fn cross<D: Described>(
         &mut self,
         launch: &D,
@@ -198,37 +198,37 @@ impl<'a> JoinedGroups<'a> {
         report_at(launch, met, stopped)
     }
 
-    /// Joins a group that has ended: the report of its first access that conflicts with a lower group's, if there is
-    /// one.
+    /// Joins a group that has ended. The result is the report of its first access with a conflict with a lower group's,
+    /// if it has one.
     fn join_done<D: Described, L: GroupAccesses>(
         &mut self,
         alloc: Global,
         launch: &D,
-        number: GroupPlace,
+        place: GroupPlace,
         spaces: &[Overlay<'_>],
         log: &L,
         runs: &Schedule,
     ) -> Result<Option<Fault>, AllocError>
         requires grouped { IsGrouped (D.launch launch.now) }
-        requires there { HasGroup (D.launch launch.now) number.group }
-        requires further { HasGroup (D.launch launch.now) (suc number.group) → number.further ≡ true }
-        requires so_far { HoldsGroups (D.launch launch.now) number.group self.old }
+        requires there { HasGroup (D.launch launch.now) place.group }
+        requires further { HasGroup (D.launch launch.now) (suc place.group) → place.further ≡ true }
+        requires so_far { HoldsGroups (D.launch launch.now) place.group self.old }
         requires merged { IsMerged runs.now }
-        requires ran { (whole : Log) × StandsWith (L.has_last log.now) (L.listed log.now) whole.accesses × IsRun (plan_of (D.launch launch.now) number.group) (Leaves (λ space. space.bytes) (plan_of (D.launch launch.now) number.group) spaces.now whole) (start (D.launch launch.now)) (events_of runs.now) None }
-        ensures { IfOk result (λ report. CameOfDone (D.launch launch.now) number.group report self.new) }
+        requires ran { (whole : Log) × StandsWith (L.has_last log.now) (L.listed log.now) whole.accesses × IsRun (plan_of (D.launch launch.now) place.group) (Leaves (λ space. space.bytes) (plan_of (D.launch launch.now) place.group) spaces.now whole) (start (D.launch launch.now)) (events_of runs.now) None }
+        ensures { IfOk result (λ report. CameOfDone (D.launch launch.now) place.group report self.new) }
     {
         laws();
-        match self.compare(alloc, launch.uniform(), number.group, spaces, log)? {
+        match self.compare(alloc, launch.uniform(), place.group, spaces, log)? {
             Compared::Conflict(met) => Ok(Some(self.cross(launch, &met, None, runs)?)),
             Compared::Apart(updates) => {
-                self.add(alloc, number.further, spaces, log, updates.as_slice(), runs)?;
+                self.add(alloc, place.further, spaces, log, updates.as_slice(), runs)?;
                 Ok(None)
             }
         }
     }
 
-    /// Joins a group that has stopped: its report, or that of its first access that conflicts with a lower group's, if
-    /// there is one.
+    /// Joins a group that has stopped at a fault. The result is the report of its first access with a conflict with a
+    /// lower group's, if it has one, and else of its own fault.
     fn join_stopped<D: Described, L: GroupAccesses>(
         &mut self,
         alloc: Global,
@@ -255,8 +255,7 @@ impl<'a> JoinedGroups<'a> {
         }
     }
 
-    /// What the launch comes to where it ends with this report: the events of the groups so far are its schedule, and
-    /// leave them.
+    /// The outcome of a launch that ends with this report. Its schedule takes over the events of the groups so far.
     fn faulted(&mut self, alloc: Global, report: Fault) -> Outcome
         ensures { (launch : TheLaunch) → IsStopped launch report self.old.runs.items → Concludes launch result }
     {
@@ -264,9 +263,9 @@ impl<'a> JoinedGroups<'a> {
         Outcome::Faulted(report, Schedule::new(runs))
     }
 
-    /// Joins the result of one more group, of so many that the launch has: its log is handed back, or the launch ends
-    /// with its report, or with that of its first access that conflicts with a lower group's, if there is one. The last
-    /// group's accesses and events aren't added. An error is out of memory.
+    /// Joins the result of group `group` of the launch's `groups`. The group's log is handed back, or the launch ends
+    /// with a report: of the group's first access with a conflict with a lower group's, or of its own fault. The
+    /// accesses and events of the last group aren't added. An error is out of memory.
     pub(crate) fn join<D: Described, L: GroupAccesses + Drop>(
         &mut self,
         alloc: Global,
@@ -287,11 +286,11 @@ impl<'a> JoinedGroups<'a> {
         let GroupResult { log, runs, end, .. } = came;
         match end {
             GroupEnd::Done(spaces) => {
-                let number = GroupPlace {
+                let place = GroupPlace {
                     group,
                     further: group + 1 < groups,
                 };
-                match self.join_done(alloc, launch, number, spaces.as_slice(), &log, &runs)? {
+                match self.join_done(alloc, launch, place, spaces.as_slice(), &log, &runs)? {
                     None => Ok(JoinEnd::Continues(log)),
                     Some(report) => Ok(JoinEnd::Ends(self.faulted(alloc, report))),
                 }
@@ -303,7 +302,7 @@ impl<'a> JoinedGroups<'a> {
         }
     }
 
-    /// What the groups left in the launch's buffers.
+    /// The bytes that the groups left in the launch's buffers.
     pub fn into_contents(self) -> Vec<Bytes>
         ensures { result ≡ self.entry.contents }
     {

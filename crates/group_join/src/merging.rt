@@ -1,4 +1,4 @@
-//! The join of results that are handed in.
+//! The join of work-groups that ran elsewhere.
 
 ghost use Rattle.std.specs.Prelude.{IfOk};
 ghost use Rattle.clmodel.specs.Next.{launch_of};
@@ -18,9 +18,9 @@ use launches::group_count;
 use spaces::{Buffers, Overlay};
 use std::alloc::{AllocError, Global};
 
-/// What the results of a launch's work-groups come to, joined in the order of the groups: what its canonical run comes
-/// to (OpenCL 1.2, section 3.2). The results are those of all groups, or up to and with one that stopped. An error is
-/// out of memory.
+/// Joins the results of a launch's work-groups in the order of the groups, to the outcome of its canonical run (OpenCL
+/// 1.2, section 3.2). The results are those of all groups, or of the first ones up to one that stopped. An error is out
+/// of memory.
 pub fn merge<'a, L: Accesses + Drop>(
     alloc: Global,
     launch: &Launch<'_>,

@@ -1,4 +1,4 @@
-mod Lining
+mod Progressing
 mod Places
 pub mod Covering
 pub mod Shortened

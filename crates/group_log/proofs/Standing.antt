@@ -19,7 +19,7 @@ use Rattle.access_list.specs.declared.log.Entry.{Entry}
 use Rattle.group_traces.specs.Traces.{untouched, first_in, grows, trace_with, is_now, passes, tells}
 use Rattle.group_traces.specs.declared.trace.Trace.{Trace}
 use Rattle.group_log.specs.Covers.{CoversAt}
-use Rattle.group_log.specs.Stands.{IsOf, Shown, Stands}
+use Rattle.group_log.specs.SummarizesByte.{IsOf, Shown, SummarizesByte}
 use Rattle.group_log.proofs.Covering.{no_conflict, no_clash, still_covers, covers_own}
 
 -- ---- marks clash as the accesses do
@@ -79,7 +79,7 @@ told_parts false false true false h = absurd (false≢true h)
 told_parts false false false sort h = absurd (false≢true h)
 
 -- a byte that tells of an access covers it
-pub stands_told : (u : Bool) (n : ℕ) (kept : List Entry) (t : Trace) (r : Region) (byte : ℕ) (x : Access) → Stands u n kept t r byte → at_byte r byte x ≡ true → x.interval ≡ n → tells t n (mark_of x byte) ≡ true
+pub stands_told : (u : Bool) (n : ℕ) (kept : List Entry) (t : Trace) (r : Region) (byte : ℕ) (x : Access) → SummarizesByte u n kept t r byte → at_byte r byte x ≡ true → x.interval ≡ n → tells t n (mark_of x byte) ≡ true
     → CoversAt u kept x byte
 stands_told u n kept t r byte x s at i h z none = go (told_parts t.many t.mixed (t.mark.item == x.item) (one_sort t.mark (mark_of x byte)) p.1)
   where
@@ -153,7 +153,7 @@ none_of None h = refl
 none_of (Some c) h = absurd (false≢true h)
 
 -- an access that a byte passes conflicts there with none that is kept
-pub stands_clear : (u : Bool) (n : ℕ) (kept : List Entry) (t : Trace) (r : Region) (byte : ℕ) (x : Access) → Stands u n kept t r byte → at_byte r byte x ≡ true → passes u t n (mark_of x byte) ≡ true
+pub stands_clear : (u : Bool) (n : ℕ) (kept : List Entry) (t : Trace) (r : Region) (byte : ℕ) (x : Access) → SummarizesByte u n kept t r byte → at_byte r byte x ≡ true → passes u t n (mark_of x byte) ≡ true
     → All (λ (e : Entry). conflict_between (within_group u) e.access x byte ≡ None) kept
 stands_clear u n kept t r byte x s at h =
     All-weaker (λ (e : Entry). at_byte r byte e.access ≡ true → IsOf t n byte e.access) (λ (e : Entry). conflict_between (within_group u) e.access x byte ≡ None) (λ e d. each e.access d) kept s.all
@@ -191,7 +191,7 @@ shown_own : (u : Bool) (n : ℕ) (kept : List Entry) (e : Entry) (r : Region) (b
 shown_own u n kept e r byte x s at i = record { at = at; interval_is = i; covered = covers_own u kept e x s byte }
 
 -- a byte that the access isn't at
-pub stands_more : (u : Bool) (n : ℕ) (kept : List Entry) (t : Trace) (r : Region) (byte : ℕ) (e : Entry) → Stands u n kept t r byte → at_byte r byte e.access ≡ false → Stands u n (kept ++ e ∷ []) t r byte
+pub stands_more : (u : Bool) (n : ℕ) (kept : List Entry) (t : Trace) (r : Region) (byte : ℕ) (e : Entry) → SummarizesByte u n kept t r byte → at_byte r byte e.access ≡ false → SummarizesByte u n (kept ++ e ∷ []) t r byte
 stands_more u n kept t r byte e s out =
     record {
       past = s.past;
@@ -206,12 +206,12 @@ not_false true h = refl
 not_false false h = absurd (false≢true (sym h))
 
 -- a byte that it is at
-pub stands_with : (u : Bool) (n : ℕ) (kept : List Entry) (t : Trace) (r : Region) (byte : ℕ) (x : Access) (e : Entry) → e.access ≡ x → Stands u n kept t r byte → at_byte r byte x ≡ true → x.interval ≡ n
-    → Stands u n (kept ++ e ∷ []) (trace_with t n (mark_of x byte)) r byte
+pub stands_with : (u : Bool) (n : ℕ) (kept : List Entry) (t : Trace) (r : Region) (byte : ℕ) (x : Access) (e : Entry) → e.access ≡ x → SummarizesByte u n kept t r byte → at_byte r byte x ≡ true → x.interval ≡ n
+    → SummarizesByte u n (kept ++ e ∷ []) (trace_with t n (mark_of x byte)) r byte
 stands_with u n kept t r byte x e s st at i =
     decided (is_now t n)
-    (λ now. subst (λ w. Stands u n (kept ++ e ∷ []) w r byte) (sym (if_true (is_now t n) more fresh now)) (again now))
-    (λ now. subst (λ w. Stands u n (kept ++ e ∷ []) w r byte) (sym (if_false (is_now t n) more fresh now)) (anew now))
+    (λ now. subst (λ w. SummarizesByte u n (kept ++ e ∷ []) w r byte) (sym (if_true (is_now t n) more fresh now)) (again now))
+    (λ now. subst (λ w. SummarizesByte u n (kept ++ e ∷ []) w r byte) (sym (if_false (is_now t n) more fresh now)) (anew now))
   where
     m : Mark
     m = mark_of x byte
@@ -238,7 +238,7 @@ stands_with u n kept t r byte x e s st at i =
     of_own : IsOf fresh n byte x
     of_own = record { now = now_fresh; item = λ _. refl; sort = λ _. sort_self (mark_of x byte) }
 
-    anew : is_now t n ≡ false → Stands u n (kept ++ e ∷ []) fresh r byte
+    anew : is_now t n ≡ false → SummarizesByte u n (kept ++ e ∷ []) fresh r byte
     anew now =
         record {
           past = λ _. omega arith;
@@ -251,7 +251,7 @@ stands_with u n kept t r byte x e s st at i =
           apart = λ _ mixed many. absurd (false≢true mixed);
         }
 
-    again : is_now t n ≡ true → Stands u n (kept ++ e ∷ []) more r byte
+    again : is_now t n ≡ true → SummarizesByte u n (kept ++ e ∷ []) more r byte
     again now =
         record {
           past = st.past;
@@ -306,7 +306,7 @@ later_now : (t : Trace) (n : ℕ) → (t.touched ≡ true → t.interval ≤ n) 
 later_now t n past h =
     let p = and_parts t.touched (t.interval == n + 1) h in omega (arith, past p.0, eqb-true t.interval (n + 1) p.1)
 
-pub stands_begun : (u : Bool) (n : ℕ) (kept : List Entry) (t : Trace) (r : Region) (byte : ℕ) → Stands u n kept t r byte → Stands u (n + 1) [] t r byte
+pub stands_begun : (u : Bool) (n : ℕ) (kept : List Entry) (t : Trace) (r : Region) (byte : ℕ) → SummarizesByte u n kept t r byte → SummarizesByte u (n + 1) [] t r byte
 stands_begun u n kept t r byte s =
     record {
       past = λ h. omega (arith, s.past h);
@@ -317,10 +317,10 @@ stands_begun u n kept t r byte s =
     }
 
 -- no accesses
-pub stands_none : (u : Bool) (n : ℕ) (kept : List Entry) (t : Trace) (r : Region) (byte : ℕ) → kept ≡ [] → t ≡ untouched → Stands u n kept t r byte
+pub stands_none : (u : Bool) (n : ℕ) (kept : List Entry) (t : Trace) (r : Region) (byte : ℕ) → kept ≡ [] → t ≡ untouched → SummarizesByte u n kept t r byte
 stands_none u n kept t r byte k e =
-    subst (λ l. Stands u n l t r byte) (sym k)
-    (subst (λ w. Stands u n [] w r byte) (sym e)
+    subst (λ l. SummarizesByte u n l t r byte) (sym k)
+    (subst (λ w. SummarizesByte u n [] w r byte) (sym e)
     (record {
       past = λ h. absurd (false≢true h);
       all = λ k d lt. absurd (omega (arith, lt));

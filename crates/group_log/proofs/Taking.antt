@@ -28,16 +28,11 @@ use Rattle.group_traces.specs.Cells.{at_key, key_of, trace_of, IsMarked}
 use Rattle.group_traces.specs.declared.trace.Trace.{Trace}
 use Rattle.group_traces.specs.declared.traces.Traces.{Traces}
 use Rattle.group_log.specs.Covers.{CoversAt, Covers}
-use Rattle.group_log.specs.Stands.{Stands, region_at, number_of, AllStand, AllTake}
+use Rattle.group_log.specs.SummarizesByte.{SummarizesByte, region_at, AllStand, AllTake}
 use Rattle.group_log.proofs.Covering.{no_conflict}
 use Rattle.group_log.proofs.Standing.{stands_told, stands_clear, stands_more, stands_with, stands_begun, stands_none}
 
 -- ---- regions
-
--- the number of an object, as the log of a list says it
-pub number_is : (n : ℕ) (r : Region) → n ≡ object_number r → n ≡ number_of r
-number_is n (region.Buffer m) h = h
-number_is n (region.Local g m) h = h
 
 -- an access is at a byte of its own region where it covers it
 own_at : (r : Region) (byte : ℕ) (x : Access) → x.region ≡ r → covers x.first (byte_count x.width) byte ≡ true → at_byte r byte x ≡ true
@@ -66,7 +61,7 @@ home_of home r = unwrap_or home r
 
 -- what stands where there may be no access yet
 base : (u : Bool) (n : ℕ) (kept : List Entry) (traces : Traces) (home : Option Region) (r : Region) → AllStand u n kept traces home
-    → (number byte : ℕ) → number < 2 ^ 32 → Stands u n kept (trace_of traces number byte) (region_at (unwrap_or home r) number) byte
+    → (number byte : ℕ) → number < 2 ^ 32 → SummarizesByte u n kept (trace_of traces number byte) (region_at (unwrap_or home r) number) byte
 base u n kept traces None r h number byte b = stands_none u n kept (trace_of traces number byte) (region_at r number) byte h.0 (h.1 (key_of number byte) (byte % 32))
 base u n kept traces (Some home) r h number byte b = h number byte b
 
@@ -115,7 +110,7 @@ all_clear u n kept traces home x number h small e i clear byte =
 pub all_taken :
     (u : Bool) (n : ℕ) (kept : List Entry) (traces more : Traces) (home : Option Region) (x : Access) (e : Entry) (number : ℕ) → AllStand u n kept traces home → number < 2 ^ 32
     → x.region ≡ region_at (unwrap_or home x.region) number → x.interval ≡ n → e.access ≡ x → IsMarked traces more number x → AllStand u n (kept ++ e ∷ []) more (Some (unwrap_or home x.region))
-all_taken u n kept traces more home x e number h small at i s marked m byte near = subst (λ t. Stands u n (kept ++ e ∷ []) t (region_at (unwrap_or home x.region) m) byte) (sym (marked m byte near)) (go ((m == number) && covers x.first (byte_count x.width) byte) refl)
+all_taken u n kept traces more home x e number h small at i s marked m byte near = subst (λ t. SummarizesByte u n (kept ++ e ∷ []) t (region_at (unwrap_or home x.region) m) byte) (sym (marked m byte near)) (go ((m == number) && covers x.first (byte_count x.width) byte) refl)
   where
     r : Region
     r = unwrap_or home x.region
@@ -123,20 +118,20 @@ all_taken u n kept traces more home x e number h small at i s marked m byte near
     t : Trace
     t = trace_of traces m byte
 
-    was : Stands u n kept (trace_of traces m byte) (region_at (unwrap_or home x.region) m) byte
+    was : SummarizesByte u n kept (trace_of traces m byte) (region_at (unwrap_or home x.region) m) byte
     was = base u n kept traces home x.region h m byte near
 
     go : (b : Bool) → ((m == number) && covers x.first (byte_count x.width) byte) ≡ b
-        → Stands u n (kept ++ e ∷ []) (if (m == number) && covers x.first (byte_count x.width) byte then trace_with (trace_of traces m byte) x.interval (mark_of x byte) else trace_of traces m byte) (region_at (unwrap_or home x.region) m) byte
+        → SummarizesByte u n (kept ++ e ∷ []) (if (m == number) && covers x.first (byte_count x.width) byte then trace_with (trace_of traces m byte) x.interval (mark_of x byte) else trace_of traces m byte) (region_at (unwrap_or home x.region) m) byte
     go true c =
         let p = and_parts (m == number) (covers x.first (byte_count x.width) byte) c in
-        subst (λ w. Stands u n (kept ++ e ∷ []) w (region_at (unwrap_or home x.region) m) byte)
+        subst (λ w. SummarizesByte u n (kept ++ e ∷ []) w (region_at (unwrap_or home x.region) m) byte)
         (sym (if_true ((m == number) && covers x.first (byte_count x.width) byte) (trace_with (trace_of traces m byte) x.interval (mark_of x byte)) (trace_of traces m byte) c))
-        (subst (λ k. Stands u n (kept ++ e ∷ []) (trace_with (trace_of traces m byte) k (mark_of x byte)) (region_at (unwrap_or home x.region) m) byte) (sym i)
+        (subst (λ k. SummarizesByte u n (kept ++ e ∷ []) (trace_with (trace_of traces m byte) k (mark_of x byte)) (region_at (unwrap_or home x.region) m) byte) (sym i)
         (stands_with u n kept (trace_of traces m byte) (region_at (unwrap_or home x.region) m) byte x e s was
         (own_at (region_at (unwrap_or home x.region) m) byte x (at ∙ ap (region_at (unwrap_or home x.region)) (sym (eqb-true m number p.0))) p.1) i))
     go false c =
-        subst (λ w. Stands u n (kept ++ e ∷ []) w (region_at (unwrap_or home x.region) m) byte)
+        subst (λ w. SummarizesByte u n (kept ++ e ∷ []) w (region_at (unwrap_or home x.region) m) byte)
         (sym (if_false ((m == number) && covers x.first (byte_count x.width) byte) (trace_with (trace_of traces m byte) x.interval (mark_of x byte)) (trace_of traces m byte) c))
         (stands_more u n kept (trace_of traces m byte) (region_at (unwrap_or home x.region) m) byte e was
         (subst (λ a. at_byte (region_at (unwrap_or home x.region) m) byte a ≡ false) (sym s) (not_at (unwrap_or home x.region) m number byte x at c)))
@@ -145,7 +140,7 @@ all_taken u n kept traces more home x e number h small at i s marked m byte near
 pub all_same : (u : Bool) (n : ℕ) (kept : List Entry) (traces more : Traces) (home : Option Region) → ((q b : ℕ) → at_key more q b ≡ at_key traces q b) → AllStand u n kept traces home → AllStand u n kept more home
 all_same u n kept traces more None same h = (h.0, λ q b. same q b ∙ h.1 q b)
 all_same u n kept traces more (Some home) same h =
-    λ number byte near. subst (λ t. Stands u n kept t (region_at home number) byte) (sym (same (key_of number byte) (byte % 32))) (h number byte near)
+    λ number byte near. subst (λ t. SummarizesByte u n kept t (region_at home number) byte) (sym (same (key_of number byte) (byte % 32))) (h number byte near)
 
 -- an interval that begins
 pub all_begun : (u : Bool) (n : ℕ) (kept : List Entry) (traces : Traces) (home : Option Region) → AllStand u n kept traces home → AllStand u (n + 1) [] traces home
@@ -165,7 +160,7 @@ pub same_take : (traces more : Traces) (log : List Access) → ((q b : ℕ) → 
 same_take traces more log same h number byte m near t = h number byte m near (sym (ap (λ w. takes w m) (same (key_of number byte) (byte % 32))) ∙ t)
 
 -- an access that is seen to tell nothing new tells nothing new
-pub all_absorbed : (traces : Traces) (log : List Access) (x : Access) (number : ℕ) → AllTake traces log → number < 2 ^ 32 → number ≡ number_of x.region
+pub all_absorbed : (traces : Traces) (log : List Access) (x : Access) (number : ℕ) → AllTake traces log → number < 2 ^ 32 → number ≡ object_number x.region
     → ((byte : ℕ) → covers x.first (byte_count x.width) byte ≡ true → takes (trace_of traces number byte) (mark_of x byte) ≡ true) → Absorbed log x
 all_absorbed traces log x number h small e taken = go x.region refl
   where
@@ -173,7 +168,7 @@ all_absorbed traces log x number h small e taken = go x.region refl
     go (region.Local g n) s = tt
     go (region.Buffer n) s =
         λ byte at.
-        let same : number ≡ n = e ∙ ap number_of s in
+        let same : number ≡ n = e ∙ ap object_number s in
         subst (λ k. Takes (seen (region.Buffer k) byte log) (mark_of x byte)) same
         (h number byte (mark_of x byte) small (taken byte (and_parts (same_region (region.Buffer n) x.region) (covers x.first (byte_count x.width) byte) at).1))
 
@@ -278,6 +273,6 @@ pub takes_more : (side : Side) (log : List Access) (x : Access) → TakesOf side
 takes_more side log x h e = take_more side.traces log x (h e)
 
 -- an object of global memory is a buffer
-pub buffer_of : (r : Region) → in_buffer r ≡ true → r ≡ region.Buffer (number_of r)
+pub buffer_of : (r : Region) → in_buffer r ≡ true → r ≡ region.Buffer (object_number r)
 buffer_of (region.Buffer n) h = refl
 buffer_of (region.Local g n) h = absurd (false≢true h)

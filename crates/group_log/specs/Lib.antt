@@ -3,5 +3,5 @@ pub mod Covers
 pub mod Lasting
 pub mod Logged
 pub mod Side
-pub mod Stands
+pub mod SummarizesByte
 pub mod Tells

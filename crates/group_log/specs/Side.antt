@@ -3,7 +3,8 @@ use Rattle.std.specs.Prelude.{◌≡◌, ℕ, ◌<◌, ◌^◌, true, Some, List
 use Rattle.clmodel.specs.declared.access.Access.{Access}
 use Rattle.group_traces.specs.Traces.{untouched}
 use Rattle.group_traces.specs.Cells.{at_key, key_of, IsOwn, IsNear}
-use Rattle.group_log.specs.Stands.{region_at, number_of, AllTake}
+use Rattle.access_list.specs.Keys.{object_number}
+use Rattle.group_log.specs.SummarizesByte.{region_at, AllTake}
 use Rattle.group_log.specs.declared.side.Glance.{Glance}
 use Rattle.group_log.specs.declared.side.Side.{Side}
 
@@ -15,7 +16,7 @@ TakesOf side log = side.whole ≡ true → AllTake side.traces log
 -- where the bytes of an access are looked at, they are near, and its cell stands where it is said to (own)
 abbrev pub IsSeen : Side → Access → Glance → ℕ → Type 0
 IsSeen side x g number =
-    (number ≡ number_of x.region) × (number < 2 ^ 32) × IsNear x × (x.region ≡ region_at (unwrap_or side.home x.region) number)
+    (number ≡ object_number x.region) × (number < 2 ^ 32) × IsNear x × (x.region ≡ region_at (unwrap_or side.home x.region) number)
     × MatchOption g.look.place ((b : ℕ) → at_key side.traces (key_of number x.first) b ≡ untouched) (IsOwn side.traces (key_of number x.first))
 
 abbrev pub IsKnown : Side → Access → Glance → Type 0

@@ -21,14 +21,14 @@ use std::alloc::{AllocError, Global};
 /// The log of a group that is running, which keeps only accesses that tell a conflict that none before tells. Its list,
 /// of all accesses, is there for proofs alone.
 ///
-/// A new access costs one look-up in a hash table, and a step or two for each word of four bytes, or for each byte of
-/// a word that was accessed in part; and some more where it is kept. While none conflict, at most two are kept of
-/// each byte for the running interval, whatever their number, and those of an address space are let go at a barrier
-/// that fences it; and at most two for other groups. What goes on as a loop does is kept by lines (`EntryLines`),
-/// each other access in some 56 bytes. What is known of bytes stays at a barrier: some 300 bytes for each cell of 32
-/// bytes that was touched, and 80 more for each word whose bytes were accessed apart, and by more than one item, kind
-/// or interval. Where an access may conflict all kept ones are walked for the exact answer, which ends a launch where
-/// there is a conflict.
+/// A new access costs one look-up in a hash table, and a step or two for each word of four bytes, or for each byte of a
+/// word that was accessed in part; and some more where it is kept. While none conflict, at most two are kept of each
+/// byte for the running interval, whatever their number, and those of an address space are let go at a barrier that
+/// fences it; and at most two for other groups. Accesses that go on as a loop does are kept as a progression
+/// (`Progressions`), each other access in some 56 bytes. What is known of bytes stays at a barrier: some 300 bytes for
+/// each cell of 32 bytes that was touched, and 80 more for each word whose bytes were accessed apart, and by more than
+/// one item, kind or interval. Where an access may conflict all kept ones are walked for the exact answer, which ends a
+/// launch where there is a conflict.
 #[derive(Drop)]
 pub struct GroupLog {
     local: Side,
@@ -104,7 +104,7 @@ impl GroupLog {
         ensures taken { OnOk result (log_of self.new ≡ with_last (log_of self.old) entry) }
         ensures stays { OnErr result (log_of self.new ≡ log_of self.old) }
     {
-        self.local.take(glance, entry)?;
+        self.local.note_entry(glance, entry)?;
         self.lasting.pass();
         self.whole = self.whole.with(&entry, &false);
         Ok(())
@@ -124,7 +124,7 @@ impl GroupLog {
     {
         let news = !glance.look.sight.taken;
         self.lasting.make_room(news)?;
-        self.global.take(glance, entry)?;
+        self.global.note_entry(glance, entry)?;
         self.lasting.note(entry, news);
         self.whole = self.whole.with(&entry, &news);
         Ok(())

@@ -72,7 +72,7 @@ impl Lasting {
     {
         self.has_last = news;
         if news {
-            // a copy, as in `Side::take`
+            // a copy, as in `Side::note_entry`
             let kept = entry;
             self.entries.push_reserved(kept);
         }

@@ -1,12 +1,13 @@
-//! The accesses of a group that is running: what is kept of them tells each conflict of a new one, and takes memory for
-//! the bytes that were touched, however many accesses there are.
+//! The log of a running work-group. Its memory is bounded by the bytes that the group touched, however many accesses it
+//! makes.
 //!
-//! `note` answers exactly what the log of all accesses would, although only accesses are kept that tell a conflict
-//! anew. The list of all is there for proofs alone. What `list` copies for other groups stands for all accesses, and
-//! `clear` leaves a log as a new one. A log may go from one thread to another. No clause says how much is kept.
+//! `note` answers exactly what the log of all accesses would, although the log keeps an access only where it can show a
+//! conflict that no earlier one shows. The list of all accesses is there for proofs alone. `list` copies accesses for
+//! other groups, and the copy stands for all accesses. `clear` leaves a log as a new one. A log may go from one thread
+//! to another. No clause says how much is kept.
 //!
-//! What is kept are `Progressions`, seen as the list of their entries: entries whose numbers go on by the same steps,
-//! in rounds of up to 64 as a loop makes them, are told by their first round and by those steps. The crate knows no
+//! The log keeps its accesses as `Progressions`, seen as the list of their entries: of entries that go on by equal
+//! strides, in rounds of up to 64 as a loop makes them, it keeps the first round and the strides. The crate knows no
 //! memory and no item.
 #![tactic(auto)]
 

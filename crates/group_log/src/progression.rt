@@ -1,4 +1,4 @@
-//! Lines of entries.
+//! Progressions of entries: rounds of a loop, of which the first is kept, and the strides to the next.
 
 ghost use Rattle.std.specs.Prelude.{◌≡◌, ◌+◌, ◌<◌, ◌≤◌, length};
 ghost use Rattle.group_log.specs.Progressions.{entry_at};
@@ -6,24 +6,24 @@ ghost use Rattle.group_log.specs.Progressions.{entry_at};
 use crate::stride::EntryStride;
 use access_list::Entry;
 
-/// Entries that stand one after another in a log, in rounds of so many: those of the first round, and for all others
-/// what each round adds.
+/// Entries that follow one another in a log, in rounds of `period` entries. The entries of the first round are kept,
+/// and the stride of each from one round to the next; all later entries are computed from these.
 #[derive(Clone, Copy)]
 pub(crate) struct Progression {
-    /// How many entries stand before it
+    /// How many entries of the log stand before its first one
     pub(crate) start: usize,
-    /// Where the entries of its first round stand
+    /// Where its first round begins among the kept entries of all progressions
     pub(crate) head: usize,
     /// How many entries a round has
     pub(crate) period: usize,
-    /// Where the steps of a round stand, if it has more than one
+    /// Where the strides of its rounds begin among those of all progressions, if it has a second round
     pub(crate) step: usize,
-    /// How many entries it has
+    /// How many entries it has, in all rounds; the last round may be cut short
     pub(crate) count: usize,
 }
 
 impl Progression {
-    /// No entries, behind so many, where so many entries of first rounds stand.
+    /// A progression without entries, behind `start` entries of the log and `head` kept ones.
     pub(crate) fn empty(start: usize, head: usize) -> Self
         ensures start { result.start ≡ start }
         ensures head { result.head ≡ head }
@@ -39,7 +39,7 @@ impl Progression {
         }
     }
 
-    /// The entry at a place behind its first round, or the one that it would have there.
+    /// Entry k, which stands behind the first round. Past the end, the entry with which the progression would go on.
     #[inline(never)]
     #[tactic(auto, unfolding(crate::specs::Progressions::entry_at))]
     fn later_entry(&self, heads: &[Entry], steps: &[EntryStride], k: usize) -> Entry
@@ -54,7 +54,7 @@ impl Progression {
         steps[self.step + place].ahead(&heads[self.head + place], rounds)
     }
 
-    /// The entry at a place of it, or the one that it would have there.
+    /// Entry k. Past the end, the entry with which the progression would go on.
     #[inline(always)]
     #[tactic(auto, unfolding(crate::specs::Progressions::entry_at))]
     pub(crate) fn entry(&self, heads: &[Entry], steps: &[EntryStride], k: usize) -> Entry

@@ -1,9 +1,9 @@
-//! A list of entries that is kept by lines.
+//! A list of entries, kept as progressions.
 
 ghost use Rattle.std.specs.Prelude.{◌≡◌, ◌+◌, ◌<◌, ◌≤◌, ◌^◌, ◌++◌, ◌∷◌, [], IfOk, IsTrue, OnOk, length, slice_index_or, true, vec_len, vec_capacity};
 ghost use Rattle.access_list.specs.Log.{IsPlaced, hit_on, hit};
-ghost use Rattle.group_log.specs.Progressions.{IsLined, AreNext, entries_all, has_room};
-ghost use Rattle.group_log.specs.declared.progression.Progression.{Progression as TheLine};
+ghost use Rattle.group_log.specs.Progressions.{AreProgressions, AreNext, entries_all, has_room};
+ghost use Rattle.group_log.specs.declared.progression.Progression.{Progression as TheProgression};
 
 use crate::progression::Progression;
 use crate::rounds::tail_of;
@@ -13,98 +13,101 @@ use clmodel::access::Rule;
 use std::alloc::{AllocError, Global};
 use std::marker::Model;
 
-/// So many entries of first rounds stay as they are, so that a short list costs no search for rounds. With the next one
-/// they take 56 KiB at most.
+/// A list looks for rounds only once it keeps this many entries, so that a short list costs no search. These entries
+/// and the next one take 56 KiB at most.
 const SHORT: usize = 1023;
 
-/// Entries in their order, seen as a list. Where they go on by equal steps, as the accesses of a loop do, they take
-/// memory for the entries of one round and their steps, however many follow; each other entry takes some 56 bytes, and
-/// so do the first 1,023. To add an entry costs a few steps, and looks at up to 64 earlier ones where none is alike;
-/// to get one of the last line costs a few steps, and another a search among the lines, in as many steps as their
-/// number has binary digits.
+/// The entries of a log in their order, seen as a list. Entries that go on by equal strides, as the accesses of a loop
+/// do, take memory for one round and its strides, however many rounds follow; each other entry takes some 56 bytes, and
+/// so does each of the first 1,023. To add an entry takes a few steps, and looks at up to 64 earlier ones where none is
+/// alike. To get an entry of the last progression takes a few steps; to get another one takes a binary search among
+/// the progressions.
 #[derive(Drop)]
 pub struct Progressions {
-    /// The entries of the first round of each line, line by line: those of the line that goes on are the last
+    /// The entries of each progression's first round, in the order of the progressions; those of `last` stand at the
+    /// end
     heads: Vec<Entry>,
-    /// What the entries of a round gain to the next, of each line that has more than one round
+    /// The strides of each progression with more than one round
     steps: Vec<EntryStride>,
+    /// The progressions before the last
     closed: Vec<Progression>,
-    /// The line at whose end entries are added
+    /// The progression to which entries are added
     last: Progression,
 }
 
 impl Model for Progressions {
     ghost use Rattle.std.specs.Prelude.{◌++◌, ◌∷◌, []};
-    ghost use Rattle.group_log.specs.Progressions.{Listed, entries_all, has_room, IsLined};
+    ghost use Rattle.group_log.specs.Progressions.{Listed, entries_all, has_room, AreProgressions};
 
     ghost Value = { Listed };
 
     ghost view = { λ l. record { items = entries_all l.heads.items l.steps.items (l.closed.items ++ l.last ∷ []); has_room = has_room l.heads l.closed l.last } };
 
-    ghost invariant = { λ l. IsLined l.heads.items l.steps.items l.closed.items l.last };
+    ghost invariant = { λ l. AreProgressions l.heads.items l.steps.items l.closed.items l.last };
 }
 
-/// A line with one entry more of its first round, which is added to those that stand there.
+/// A progression of one round with one entry more, which is added to the kept ones.
 #[inline(always)]
-fn with_head(heads: &mut Vec<Entry>, line: Progression, entry: Entry) -> Progression
+fn with_head(heads: &mut Vec<Entry>, progression: Progression, entry: Entry) -> Progression
     requires room { vec_len heads.old < vec_capacity heads.old }
-    requires short { line.count + 1 < 2 ^ 64 }
-    requires plain { line.period ≡ line.count }
+    requires short { progression.count + 1 < 2 ^ 64 }
+    requires plain { progression.period ≡ progression.count }
     ensures heads { heads.new.items ≡ heads.old.items ++ entry ∷ [] }
-    ensures line { result ≡ record line { period = line.period + 1; count = line.count + 1 } }
+    ensures progression { result ≡ record progression { period = progression.period + 1; count = progression.count + 1 } }
 {
     heads.push_reserved(entry);
     Progression {
-        period: line.period + 1,
-        count: line.count + 1,
-        ..line
+        period: progression.period + 1,
+        count: progression.count + 1,
+        ..progression
     }
 }
 
-/// Adds an entry to the first round of a line, and to those that stand there.
+/// Adds an entry to a progression of one round, and to the kept ones.
 #[inline(always)]
-fn put_head(heads: &mut Vec<Entry>, line: &mut Progression, entry: Entry)
+fn put_head(heads: &mut Vec<Entry>, progression: &mut Progression, entry: Entry)
     requires room { vec_len heads.old < vec_capacity heads.old }
-    requires short { line.old.count + 1 < 2 ^ 64 }
-    requires plain { line.old.period ≡ line.old.count }
+    requires short { progression.old.count + 1 < 2 ^ 64 }
+    requires plain { progression.old.period ≡ progression.old.count }
     ensures heads { heads.new.items ≡ heads.old.items ++ entry ∷ [] }
-    ensures line { line.new ≡ record line.old { period = line.old.period + 1; count = line.old.count + 1 } }
+    ensures progression { progression.new ≡ record progression.old { period = progression.old.period + 1; count = progression.old.count + 1 } }
 {
     heads.push_reserved(entry);
-    line.period += 1;
-    line.count += 1;
+    progression.period += 1;
+    progression.count += 1;
 }
 
-/// The line that goes on, once its newest entries are told by a line of their own, where they are three rounds of one.
+/// Makes a progression of its own of the newest entries, where they are three rounds of one, and closes that of the
+/// entries before. The result is the progression to which entries are added.
 fn folded(
     heads: &mut Vec<Entry>,
     steps: &mut Vec<EntryStride>,
     closed: &mut Vec<Progression>,
     last: Progression,
 ) -> Progression
-    requires lined { IsLined heads.old.items steps.old.items closed.old.items last }
+    requires in_progressions { AreProgressions heads.old.items steps.old.items closed.old.items last }
     requires plain { last.count ≤ last.period }
     requires room { vec_len closed.old < vec_capacity closed.old }
-    ensures lined { IsLined heads.new.items steps.new.items closed.new.items result }
+    ensures in_progressions { AreProgressions heads.new.items steps.new.items closed.new.items result }
     ensures same { entries_all heads.new.items steps.new.items (closed.new.items ++ result ∷ []) ≡ entries_all heads.old.items steps.old.items (closed.old.items ++ last ∷ []) }
 {
-    let Some(line) = tail_of(heads.as_slice(), steps, &last) else {
+    let Some(progression) = tail_of(heads.as_slice(), steps, &last) else {
         return last;
     };
-    heads.truncate(line.head + line.period);
-    if last.start < line.start {
-        let count = line.start - last.start;
+    heads.truncate(progression.head + progression.period);
+    if last.start < progression.start {
+        let count = progression.start - last.start;
         closed.push_reserved(Progression {
             period: count,
             count,
             ..last
         });
     }
-    line
+    progression
 }
 
-/// The line that goes on, once an entry is added to a list that isn't short, or whose last line has more than one
-/// round.
+/// Adds an entry to a list that isn't short, or whose last progression has more than one round. The result is the
+/// progression to which entries are added.
 #[inline(never)]
 fn added_far(
     heads: &mut Vec<Entry>,
@@ -113,9 +116,9 @@ fn added_far(
     last: Progression,
     entry: Entry,
 ) -> Progression
-    requires lined { IsLined heads.old.items steps.old.items closed.old.items last }
+    requires in_progressions { AreProgressions heads.old.items steps.old.items closed.old.items last }
     requires room { has_room heads.old closed.old last ≡ true }
-    ensures lined { IsLined heads.new.items steps.new.items closed.new.items result }
+    ensures in_progressions { AreProgressions heads.new.items steps.new.items closed.new.items result }
     ensures more { entries_all heads.new.items steps.new.items (closed.new.items ++ result ∷ []) ≡ entries_all heads.old.items steps.old.items (closed.old.items ++ last ∷ []) ++ entry ∷ [] }
 {
     if last.count <= last.period {
@@ -139,8 +142,8 @@ fn added_far(
     )
 }
 
-/// Adds an entry to the line that goes on, or begins another. The first ones of a list are put down as they are,
-/// without a call.
+/// Adds an entry to the last progression, or begins another. The first entries of a list are kept as they are, without
+/// a call.
 #[inline(always)]
 fn add(
     heads: &mut Vec<Entry>,
@@ -149,9 +152,9 @@ fn add(
     last: &mut Progression,
     entry: Entry,
 )
-    requires lined { IsLined heads.old.items steps.old.items closed.old.items last.old }
+    requires in_progressions { AreProgressions heads.old.items steps.old.items closed.old.items last.old }
     requires room { has_room heads.old closed.old last.old ≡ true }
-    ensures lined { IsLined heads.new.items steps.new.items closed.new.items last.new }
+    ensures in_progressions { AreProgressions heads.new.items steps.new.items closed.new.items last.new }
     ensures more { entries_all heads.new.items steps.new.items (closed.new.items ++ last.new ∷ []) ≡ entries_all heads.old.items steps.old.items (closed.old.items ++ last.old ∷ []) ++ entry ∷ [] }
 {
     if last.count <= last.period && heads.len() < SHORT {
@@ -161,20 +164,20 @@ fn add(
     *last = added_far(heads, steps, closed, *last, entry);
 }
 
-/// Which of the lines has the entry at a place.
+/// Which of the progressions has entry i.
 #[inline(never)]
-fn line_of(lines: &[Progression], end: usize, i: usize) -> usize
-    requires next { AreNext 0 lines.now end }
+fn progression_at(progressions: &[Progression], end: usize, i: usize) -> usize
+    requires next { AreNext 0 progressions.now end }
     requires there { i < end }
-    ensures inside { result < length lines.now }
-    ensures from { (d : TheLine) → (slice_index_or lines.now result d).start ≤ i }
-    ensures before { (d : TheLine) → i < (slice_index_or lines.now result d).start + (slice_index_or lines.now result d).count }
+    ensures inside { result < length progressions.now }
+    ensures from { (d : TheProgression) → (slice_index_or progressions.now result d).start ≤ i }
+    ensures before { (d : TheProgression) → i < (slice_index_or progressions.now result d).start + (slice_index_or progressions.now result d).count }
 {
     let mut low = 0;
-    let mut high = lines.len();
+    let mut high = progressions.len();
     while low + 1 < high {
         let middle = low + (high - low) / 2;
-        if lines[middle].start <= i {
+        if progressions[middle].start <= i {
             low = middle;
         } else {
             high = middle;
@@ -257,8 +260,8 @@ impl Progressions {
         if i >= self.last.start {
             return self.last.entry(heads, steps, i - self.last.start);
         }
-        let line = &self.closed[line_of(self.closed.as_slice(), self.last.start, i)];
-        line.entry(heads, steps, i - line.start)
+        let progression = &self.closed[progression_at(self.closed.as_slice(), self.last.start, i)];
+        progression.entry(heads, steps, i - progression.start)
     }
 
     /// The entries in a block of their own size. An error is out of memory.

@@ -1,7 +1,7 @@
 //! A list of entries may go from one thread to another.
 
 ghost use denote.Param.Send.{IsSend};
-ghost use Rattle.group_log.specs.contracts.progressions.Progressions as EntryLinesType;
+ghost use Rattle.group_log.specs.contracts.progressions.Progressions as ProgressionsType;
 
 use crate::progression::Progression;
 use crate::stride::EntryStride;
@@ -15,7 +15,7 @@ fn is_sent<T: Send>()
 
 /// A list of entries may go from one thread to another. It does nothing when it runs.
 pub fn progressions_are_sent()
-    ensures { IsSend EntryLinesType.the_row }
+    ensures { IsSend ProgressionsType.the_row }
 {
     is_sent::<Vec<Entry>>();
     is_sent::<Vec<EntryStride>>();

@@ -1,4 +1,4 @@
-//! Entries that go on in rounds.
+//! The search for rounds among the newest entries of a log.
 
 ghost use Rattle.std.specs.Prelude.{◌≡◌, ◌+◌, ◌*◌, ◌<◌, ◌≤◌, ◌^◌, ℕ, IfSome, IsTrue, OnOk, length, slice_index_or, take};
 ghost use Rattle.group_log.specs.Progressions.{entry_at, no_entry, IsTail};
@@ -8,20 +8,20 @@ use crate::stride::{EntryStride, is_same};
 use access_list::Entry;
 use std::alloc::AllocError;
 
-/// A round has at most so many entries.
+/// The most entries of a round.
 const LONGEST: usize = 64;
 
-/// At most so many entries are tried as the one that stands a round before the last.
+/// The search gives up after this many entries that are like the newest, and don't stand a round before it.
 const TRIES: usize = 4;
 
-/// Whether two entries are of accesses of one kind and width to one region.
+/// Whether the accesses of two entries have one kind, one width and one region.
 fn is_like(x: &Entry, y: &Entry) -> bool {
     x.access.kind == y.access.kind
         && x.access.width == y.access.width
         && x.access.region == y.access.region
 }
 
-/// Whether of three entries the last is as far behind the one before as that is behind the oldest.
+/// Whether three entries stand at equal distances, by their first bytes and by their events.
 fn is_as_far(oldest: &Entry, before: &Entry, last: &Entry) -> bool {
     let far = last.access.first.wrapping_sub(before.access.first);
     let late = last.event.wrapping_sub(before.event);
@@ -29,7 +29,7 @@ fn is_as_far(oldest: &Entry, before: &Entry, last: &Entry) -> bool {
         && before.event.wrapping_sub(oldest.event) == late
 }
 
-/// How many entries a round may have, of which the last of so many entries may be three.
+/// The length of a round, of which the newest of `count` kept entries may be three. None where no short length fits.
 fn round_of(heads: &[Entry], count: usize) -> Option<usize>
     requires { count ≤ length heads.now }
     ensures { IfSome result (λ period. (0 < period) × (3 * period ≤ count)) }
@@ -53,8 +53,8 @@ fn round_of(heads: &[Entry], count: usize) -> Option<usize>
     None
 }
 
-/// Adds what the entries of a round gain to the next, by the first two rounds. Where memory is refused some may be
-/// added.
+/// Adds the stride of each entry of a round to the next, as the first two rounds have them. An error is out of memory;
+/// some strides may have been added.
 fn add_steps(
     heads: &[Entry],
     steps: &mut Vec<EntryStride>,
@@ -72,23 +72,27 @@ fn add_steps(
     Ok(())
 }
 
-/// Whether a line tells the entries that stand from its first one on.
-fn is_told(heads: &[Entry], steps: &[EntryStride], line: &Progression) -> bool
-    requires some { 0 < line.now.period }
-    requires heads { line.now.head + line.now.count ≤ length heads.now }
-    requires rounds { line.now.period ≤ line.now.count }
-    requires steps { line.now.step + line.now.period ≤ length steps.now }
-    ensures { IsTrue result → (k : ℕ) → line.now.period ≤ k → k < line.now.count → entry_at heads.now steps.now line.now.head line.now.period line.now.step k ≡ slice_index_or heads.now (line.now.head + k) no_entry }
+/// Whether a progression computes the entries that are kept from its first one on.
+fn is_told(heads: &[Entry], steps: &[EntryStride], progression: &Progression) -> bool
+    requires some { 0 < progression.now.period }
+    requires heads { progression.now.head + progression.now.count ≤ length heads.now }
+    requires rounds { progression.now.period ≤ progression.now.count }
+    requires steps { progression.now.step + progression.now.period ≤ length steps.now }
+    ensures { IsTrue result → (k : ℕ) → progression.now.period ≤ k → k < progression.now.count → entry_at heads.now steps.now progression.now.head progression.now.period progression.now.step k ≡ slice_index_or heads.now (progression.now.head + k) no_entry }
 {
-    for k in line.period..line.count {
-        if !is_same(&line.entry(heads, steps, k), &heads[line.head + k]) {
+    for k in progression.period..progression.count {
+        if !is_same(
+            &progression.entry(heads, steps, k),
+            &heads[progression.head + k],
+        ) {
             return false;
         }
     }
     true
 }
 
-/// The last entries of a line of one round, as three rounds. None if they aren't so, or their steps get no memory.
+/// A progression of the newest entries of `last`, which has one round, where they are three rounds. None where they
+/// aren't, or where their strides get no memory.
 pub(crate) fn tail_of(
     heads: &[Entry],
     steps: &mut Vec<EntryStride>,
@@ -101,18 +105,18 @@ pub(crate) fn tail_of(
 {
     let period = round_of(heads, last.count)?;
     let rest = last.count - 3 * period;
-    let line = Progression {
+    let progression = Progression {
         start: last.start + rest,
         head: last.head + rest,
         period,
         step: steps.len(),
         count: 3 * period,
     };
-    if add_steps(heads, steps, line.head, period).is_ok()
-        && is_told(heads, steps.as_slice(), &line)
+    if add_steps(heads, steps, progression.head, period).is_ok()
+        && is_told(heads, steps.as_slice(), &progression)
     {
-        return Some(line);
+        return Some(progression);
     }
-    steps.truncate(line.step);
+    steps.truncate(progression.step);
     None
 }

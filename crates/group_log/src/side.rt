@@ -5,10 +5,11 @@ ghost use Rattle.clmodel.specs.Cells.{byte_count};
 ghost use Rattle.clmodel.specs.Launch.{within_group, conflict_between};
 ghost use Rattle.clmodel.specs.declared.access.Access.{Access as TheAccess};
 ghost use Rattle.shadow.specs.Lasting.{Absorbed};
+ghost use Rattle.access_list.specs.Keys.{object_number};
 ghost use Rattle.access_list.specs.Log.{IsPlaced, hit, in_buffer};
 ghost use Rattle.access_list.specs.declared.log.Entry.{Entry as TheEntry};
 ghost use Rattle.group_log.specs.Covers.{Covers};
-ghost use Rattle.group_log.specs.Stands.{region_at, number_of, AllStand};
+ghost use Rattle.group_log.specs.SummarizesByte.{region_at, AllStand};
 
 use crate::progressions::Progressions;
 use access_list::{Entry, Hit, object_number};
@@ -45,7 +46,7 @@ pub(crate) struct Glance {
 
 /// Whether a region differs from that of the first access in the object's number alone.
 fn is_at(home: Option<Region>, region: Region) -> bool
-    ensures { result ≡ true → region ≡ region_at (unwrap_or home region) (number_of region) }
+    ensures { result ≡ true → region ≡ region_at (unwrap_or home region) (object_number region) }
 {
     match home {
         None => true,
@@ -216,7 +217,7 @@ impl Side {
     /// Keeps an access of the running interval, unless it tells no conflict that kept ones don't tell. Where memory is
     /// refused the accesses stay.
     #[inline(always)]
-    pub(crate) fn take(&mut self, glance: Glance, entry: Entry) -> Result<(), AllocError>
+    pub(crate) fn note_entry(&mut self, glance: Glance, entry: Entry) -> Result<(), AllocError>
         requires interval { entry.access.interval ≡ self.old.interval }
         requires told { glance.look.sight.told ≡ true → Covers self.old.uniform self.old.kept.items entry.access }
         requires known { IsKnown self.old entry.access glance }

@@ -1,4 +1,4 @@
-//! How entries go on.
+//! Strides: what an entry gains from one round of a loop to the next.
 
 ghost use Rattle.std.specs.Prelude.{◌≡◌, IsTrue};
 ghost use Rattle.group_log.specs.Progressions.{ahead};
@@ -6,7 +6,8 @@ ghost use Rattle.group_log.specs.Progressions.{ahead};
 use access_list::Entry;
 use clmodel::access::Access;
 
-/// What an entry's numbers gain from one round to the next. They wrap around.
+/// What the item, the first byte, the value and the event of an entry gain from one round to the next, as numbers that
+/// wrap around.
 #[derive(Clone, Copy)]
 pub(crate) struct EntryStride {
     item: u32,
@@ -16,7 +17,7 @@ pub(crate) struct EntryStride {
 }
 
 impl EntryStride {
-    /// From an entry to another.
+    /// The stride from an entry to another.
     pub(crate) fn between(from: &Entry, to: &Entry) -> Self {
         EntryStride {
             item: to.access.item.wrapping_sub(from.access.item),
@@ -26,7 +27,7 @@ impl EntryStride {
         }
     }
 
-    /// The entry that stands so many rounds behind one.
+    /// The entry that stands some rounds behind another.
     #[tactic(auto, unfolding(crate::specs::Progressions::ahead))]
     pub(crate) fn ahead(&self, entry: &Entry, rounds: u64) -> Entry
         ensures { result ≡ ahead self.now entry.now rounds }

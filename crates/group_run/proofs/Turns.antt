@@ -27,7 +27,7 @@ use Rattle.item_step.specs.declared.brief_action.BriefAction.{BriefAction}
 use Rattle.item_step.specs.declared.brief_action.BriefAction.TheVariants as brief
 use Rattle.joining.specs.Group.{Plan, IsGroup, going, turn_of, RunsIn, Reached, Reported, IsRun}
 use Rattle.joining.proofs.GroupTurns as group_turns
-use Rattle.group_run.specs.Loops.{Accesses, Steps, IsMade, AtOneStop, Gathers, IsLeading, GathersAt, GathersOrReports, IsBrief, IsGathered}
+use Rattle.group_run.specs.Loops.{IsNextAccess, Steps, IsMade, AtOneStop, Gathers, IsLeading, GathersAt, GathersOrReports, IsBrief, IsGathered}
 use Rattle.group_run.specs.declared.machine.Made.{Made}
 use Rattle.group_run.specs.declared.machine.Made.TheVariants as made_as
 
@@ -139,7 +139,7 @@ made_room p origin s t events item brief runs made = room p origin s t events (I
 
 module _
     (p : Plan) (old new : Events → State → Type 0) (origin : State) (events : Events) (k : ℕ) (o : Object) (element : ℤ) (op : Operation) (m : Made) (g : Gathers p old origin events k)
-    (asked : Accesses p g.0.state (p.first + k) o element op) (told : ℤ) (same : told ≡ element) (made : IsMade p old new (p.first + k) (action.Access o told op) m) where
+    (asked : IsNextAccess p g.0.state (p.first + k) o element op) (told : ℤ) (same : told ≡ element) (made : IsMade p old new (p.first + k) (action.Access o told op) m) where
   as_made : (x : Made) → m ≡ x → IsMade p old new (p.first + k) (action.Access o element op) x
   as_made x e = subst (λ z. IsMade p old new (p.first + k) (action.Access o element op) z) e (subst (λ z. IsMade p old new (p.first + k) (action.Access o z op) m) same made)
 
@@ -319,10 +319,10 @@ moved p old new origin events f r =
 
 pub advance_asks :
     (p q : Plan) (old new : Events → State → Type 0) (origin : State) (events : Events) (k : ℕ) (o : Object) (element : ℤ) (op : Operation) → q ≡ p → IsGroup p → k < p.count
-    → IsBrief p origin → (g : Gathers p old origin events k) → ((es : Events) (s : State) → old es s → new es s) → Accesses p g.0.state (p.first + k) o element op
-    → IsGroup q × ((k < q.count) × (IsBrief q origin × ((g : Gathers q new origin events k) × Accesses q g.0.state (q.first + k) o element op)))
+    → IsBrief p origin → (g : Gathers p old origin events k) → ((es : Events) (s : State) → old es s → new es s) → IsNextAccess p g.0.state (p.first + k) o element op
+    → IsGroup q × ((k < q.count) × (IsBrief q origin × ((g : Gathers q new origin events k) × IsNextAccess q g.0.state (q.first + k) o element op)))
 advance_asks p q old new origin events k o element op e whole b brief g f a =
-    subst (λ z. IsGroup z × ((k < z.count) × (IsBrief z origin × ((g : Gathers z new origin events k) × Accesses z g.0.state (z.first + k) o element op)))) (sym e)
+    subst (λ z. IsGroup z × ((k < z.count) × (IsBrief z origin × ((g : Gathers z new origin events k) × IsNextAccess z g.0.state (z.first + k) o element op)))) (sym e)
     (whole, (b, (brief, ((moved p old new origin events f g.0, g.1), a))))
 
 pub stop_asks :
@@ -377,22 +377,22 @@ told p q n k c h e = ap (λ z. fault_of q.launch (z + k) c) h ∙ ap (λ z. faul
 pub advanced_on :
     (p q : Plan) (old asked new : Events → State → Type 0) (origin : State) (events more : Events) (k : ℕ) (leading : Option Stop) (o : Object) (element : ℤ) (op : Operation)
     (report : Option (Box Fault Global)) → q ≡ p → report ≡ None → (g : GathersAt p old origin events k leading) → ((es : Events) (s : State) → old es s → asked es s)
-    → Accesses p g.0.0.state (p.first + k) o element op
-    → ((g : GathersAt q asked origin events k leading) → Accesses q g.0.0.state (q.first + k) o element op → GathersOrReports q new origin more k leading report) → GathersAt p new origin more k leading
+    → IsNextAccess p g.0.0.state (p.first + k) o element op
+    → ((g : GathersAt q asked origin events k leading) → IsNextAccess q g.0.0.state (q.first + k) o element op → GathersOrReports q new origin more k leading report) → GathersAt p new origin more k leading
 advanced_on p q old asked new origin events more k leading o element op report e is g f acts h =
     subst (λ z. GathersOrReports p new origin more k leading z) is
-    (subst (λ z. (g : GathersAt z asked origin events k leading) → Accesses z g.0.0.state (z.first + k) o element op → GathersOrReports z new origin more k leading report) e h
+    (subst (λ z. (g : GathersAt z asked origin events k leading) → IsNextAccess z g.0.0.state (z.first + k) o element op → GathersOrReports z new origin more k leading report) e h
     ((moved p old asked origin events f g.0.0, g.0.1), g.1) acts)
 
 -- and what it reports
 pub reported_on :
     (p q : Plan) (old asked new : Events → State → Type 0) (origin : State) (events more : Events) (k : ℕ) (leading : Option Stop) (o : Object) (element : ℤ) (op : Operation)
     (report : Option (Box Fault Global)) (f : Box Fault Global) → q ≡ p → report ≡ Some f → (g : GathersAt p old origin events k leading) → ((es : Events) (s : State) → old es s → asked es s)
-    → Accesses p g.0.0.state (p.first + k) o element op
-    → ((g : GathersAt q asked origin events k leading) → Accesses q g.0.0.state (q.first + k) o element op → GathersOrReports q new origin more k leading report) → Reported p new origin more f.value
+    → IsNextAccess p g.0.0.state (p.first + k) o element op
+    → ((g : GathersAt q asked origin events k leading) → IsNextAccess q g.0.0.state (q.first + k) o element op → GathersOrReports q new origin more k leading report) → Reported p new origin more f.value
 reported_on p q old asked new origin events more k leading o element op report f e is g moves acts h =
     subst (λ z. GathersOrReports p new origin more k leading z) is
-    (subst (λ z. (g : GathersAt z asked origin events k leading) → Accesses z g.0.0.state (z.first + k) o element op → GathersOrReports z new origin more k leading report) e h
+    (subst (λ z. (g : GathersAt z asked origin events k leading) → IsNextAccess z g.0.0.state (z.first + k) o element op → GathersOrReports z new origin more k leading report) e h
     ((moved p old asked origin events moves g.0.0, g.0.1), g.1) acts)
 
 pub item_ran_on :

@@ -16,8 +16,8 @@ use Rattle.group_run.specs.declared.machine.Made.{Made}
 use Rattle.group_run.specs.declared.machine.Made.TheVariants as made
 
 -- an item's next action is this access (OpenCL 1.2, 6.1.5, 6.3, 6.12.11)
-abbrev pub Accesses : Plan → State → ℕ → Object → ℤ → Operation → Type 0
-Accesses plan state item object element operation = next_action plan.launch state item ≡ action.Access object element operation
+abbrev pub IsNextAccess : Plan → State → ℕ → Object → ℤ → Operation → Type 0
+IsNextAccess plan state item object element operation = next_action plan.launch state item ≡ action.Access object element operation
 
 -- an item's access is its turn and leads to a state (own, on 3.2.1)
 pub record Steps (plan : Plan) (old new : State) (item : ℕ) : Type 0 where

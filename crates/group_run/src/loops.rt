@@ -5,7 +5,7 @@ ghost use Rattle.std.specs.Box.{box_value};
 ghost use Rattle.clmodel.specs.Run.{State, Events, next_action, stop_of};
 ghost use Rattle.clmodel.specs.declared.action.Stop.{Stop};
 ghost use Rattle.joining.specs.Group.{IsGroup, Reached, IsRun};
-ghost use Rattle.group_run.specs.Loops.{Accesses, Gathers, GathersAt, GathersOrReports, IsBrief, IsGathered};
+ghost use Rattle.group_run.specs.Loops.{IsNextAccess, Gathers, GathersAt, GathersOrReports, IsBrief, IsGathered};
 ghost use Rattle.group_run.specs.Stops.{stop_from};
 
 use crate::brief_stop::BriefStop;
@@ -67,12 +67,12 @@ fn advance<M: Machine>(
     requires whole { IsGroup (M.plan m.old) }
     requires inside { k < (M.plan m.old).count }
     requires brief { IsBrief (M.plan m.old) origin }
-    requires reached { (g : Gathers (M.plan m.old) (M.fits m.old) origin runs.old k) × Accesses (M.plan m.old) g.0.state ((M.plan m.old).first + k) object element operation }
+    requires reached { (g : Gathers (M.plan m.old) (M.fits m.old) origin runs.old k) × IsNextAccess (M.plan m.old) g.0.state ((M.plan m.old).first + k) object element operation }
     ensures plan_same { M.plan m.new ≡ M.plan m.old }
     ensures ticks_kept { (j : ℕ) → M.ticks m.new j ≤ M.ticks m.old j }
     ensures ticks_less { IfOk result (λ report. report ≡ None → M.ticks m.new k < M.ticks m.old k) }
     ensures advanced { IfOk result (λ report. (leading : Option Stop) (g : GathersAt (M.plan m.old) (M.fits m.old) origin runs.old k leading)
-        → Accesses (M.plan m.old) g.0.0.state ((M.plan m.old).first + k) object element operation → GathersOrReports (M.plan m.old) (M.fits m.new) origin runs.new k leading report) }
+        → IsNextAccess (M.plan m.old) g.0.0.state ((M.plan m.old).first + k) object element operation → GathersOrReports (M.plan m.old) (M.fits m.new) origin runs.new k leading report) }
 {
     let event = Event::Item(m.first() + k);
     match m.access(k, object, element, operation)? {

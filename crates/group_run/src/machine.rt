@@ -8,7 +8,7 @@ ghost use Rattle.clmodel.specs.declared.action.Instance.{Instance};
 ghost use Rattle.clmodel.specs.declared.schedule.Event.TheVariants.{Release};
 ghost use Rattle.joining.specs.Group.{Plan};
 ghost use Rattle.item_step.specs.BriefActions.{action_from};
-ghost use Rattle.group_run.specs.Loops.{Accesses, IsMade, judged_as};
+ghost use Rattle.group_run.specs.Loops.{IsNextAccess, IsMade, judged_as};
 ghost use Rattle.group_run.specs.Stops.{stop_from};
 
 use crate::brief_stop::BriefStop;
@@ -98,7 +98,7 @@ pub trait Machine {
         operation: Operation,
     ) -> Result<Made, AllocError>
         requires inside { k < (plan self.old).count }
-        requires next { (events : Events) × (s : State) × (fits self.old events s) × Accesses (plan self.old) s ((plan self.old).first + k) object element operation }
+        requires next { (events : Events) × (s : State) × (fits self.old events s) × IsNextAccess (plan self.old) s ((plan self.old).first + k) object element operation }
         ensures plan_same { plan self.new ≡ plan self.old }
         ensures ticks_kept { (j : ℕ) → ticks self.new j ≤ ticks self.old j }
         ensures ticks_less { IfOk result (λ made. made ≡ Made.Done → ticks self.new k < ticks self.old k) }

@@ -11,7 +11,7 @@ use Rattle.clmodel.proofs.Steps.{if_true}
 use Rattle.shadow.specs.Seen.{byte_mark, mark_of}
 use Rattle.shadow.specs.declared.words.WordMark.{WordMark}
 use Rattle.group_traces.specs.Traces.{untouched, trace_with, part_with}
-use Rattle.group_traces.specs.Cells.{apart_at, word_trace, Holds, IsWhole, cell_at, word_at, placed_trace, IsOwn, IsWritten, IsPut, IsPart, FitsWith}
+use Rattle.group_traces.specs.Cells.{apart_at, word_trace, FitsInPlace, IsWhole, cell_at, word_at, placed_trace, IsOwn, IsWritten, IsPut, IsPart, FitsWith}
 use Rattle.group_traces.specs.declared.cell.Apart.{Apart}
 use Rattle.group_traces.specs.declared.cell.Cell.{Cell}
 use Rattle.group_traces.specs.declared.cell.TracedWord.{TracedWord}
@@ -86,7 +86,7 @@ fits_new apart at a key n x first count l e f =
     (omega (arith, length_push apart a, l), ap (λ (z : Apart). z.key) s ∙ e, ap (λ (z : Apart). z.word) s ∙ f)
 
 -- what is kept of a word that isn't kept apart can have an access added that fits
-pub whole_holds : (apart : List Apart) (key n : ℕ) (x : Access) (first count : ℕ) (w : TracedWord) → IsWhole w → FitsWith apart key n x first count w → Holds x first count w
+pub whole_holds : (apart : List Apart) (key n : ℕ) (x : Access) (first count : ℕ) (w : TracedWord) → IsWhole w → FitsWith apart key n x first count w → FitsInPlace x first count w
 whole_holds apart key n x first count word.Untouched h e = e
 whole_holds apart key n x first count (word.Whole w) h e = e
 whole_holds apart key n x first count (word.Single how who) h e = e

@@ -36,11 +36,11 @@ IsWhole (word.Single how who) = Unit {0}
 IsWhole (word.Apart at) = ⊥
 
 -- an access at so many bytes of it, from the first on, can be added to what is kept of a word (own)
-abbrev pub Holds : Access → ℕ → ℕ → TracedWord → Type 0
-Holds x first count word.Untouched = Unit {0}
-Holds x first count (word.Whole w) = count ≡ 4
-Holds x first count (word.Single how who) = HoldsBytes (record { how = how; who = who }) x first count
-Holds x first count (word.Apart at) = ⊥
+abbrev pub FitsInPlace : Access → ℕ → ℕ → TracedWord → Type 0
+FitsInPlace x first count word.Untouched = Unit {0}
+FitsInPlace x first count (word.Whole w) = count ≡ 4
+FitsInPlace x first count (word.Single how who) = HoldsBytes (record { how = how; who = who }) x first count
+FitsInPlace x first count (word.Apart at) = ⊥
 
 -- the bytes of a word are kept apart, at this place (own)
 abbrev pub IsApart : TracedWord → ℕ → Type 0

@@ -3,10 +3,10 @@
 ghost use Rattle.std.specs.Prelude.{◌≡◌, ◌<◌, ◌≤◌, ◌+◌, ◌%◌, ◌^◌, ℕ, List, true, slice_index_or, MatchOption};
 ghost use Rattle.shadow.specs.Seen.{byte_mark, mark_of};
 ghost use Rattle.group_traces.specs.Traces.{untouched, passes, tells, takes, part_with, single_byte};
-ghost use Rattle.group_traces.specs.Cells.{apart_at, own_trace, word_trace, Holds, IsWhole, IsApart, FitsWith};
+ghost use Rattle.group_traces.specs.Cells.{apart_at, own_trace, word_trace, FitsInPlace, IsWhole, IsApart, FitsWith};
 ghost use Rattle.group_traces.specs.declared.cell.Apart.{Apart as TheApart};
 
-use crate::single::{How, Singles, Who};
+use crate::single::{SingleBytes, SingleItems, Singles};
 use crate::trace::{Sight, Trace};
 use crate::word::WordTrace;
 use access_list::WORD_BYTES;
@@ -23,7 +23,7 @@ pub enum TracedWord {
     /// Of all four at once, as long as each access was to all four
     Whole(WordTrace),
     /// Of bytes that were accessed once each: the two parts of `Singles`, which take less memory so than as one
-    Single(How, Who),
+    Single(SingleBytes, SingleItems),
     /// Of each byte, at this place of a list of those
     Apart(usize),
 }
@@ -150,7 +150,7 @@ impl TracedWord {
         requires one_word { first % 4 + count ≤ 4 }
         requires short { first + count < 2 ^ 64 }
         requires mark { count ≡ 4 → (k : ℕ) → k < 4 → byte_mark mark k ≡ mark_of x.now (first + k) }
-        requires holds { Holds x.now first count self }
+        requires holds { FitsInPlace x.now first count self }
         ensures with { (apart : List TheApart) (key n k : ℕ) → k < 4 → word_trace apart key n result k ≡ part_with x.now first count k (word_trace apart key n self k) }
         ensures whole { IsWhole result }
     {

@@ -16,7 +16,7 @@ mod word;
 
 pub use cell::{Apart, Cell, TracedWord};
 pub use sent::traces_are_sent;
-pub use single::{How, Singles, Who};
+pub use single::{SingleBytes, SingleItems, Singles};
 pub use trace::{Sight, Trace};
 pub use traces::{Look, Traces, is_near};
 pub use word::WordTrace;

@@ -10,7 +10,7 @@ use shadow::{Mark, mark_of};
 
 /// Of which kind the accesses were, at which bytes, and what a store left of each; 0 of all other kinds.
 #[derive(Clone, Copy)]
-pub struct How {
+pub struct SingleBytes {
     pub kind: AccessKind,
     pub touched: [bool; 4],
     pub left: [u8; 4],
@@ -18,7 +18,7 @@ pub struct How {
 
 /// In which interval the accesses were made, and by which item at each byte.
 #[derive(Clone, Copy)]
-pub struct Who {
+pub struct SingleItems {
     pub interval: u32,
     pub items: [u32; 4],
 }
@@ -27,8 +27,8 @@ pub struct Who {
 /// and by accesses of one kind.
 #[derive(Clone, Copy)]
 pub struct Singles {
-    pub how: How,
-    pub who: Who,
+    pub how: SingleBytes,
+    pub who: SingleItems,
 }
 
 /// Whether two kinds are one.
@@ -49,12 +49,12 @@ impl Singles {
         ensures touched { (k : ℕ) → k < 4 → slice_index_or result.how.touched k false ≡ false }
     {
         Singles {
-            how: How {
+            how: SingleBytes {
                 kind,
                 touched: [false; 4],
                 left: [0; 4],
             },
-            who: Who {
+            who: SingleItems {
                 interval,
                 items: [0; 4],
             },

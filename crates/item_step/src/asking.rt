@@ -10,7 +10,7 @@ ghost use Rattle.regcode.specs.Machine.{State, act, read};
 ghost use Rattle.regcode.specs.declared.instruction.FetchOperands.TheVariants as operands;
 ghost use Rattle.regcode.specs.declared.instruction.Instruction.TheVariants as instruction;
 ghost use Rattle.item_step.specs.Asking.{asks};
-ghost use Rattle.register_values.specs.Leading.{Leads};
+ghost use Rattle.register_values.specs.Leading.{RunsOnAs};
 ghost use Rattle.item_state.specs.Running.{is_asking};
 
 use crate::rest::Wanted;
@@ -33,7 +33,7 @@ struct ComparedRegisters {
 
 /// An operand that is a pointer.
 fn pointer_in(machine: &Machine<'_>, register: u32) -> Result<Pointer, Termination>
-    ensures { (after : Pointer → Continuation) → Leads result (read machine.now.given machine.now.state register (λ v. next.pointing v after)) after }
+    ensures { (after : Pointer → Continuation) → RunsOnAs result (read machine.now.given machine.now.state register (λ v. next.pointing v after)) after }
 {
     let value = machine.operand(register)?;
     pointing(value)
@@ -45,7 +45,7 @@ fn pointer_and_number(
     pointer: u32,
     value: u32,
 ) -> Result<(Pointer, Value), Termination>
-    ensures { (after : Pointer → Integer → Continuation) → Leads result (read machine.now.given machine.now.state pointer (λ v. read machine.now.given machine.now.state value (λ w. next.pointing v (λ q. next.number w (λ n. after q n))))) (λ pair. after pair.0 pair.1) }
+    ensures { (after : Pointer → Integer → Continuation) → RunsOnAs result (read machine.now.given machine.now.state pointer (λ v. read machine.now.given machine.now.state value (λ w. next.pointing v (λ q. next.number w (λ n. after q n))))) (λ pair. after pair.0 pair.1) }
 {
     let pointer = machine.operand(pointer)?;
     let value = machine.operand(value)?;
@@ -59,7 +59,7 @@ fn compared(
     machine: &Machine<'_>,
     registers: ComparedRegisters,
 ) -> Result<(Pointer, Value, Value), Termination>
-    ensures { (after : Pointer → Integer → Integer → Continuation) → Leads result (read machine.now.given machine.now.state registers.pointer (λ v. read machine.now.given machine.now.state registers.expected (λ w. read machine.now.given machine.now.state registers.value (λ x. next.pointing v (λ q. next.number w (λ m. next.number x (λ n. after q m n))))))) (λ three. after three.0 three.1 three.2) }
+    ensures { (after : Pointer → Integer → Integer → Continuation) → RunsOnAs result (read machine.now.given machine.now.state registers.pointer (λ v. read machine.now.given machine.now.state registers.expected (λ w. read machine.now.given machine.now.state registers.value (λ x. next.pointing v (λ q. next.number w (λ m. next.number x (λ n. after q m n))))))) (λ three. after three.0 three.1 three.2) }
 {
     let pointer = machine.operand(registers.pointer)?;
     let expected = machine.operand(registers.expected)?;
@@ -72,7 +72,7 @@ fn compared(
 
 /// What a load asks.
 fn load(machine: &Machine<'_>, pointer: u32) -> Result<Wanted, Termination>
-    ensures { (to : ℕ) (on after : State → Continuation) → Leads result (act machine.now.given (Some (instruction.Load to pointer)) on after machine.now.state) (asks (instruction.Load to pointer) machine.now.state after) }
+    ensures { (to : ℕ) (on after : State → Continuation) → RunsOnAs result (act machine.now.given (Some (instruction.Load to pointer)) on after machine.now.state) (asks (instruction.Load to pointer) machine.now.state after) }
 {
     let pointer = pointer_in(machine, pointer)?;
     let operation = load_of(pointer.element);
@@ -81,7 +81,7 @@ fn load(machine: &Machine<'_>, pointer: u32) -> Result<Wanted, Termination>
 
 /// What a store asks.
 fn store(machine: &Machine<'_>, pointer: u32, value: u32) -> Result<Wanted, Termination>
-    ensures { (on after : State → Continuation) → Leads result (act machine.now.given (Some (instruction.Store pointer value)) on after machine.now.state) (asks (instruction.Store pointer value) machine.now.state after) }
+    ensures { (on after : State → Continuation) → RunsOnAs result (act machine.now.given (Some (instruction.Store pointer value)) on after machine.now.state) (asks (instruction.Store pointer value) machine.now.state after) }
 {
     let pair = pointer_and_number(machine, pointer, value)?;
     Ok(Wanted::Access {
@@ -96,7 +96,7 @@ fn update_by_one(
     function: AtomicFunction,
     pointer: u32,
 ) -> Result<Wanted, Termination>
-    ensures { (on after : State → Continuation) → Leads result (act machine.now.given (Some (instruction.Update function pointer None)) on after machine.now.state) (asks (instruction.Update function pointer None) machine.now.state after) }
+    ensures { (on after : State → Continuation) → RunsOnAs result (act machine.now.given (Some (instruction.Update function pointer None)) on after machine.now.state) (asks (instruction.Update function pointer None) machine.now.state after) }
 {
     let pointer = pointer_in(machine, pointer)?;
     let one = Value::wrapped(pointer.element, 1);
@@ -111,7 +111,7 @@ fn update(
     pointer: u32,
     value: u32,
 ) -> Result<Wanted, Termination>
-    ensures { (on after : State → Continuation) → Leads result (act machine.now.given (Some (instruction.Update function pointer (Some value))) on after machine.now.state) (asks (instruction.Update function pointer (Some value)) machine.now.state after) }
+    ensures { (on after : State → Continuation) → RunsOnAs result (act machine.now.given (Some (instruction.Update function pointer (Some value))) on after machine.now.state) (asks (instruction.Update function pointer (Some value)) machine.now.state after) }
 {
     let pair = pointer_and_number(machine, pointer, value)?;
     let amount = convert(pair.1, pair.0.element);
@@ -127,7 +127,7 @@ fn fetch_by_one(
     function: AtomicFunction,
     pointer: u32,
 ) -> Result<Wanted, Termination>
-    ensures { (to : ℕ) (on after : State → Continuation) → Leads result (act machine.now.given (Some (instruction.Fetch to function pointer operands.Alone)) on after machine.now.state) (asks (instruction.Fetch to function pointer operands.Alone) machine.now.state after) }
+    ensures { (to : ℕ) (on after : State → Continuation) → RunsOnAs result (act machine.now.given (Some (instruction.Fetch to function pointer operands.Alone)) on after machine.now.state) (asks (instruction.Fetch to function pointer operands.Alone) machine.now.state after) }
 {
     let pointer = pointer_in(machine, pointer)?;
     let none = Value::wrapped(pointer.element, 0);
@@ -143,7 +143,7 @@ fn fetch(
     pointer: u32,
     value: u32,
 ) -> Result<Wanted, Termination>
-    ensures { (to : ℕ) (on after : State → Continuation) → Leads result (act machine.now.given (Some (instruction.Fetch to function pointer (operands.Number value))) on after machine.now.state) (asks (instruction.Fetch to function pointer (operands.Number value)) machine.now.state after) }
+    ensures { (to : ℕ) (on after : State → Continuation) → RunsOnAs result (act machine.now.given (Some (instruction.Fetch to function pointer (operands.Number value))) on after machine.now.state) (asks (instruction.Fetch to function pointer (operands.Number value)) machine.now.state after) }
 {
     let pair = pointer_and_number(machine, pointer, value)?;
     let none = Value::wrapped(pair.0.element, 0);
@@ -160,7 +160,7 @@ fn fetch_if_equal(
     function: AtomicFunction,
     registers: ComparedRegisters,
 ) -> Result<Wanted, Termination>
-    ensures { (to : ℕ) (on after : State → Continuation) → Leads result (act machine.now.given (Some (instruction.Fetch to function registers.pointer (operands.Pair registers.expected registers.value))) on after machine.now.state) (asks (instruction.Fetch to function registers.pointer (operands.Pair registers.expected registers.value)) machine.now.state after) }
+    ensures { (to : ℕ) (on after : State → Continuation) → RunsOnAs result (act machine.now.given (Some (instruction.Fetch to function registers.pointer (operands.Pair registers.expected registers.value))) on after machine.now.state) (asks (instruction.Fetch to function registers.pointer (operands.Pair registers.expected registers.value)) machine.now.state after) }
 {
     let three = compared(machine, registers)?;
     let element = three.0.element;
@@ -179,7 +179,7 @@ pub(crate) fn wanted(
     instruction: &Instruction,
 ) -> Result<Wanted, Termination>
     requires { IsTrue (is_asking instruction.now) }
-    ensures { (on after : State → Continuation) → Leads result (act machine.now.given (Some instruction.now) on after machine.now.state) (asks instruction.now machine.now.state after) }
+    ensures { (on after : State → Continuation) → RunsOnAs result (act machine.now.given (Some instruction.now) on after machine.now.state) (asks instruction.now machine.now.state after) }
 {
     match instruction {
         Instruction::Load { pointer, .. } => load(machine, *pointer),

@@ -1,7 +1,7 @@
 //! A launch: a setup with the code of its kernel.
 #![tactic(auto)]
 
-ghost use Rattle.std.specs.Prelude.{◌≡◌, ◌<◌, ◌^◌, [], false, length, map, All, IfOk, List};
+ghost use Rattle.std.specs.Prelude.{◌≡◌, ◌<◌, ◌^◌, [], false, length, map, IfOk, List};
 ghost use Rattle.std.specs.List.{list_any};
 ghost use Rattle.clmodel.specs.Next.{next};
 ghost use Rattle.clmodel.specs.Setup as model;
@@ -76,9 +76,8 @@ impl<'a> Launch<'a> {
     ghost use Rattle.clmodel.specs.Tree.{program};
     ghost use Rattle.item_step.specs.Launches.{code_of, setup_of, started};
 
-    /// A launch of code that acts as the setup's program. The group's size is that of the range, and no local size is
-    /// 0. The buffers have numbers of 32 bits, and the local objects are no more than a group may have. Err if out of
-    /// memory.
+    /// A launch of code that acts as the setup's program. The group's size is that of the range, and isn't 0. The
+    /// buffers have numbers of 32 bits, and the local objects are no more than a group may have. Err if out of memory.
     pub fn new(
         alloc: Global,
         setup: Setup<'a>,
@@ -88,7 +87,6 @@ impl<'a> Launch<'a> {
         requires faithful { ActsAsNext code.now (plain setup) }
         requires grouped { group_size ≡ group_items setup.range.now }
         requires some { 0 < group_size }
-        requires sized { All (λ size. 0 < size) setup.range.now.local }
         requires few { length (buffer_names (plain setup)) < 2 ^ 32 }
         requires fits { are_too_large (model.local_objects (plain setup)) ≡ false }
         ensures setup { IfOk result (λ launch. setup_of launch ≡ plain setup.entry) }
@@ -188,13 +186,13 @@ impl<'a> Launch<'a> {
         ensures starts { IfOk result (λ machine. machine ≡ started self.now item) }
     {
         let position = ItemPosition {
-            alloc,
             item,
             range: self.setup.range,
             group_counts: self.group_counts.as_slice(),
             group_size: self.group_size,
         };
         let context = ItemContext {
+            alloc,
             position,
             buffers: self.buffers.as_slice(),
             arguments: self.setup.arguments,

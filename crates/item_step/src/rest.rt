@@ -59,7 +59,7 @@ impl FoundAccess {
 
 /// Why an item doesn't go on by steps.
 #[derive(Clone, Copy)]
-pub(crate) enum Stop {
+pub(crate) enum StepEnd {
     /// It makes the access of a load or a store
     Access(FoundAccess),
     /// It stands at an atomic update, whose access is still to be found

@@ -1,7 +1,7 @@
 -- How an operand is read (own).
 use Rattle.std.specs.Prelude.{◌≡◌, ℕ, Option, None, Some, Result, Ok, Err, slice_get}
 use Rattle.clmodel.specs.Next.{Continuation, finish, known}
-use Rattle.register_values.specs.Leading.{Leads}
+use Rattle.register_values.specs.Leading.{RunsOnAs}
 use Rattle.register_values.specs.declared.termination.Termination.{Termination}
 use Rattle.clmodel.specs.declared.operand.Operand.{Operand}
 use Rattle.regcode.specs.Machine.{entry_at, name_of}
@@ -14,4 +14,4 @@ reads registers number after = known (name_of (slice_get registers.table.now num
 -- what was read of a register: its value, or why there is none
 abbrev pub HasRead : Result (Option Operand) Termination → RegisterFile → ℕ → Type 0
 HasRead (Ok kept) registers number = (v : Operand) × (kept ≡ Some v) × ((after : Operand → Continuation) → reads registers number after ≡ after v)
-HasRead (Err termination) registers number = (after : Operand → Continuation) → Leads {A = Unit {0}} (Err termination) (reads registers number after) (λ _. finish)
+HasRead (Err termination) registers number = (after : Operand → Continuation) → RunsOnAs {A = Unit {0}} (Err termination) (reads registers number after) (λ _. finish)

@@ -9,7 +9,7 @@ ghost use Rattle.clmodel.specs.Next.{Continuation};
 ghost use Rattle.clmodel.specs.declared.operand.Operand.{Operand};
 ghost use Rattle.regcode.specs.Machine.{entry_at};
 ghost use Rattle.item_value.specs.Arrays.{all_present};
-ghost use Rattle.register_values.specs.Leading.{Leads};
+ghost use Rattle.register_values.specs.Leading.{RunsOnAs};
 
 use crate::private_array::PrivateArray;
 use clmodel::action::Cause;
@@ -60,7 +60,7 @@ pub(crate) fn element_value(
     index: i64,
     kind: IntType,
 ) -> Result<RegisterValue, Termination>
-    ensures { (after : Option Operand → Continuation) → Leads result (next.element_value name index kind (next.element_at elements.now index) (λ v. after (Some v))) after }
+    ensures { (after : Option Operand → Continuation) → RunsOnAs result (next.element_value name index kind (next.element_at elements.now index) (λ v. after (Some v))) after }
 {
     match at_index(elements, index) {
         Some(Some(bits)) => Ok(read_bits(kind, bits)),
@@ -77,7 +77,7 @@ pub(crate) fn element_value(
 
 /// The place of the element at an index of the array of a name, where a number is put.
 pub fn place(elements: &[Option<u64>], name: u32, index: i64) -> Result<usize, Termination>
-    ensures put { (kind : int_type.IntType) (v : Integer) (after : List (Option ℕ) → Continuation) → Leads result (next.element_set name index kind elements.now v after) (λ place. after (slice_set elements.now place (Some (bits_of kind v.number)))) }
+    ensures put { (kind : int_type.IntType) (v : Integer) (after : List (Option ℕ) → Continuation) → RunsOnAs result (next.element_set name index kind elements.now v after) (λ place. after (slice_set elements.now place (Some (bits_of kind v.number)))) }
     ensures within { IfOk result (λ place. place < length elements.now) }
 {
     let fault = Termination::Fail(Cause::PrivateBounds {

@@ -6,7 +6,7 @@ ghost use Rattle.clmodel.specs.Next.{Continuation};
 ghost use Rattle.regcode.specs.Machine.{State, act, with_put};
 ghost use Rattle.item_value.specs.Arrays.{registers_with};
 ghost use Rattle.item_value.specs.ItemContext.{item_context};
-ghost use Rattle.register_values.specs.Leading.{Leads};
+ghost use Rattle.register_values.specs.Leading.{RunsOnAs};
 ghost use Rattle.item_value.specs.Giving.{gives, target};
 
 use crate::elements::PrivateElement;
@@ -35,7 +35,7 @@ pub fn value_of(
     requires { IsTrue (gives instruction.now) }
     ensures { (place : ℕ) (counters : List ℕ) (on after : State → Continuation) →
         let state : State = record { place = place; registers = registers_with values.now arrays.now; counters = counters } in
-        Leads result (act (item_context context.now) (Some instruction.now) on after state) (λ v. on (with_put state (target instruction.now) v)) }
+        RunsOnAs result (act (item_context context.now) (Some instruction.now) on after state) (λ v. on (with_put state (target instruction.now) v)) }
 {
     let registers = RegisterFile {
         table: context.registers,

@@ -8,11 +8,13 @@ use crate::position::ItemPosition;
 use clmodel::setup::Argument;
 use clmodel::text::Name;
 use regcode::Register;
+use std::alloc::Global;
 
-/// The item's place in its range, the names of the launch's buffers, the kernel's arguments with the places of the
-/// buffers that they name, and the code's table of registers.
+/// The allocator of a running item, the item's place in its range, the names of the launch's buffers, the kernel's
+/// arguments with the places of the buffers that they name, and the code's table of registers.
 #[derive(Clone, Copy)]
 pub struct ItemContext<'a> {
+    pub alloc: Global,
     pub position: ItemPosition<'a>,
     pub buffers: &'a [Name],
     pub arguments: &'a [Option<Argument>],

@@ -13,7 +13,7 @@ ghost use Rattle.clmodel.specs.declared.setup.BuiltIn.TheVariants as built_in;
 ghost use Rattle.clmodel.specs.declared.tree.VariableType.TheVariants as variable_type;
 ghost use Rattle.regcode.specs.Machine.{entry_at};
 ghost use Rattle.item_value.specs.Arrays.{all_present};
-ghost use Rattle.register_values.specs.Leading.{Leads};
+ghost use Rattle.register_values.specs.Leading.{RunsOnAs};
 ghost use Rattle.item_value.specs.Reading.{reads};
 
 use crate::elements::{PrivateElement, element_value, elements_of};
@@ -43,11 +43,11 @@ pub struct Variable {
 
 /// The value of a variable, which must be set.
 #[inline(always)]
-pub fn load_variable(
+pub(crate) fn load_variable(
     registers: RegisterFile<'_>,
     variable: Variable,
 ) -> Result<RegisterValue, Termination>
-    ensures { (after : Option Operand → Continuation) → Leads result (next.known variable.name (entry_at None registers.entry.values.now variable.register) (λ v. after (Some v))) after }
+    ensures { (after : Option Operand → Continuation) → RunsOnAs result (next.known variable.name (entry_at None registers.entry.values.now variable.register) (λ v. after (Some v))) after }
 {
     let value = kept(registers.values, variable.register);
     if value.is_set() {
@@ -66,7 +66,7 @@ pub(crate) fn assign(
     from: u32,
     kind: VariableType,
 ) -> Result<RegisterValue, Termination>
-    ensures { (after : Option Operand → Continuation) → Leads result (reads registers.entry from (λ v. after (Some (next.held kind v)))) after }
+    ensures { (after : Option Operand → Continuation) → RunsOnAs result (reads registers.entry from (λ v. after (Some (next.held kind v)))) after }
 {
     match kept_operand(registers, from) {
         Ok(value) => Ok(held(kind, value)),
@@ -80,7 +80,7 @@ pub(crate) fn cast(
     from: u32,
     kind: IntType,
 ) -> Result<RegisterValue, Termination>
-    ensures { (after : Option Operand → Continuation) → Leads result (reads registers.entry from (λ v. next.number v (λ n. after (Some (operand.Integral (converted n kind)))))) after }
+    ensures { (after : Option Operand → Continuation) → RunsOnAs result (reads registers.entry from (λ v. next.number v (λ n. after (Some (operand.Integral (converted n kind)))))) after }
 {
     match kept_operand(registers, from) {
         Ok(value) => converted_value(value, kind),
@@ -94,7 +94,7 @@ pub(crate) fn to_common_type(
     from: u32,
     other: IntType,
 ) -> Result<RegisterValue, Termination>
-    ensures { (after : Option Operand → Continuation) → Leads result (reads registers.entry from (λ v. next.chosen_value v (variable_type.Integer other) (λ w. after (Some w)))) after }
+    ensures { (after : Option Operand → Continuation) → RunsOnAs result (reads registers.entry from (λ v. next.chosen_value v (variable_type.Integer other) (λ w. after (Some w)))) after }
 {
     match kept_operand(registers, from) {
         Ok(value) => common_value(value, other),
@@ -108,7 +108,7 @@ pub(crate) fn apply_unary(
     from: u32,
     operator: UnaryOperator,
 ) -> Result<RegisterValue, Termination>
-    ensures { (after : Option Operand → Continuation) → Leads result (reads registers.entry from (λ v. next.number v (λ n. after (Some (operand.Integral (unary_value operator n)))))) after }
+    ensures { (after : Option Operand → Continuation) → RunsOnAs result (reads registers.entry from (λ v. next.number v (λ n. after (Some (operand.Integral (unary_value operator n)))))) after }
 {
     match kept_operand(registers, from) {
         Ok(value) => unary_of(operator, value),
@@ -124,7 +124,7 @@ pub(crate) fn apply_binary(
     left: u32,
     right: u32,
 ) -> Result<RegisterValue, Termination>
-    ensures { (after : Option Operand → Continuation) → Leads result (reads registers.entry left (λ v. reads registers.entry right (λ w. next.binary_operation operator v w (λ x. after (Some x))))) after }
+    ensures { (after : Option Operand → Continuation) → RunsOnAs result (reads registers.entry left (λ v. reads registers.entry right (λ w. next.binary_operation operator v w (λ x. after (Some x))))) after }
 {
     match kept_operand(registers, left) {
         Ok(v) => match kept_operand(registers, right) {
@@ -138,7 +138,7 @@ pub(crate) fn apply_binary(
 /// Whether an operand is a number other than zero.
 #[inline(always)]
 pub fn tested(registers: RegisterFile<'_>, number: u32) -> Result<bool, Termination>
-    ensures { (after : Bool → Continuation) → Leads result (reads registers.entry number (λ v. next.test v after)) after }
+    ensures { (after : Bool → Continuation) → RunsOnAs result (reads registers.entry number (λ v. next.test v after)) after }
 {
     match kept_operand(registers, number) {
         Ok(value) => tested_value(value),
@@ -152,7 +152,7 @@ pub(crate) fn call_builtin(
     function: Builtin,
     first: u32,
 ) -> Result<RegisterValue, Termination>
-    ensures { (after : Option Operand → Continuation) → Leads result (reads registers.entry first (λ v. next.integer_call function (v ∷ []) (λ x. after (Some x)))) after }
+    ensures { (after : Option Operand → Continuation) → RunsOnAs result (reads registers.entry first (λ v. next.integer_call function (v ∷ []) (λ x. after (Some x)))) after }
 {
     let first = operand(registers, first)?;
     let value = of_one(function, first)?;
@@ -166,7 +166,7 @@ pub(crate) fn call_builtin_of_two(
     first: u32,
     second: u32,
 ) -> Result<RegisterValue, Termination>
-    ensures { (after : Option Operand → Continuation) → Leads result (reads registers.entry first (λ v. reads registers.entry second (λ w. next.integer_call function (v ∷ w ∷ []) (λ x. after (Some x))))) after }
+    ensures { (after : Option Operand → Continuation) → RunsOnAs result (reads registers.entry first (λ v. reads registers.entry second (λ w. next.integer_call function (v ∷ w ∷ []) (λ x. after (Some x))))) after }
 {
     let first = operand(registers, first)?;
     let second = operand(registers, second)?;
@@ -181,7 +181,7 @@ pub fn query_work_item(
     function: WorkItemFunction,
     dimension: u32,
 ) -> Result<RegisterValue, Termination>
-    ensures { (after : Option Operand → Continuation) → Leads result (reads registers.entry dimension (λ d. next.call (item_position position.now) (Some (built_in.WorkItem function)) (d ∷ []) (λ x. after (Some x)))) after }
+    ensures { (after : Option Operand → Continuation) → RunsOnAs result (reads registers.entry dimension (λ d. next.call (item_position position.now) (Some (built_in.WorkItem function)) (d ∷ []) (λ x. after (Some x)))) after }
 {
     let dimension = operand(registers, dimension)?;
     Ok(RegisterValue::new(Some(work_item(position, function, dimension))))
@@ -192,7 +192,7 @@ pub(crate) fn pointer_operand(
     registers: RegisterFile<'_>,
     from: u32,
 ) -> Result<RegisterValue, Termination>
-    ensures { (after : Option Operand → Continuation) → Leads result (reads registers.entry from (λ v. next.pointing v (λ p. after (Some (operand.Pointed p))))) after }
+    ensures { (after : Option Operand → Continuation) → RunsOnAs result (reads registers.entry from (λ v. next.pointing v (λ p. after (Some (operand.Pointed p))))) after }
 {
     match kept_operand(registers, from) {
         Ok(value) => pointer_of(value),
@@ -202,12 +202,12 @@ pub(crate) fn pointer_operand(
 
 /// A pointer moved by a number of elements.
 #[inline(always)]
-pub fn move_pointer(
+pub(crate) fn move_pointer(
     registers: RegisterFile<'_>,
     pointer: u32,
     index: u32,
 ) -> Result<RegisterValue, Termination>
-    ensures { (after : Option Operand → Continuation) → Leads result (reads registers.entry pointer (λ p. reads registers.entry index (λ i. next.moved p i (λ q. after (Some (operand.Pointed q)))))) after }
+    ensures { (after : Option Operand → Continuation) → RunsOnAs result (reads registers.entry pointer (λ p. reads registers.entry index (λ i. next.moved p i (λ q. after (Some (operand.Pointed q)))))) after }
 {
     match kept_operand(registers, pointer) {
         Ok(pointer) => match kept_operand(registers, index) {
@@ -224,7 +224,7 @@ pub(crate) fn load_private(
     arrays: &[PrivateArray],
     element: PrivateElement,
 ) -> Result<RegisterValue, Termination>
-    ensures { (after : Option Operand → Continuation) → Leads result (reads registers.entry element.index (λ i. next.read_element element.name element.kind (entry_at [] (all_present arrays.now) element.array) i (λ v. after (Some v)))) after }
+    ensures { (after : Option Operand → Continuation) → RunsOnAs result (reads registers.entry element.index (λ i. next.read_element element.name element.kind (entry_at [] (all_present arrays.now) element.array) i (λ v. after (Some v)))) after }
 {
     let index = operand(registers, element.index)?;
     let index = number(index)?;

@@ -7,7 +7,7 @@ use Rattle.clmodel.specs.declared.declaration.Declaration.TheVariants.{Single, L
 use Rattle.clmodel.specs.declared.tree.VariableType.{VariableType}
 use Rattle.clmodel.specs.declared.tree.VariableType.TheVariants.{Integer}
 use Rattle.regcode.specs.Listing.{Listing}
-use Rattle.regcode.specs.Rules.{kind_at, kind_of, HasRoom, Fits, loops_at, most_loops, Leads, LeadsInside, IsVerified}
+use Rattle.regcode.specs.Rules.{kind_at, kind_of, HasRoom, Fits, loops_at, most_loops, MayGoOn, LeadsInside, IsVerified}
 use Rattle.regcode.specs.declared.instruction.Instruction.{Instruction}
 use Rattle.clnum.specs.declared.int_type.IntType.{IntType}
 use Rattle.clmodel.specs.Setup.{kernel_in, functions_before}
@@ -127,10 +127,10 @@ Going L at (i ∷ is) = LeadsInside L at i × (loops_at L at ≤ most_loops) × 
 
 -- code may go on behind a statement's end, and at its other exits
 pub record Opens (L : Listing) (depth end : ℕ) (exits : Exits) : Type 0 where
-  pub next : Leads L end depth
-  pub broken : Leads L (end + exits.broken) depth
-  pub continued : Leads L (end + exits.continued) depth
-  pub returned : Leads L (end + exits.returned) depth
+  pub next : MayGoOn L end depth
+  pub broken : MayGoOn L (end + exits.broken) depth
+  pub continued : MayGoOn L (end + exits.continued) depth
+  pub returned : MayGoOn L (end + exits.returned) depth
 
 -- Code with loops of this depth in it: it leaves the loops round it as they are, and goes where it may wherever it
 -- stands.

@@ -20,7 +20,7 @@ use clmodel::tree::Function;
 use cltypes::{NODE_LIMIT, Summaries};
 use lower_code::draft::Draft;
 use lower_code::holes::Helpers;
-use lower_code::known::Known;
+use lower_code::known::KnownFunction;
 use lower_code::positions::BodyPosition;
 use std::alloc::{AllocError, Global};
 
@@ -63,7 +63,7 @@ fn known_of(
     helpers: Helpers<'_>,
     function: &Function,
     nodes: u32,
-) -> Result<Known, AllocError>
+) -> Result<KnownFunction, AllocError>
     requires parameters { length function.now.parameters.items ≤ parameter_limit }
     requires arrays { row_elements (all_of function.now.body.items) ≤ length_limit }
     requires counted { nodes ≡ min (row_size (sizes_in helpers.functions.now) (all_of function.now.body.items)).nodes (suc node_limit) }
@@ -77,7 +77,7 @@ fn known_of(
         Some(_) => measured(alloc, helpers, function, nodes)?,
         None => None,
     };
-    Ok(Known { barriers, length })
+    Ok(KnownFunction { barriers, length })
 }
 
 /// What is known of each of these functions. Err if out of memory.
@@ -85,7 +85,7 @@ pub fn known_of_all(
     alloc: Global,
     functions: &[Function],
     ends: &[usize],
-) -> Result<Vec<Known>, AllocError>
+) -> Result<Vec<KnownFunction>, AllocError>
     requires ends { EndsKnown functions.now ends.now }
     requires nodes { NodesCounted functions.now }
     requires parameters { FewParameters functions.now }

@@ -8,7 +8,7 @@ use Rattle.clmodel.specs.declared.tree.Function.{Function}
 use Rattle.regcode.specs.declared.instruction.Instruction.{Instruction}
 use Rattle.lower_code.specs.Trees.{all_of}
 use Rattle.lower_code.specs.Code.{call_code, result_in, body_code}
-use Rattle.lower_code.specs.declared.known.Known.{Known}
+use Rattle.lower_code.specs.declared.known.KnownFunction.{KnownFunction}
 
 abbrev pub functions_of : List Function → Funcs
 functions_of functions = then_funcs NoFunc (map func functions)
@@ -36,15 +36,15 @@ abbrev pub body_of : List Function → Function → ℕ → ℕ → ℕ → List
 body_of functions f level depth site = body_code (call_code (functions_of functions)) (result_in (functions_of functions)) (inside functions) (func f) level depth site
 
 -- how many barriers are in each of the first functions, where it is known
-abbrev pub BarriersKnown : List Function → List Known → Type 0
+abbrev pub BarriersKnown : List Function → List KnownFunction → Type 0
 BarriersKnown functions known =
-    (i : ℕ) (f : Function) (k : Known) (n : ℕ) → i < length functions → i < length known → f ≡ get_or functions i f → k ≡ get_or known i k
+    (i : ℕ) (f : Function) (k : KnownFunction) (n : ℕ) → i < length functions → i < length known → f ≡ get_or functions i f → k ≡ get_or known i k
     → k.barriers ≡ Some n → n ≡ all_sites (inside (take i functions)) (all_of f.body.items)
 
 -- and where it isn't known, there are 2^32 or more
-abbrev pub BarriersCounted : List Function → List Known → Type 0
+abbrev pub BarriersCounted : List Function → List KnownFunction → Type 0
 BarriersCounted functions known =
-    (i : ℕ) (f : Function) (k : Known) → i < length functions → i < length known → f ≡ get_or functions i f → k ≡ get_or known i k
+    (i : ℕ) (f : Function) (k : KnownFunction) → i < length functions → i < length known → f ≡ get_or functions i f → k ≡ get_or known i k
     → k.barriers ≡ None → 2 ^ 32 ≤ all_sites (inside (take i functions)) (all_of f.body.items)
 
 -- each function stands before the end of its name
@@ -53,14 +53,14 @@ EndsKnown functions ends =
     (i : ℕ) (f : Function) → i < length functions → f ≡ get_or functions i f → i < get_or ends f.name 0
 
 -- how long the code of each one's body is, wherever it is called, where it is known
-abbrev pub LengthsKnown : List Function → List Known → Type 0
+abbrev pub LengthsKnown : List Function → List KnownFunction → Type 0
 LengthsKnown functions known =
-    (i : ℕ) (f : Function) (k : Known) (n level depth site : ℕ) → i < length functions → i < length known → f ≡ get_or functions i f → k ≡ get_or known i k
+    (i : ℕ) (f : Function) (k : KnownFunction) (n level depth site : ℕ) → i < length functions → i < length known → f ≡ get_or functions i f → k ≡ get_or known i k
     → k.length ≡ Some n → n ≡ length (body_of (take i functions) f level depth site)
 
 -- and where the barriers are known and the length isn't, the function has more nodes than a kernel may have, those of
 -- the functions that it calls among them
-abbrev pub LengthsCounted : List Function → List Known → Type 0
+abbrev pub LengthsCounted : List Function → List KnownFunction → Type 0
 LengthsCounted functions known =
-    (i : ℕ) (f : Function) (k : Known) (n : ℕ) → i < length functions → i < length known → f ≡ get_or functions i f → k ≡ get_or known i k
+    (i : ℕ) (f : Function) (k : KnownFunction) (n : ℕ) → i < length functions → i < length known → f ≡ get_or functions i f → k ≡ get_or known i k
     → k.barriers ≡ Some n → k.length ≡ None → node_limit < (size_of (functions_of (take i functions)) (func f)).nodes

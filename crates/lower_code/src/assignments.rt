@@ -30,7 +30,7 @@ use folding::call_type;
 use lower_expr::destinations::{combine, destination_type, fetch, put, reach};
 use lower_expr::emission::{emit_arguments, emit_expression};
 use lower_expr::instructions::{add, call_only};
-use lower_expr::scope::{Level, Register, Scope, level_at, register_at};
+use lower_expr::scope::{Level, RegisterNumber, Scope, level_at, register_at};
 use regcode::Instruction;
 use smallvec::SmallVec;
 use std::alloc::AllocError;
@@ -46,7 +46,7 @@ pub struct HelperCall<'a> {
 #[derive(Drop)]
 pub struct Call {
     pub name: u32,
-    pub arguments: SmallVec<Register, 2>,
+    pub arguments: SmallVec<RegisterNumber, 2>,
     pub level: Level,
 }
 
@@ -66,7 +66,7 @@ struct Right {
 }
 
 /// The call of a helper function that an expression is.
-fn helper_call(value: &Expression) -> Option<HelperCall<'_>>
+pub fn helper_call(value: &Expression) -> Option<HelperCall<'_>>
     ensures { next.helper_call (term value.now) ≡ option_map (λ c. record { name = c.name; arguments = terms c.arguments.now }) result }
 {
     match value {

@@ -17,7 +17,7 @@ use crate::functions::{Found, find};
 use crate::holes::{Helpers, Hole};
 use crate::positions::{BodyPosition, Position};
 use crate::variables::put_passed;
-use lower_expr::scope::{Level, Register};
+use lower_expr::scope::{Level, RegisterNumber};
 use regcode::Instruction;
 use std::alloc::AllocError;
 
@@ -54,7 +54,7 @@ pub fn emit_split<'a>(
 fn emit_call<'a>(
     helpers: Helpers<'a>,
     name: u32,
-    arguments: &[Register],
+    arguments: &[RegisterNumber],
     level: Level,
     position: Position,
     code: &mut Draft<'a>,

@@ -5,7 +5,7 @@ ghost use Rattle.std.specs.Prelude.{◌≡◌, ◌≤◌, length, take};
 ghost use Rattle.lower_code.specs.Helpers.{BarriersKnown, BarriersCounted, LengthsKnown, LengthsCounted, NodesCounted, EndsKnown};
 ghost use Rattle.lower_code.specs.Room.{FewParameters, FewElements};
 
-use crate::known::Known;
+use crate::known::KnownFunction;
 use crate::positions::BodyPosition;
 use clmodel::tree::Function;
 use clnum::IntType;
@@ -16,7 +16,7 @@ use regcode::Instruction;
 #[derive(Clone, Copy)]
 pub struct Helpers<'a> {
     pub functions: &'a [Function],
-    pub known: &'a [Known],
+    pub known: &'a [KnownFunction],
     pub ends: &'a [usize],
     pub ghost barriers: { BarriersKnown functions.now known.now },
     pub ghost complete: { length functions.now ≤ length known.now },
@@ -55,7 +55,7 @@ pub struct StatementContext<'a> {
 #[derive(Clone, Copy)]
 pub struct Hole<'a> {
     pub functions: &'a [Function],
-    pub known: &'a [Known],
+    pub known: &'a [KnownFunction],
     pub ends: &'a [usize],
     pub function: &'a Function,
     pub position: BodyPosition,

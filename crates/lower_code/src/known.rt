@@ -5,7 +5,7 @@
 /// body has, None where it has so many barriers, or more nodes than a kernel may have: no kernel of a checked program
 /// calls such a function.
 #[derive(Clone, Copy)]
-pub struct Known {
+pub struct KnownFunction {
     pub barriers: Option<u32>,
     pub length: Option<usize>,
 }

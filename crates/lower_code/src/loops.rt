@@ -19,7 +19,7 @@ use clmodel::tree::{Expression, Statement, VariableType};
 use clnum::IntType;
 use lower_expr::emission::emit_expression;
 use lower_expr::instructions::add;
-use lower_expr::scope::{Level, Register, Scope, register_at};
+use lower_expr::scope::{Level, RegisterNumber, Scope, register_at};
 use regcode::Instruction;
 use std::alloc::AllocError;
 
@@ -153,7 +153,7 @@ pub fn put_return(
 fn add_value(
     kind: Option<IntType>,
     level: Level,
-    from: Register,
+    from: RegisterNumber,
     code: &mut Vec<Instruction>,
 ) -> Result<(), AllocError>
     requires { level.0 < 2 ^ 28 }

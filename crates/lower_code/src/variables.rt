@@ -15,18 +15,9 @@ ghost use Rattle.lower_code.specs.Growth.{GrowsBefore, KeepsOuter};
 use crate::draft::Draft;
 use clmodel::tree::{AddressSpace, Parameter, PointerType, Statement, VariableType};
 use clnum::{IntType, Value};
-use lower_expr::scope::{Level, PrivateArray, Register, Scope, level_at, register_at};
+use lower_expr::scope::{Level, PrivateArray, RegisterNumber, Scope, level_at, register_at};
 use regcode::Instruction;
 use std::alloc::AllocError;
-
-/// How many elements an array has, by the number in its brackets.
-fn array_length(length: Value) -> u32
-    requires { tree.array_length length ≤ length_limit }
-    ensures { result ≡ tree.array_length length }
-{
-    let number = length.number();
-    if number < 0 { 0 } else { number as u32 }
-}
 
 /// The type of the variable that points to a local array.
 fn local_pointer(element: IntType) -> VariableType
@@ -57,7 +48,7 @@ fn declare_array(
     scope.declare_array(PrivateArray {
         name,
         element,
-        length: array_length(length),
+        length: length.natural() as u32,
     })
 }
 
@@ -140,7 +131,12 @@ pub fn declare_parameters(scope: &mut Scope, parameters: &[Parameter]) -> Result
 }
 
 /// The instruction that gives a parameter its argument at a level; one without an argument is unset.
-fn pass_one(parameter: Parameter, arguments: &[Register], place: usize, level: Level) -> Instruction
+fn pass_one(
+    parameter: Parameter,
+    arguments: &[RegisterNumber],
+    place: usize,
+    level: Level,
+) -> Instruction
     requires { level.0 < 2 ^ 28 }
     ensures { result ∷ [] ≡ spec.pass_code (parameter ∷ []) (numbers (drop place arguments.now)) level.0 }
 {
@@ -156,7 +152,7 @@ fn pass_one(parameter: Parameter, arguments: &[Register], place: usize, level: L
 /// Puts before the code what gives the parameters of a helper from a level on the arguments of a call.
 pub fn put_passed(
     parameters: &[Parameter],
-    arguments: &[Register],
+    arguments: &[RegisterNumber],
     level: Level,
     code: &mut Draft<'_>,
 ) -> Result<(), AllocError>
@@ -225,7 +221,7 @@ pub fn put_array(
     }
     let to = register_at(level, VariableType::Integer(element)).0;
     let array = level.0;
-    let length = array_length(size);
+    let length = size.natural() as u32;
     code.put(Instruction::UnsetArray { array, length })?;
     code.put(Instruction::Unset { to })
 }

@@ -1,7 +1,7 @@
 -- The registers of values (own).
 use Rattle.std.specs.Prelude.{ℕ, List, map}
-use Rattle.lower_expr.specs.declared.scope.Register.{Register}
+use Rattle.lower_expr.specs.declared.scope.RegisterNumber.{RegisterNumber}
 
 -- their numbers
-abbrev pub numbers : List Register → List ℕ
-numbers registers = map (λ (register : Register). register.0) registers
+abbrev pub numbers : List RegisterNumber → List ℕ
+numbers registers = map (λ (register : RegisterNumber). register.0) registers

@@ -12,7 +12,7 @@ ghost use Rattle.lower_expr.specs.Targets.{target_name, destination_of};
 
 use crate::emission::{TargetKind, emit_target};
 use crate::instructions::{add, arithmetic, fetch_variable, private_load, private_store};
-use crate::scope::{Level, Register, Scope, level_at, register_at};
+use crate::scope::{Level, RegisterNumber, Scope, level_at, register_at};
 use clmodel::tree::{InfixOperator, Target, VariableType};
 use clnum::BinaryOperator;
 use folding::{base_type, infix_type};
@@ -74,7 +74,7 @@ pub fn fetch(
     scope: &Scope,
     level: Level,
     destination: Destination,
-    to: Register,
+    to: RegisterNumber,
     code: &mut Vec<Instruction>,
 ) -> Result<(), AllocError>
     requires free { free_level scope.now ≤ level.0 }
@@ -102,7 +102,7 @@ pub fn put(
     scope: &Scope,
     level: Level,
     destination: Destination,
-    from: Register,
+    from: RegisterNumber,
     code: &mut Vec<Instruction>,
 ) -> Result<(), AllocError>
     requires free { free_level scope.now ≤ level.0 }
@@ -129,7 +129,7 @@ pub fn put(
 fn set_variable(
     scope: &Scope,
     name: u32,
-    from: Register,
+    from: RegisterNumber,
     code: &mut Vec<Instruction>,
 ) -> Result<(), AllocError>
     requires { free_level scope.now ≤ 2 ^ 28 }
@@ -152,8 +152,8 @@ pub fn combine(
     destination: Destination,
     operator: BinaryOperator,
     kind: VariableType,
-    old: Register,
-    right: Register,
+    old: RegisterNumber,
+    right: RegisterNumber,
     code: &mut Vec<Instruction>,
 ) -> Result<(), AllocError>
     requires free { free_level scope.now ≤ level.0 }

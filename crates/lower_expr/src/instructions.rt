@@ -16,7 +16,7 @@ ghost use Rattle.lower_expr.specs.Forms as forms;
 ghost use Rattle.lower_expr.specs.Growth.{IsLonger};
 ghost use Rattle.lower_expr.specs.Registers.{numbers};
 
-use crate::scope::{Level, Register, Scope, level_at, register_at};
+use crate::scope::{Level, RegisterNumber, Scope, level_at, register_at};
 use clmodel::setup::{AtomicFunction, BuiltIn, WorkItemFunction};
 use clmodel::tree::{InfixOperator, VariableType};
 use clnum::{BinaryOperator, Builtin, IntType, UnaryOperator, Value, unary_kind};
@@ -60,7 +60,7 @@ pub(crate) fn settle(
 pub(crate) fn fetch_variable(
     scope: &Scope,
     name: u32,
-    to: Register,
+    to: RegisterNumber,
     code: &mut Vec<Instruction>,
 ) -> Result<(), AllocError>
     requires { free_level scope.now ≤ 2 ^ 28 }
@@ -69,7 +69,7 @@ pub(crate) fn fetch_variable(
 {
     let to = to.0;
     match scope.register(name) {
-        Some(Register(from)) => add(code, Instruction::Move { to, from, name }),
+        Some(RegisterNumber(from)) => add(code, Instruction::Move { to, from, name }),
         None => {
             add(code, Instruction::Unset { to })?;
             add(code, Instruction::Move { to, from: to, name })
@@ -143,9 +143,9 @@ pub(crate) fn load(
 /// Adds the load of an element of the private array of a name, by the index that a register holds.
 pub fn private_load(
     scope: &Scope,
-    to: Register,
+    to: RegisterNumber,
     name: u32,
-    index: Register,
+    index: RegisterNumber,
     code: &mut Vec<Instruction>,
 ) -> Result<(), AllocError>
     requires { free_level scope.now ≤ 2 ^ 28 }
@@ -194,8 +194,8 @@ pub(crate) fn array_element(
 pub fn private_store(
     scope: &Scope,
     name: u32,
-    index: Register,
-    value: Register,
+    index: RegisterNumber,
+    value: RegisterNumber,
     code: &mut Vec<Instruction>,
 ) -> Result<(), AllocError>
     requires { free_level scope.now ≤ 2 ^ 28 }
@@ -234,9 +234,9 @@ pub(crate) fn point(
 /// Adds an operator on integers or pointers.
 pub(crate) fn arithmetic(
     operator: BinaryOperator,
-    to: Register,
-    left: Register,
-    right: Register,
+    to: RegisterNumber,
+    left: RegisterNumber,
+    right: RegisterNumber,
     code: &mut Vec<Instruction>,
 ) -> Result<(), AllocError>
     ensures code { OnOk result (code.new.items ≡ code.old.items ++ instruction.Binary to.0 operator left.0 right.0 ∷ []) }
@@ -307,7 +307,7 @@ pub(crate) fn end_cast(
 /// where there is none.
 #[derive(Drop)]
 pub struct Arguments {
-    pub registers: SmallVec<Register, 2>,
+    pub registers: SmallVec<RegisterNumber, 2>,
     pub kind: IntType,
     pub(crate) known: SmallVec<Known, 2>,
 }
@@ -339,8 +339,8 @@ pub(crate) fn end_call(
 /// there is no such function with that many arguments, the item ends.
 pub fn call_only(
     function: BuiltIn,
-    to: Register,
-    arguments: &[Register],
+    to: RegisterNumber,
+    arguments: &[RegisterNumber],
     code: &mut Vec<Instruction>,
 ) -> Result<(), AllocError>
     ensures code { OnOk result (code.new.items ≡ code.old.items ++ expressions.call_only_code (Some function) to.0 (numbers arguments.now)) }
@@ -354,7 +354,11 @@ pub fn call_only(
 }
 
 /// The call of a built-in function that gives a value.
-fn value_call(function: Option<BuiltIn>, to: Register, arguments: &[Register]) -> Instruction
+fn value_call(
+    function: Option<BuiltIn>,
+    to: RegisterNumber,
+    arguments: &[RegisterNumber],
+) -> Instruction
     ensures { result ∷ [] ≡ expressions.call_code function to.0 (numbers arguments.now) }
 {
     match function {
@@ -367,7 +371,7 @@ fn value_call(function: Option<BuiltIn>, to: Register, arguments: &[Register]) -
 }
 
 /// The call of an atomic function whose value is used.
-fn fetch(to: Register, function: AtomicFunction, arguments: &[Register]) -> Instruction
+fn fetch(to: RegisterNumber, function: AtomicFunction, arguments: &[RegisterNumber]) -> Instruction
     ensures { result ∷ [] ≡ expressions.call_code (Some (built_in_function.Atomic function)) to.0 (numbers arguments.now) }
 {
     match arguments {
@@ -397,7 +401,7 @@ fn fetch(to: Register, function: AtomicFunction, arguments: &[Register]) -> Inst
 }
 
 /// An atomic update.
-fn update(function: AtomicFunction, arguments: &[Register]) -> Instruction
+fn update(function: AtomicFunction, arguments: &[RegisterNumber]) -> Instruction
     ensures { result ∷ [] ≡ expressions.update_code function (numbers arguments.now) }
 {
     match arguments {
@@ -416,7 +420,7 @@ fn update(function: AtomicFunction, arguments: &[Register]) -> Instruction
 }
 
 /// The call of `get_work_dim`.
-fn dimensions(to: Register, arguments: &[Register]) -> Instruction
+fn dimensions(to: RegisterNumber, arguments: &[RegisterNumber]) -> Instruction
     ensures { result ∷ [] ≡ expressions.call_code (Some built_in_function.WorkDim) to.0 (numbers arguments.now) }
 {
     match arguments {
@@ -426,7 +430,11 @@ fn dimensions(to: Register, arguments: &[Register]) -> Instruction
 }
 
 /// The call of a work-item function.
-fn query(to: Register, function: WorkItemFunction, arguments: &[Register]) -> Instruction
+fn query(
+    to: RegisterNumber,
+    function: WorkItemFunction,
+    arguments: &[RegisterNumber],
+) -> Instruction
     ensures { result ∷ [] ≡ expressions.call_code (Some (built_in_function.WorkItem function)) to.0 (numbers arguments.now) }
 {
     match arguments {
@@ -440,7 +448,7 @@ fn query(to: Register, function: WorkItemFunction, arguments: &[Register]) -> In
 }
 
 /// The call of a function of integers.
-fn builtin(to: Register, function: Builtin, arguments: &[Register]) -> Instruction
+fn builtin(to: RegisterNumber, function: Builtin, arguments: &[RegisterNumber]) -> Instruction
     ensures { result ∷ [] ≡ expressions.call_code (Some (built_in_function.Integer function)) to.0 (numbers arguments.now) }
 {
     match arguments {

@@ -14,7 +14,7 @@ ghost use Rattle.lower_expr.specs.Expressions.{truth_code, infix_begun, infix_co
 ghost use Rattle.lower_expr.specs.Growth.{IsLonger};
 
 use crate::instructions::{add, arithmetic};
-use crate::scope::{Level, Register, level_at, register_at};
+use crate::scope::{Level, RegisterNumber, level_at, register_at};
 use clmodel::tree::{InfixOperator, VariableType};
 use clnum::{IntType, Value};
 use folding::{Known, base_type, constants, infix_type};
@@ -48,8 +48,8 @@ pub fn begin_infix(
 /// Ends a logical operator behind its right operand, whose code begins at a place: sets the jump before that place, and
 /// adds the int 1, or the int 0 where the right operand is 0, or where it is jumped to the last instruction.
 fn logical(
-    to: Register,
-    second: Register,
+    to: RegisterNumber,
+    second: RegisterNumber,
     place: usize,
     jump: Instruction,
     code: &mut Vec<Instruction>,

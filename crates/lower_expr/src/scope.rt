@@ -14,7 +14,10 @@ use indexmap::IndexMap;
 use std::alloc::{AllocError, Global};
 use std::marker::Model;
 
-/// The number of a type, below 16.
+/// How many registers a level has: one for each integer type, and one for each type of pointers.
+const LEVEL_REGISTERS: u32 = 16;
+
+/// The number of a type among the registers of a level.
 fn kind_number(kind: VariableType) -> u32
     ensures value { result ≡ spec.kind_number kind }
     ensures below { result < 16 }
@@ -30,16 +33,16 @@ fn kind_number(kind: VariableType) -> u32
 #[derive(Clone, Copy, Default)]
 pub struct Level(pub u32);
 
-/// The number of a register, of 32 bits: 16 times its level, and the number of its type, which is below 16.
+/// The number of a register, of 32 bits: those of the lower levels come first, then one for each type.
 #[derive(Clone, Copy, Default)]
-pub struct Register(pub u32);
+pub struct RegisterNumber(pub u32);
 
 /// The register of a type at a level. Levels from 2^28 on have none.
-pub fn register_at(level: Level, kind: VariableType) -> Register
+pub fn register_at(level: Level, kind: VariableType) -> RegisterNumber
     requires { level.0 < 2 ^ 28 }
     ensures { result.0 ≡ spec.register_at level.0 kind }
 {
-    Register(16 * level.0 + kind_number(kind))
+    RegisterNumber(LEVEL_REGISTERS * level.0 + kind_number(kind))
 }
 
 /// The level `count` above another.
@@ -239,7 +242,7 @@ impl Scope {
     }
 
     /// The register of the innermost variable of a name.
-    pub fn register(&self, name: u32) -> Option<Register>
+    pub fn register(&self, name: u32) -> Option<RegisterNumber>
         requires { spec.free_level self.now ≤ 2 ^ 28 }
         ensures { option_map (λ register. register.0) result ≡ spec.register_of self.now name }
     {

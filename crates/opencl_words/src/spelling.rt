@@ -2,22 +2,16 @@
 #![tactic(auto)]
 
 ghost use Rattle.std.specs.Prelude.{◌≡◌, ◌≤◌, length, slice_index};
-ghost use Rattle.clsyntax_lex.specs.Pieces.{is_name_part};
 ghost use Rattle.opencl_words.specs.Spelling as spelling;
 
-/// Whether a byte is one of a name or a number.
-fn is_part(byte: u8) -> bool
-    ensures { result ≡ is_name_part byte }
-{
-    byte.is_ascii_alphanumeric() || byte == b'_'
-}
+use clsyntax_lex::is_name_part;
 
 /// How many bytes the word in front has.
 fn word_len(bytes: &[u8]) -> usize
     ensures value { result ≡ spelling.word_len bytes.now }
     ensures within { result ≤ length bytes.now }
 {
-    bytes.iter().take_while(|byte| is_part(**byte)).count()
+    bytes.iter().take_while(|byte| is_name_part(**byte)).count()
 }
 
 /// The word in front; none where no word stands there.
@@ -56,7 +50,7 @@ pub(crate) enum SpelledWord {
 fn with_byte(word: SpelledWord, byte: u8) -> SpelledWord
     ensures { result ≡ spelling.with_byte word byte }
 {
-    if !is_part(byte) {
+    if !is_name_part(byte) {
         return SpelledWord::Nothing;
     }
     match word {

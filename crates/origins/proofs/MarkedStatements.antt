@@ -18,7 +18,7 @@ use Rattle.lower_expr.proofs.Lengths.{from_level}
 use Rattle.lower_code.specs.Code.{Exits, past, body_exits, while_code, set_variable_code, fetch_code, put_code, combine_code, array_code, pass_code, arguments_code, array_variable, variables_after, variables_after_part, variables_after_all, parameter_variables, needed_code, no_value_code, value_code, wait_code, condition_code, right_code, call_only_statement, stmt_code, part_code, stmts_code, body_code, call_code, kernel_code, result_in, variable}
 use Rattle.lower_code.specs.Code as spec
 use Rattle.origins.specs.declared.names.Meaning.{Meaning}
-use Rattle.origins.specs.declared.names.Named.{Named}
+use Rattle.origins.specs.declared.names.NamedVariable.{NamedVariable}
 use Rattle.origins.specs.Names.{positive, array_or_plain, array_kind, array_meaning, names_of, names_after, names_after_part, names_after_all, parameter_names}
 use Rattle.origins.specs.Origins.{Node, OfTerm, OfStmt, OfFunc, Origin, node_at, times, fetch_origins, needed_count, value_count, array_count, Calls, right_origins, call_statement_origins, condition_origins, stmt_origins, part_origins, row_origins, body_origins, call_origins, kernel_origins}
 use Rattle.origins.specs.Marks.{Suits, CallsBarrier, called, names, target_named, loads, stores, combines, Marks}
@@ -144,10 +144,10 @@ module _ (base : ℕ) where
     call_statement_marked vs false None at name arguments depth site e p =
         joined (terms_marked (from_level base vs) _ arguments) (all (OfStmt (CallOnly at name arguments)) name _ _ depth site)
 
-    named_stmt : (ns ms : List Named) → ns ≡ ms → (s : Stmt) (is : List Instruction) → Marks (stmt_origins calls results result ms s) is → Marks (stmt_origins calls results result ns s) is
+    named_stmt : (ns ms : List NamedVariable) → ns ≡ ms → (s : Stmt) (is : List Instruction) → Marks (stmt_origins calls results result ms s) is → Marks (stmt_origins calls results result ns s) is
     named_stmt ns ms e s is h = subst (λ ks. Marks (stmt_origins calls results result ks s) is) (sym e) h
 
-    named_turn : (ns ms : List Named) → ns ≡ ms → (body : Stmt) (third : MaybeStmt) (test : MaybeTerm) (n : Node) (is : List Instruction)
+    named_turn : (ns ms : List NamedVariable) → ns ≡ ms → (body : Stmt) (third : MaybeStmt) (test : MaybeTerm) (n : Node) (is : List Instruction)
         → Marks (stmt_origins calls results result ms body ++ (part_origins calls results result ms third ++ (condition_origins ms test n ++ times 1 n))) is
         → Marks (stmt_origins calls results result ns body ++ (part_origins calls results result ns third ++ (condition_origins ns test n ++ times 1 n))) is
     named_turn ns ms e body third test n is h =
@@ -212,7 +212,7 @@ module _ (base : ℕ) where
           joined (row_marked vs ss depth site (past (length last) exits))
           (named_stmt (names_after_all (names_of vs) ss) (names_of (variables_after_all vs ss)) (after_all_named vs ss) s last (stmt_marked (variables_after_all vs ss) s depth (site + all_sites barriers ss) exits))
 
-named_row : (calls : Calls) (results : ℕ → Option IntType) (f : Func) (ns ms : List Named) → ns ≡ ms → (is : List Instruction)
+named_row : (calls : Calls) (results : ℕ → Option IntType) (f : Func) (ns ms : List NamedVariable) → ns ≡ ms → (is : List Instruction)
     → Marks (row_origins calls results f.result ns f.body) is → Marks (row_origins calls results f.result ms f.body) is
 named_row calls results f ns ms e is h = subst (λ ks. Marks (row_origins calls results f.result ks f.body) is) e h
 

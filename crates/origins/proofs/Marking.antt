@@ -21,7 +21,7 @@ use Rattle.origins.specs.Marks.{Suits, CallsAtomic, called, names, Each, Marks}
 use Rattle.origins.proofs.Typed.{constant_named}
 use Rattle.origins.specs.declared.names.Meaning.{Meaning}
 use Rattle.origins.specs.declared.names.Meaning.TheVariants.{Unknown, Array, Plain}
-use Rattle.origins.specs.declared.names.Named.{Named}
+use Rattle.origins.specs.declared.names.NamedVariable.{NamedVariable}
 
 pub none : Marks [] []
 none = record { each = tt }
@@ -67,7 +67,7 @@ Seen Plain false (Some r) = Unit {0}
 Seen Plain false None = ⊥
 Seen Plain true r = ⊥
 
-last_meaning : (found : Meaning) (vs : List Named) (v : Named) (name : ℕ)
+last_meaning : (found : Meaning) (vs : List NamedVariable) (v : NamedVariable) (name : ℕ)
     → meaning_behind found (vs ++ v ∷ []) name ≡ elim (name == v.name) as (λ _. Meaning) [ true ↦ v.meaning | false ↦ meaning_behind found vs name ]
 last_meaning found [] v name = refl
 last_meaning found (u ∷ vs) v name = last_meaning (elim (name == u.name) as (λ _. Meaning) [ true ↦ u.meaning | false ↦ found ]) vs v name

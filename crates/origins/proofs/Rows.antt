@@ -20,13 +20,13 @@ use Rattle.origins.specs.Names.{plain, array_kind, array_meaning, names_after, n
 use Rattle.origins.specs.Origins.{Node, OfStmt, Origin, times, array_count, condition_origins}
 use Rattle.origins.specs.Settings.{stmt_in, part_in, row_in, assign_in, step_in, call_in, declare_in, return_in, for_in}
 use Rattle.origins.specs.Walks.{Walks}
-use Rattle.origins.specs.declared.names.Named.{Named}
+use Rattle.origins.specs.declared.names.NamedVariable.{NamedVariable}
 use Rattle.origins.specs.declared.node.WalkEnd.{WalkEnd}
 use Rattle.origins.specs.declared.setting.Setting.{Setting}
 use Rattle.origins.proofs.Stating.{of_six}
 
 -- the variables behind a declaration are those before it and others
-one_after : (names : List Named) (s : Stmt) → (more : List Named) × (names_after names s ≡ names ++ more)
+one_after : (names : List NamedVariable) (s : Stmt) → (more : List NamedVariable) × (names_after names s ≡ names ++ more)
 one_after names (Declare at kind name_at name) = (plain name kind ∷ [], refl)
 one_after names (DeclareAs at kind name_at name value) = (plain name kind ∷ [], refl)
 one_after names (DeclareArray at is_local element name_at name length_at count) = (record { name = name; kind = array_kind is_local element; meaning = array_meaning is_local count } ∷ [], refl)
@@ -45,11 +45,11 @@ one_after names (Continue at) = ([], sym (append-nil names))
 one_after names (Return at) = ([], sym (append-nil names))
 one_after names (ReturnValue at value) = ([], sym (append-nil names))
 
-pub part_after : (names : List Named) (part : MaybeStmt) → (more : List Named) × (names_after_part names part ≡ names ++ more)
+pub part_after : (names : List NamedVariable) (part : MaybeStmt) → (more : List NamedVariable) × (names_after_part names part ≡ names ++ more)
 part_after names Without = ([], sym (append-nil names))
 part_after names (With s) = one_after names s
 
-pub all_after : (names : List Named) (ss : Stmts) → (more : List Named) × (names_after_all names ss ≡ names ++ more)
+pub all_after : (names : List NamedVariable) (ss : Stmts) → (more : List NamedVariable) × (names_after_all names ss ≡ names ++ more)
 all_after names NoStmt = ([], sym (append-nil names))
 all_after names (ThenStmt ss s) =
     let before = all_after names ss in
@@ -75,8 +75,8 @@ for_stmt at None (Some e) (Some third) body = refl
 for_stmt at (Some first) (Some e) None body = refl
 for_stmt at (Some first) (Some e) (Some third) body = refl
 
-module _ (s : Setting) (names : List Named) where
-  abbrev S : List Named → Statement → List Origin
+module _ (s : Setting) (names : List NamedVariable) where
+  abbrev S : List NamedVariable → Statement → List Origin
   S ns e = stmt_in s ns (stmt e)
 
   abbrev N : Statement → Node
@@ -106,11 +106,11 @@ module _ (s : Setting) (names : List Named) where
       → e ≡ rust_statement.DeclareArray at is_local element name_at name length_at count → n ≡ array_count is_local → times n (N e) ≡ S names e
   array_whole e at is_local element name_at name length_at count n is n_is = ap₂ (λ (k : ℕ) (z : Statement). times k (N z)) n_is is ∙ sym (ap (S names) is)
 
-  pub assign_whole : (e : Statement) (at : ℕ) (to : Box rust_target.Target Global) (operator : Option BinaryOperator) (value : Box Expression Global) (ks : List Named) (t : rust_target.Target) (v : Expression)
+  pub assign_whole : (e : Statement) (at : ℕ) (to : Box rust_target.Target Global) (operator : Option BinaryOperator) (value : Box Expression Global) (ks : List NamedVariable) (t : rust_target.Target) (v : Expression)
       → e ≡ rust_statement.Assign at to operator value → ks ≡ names → t ≡ to.value → v ≡ value.value → assign_in s ks (tree_target t) operator (term v) (N e) ≡ S names e
   assign_whole e at to operator value ks t v is k t_is v_is =
       ap₂ (λ (x : rust_target.Target) (y : Expression). assign_in s ks (tree_target x) operator (term y) (N e)) t_is v_is
-      ∙ ap₂ (λ (ns : List Named) (z : Statement). assign_in s ns (tree_target to.value) operator (term value.value) (N z)) k is
+      ∙ ap₂ (λ (ns : List NamedVariable) (z : Statement). assign_in s ns (tree_target to.value) operator (term value.value) (N z)) k is
       ∙ by operator
       ∙ sym (ap (S names) is)
     where
@@ -118,27 +118,27 @@ module _ (s : Setting) (names : List Named) where
           → assign_in s names (tree_target to.value) o (term value.value) (N (rust_statement.Assign at to o value)) ≡ S names (rust_statement.Assign at to o value)
       by o = refl
 
-  pub step_whole : (e : Statement) (at : ℕ) (to : Box rust_target.Target Global) (is_increment : Bool) (ks : List Named) (t : rust_target.Target)
+  pub step_whole : (e : Statement) (at : ℕ) (to : Box rust_target.Target Global) (is_increment : Bool) (ks : List NamedVariable) (t : rust_target.Target)
       → e ≡ rust_statement.Step at to is_increment → ks ≡ names → t ≡ to.value → step_in ks (tree_target t) (N e) ≡ S names e
   step_whole e at to is_increment ks t is k t_is =
-      ap₂ (λ (ns : List Named) (x : rust_target.Target). step_in ns (tree_target x) (N e)) k t_is
+      ap₂ (λ (ns : List NamedVariable) (x : rust_target.Target). step_in ns (tree_target x) (N e)) k t_is
       ∙ ap (λ (z : Statement). step_in names (tree_target to.value) (N z)) is
       ∙ sym (ap (S names) is)
 
-  pub call_whole : (e : Statement) (at name : ℕ) (es : Vec Expression Global) (ks : List Named) (xs : List Expression) → e ≡ rust_statement.Call at name es → ks ≡ names → xs ≡ es.items
+  pub call_whole : (e : Statement) (at name : ℕ) (es : Vec Expression Global) (ks : List NamedVariable) (xs : List Expression) → e ≡ rust_statement.Call at name es → ks ≡ names → xs ≡ es.items
       → call_in s ks name (terms xs) (N e) ≡ S names e
   call_whole e at name es ks xs is k q =
-      ap (λ (ns : List Named). call_in s ns name (terms xs) (N e)) k
+      ap (λ (ns : List NamedVariable). call_in s ns name (terms xs) (N e)) k
       ∙ ap (λ (z : Stmt). call_in s names name (terms xs) (OfStmt z)) (call_is e at name es xs is q)
       ∙ sym (ap (λ (z : Stmt). stmt_in s names z) (call_is e at name es xs is q))
 
   pub jump_whole : (e f : Statement) → e ≡ f → times 1 (N f) ≡ S names f → times 1 (N e) ≡ S names e
   jump_whole e f is h = ap (λ (z : Statement). times 1 (N z)) is ∙ h ∙ sym (ap (S names) is)
 
-  pub return_whole : (e : Statement) (at : ℕ) (value : Option (Box Expression Global)) (ks : List Named) (t : MaybeTerm) → e ≡ rust_statement.Return at value → ks ≡ names → t ≡ maybe_term value
+  pub return_whole : (e : Statement) (at : ℕ) (value : Option (Box Expression Global)) (ks : List NamedVariable) (t : MaybeTerm) → e ≡ rust_statement.Return at value → ks ≡ names → t ≡ maybe_term value
       → return_in s ks t (N e) ≡ S names e
   return_whole e at value ks t is k t_is =
-      ap₂ (λ (ns : List Named) (u : MaybeTerm). return_in s ns u (N e)) k t_is
+      ap₂ (λ (ns : List NamedVariable) (u : MaybeTerm). return_in s ns u (N e)) k t_is
       ∙ ap (λ (z : Statement). return_in s names (maybe_term value) (N z)) is
       ∙ by value
       ∙ sym (ap (S names) is)
@@ -159,21 +159,21 @@ module _ (s : Setting) (names : List Named) where
       ap (λ (z : Stmt). for_in s names (part_of p) t (part_of q) (stmt b) (OfStmt z)) (sym now) ∙ ap (λ (z : Stmt). stmt_in s names z) now
 
   -- the parts of a `for`, each in the variables that are in scope there
-  pub for_joined : (first third : MaybeStmt) (test : MaybeTerm) (body : Stmt) (n : Node) (ds es ks : List Named) → ds ≡ names_after_part names first → es ≡ names_after_part names first → ks ≡ names_after_part names first
+  pub for_joined : (first third : MaybeStmt) (test : MaybeTerm) (body : Stmt) (n : Node) (ds es ks : List NamedVariable) → ds ≡ names_after_part names first → es ≡ names_after_part names first → ks ≡ names_after_part names first
       → ((((part_in s names first ++ times 3 n) ++ stmt_in s ds body) ++ part_in s es third) ++ condition_origins ks test n) ++ times 1 n ≡ for_in s names first test third body n
   for_joined first third test body n ds es ks d e k =
-      ap (λ (ns : List Named). ((((part_in s names first ++ times 3 n) ++ stmt_in s ns body) ++ part_in s es third) ++ condition_origins ks test n) ++ times 1 n) d
-      ∙ ap₂ (λ (ns ms : List Named). ((((part_in s names first ++ times 3 n) ++ stmt_in s (names_after_part names first) body) ++ part_in s ns third) ++ condition_origins ms test n) ++ times 1 n) e k
+      ap (λ (ns : List NamedVariable). ((((part_in s names first ++ times 3 n) ++ stmt_in s ns body) ++ part_in s es third) ++ condition_origins ks test n) ++ times 1 n) d
+      ∙ ap₂ (λ (ns ms : List NamedVariable). ((((part_in s names first ++ times 3 n) ++ stmt_in s (names_after_part names first) body) ++ part_in s ns third) ++ condition_origins ms test n) ++ times 1 n) e k
       ∙ of_six (part_in s names first) (times 3 n) (stmt_in s (names_after_part names first) body) (part_in s (names_after_part names first) third) (condition_origins (names_after_part names first) test n) (times 1 n)
 
   -- one statement more
-  pub row_passed : (inside : ℕ → List Origin) (ss : List Statement) (i n : ℕ) (r : Result ℕ WalkEnd) (e : Statement) (ks : List Named) → i < length ss → e ≡ get_or ss i e
+  pub row_passed : (inside : ℕ → List Origin) (ss : List Statement) (i n : ℕ) (r : Result ℕ WalkEnd) (e : Statement) (ks : List NamedVariable) → i < length ss → e ≡ get_or ss i e
       → ks ≡ names_after_all names (all_of (take i ss)) → Walks inside (row_in s names (all_of (take i ss)) ++ stmt_in s ks (stmt e)) n r → Walks inside (row_in s names (all_of (take (i + 1) ss))) n r
   row_passed inside ss i n r e ks below is k w =
       subst (λ (rs : Stmts). Walks inside (row_in s names rs) n r) (sym (row_more ss i e below is))
-      (subst (λ (ns : List Named). Walks inside (row_in s names (all_of (take i ss)) ++ stmt_in s ns (stmt e)) n r) k w)
+      (subst (λ (ns : List NamedVariable). Walks inside (row_in s names (all_of (take i ss)) ++ stmt_in s ns (stmt e)) n r) k w)
 
-  pub names_more : (ss : List Statement) (i : ℕ) (e : Statement) (ks ms : List Named) → i < length ss → e ≡ get_or ss i e → ks ≡ names_after_all names (all_of (take i ss)) → ms ≡ names_after ks (stmt e)
+  pub names_more : (ss : List Statement) (i : ℕ) (e : Statement) (ks ms : List NamedVariable) → i < length ss → e ≡ get_or ss i e → ks ≡ names_after_all names (all_of (take i ss)) → ms ≡ names_after ks (stmt e)
       → ms ≡ names_after_all names (all_of (take (i + 1) ss))
   names_more ss i e ks ms below is k m =
-      m ∙ ap (λ (ns : List Named). names_after ns (stmt e)) k ∙ sym (ap (λ (rs : Stmts). names_after_all names rs) (row_more ss i e below is))
+      m ∙ ap (λ (ns : List NamedVariable). names_after ns (stmt e)) k ∙ sym (ap (λ (rs : Stmts). names_after_all names rs) (row_more ss i e below is))

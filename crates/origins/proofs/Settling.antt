@@ -11,7 +11,7 @@ use Rattle.origins.specs.Origins.{Node, OfTerm, OfTarget, Origin, times, indexed
 use Rattle.origins.specs.Walks.{Walks}
 use Rattle.origins.specs.declared.names.Meaning.{Meaning}
 use Rattle.origins.specs.declared.names.Meaning.TheVariants.{Unknown, Array, Plain}
-use Rattle.origins.specs.declared.names.Named.{Named}
+use Rattle.origins.specs.declared.names.NamedVariable.{NamedVariable}
 use Rattle.origins.specs.declared.node.WalkEnd.{WalkEnd}
 
 pub settle : (inside : ℕ → List Origin) (xs ys : List Origin) (n : ℕ) (r : Result ℕ WalkEnd) → xs ≡ ys → Walks inside xs n r → Walks inside ys n r
@@ -24,7 +24,7 @@ unfolded o n xs e = sym (ap (λ (p : Option Integer). folded_origins p n xs) e)
 one_folded : (o : Option Integer) (v : Integer) (n : Node) (xs : List Origin) → o ≡ Some v → times 1 n ≡ folded_origins o n xs
 one_folded o v n xs e = sym (ap (λ (p : Option Integer). folded_origins p n xs) e)
 
-module _ (names : List Named) where
+module _ (names : List NamedVariable) where
   abbrev O : Expression → List Origin
   O x = expr_origins names (term x)
 

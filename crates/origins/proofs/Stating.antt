@@ -17,7 +17,7 @@ use Rattle.origins.specs.Names.{plain, parameter_names}
 use Rattle.origins.specs.Origins.{Node, OfTerm, OfStmt, OfFunc, Origin, times, expr_origins, terms_origins, target_origins, fetch_origins, needed_count, value_count, right_origins, call_statement_origins, row_origins, function_origins}
 use Rattle.origins.specs.Settings.{stmt_in, row_in, right_in, assign_in, call_in, declare_in, calls_in, results_in}
 use Rattle.clmodel.specs.declared.tree.VariableType.{VariableType}
-use Rattle.origins.specs.declared.names.Named.{Named}
+use Rattle.origins.specs.declared.names.NamedVariable.{NamedVariable}
 use Rattle.origins.specs.declared.setting.Setting.{Setting}
 
 -- five lists, and six, one behind another
@@ -30,49 +30,49 @@ of_six a b c d e f = append_assoc (((a ++ b) ++ c) ++ d) e f ∙ of_five a b c d
 of_loop : (a b c d e : List Origin) → (((a ++ b) ++ c) ++ d) ++ e ≡ a ++ (b ++ ((c ++ d) ++ e))
 of_loop a b c d e = of_five a b c d e ∙ ap (λ z. a ++ (b ++ z)) (sym (append_assoc c d e))
 
-module _ (s : Setting) (names : List Named) where
-  abbrev E : List Named → Expression → List Origin
+module _ (s : Setting) (names : List NamedVariable) where
+  abbrev E : List NamedVariable → Expression → List Origin
   E ns e = expr_origins ns (term e)
 
-  abbrev S : List Named → Statement → List Origin
+  abbrev S : List NamedVariable → Statement → List Origin
   S ns e = stmt_in s ns (stmt e)
 
   abbrev O : ℕ → Stmt → List Origin
   O n e = times n (OfStmt e)
 
-  pub if_whole : (e : Stmt) (at : ℕ) (ks ms : List Named) (t u : Expression) (x y : Statement) → ks ≡ names → t ≡ u → ms ≡ names → x ≡ y → e ≡ If at (term u) (stmt y)
+  pub if_whole : (e : Stmt) (at : ℕ) (ks ms : List NamedVariable) (t u : Expression) (x y : Statement) → ks ≡ names → t ≡ u → ms ≡ names → x ≡ y → e ≡ If at (term u) (stmt y)
       → (E ks t ++ O 1 e) ++ S ms x ≡ stmt_in s names e
   if_whole e at ks ms t u x y k p m q is =
-      ap₂ (λ (ns : List Named) (z : Expression). (E ns z ++ O 1 e) ++ S ms x) k p
-      ∙ ap₂ (λ (ns : List Named) (z : Statement). (E names u ++ O 1 e) ++ S ns z) m q
+      ap₂ (λ (ns : List NamedVariable) (z : Expression). (E ns z ++ O 1 e) ++ S ms x) k p
+      ∙ ap₂ (λ (ns : List NamedVariable) (z : Statement). (E names u ++ O 1 e) ++ S ns z) m q
       ∙ append_assoc (E names u) (O 1 e) (S names y)
       ∙ ap (λ (z : Stmt). E names u ++ (O 1 z ++ S names y)) is
       ∙ sym (ap (λ (z : Stmt). stmt_in s names z) is)
 
-  pub if_else_whole : (e : Stmt) (at : ℕ) (ks ms ls : List Named) (t u : Expression) (x y v w : Statement) → ks ≡ names → t ≡ u → ms ≡ names → x ≡ y → ls ≡ names → v ≡ w
+  pub if_else_whole : (e : Stmt) (at : ℕ) (ks ms ls : List NamedVariable) (t u : Expression) (x y v w : Statement) → ks ≡ names → t ≡ u → ms ≡ names → x ≡ y → ls ≡ names → v ≡ w
       → e ≡ IfElse at (term u) (stmt y) (stmt w) → (((E ks t ++ O 1 e) ++ S ms x) ++ O 1 e) ++ S ls v ≡ stmt_in s names e
   if_else_whole e at ks ms ls t u x y v w k p m q l r is =
-      ap₂ (λ (ns : List Named) (z : Expression). (((E ns z ++ O 1 e) ++ S ms x) ++ O 1 e) ++ S ls v) k p
-      ∙ ap₂ (λ (ns : List Named) (z : Statement). (((E names u ++ O 1 e) ++ S ns z) ++ O 1 e) ++ S ls v) m q
-      ∙ ap₂ (λ (ns : List Named) (z : Statement). (((E names u ++ O 1 e) ++ S names y) ++ O 1 e) ++ S ns z) l r
+      ap₂ (λ (ns : List NamedVariable) (z : Expression). (((E ns z ++ O 1 e) ++ S ms x) ++ O 1 e) ++ S ls v) k p
+      ∙ ap₂ (λ (ns : List NamedVariable) (z : Statement). (((E names u ++ O 1 e) ++ S ns z) ++ O 1 e) ++ S ls v) m q
+      ∙ ap₂ (λ (ns : List NamedVariable) (z : Statement). (((E names u ++ O 1 e) ++ S names y) ++ O 1 e) ++ S ns z) l r
       ∙ of_five (E names u) (O 1 e) (S names y) (O 1 e) (S names w)
       ∙ ap (λ (z : Stmt). E names u ++ (O 1 z ++ (S names y ++ (O 1 z ++ S names w)))) is
       ∙ sym (ap (λ (z : Stmt). stmt_in s names z) is)
 
-  pub while_whole : (e : Stmt) (at : ℕ) (ms ks : List Named) (x y : Statement) (t u : Expression) → ms ≡ names → x ≡ y → ks ≡ names → t ≡ u → e ≡ While at (term u) (stmt y)
+  pub while_whole : (e : Stmt) (at : ℕ) (ms ks : List NamedVariable) (x y : Statement) (t u : Expression) → ms ≡ names → x ≡ y → ks ≡ names → t ≡ u → e ≡ While at (term u) (stmt y)
       → (((O 3 e ++ S ms x) ++ E ks t) ++ O 1 e) ++ O 1 e ≡ stmt_in s names e
   while_whole e at ms ks x y t u m q k p is =
-      ap₂ (λ (ns : List Named) (z : Statement). (((O 3 e ++ S ns z) ++ E ks t) ++ O 1 e) ++ O 1 e) m q
-      ∙ ap₂ (λ (ns : List Named) (z : Expression). (((O 3 e ++ S names y) ++ E ns z) ++ O 1 e) ++ O 1 e) k p
+      ap₂ (λ (ns : List NamedVariable) (z : Statement). (((O 3 e ++ S ns z) ++ E ks t) ++ O 1 e) ++ O 1 e) m q
+      ∙ ap₂ (λ (ns : List NamedVariable) (z : Expression). (((O 3 e ++ S names y) ++ E ns z) ++ O 1 e) ++ O 1 e) k p
       ∙ of_loop (O 3 e) (S names y) (E names u) (O 1 e) (O 1 e)
       ∙ ap (λ (z : Stmt). O 3 z ++ (S names y ++ ((E names u ++ O 1 z) ++ O 1 z))) is
       ∙ sym (ap (λ (z : Stmt). stmt_in s names z) is)
 
-  pub do_whole : (e : Stmt) (at : ℕ) (ms ks : List Named) (x y : Statement) (t u : Expression) → ms ≡ names → x ≡ y → ks ≡ names → t ≡ u → e ≡ DoWhile at (stmt y) (term u)
+  pub do_whole : (e : Stmt) (at : ℕ) (ms ks : List NamedVariable) (x y : Statement) (t u : Expression) → ms ≡ names → x ≡ y → ks ≡ names → t ≡ u → e ≡ DoWhile at (stmt y) (term u)
       → (((O 2 e ++ S ms x) ++ E ks t) ++ O 1 e) ++ O 1 e ≡ stmt_in s names e
   do_whole e at ms ks x y t u m q k p is =
-      ap₂ (λ (ns : List Named) (z : Statement). (((O 2 e ++ S ns z) ++ E ks t) ++ O 1 e) ++ O 1 e) m q
-      ∙ ap₂ (λ (ns : List Named) (z : Expression). (((O 2 e ++ S names y) ++ E ns z) ++ O 1 e) ++ O 1 e) k p
+      ap₂ (λ (ns : List NamedVariable) (z : Statement). (((O 2 e ++ S ns z) ++ E ks t) ++ O 1 e) ++ O 1 e) m q
+      ∙ ap₂ (λ (ns : List NamedVariable) (z : Expression). (((O 2 e ++ S names y) ++ E ns z) ++ O 1 e) ++ O 1 e) k p
       ∙ of_loop (O 2 e) (S names y) (E names u) (O 1 e) (O 1 e)
       ∙ ap (λ (z : Stmt). O 2 z ++ (S names y ++ ((E names u ++ O 1 z) ++ O 1 z))) is
       ∙ sym (ap (λ (z : Stmt). stmt_in s names z) is)
@@ -113,25 +113,25 @@ module _ (s : Setting) (names : List Named) where
       ap₂ (λ (w : Bool) (g : Option BuiltIn). call_statement_origins (calls_in s) (results_in s) s.result names w g name arguments n) (sym b) (sym k)
 
   -- a declaration with an initialiser
-  pub declared : (ks : List Named) (kind : VariableType) (name : ℕ) (value : Term) (n : Node) → ks ≡ names ++ plain name kind ∷ []
+  pub declared : (ks : List NamedVariable) (kind : VariableType) (name : ℕ) (value : Term) (n : Node) → ks ≡ names ++ plain name kind ∷ []
       → (times 1 n ++ right_in s ks value) ++ times 1 n ≡ declare_in s names kind name value n
   declared ks kind name value n e =
-      append_assoc (times 1 n) (right_in s ks value) (times 1 n) ∙ ap (λ (ns : List Named). times 1 n ++ (right_in s ns value ++ times 1 n)) e
+      append_assoc (times 1 n) (right_in s ks value) (times 1 n) ∙ ap (λ (ns : List NamedVariable). times 1 n ++ (right_in s ns value ++ times 1 n)) e
 
 -- the variables before others
 taken_all : {A : Type 0} (xs ys : List A) → take (length xs) (xs ++ ys) ≡ xs
 taken_all [] ys = refl
 taken_all (x ∷ xs) ys = ap (λ rest. x ∷ rest) (taken_all xs ys)
 
-pub first_names : (count : ℕ) (xs ys zs : List Named) → count ≡ length xs → zs ≡ xs ++ ys → take count zs ≡ xs
+pub first_names : (count : ℕ) (xs ys zs : List NamedVariable) → count ≡ length xs → zs ≡ xs ++ ys → take count zs ≡ xs
 first_names count xs ys zs n e = ap (λ ns. take count ns) e ∙ ap (λ k. take k (xs ++ ys)) n ∙ taken_all xs ys
 
 -- a function: its parameters, its body and its end
-pub function_whole : (s : Setting) (f : Function) (ps : List Parameter) (bs : List Statement) (ns : List Named) (count : ℕ) → s.result ≡ f.result → ps ≡ f.parameters.items → bs ≡ f.body.items
+pub function_whole : (s : Setting) (f : Function) (ps : List Parameter) (bs : List Statement) (ns : List NamedVariable) (count : ℕ) → s.result ≡ f.result → ps ≡ f.parameters.items → bs ≡ f.body.items
     → ns ≡ parameter_names ps → count ≡ value_count f.result
     → (times (length ps) (OfFunc (func f)) ++ row_in s ns (all_of bs)) ++ times count (OfFunc (func f)) ≡ function_origins s.functions.now (func f)
 function_whole s f ps bs ns count r p b n k =
     append_assoc (times (length ps) (OfFunc (func f))) (row_in s ns (all_of bs)) (times count (OfFunc (func f)))
-    ∙ ap₂ (λ (ms : List Named) (m : ℕ). times (length ps) (OfFunc (func f)) ++ (row_in s ms (all_of bs) ++ times m (OfFunc (func f)))) n k
+    ∙ ap₂ (λ (ms : List NamedVariable) (m : ℕ). times (length ps) (OfFunc (func f)) ++ (row_in s ms (all_of bs) ++ times m (OfFunc (func f)))) n k
     ∙ ap₂ (λ (qs : List Parameter) (cs : List Statement). times (length qs) (OfFunc (func f)) ++ (row_in s (parameter_names qs) (all_of cs) ++ times (value_count f.result) (OfFunc (func f)))) p b
     ∙ ap (λ (t : Option IntType). times (length f.parameters.items) (OfFunc (func f)) ++ (row_origins (calls_in s) (results_in s) t (parameter_names f.parameters.items) (all_of f.body.items) ++ times (value_count f.result) (OfFunc (func f)))) r

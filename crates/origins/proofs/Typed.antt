@@ -9,17 +9,17 @@ use Rattle.clmodel.specs.declared.tree.VariableType.{VariableType}
 use Rattle.clmodel.specs.declared.tree.VariableType.TheVariants.{Integer}
 use Rattle.folding.specs.Constants.{unary_constant, cast_constant, infix_constant, choice_constant, call_constant, constant_of, constants_of}
 use Rattle.origins.specs.Names.{kind_behind, kind_of, variables_behind, variables_of, named, names_of}
-use Rattle.origins.specs.declared.names.Named.{Named}
+use Rattle.origins.specs.declared.names.NamedVariable.{NamedVariable}
 
 -- the type of a name
-kind_of_name : (vs : Variables) (ns : List Named) (name : ℕ) → kind_behind (declared_type vs name) ns name ≡ declared_type (variables_behind vs ns) name
+kind_of_name : (vs : Variables) (ns : List NamedVariable) (name : ℕ) → kind_behind (declared_type vs name) ns name ≡ declared_type (variables_behind vs ns) name
 kind_of_name vs [] name = refl
 kind_of_name vs (n ∷ ns) name = kind_of_name (variable n.name n.kind None ∷ vs) ns name
 
-pub kind_is : (ns : List Named) (name : ℕ) → kind_of ns name ≡ declared_type (variables_of ns) name
+pub kind_is : (ns : List NamedVariable) (name : ℕ) → kind_of ns name ≡ declared_type (variables_of ns) name
 kind_is ns name = kind_of_name [] ns name
 
-variables_last : (vs : Variables) (ns : List Named) (n : Named) → variables_behind vs (ns ++ n ∷ []) ≡ variable n.name n.kind None ∷ variables_behind vs ns
+variables_last : (vs : Variables) (ns : List NamedVariable) (n : NamedVariable) → variables_behind vs (ns ++ n ∷ []) ≡ variable n.name n.kind None ∷ variables_behind vs ns
 variables_last vs [] n = refl
 variables_last vs (m ∷ ns) n = variables_last (variable m.name m.kind None ∷ vs) ns n
 

@@ -8,6 +8,7 @@ use Rattle.clmodel.specs.Barrier.{is_barrier}
 use Rattle.clmodel.specs.BuiltIns.{built_in}
 use Rattle.clmodel.specs.Next.{HelperCall, helper_call}
 use Rattle.clmodel.specs.Tree.{Term, Number, Variable, Element, ElementAddress, Dereference, Call, Unary, Cast, Binary, Choice, Terms, NoTerm, ThenTerm, Target, TargetVariable, TargetElement, TargetDereference, Stmt, Empty, Block, Declare, DeclareAs, DeclareArray, Assign, Step, CallOnly, If, IfElse, While, DoWhile, For, Break, Continue, Return, ReturnValue, Stmts, NoStmt, ThenStmt, MaybeStmt, Without, With, MaybeTerm, WithoutTerm, WithTerm, Func, Funcs, NoFunc, ThenFunc, term, tree_target, stmt, func}
+use Rattle.clmodel.specs.Typing.Faults.{start, target_start}
 use Rattle.clmodel.specs.declared.setup.BuiltIn.{BuiltIn}
 use Rattle.clmodel.specs.declared.tree.Function.{Function}
 use Rattle.clmodel.specs.declared.tree.InfixOperator.{InfixOperator}
@@ -18,7 +19,7 @@ use Rattle.lower_code.specs.Emission.{functions_of}
 use Rattle.origins.specs.Names.{meaning_of, variables_of, plain, names_after_part, names_after_all, parameter_names}
 use Rattle.origins.specs.declared.names.Meaning.{Meaning}
 use Rattle.origins.specs.declared.names.Meaning.TheVariants.{Unknown, Array, Plain}
-use Rattle.origins.specs.declared.names.Named.{Named}
+use Rattle.origins.specs.declared.names.NamedVariable.{NamedVariable}
 use Rattle.origins.specs.declared.node.Node as rust_node
 use Rattle.origins.specs.declared.node.Node.TheVariants as rust
 
@@ -36,23 +37,6 @@ node_of (rust.Statement s) = OfStmt (stmt s.now)
 node_of (rust.Function f) = OfFunc (func f.now)
 
 -- where nodes begin in the source
-abbrev pub term_at : Term → ℕ
-term_at (Number at value) = at
-term_at (Variable at name) = at
-term_at (Element at name index) = at
-term_at (ElementAddress at name_at name index) = at
-term_at (Dereference at pointer) = at
-term_at (Call at name arguments) = at
-term_at (Unary at operator operand) = at
-term_at (Cast at target operand) = at
-term_at (Binary at operator left right) = at
-term_at (Choice at condition chosen otherwise) = at
-
-abbrev pub target_at : Target → ℕ
-target_at (TargetVariable at name) = at
-target_at (TargetElement at name index) = at
-target_at (TargetDereference at pointer) = at
-
 abbrev pub stmt_at : Stmt → ℕ
 stmt_at (Empty at) = at
 stmt_at (Block at body) = at
@@ -73,8 +57,8 @@ stmt_at (Return at) = at
 stmt_at (ReturnValue at value) = at
 
 abbrev pub node_at : Node → ℕ
-node_at (OfTerm e) = term_at e
-node_at (OfTarget t) = target_at t
+node_at (OfTerm e) = start e
+node_at (OfTarget t) = target_start t
 node_at (OfStmt s) = stmt_at s
 node_at (OfFunc f) = f.name_at
 
@@ -128,7 +112,7 @@ folded_origins None n origins = origins
 
 -- those of an expression: of its operands, and its own
 abbrev mutual
-  pub expr_origins : List Named → Term → List Origin
+  pub expr_origins : List NamedVariable → Term → List Origin
   expr_origins names (Number at value) = times 1 (OfTerm (Number at value))
   expr_origins names (Variable at name) = variable_origins (meaning_of names name) (OfTerm (Variable at name))
   expr_origins names (Element at name index) = element_origins (meaning_of names name) (OfTerm (Element at name index)) (expr_origins names index)
@@ -158,7 +142,7 @@ abbrev mutual
       ++ (expr_origins names otherwise
       ++ times 1 (OfTerm (Choice at condition chosen otherwise)))))))
 
-  pub terms_origins : List Named → Terms → List Origin
+  pub terms_origins : List NamedVariable → Terms → List Origin
   terms_origins names NoTerm = []
   terms_origins names (ThenTerm es e) = terms_origins names es ++ expr_origins names e
 
@@ -168,19 +152,19 @@ indexed_origins Unknown n index = address_origins Unknown n index
 indexed_origins Plain n index = address_origins Plain n index
 
 -- those of a target: its index, or the pointer to it
-abbrev pub target_origins : List Named → Target → List Origin
+abbrev pub target_origins : List NamedVariable → Target → List Origin
 target_origins names (TargetVariable at name) = []
 target_origins names (TargetElement at name index) = indexed_origins (meaning_of names name) (OfTarget (TargetElement at name index)) (expr_origins names index)
 target_origins names (TargetDereference at pointer) = expr_origins names pointer ++ times 1 (OfTarget (TargetDereference at pointer))
 
 -- the fetch of what a target has, for a node
-abbrev pub fetch_origins : List Named → Target → Node → List Origin
+abbrev pub fetch_origins : List NamedVariable → Target → Node → List Origin
 fetch_origins names (TargetVariable at name) n = variable_origins (meaning_of names name) n
 fetch_origins names (TargetElement at name index) n = times 1 n
 fetch_origins names (TargetDereference at pointer) n = times 1 n
 
 -- the condition of a loop, if there is one
-abbrev pub condition_origins : List Named → MaybeTerm → Node → List Origin
+abbrev pub condition_origins : List NamedVariable → MaybeTerm → Node → List Origin
 condition_origins names WithoutTerm n = []
 condition_origins names (WithTerm test) n = expr_origins names test ++ times 1 n
 
@@ -205,23 +189,23 @@ array_count false = 2
 
 -- In a function that returns a value of a type, with the helpers that it can call.
 module _ (calls : Calls) (results : ℕ → Option IntType) (result : Option IntType) where
-  abbrev pub right_origins : List Named → Option HelperCall → Term → List Origin
+  abbrev pub right_origins : List NamedVariable → Option HelperCall → Term → List Origin
   right_origins names (Some c) value =
       terms_origins names c.arguments ++ (calls (OfTerm value) c.name ++ times (needed_count (results c.name)) (OfTerm value))
   right_origins names None value = expr_origins names value
 
-  abbrev pub call_statement_origins : List Named → Bool → Option BuiltIn → ℕ → Terms → Node → List Origin
+  abbrev pub call_statement_origins : List NamedVariable → Bool → Option BuiltIn → ℕ → Terms → Node → List Origin
   call_statement_origins names true function name arguments n = times 1 n
   call_statement_origins names false (Some function) name arguments n = terms_origins names arguments ++ times 1 n
   call_statement_origins names false None name arguments n = terms_origins names arguments ++ calls n name
 
-  abbrev pub assign_origins : List Named → Target → Option BinaryOperator → Term → Node → List Origin
+  abbrev pub assign_origins : List NamedVariable → Target → Option BinaryOperator → Term → Node → List Origin
   assign_origins names target None value n = target_origins names target ++ (right_origins names (helper_call value) value ++ times 1 n)
   assign_origins names target (Some operator) value n =
       target_origins names target ++ (fetch_origins names target n ++ (right_origins names (helper_call value) value ++ times 2 n))
 
   abbrev mutual
-    pub stmt_origins : List Named → Stmt → List Origin
+    pub stmt_origins : List NamedVariable → Stmt → List Origin
     stmt_origins names (Empty at) = []
     stmt_origins names (Block at body) = row_origins names body
     stmt_origins names (Declare at kind name_at name) = times 1 (OfStmt (Declare at kind name_at name))
@@ -257,11 +241,11 @@ module _ (calls : Calls) (results : ℕ → Option IntType) (result : Option Int
     stmt_origins names (ReturnValue at value) =
         expr_origins names value ++ (times (value_count result) (OfStmt (ReturnValue at value)) ++ times 1 (OfStmt (ReturnValue at value)))
 
-    pub part_origins : List Named → MaybeStmt → List Origin
+    pub part_origins : List NamedVariable → MaybeStmt → List Origin
     part_origins names Without = []
     part_origins names (With s) = stmt_origins names s
 
-    pub row_origins : List Named → Stmts → List Origin
+    pub row_origins : List NamedVariable → Stmts → List Origin
     row_origins names NoStmt = []
     row_origins names (ThenStmt ss s) = row_origins names ss ++ stmt_origins (names_after_all names ss) s
 

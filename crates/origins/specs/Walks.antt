@@ -11,13 +11,13 @@ huge = 2 ^ 64 - 1
 -- The wanted instruction has so many before it. A walk passes all of the code, and says how many are left to pass
 -- behind it; or it stops there: the node is named whose instruction it is, or the place of a helper, by whose code it
 -- goes on. It is lost only in code that is huge.
-abbrev pub Leads : (ℕ → List Origin) → List Origin → ℕ → Result ℕ WalkEnd → Type 0
-Leads inside origins count (Ok left) = length origins + left ≡ count
-Leads inside origins count (Err (halt.Found node)) = slice_get origins count ≡ Some (itself (node_of node))
-Leads inside origins count (Err (halt.Inside e)) =
+abbrev pub WalksTo : (ℕ → List Origin) → List Origin → ℕ → Result ℕ WalkEnd → Type 0
+WalksTo inside origins count (Ok left) = length origins + left ≡ count
+WalksTo inside origins count (Err (halt.Found node)) = slice_get origins count ≡ Some (itself (node_of node))
+WalksTo inside origins count (Err (halt.Inside e)) =
     (o : Origin) × (slice_get (inside e.place) e.left ≡ Some o) × (slice_get origins count ≡ Some (entered e.call o)) × (length (inside e.place) ≤ length origins)
-Leads inside origins count (Err halt.Lost) = huge ≤ length origins
-Leads inside origins count (Err halt.OutOfMemory) = Unit {0}
+WalksTo inside origins count (Err halt.Lost) = huge ≤ length origins
+WalksTo inside origins count (Err halt.OutOfMemory) = Unit {0}
 
 pub record Walks (inside : ℕ → List Origin) (origins : List Origin) (count : ℕ) (result : Result ℕ WalkEnd) : Type 0 where
-  pub leads : Leads inside origins count result
+  pub leads : WalksTo inside origins count result

@@ -2,8 +2,6 @@
 #![tactic(auto)]
 
 ghost use Rattle.std.specs.Prelude.{◌≡◌, ◌++◌, ℕ, List};
-ghost use Rattle.std.specs.Option.{option_map};
-ghost use Rattle.clmodel.specs.Next as next;
 ghost use Rattle.clmodel.specs.Tree.{term, terms, tree_target};
 ghost use Rattle.origins.specs.Origins.{Origin, node_of};
 ghost use Rattle.origins.specs.Settings.{inside_in, right_in, assign_in, step_in, call_in, declare_in};
@@ -11,7 +9,7 @@ ghost use Rattle.origins.specs.Walks.{Walks};
 
 use crate::expressions::{pass_arguments, pass_expression, then_own};
 use crate::helpers::{needed_count, then_call};
-use crate::names::{Meaning, Named};
+use crate::names::{Meaning, NamedVariable};
 use crate::node::{Node, WalkEnd, pass_own};
 use crate::setting::Setting;
 use crate::targets::{pass_target, then_fetch};
@@ -19,38 +17,12 @@ use clmodel::barrier::is_barrier;
 use clmodel::setup::built_in_named;
 use clmodel::tree::{Expression, Target, VariableType};
 use clnum::BinaryOperator;
-
-/// A call of a helper in the tree.
-#[derive(Clone, Copy)]
-struct HelperCall<'a> {
-    name: u32,
-    arguments: &'a [Expression],
-}
-
-/// The call of a helper that an expression is.
-fn helper_call(value: &Expression) -> Option<HelperCall<'_>>
-    ensures { next.helper_call (term value.now) ≡ option_map (λ c. record { name = c.name; arguments = terms c.arguments.now }) result }
-{
-    match value {
-        Expression::Call {
-            name,
-            arguments,
-            ..
-        } => match built_in_named(*name) {
-            Some(_) => None,
-            None => Some(HelperCall {
-                name: *name,
-                arguments: arguments.as_slice(),
-            }),
-        },
-        _ => None,
-    }
-}
+use lower_code::assignments::helper_call;
 
 /// Passes the right side of an assignment: the call of a helper, or another expression.
 fn pass_right<'a>(
     setting: Setting<'_>,
-    names: &[Named],
+    names: &[NamedVariable],
     value: &'a Expression,
     left: usize,
 ) -> Result<usize, WalkEnd<'a>>
@@ -71,7 +43,7 @@ fn pass_right<'a>(
 fn then_right<'a>(
     passed: Result<usize, WalkEnd<'a>>,
     setting: Setting<'_>,
-    names: &[Named],
+    names: &[NamedVariable],
     value: &'a Expression,
 ) -> Result<usize, WalkEnd<'a>>
     ensures { (xs : List Origin) (n : ℕ) → Walks (inside_in setting.entry) xs n passed.entry → Walks (inside_in setting.entry) (xs ++ right_in setting.entry names.now (term value.now)) n result }
@@ -85,7 +57,7 @@ fn then_right<'a>(
 /// Passes an assignment. What is fetched for an operator stands before the right side.
 pub fn pass_assignment<'a>(
     setting: Setting<'_>,
-    names: &[Named],
+    names: &[NamedVariable],
     node: Node<'a>,
     target: &'a Target,
     operator: Option<BinaryOperator>,
@@ -106,7 +78,7 @@ pub fn pass_assignment<'a>(
 
 /// Passes an increment or a decrement.
 pub fn pass_step<'a>(
-    names: &[Named],
+    names: &[NamedVariable],
     node: Node<'a>,
     target: &'a Target,
     left: usize,
@@ -120,7 +92,7 @@ pub fn pass_step<'a>(
 /// Passes a call that is a whole statement.
 pub fn pass_call_statement<'a>(
     setting: Setting<'_>,
-    names: &[Named],
+    names: &[NamedVariable],
     node: Node<'a>,
     name: u32,
     arguments: &'a [Expression],
@@ -141,7 +113,7 @@ pub fn pass_call_statement<'a>(
 /// Passes a declaration with an initialiser, which sees the variable.
 pub fn pass_declaration<'a>(
     setting: Setting<'_>,
-    names: &mut Vec<Named>,
+    names: &mut Vec<NamedVariable>,
     node: Node<'a>,
     kind: VariableType,
     name: u32,
@@ -152,7 +124,7 @@ pub fn pass_declaration<'a>(
     ensures names { names.new.items ≡ names.old.items }
 {
     let count = names.len();
-    let named = Named {
+    let named = NamedVariable {
         name,
         kind,
         meaning: Meaning::Plain,

@@ -10,7 +10,7 @@ ghost use Rattle.origins.specs.Origins as origins;
 ghost use Rattle.origins.specs.Walks.{Walks};
 
 use crate::known::known_of;
-use crate::names::{Meaning, Named, meaning_of};
+use crate::names::{Meaning, NamedVariable, meaning_of};
 use crate::node::{Node, WalkEnd, pass_own};
 use clmodel::tree::{Expression, InfixOperator};
 
@@ -68,7 +68,7 @@ pub fn then_own<'a>(
 #[cycle(walk)]
 pub fn then_expression<'a>(
     passed: Result<usize, WalkEnd<'a>>,
-    names: &[Named],
+    names: &[NamedVariable],
     expression: &'a Expression,
 ) -> Result<usize, WalkEnd<'a>>
     ensures { (inside : ℕ → List Origin) (xs : List Origin) (n : ℕ) → Walks inside xs n passed.entry → Walks inside (xs ++ expr_origins names.now (term expression.now)) n result }
@@ -83,7 +83,7 @@ pub fn then_expression<'a>(
 /// expression has, once for each node above them.
 #[cycle(walk)]
 pub fn pass_expression<'a>(
-    names: &[Named],
+    names: &[NamedVariable],
     expression: &'a Expression,
     left: usize,
 ) -> Result<usize, WalkEnd<'a>>
@@ -98,7 +98,7 @@ pub fn pass_expression<'a>(
 /// Passes an expression that isn't constant.
 #[cycle(walk)]
 fn pass_parts<'a>(
-    names: &[Named],
+    names: &[NamedVariable],
     expression: &'a Expression,
     left: usize,
 ) -> Result<usize, WalkEnd<'a>>
@@ -170,7 +170,7 @@ fn pass_parts<'a>(
 /// Passes the value of a pointer variable moved by an index, which a node asks for.
 #[cycle(walk)]
 pub fn pass_address<'a>(
-    names: &[Named],
+    names: &[NamedVariable],
     meaning: Meaning,
     node: Node<'a>,
     index: &'a Expression,
@@ -185,7 +185,7 @@ pub fn pass_address<'a>(
 /// Passes arguments, from left to right.
 #[cycle(walk)]
 pub fn pass_arguments<'a>(
-    names: &[Named],
+    names: &[NamedVariable],
     arguments: &'a [Expression],
     left: usize,
 ) -> Result<usize, WalkEnd<'a>>

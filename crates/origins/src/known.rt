@@ -9,7 +9,7 @@ ghost use Rattle.clmodel.specs.declared.tree.VariableType.TheVariants.{Integer};
 ghost use Rattle.folding.specs.Constants.{constant_of, constants_of, call_constant};
 ghost use Rattle.origins.specs.Names.{variables_of};
 
-use crate::names::{Named, kind_of};
+use crate::names::{NamedVariable, kind_of};
 use clmodel::setup::built_in_named;
 use clmodel::tree::{Expression, VariableType};
 use clnum::{IntType, unary_kind};
@@ -17,7 +17,7 @@ use folding::{Known, base_type, call_type, constants, infix_type};
 
 /// The type of an expression and its value where it is constant. Each node of it is asked once.
 #[cycle(known)]
-pub fn known_of(names: &[Named], expression: &Expression) -> Known
+pub fn known_of(names: &[NamedVariable], expression: &Expression) -> Known
     ensures kind { result.kind ≡ type_of (variables_of names.now) (term expression.now) }
     ensures constant { result.constant ≡ constant_of (variables_of names.now) (term expression.now) }
 {
@@ -93,7 +93,7 @@ pub fn known_of(names: &[Named], expression: &Expression) -> Known
 
 /// The same of a call: the type comes from that of the first argument, and no function of integers has more than two.
 #[cycle(known)]
-fn known_call(names: &[Named], name: u32, arguments: &[Expression]) -> Known
+fn known_call(names: &[NamedVariable], name: u32, arguments: &[Expression]) -> Known
     ensures kind { result.kind ≡ Integer (call_type (built_in name) (argument_type (variables_of names.now) (terms arguments.now))) }
     ensures constant { result.constant ≡ call_constant (built_in name) (constants_of (variables_of names.now) (terms arguments.now)) }
 {

@@ -19,14 +19,14 @@ pub enum Meaning {
 
 /// A variable in scope.
 #[derive(Clone, Copy)]
-pub struct Named {
+pub struct NamedVariable {
     pub name: u32,
     pub kind: VariableType,
     pub meaning: Meaning,
 }
 
 /// What a name stands for among variables, the outermost first.
-pub fn meaning_of(names: &[Named], name: u32) -> Meaning
+pub fn meaning_of(names: &[NamedVariable], name: u32) -> Meaning
     ensures { result ≡ spec.meaning_of names.now name }
 {
     let mut found = Meaning::Unknown;
@@ -39,7 +39,7 @@ pub fn meaning_of(names: &[Named], name: u32) -> Meaning
 }
 
 /// The type of a variable among these; int where there is none.
-pub fn kind_of(names: &[Named], name: u32) -> VariableType
+pub fn kind_of(names: &[NamedVariable], name: u32) -> VariableType
     ensures { result ≡ spec.kind_of names.now name }
 {
     let mut found = VariableType::Integer(IntType::Int);
@@ -79,13 +79,13 @@ fn array_meaning(is_local: bool, length: Value) -> Meaning
 }
 
 /// Adds the variable of a declaration. An error is out of memory.
-pub fn declare(names: &mut Vec<Named>, statement: &Statement) -> Result<(), AllocError>
+pub fn declare(names: &mut Vec<NamedVariable>, statement: &Statement) -> Result<(), AllocError>
     ensures declared { OnOk result (names.new.items ≡ spec.names_after names.old.items (stmt statement.now)) }
     ensures same { OnErr result (names.new.items ≡ names.old.items) }
 {
     match statement {
         Statement::Declare { kind, name, .. } => {
-            names.push(Named {
+            names.push(NamedVariable {
                 name: *name,
                 kind: *kind,
                 meaning: Meaning::Plain,
@@ -99,7 +99,7 @@ pub fn declare(names: &mut Vec<Named>, statement: &Statement) -> Result<(), Allo
             length,
             ..
         } => {
-            names.push(Named {
+            names.push(NamedVariable {
                 name: *name,
                 kind: array_kind(*is_local, *element),
                 meaning: array_meaning(*is_local, *length),
@@ -112,13 +112,13 @@ pub fn declare(names: &mut Vec<Named>, statement: &Statement) -> Result<(), Allo
 
 /// Adds the parameters of a function. An error is out of memory.
 pub fn declare_parameters(
-    names: &mut Vec<Named>,
+    names: &mut Vec<NamedVariable>,
     parameters: &[Parameter],
 ) -> Result<(), AllocError>
     ensures { OnOk result (names.new.items ≡ names.old.items ++ spec.parameter_names parameters.now) }
 {
     for i in 0..parameters.len() {
-        names.push(Named {
+        names.push(NamedVariable {
             name: parameters[i].name,
             kind: parameters[i].kind,
             meaning: Meaning::Plain,

@@ -3,8 +3,8 @@
 
 ghost use Rattle.std.specs.Prelude.{◌≡◌, ℕ, List};
 ghost use Rattle.clmodel.specs.Tree.{term, tree_target, stmt};
-ghost use Rattle.origins.specs.Origins.{Origin, node_of, times, node_at, term_at, stmt_at};
-ghost use Rattle.origins.specs.Origins as spec;
+ghost use Rattle.clmodel.specs.Typing.Faults.{start, target_start};
+ghost use Rattle.origins.specs.Origins.{Origin, node_of, times, node_at, stmt_at};
 ghost use Rattle.origins.specs.Walks.{Walks};
 
 use clmodel::tree::{Expression, Function, Statement, Target};
@@ -51,7 +51,7 @@ impl<'a> From<AllocError> for WalkEnd<'a> {
 
 /// Where an expression begins in the source.
 fn expression_at(expression: &Expression) -> u32
-    ensures { result ≡ term_at (term expression.now) }
+    ensures { result ≡ start (term expression.now) }
 {
     match expression {
         Expression::Number { at, .. }
@@ -69,7 +69,7 @@ fn expression_at(expression: &Expression) -> u32
 
 /// Where a target begins.
 fn target_at(target: &Target) -> u32
-    ensures { result ≡ spec.target_at (tree_target target.now) }
+    ensures { result ≡ target_start (tree_target target.now) }
 {
     match target {
         Target::Variable { at, .. } | Target::Element { at, .. } | Target::Dereference { at, .. } =>

@@ -13,7 +13,7 @@ ghost use Rattle.origins.specs.Walks.{Walks};
 
 use crate::assignments::{pass_assignment, pass_call_statement, pass_declaration, pass_step};
 use crate::expressions::{pass_expression, then_expression, then_own};
-use crate::names::{Named, declare};
+use crate::names::{NamedVariable, declare};
 use crate::node::{Node, WalkEnd, pass_own};
 use crate::setting::Setting;
 use clmodel::tree::{Expression, Statement};
@@ -50,7 +50,7 @@ fn array_count(is_local: bool) -> usize
 /// Passes the return of a value, or without one.
 fn pass_return<'a>(
     setting: Setting<'_>,
-    names: &[Named],
+    names: &[NamedVariable],
     node: Node<'a>,
     value: Option<&'a Expression>,
     left: usize,
@@ -69,7 +69,7 @@ fn pass_return<'a>(
 /// What a walk passed, and then the condition of a `for`, if there is one.
 fn then_condition<'a>(
     passed: Result<usize, WalkEnd<'a>>,
-    names: &[Named],
+    names: &[NamedVariable],
     node: Node<'a>,
     condition: Option<&'a Expression>,
 ) -> Result<usize, WalkEnd<'a>>
@@ -82,7 +82,7 @@ fn then_condition<'a>(
 }
 
 /// Adds the variable of the first part of a `for`. An error is out of memory.
-fn declare_part(names: &mut Vec<Named>, part: Option<&Statement>) -> Result<(), AllocError>
+fn declare_part(names: &mut Vec<NamedVariable>, part: Option<&Statement>) -> Result<(), AllocError>
     ensures declared { OnOk result (names.new.items ≡ names_after_part names.old.items (part_of part.entry)) }
     ensures same { OnErr result (names.new.items ≡ names.old.items) }
 {
@@ -96,7 +96,7 @@ fn declare_part(names: &mut Vec<Named>, part: Option<&Statement>) -> Result<(), 
 #[cycle(walk)]
 fn pass_statement<'a>(
     setting: Setting<'_>,
-    names: &mut Vec<Named>,
+    names: &mut Vec<NamedVariable>,
     statement: &'a Statement,
     left: usize,
 ) -> Result<usize, WalkEnd<'a>>
@@ -196,7 +196,7 @@ fn pass_statement<'a>(
 fn then_statement<'a>(
     passed: Result<usize, WalkEnd<'a>>,
     setting: Setting<'_>,
-    names: &mut Vec<Named>,
+    names: &mut Vec<NamedVariable>,
     statement: &'a Statement,
 ) -> Result<usize, WalkEnd<'a>>
     ensures walks { (xs : List Origin) (n : ℕ) → Walks (inside_in setting.entry) xs n passed.entry → Walks (inside_in setting.entry) (xs ++ stmt_in setting.entry names.old.items (stmt statement.now)) n result }
@@ -213,7 +213,7 @@ fn then_statement<'a>(
 fn then_part<'a>(
     passed: Result<usize, WalkEnd<'a>>,
     setting: Setting<'_>,
-    names: &mut Vec<Named>,
+    names: &mut Vec<NamedVariable>,
     part: Option<&'a Statement>,
 ) -> Result<usize, WalkEnd<'a>>
     ensures walks { (xs : List Origin) (n : ℕ) → Walks (inside_in setting.entry) xs n passed.entry → Walks (inside_in setting.entry) (xs ++ part_in setting.entry names.old.items (part_of part.entry)) n result }
@@ -229,7 +229,7 @@ fn then_part<'a>(
 #[cycle(walk)]
 fn pass_branch<'a>(
     setting: Setting<'_>,
-    names: &mut Vec<Named>,
+    names: &mut Vec<NamedVariable>,
     node: Node<'a>,
     condition: &'a Expression,
     chosen: &'a Statement,
@@ -247,7 +247,7 @@ fn pass_branch<'a>(
 #[cycle(walk)]
 fn pass_loop<'a>(
     setting: Setting<'_>,
-    names: &mut Vec<Named>,
+    names: &mut Vec<NamedVariable>,
     node: Node<'a>,
     count: usize,
     body: &'a Statement,
@@ -268,7 +268,7 @@ fn pass_loop<'a>(
 #[cycle(walk)]
 fn pass_for<'a>(
     setting: Setting<'_>,
-    names: &mut Vec<Named>,
+    names: &mut Vec<NamedVariable>,
     node: Node<'a>,
     parts: ForParts<'a>,
     left: usize,
@@ -295,7 +295,7 @@ fn pass_for<'a>(
 #[cycle(walk)]
 fn pass_statements<'a>(
     setting: Setting<'_>,
-    names: &mut Vec<Named>,
+    names: &mut Vec<NamedVariable>,
     statements: &'a [Statement],
     left: usize,
 ) -> Result<usize, WalkEnd<'a>>
@@ -323,7 +323,7 @@ fn pass_statements<'a>(
 pub fn then_statements<'a>(
     passed: Result<usize, WalkEnd<'a>>,
     setting: Setting<'_>,
-    names: &mut Vec<Named>,
+    names: &mut Vec<NamedVariable>,
     statements: &'a [Statement],
 ) -> Result<usize, WalkEnd<'a>>
     ensures { (xs : List Origin) (n : ℕ) → Walks (inside_in setting.entry) xs n passed.entry → Walks (inside_in setting.entry) (xs ++ row_in setting.entry names.old.items (all_of statements.now)) n result }

@@ -7,13 +7,13 @@ ghost use Rattle.origins.specs.Origins.{Origin, node_of, target_origins, fetch_o
 ghost use Rattle.origins.specs.Walks.{Walks};
 
 use crate::expressions::{pass_address, pass_expression, pass_variable, then_own};
-use crate::names::{Meaning, Named, meaning_of};
+use crate::names::{Meaning, NamedVariable, meaning_of};
 use crate::node::{Node, WalkEnd, pass_own};
 use clmodel::tree::Target;
 
 /// Passes the code of a target: its index, or the pointer to it.
 pub fn pass_target<'a>(
-    names: &[Named],
+    names: &[NamedVariable],
     target: &'a Target,
     left: usize,
 ) -> Result<usize, WalkEnd<'a>>
@@ -35,7 +35,7 @@ pub fn pass_target<'a>(
 
 /// Passes the fetch of what a target has, which a node asks for.
 pub fn pass_fetch<'a>(
-    names: &[Named],
+    names: &[NamedVariable],
     target: &Target,
     node: Node<'a>,
     left: usize,
@@ -52,7 +52,7 @@ pub fn pass_fetch<'a>(
 /// What a walk passed, and then that fetch.
 pub fn then_fetch<'a>(
     passed: Result<usize, WalkEnd<'a>>,
-    names: &[Named],
+    names: &[NamedVariable],
     target: &Target,
     node: Node<'a>,
 ) -> Result<usize, WalkEnd<'a>>

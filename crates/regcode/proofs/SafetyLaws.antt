@@ -30,7 +30,7 @@ use Rattle.clmodel.specs.declared.tree.VariableType.{VariableType}
 use Rattle.clmodel.specs.declared.tree.VariableType.TheVariants as variable_type
 use Rattle.regcode.specs.Listing.{Listing}
 use Rattle.regcode.specs.Machine.{State, ItemContext, Registers, reg, put, put_array, array_of, entry_at, act, name_of, with_put, with_array, with_turns, passed, onward, argument_at}
-use Rattle.regcode.specs.Rules.{IsVerified, Fits, LeadsInside, Takes, HasRoom, Leads, kind_at, loops_at, kind_of, held_kind, number_kind, common_kind, changed_kind, binary_operation_kind, of_one_kind, of_two_kind, offset_kind, loaded_kind, fetched_kind, is_integer, is_pointer, is_atomic, is_turn}
+use Rattle.regcode.specs.Rules.{IsVerified, Fits, LeadsInside, Takes, HasRoom, MayGoOn, kind_at, loops_at, kind_of, held_kind, number_kind, common_kind, changed_kind, binary_operation_kind, of_one_kind, of_two_kind, offset_kind, loaded_kind, fetched_kind, is_integer, is_pointer, is_atomic, is_turn}
 use Rattle.regcode.specs.Safety.{Suits, operand_kind, InTables, Proceeds, ended, failed, on_at, after_at, asked, ticked, IsNext, NeverSticks}
 use Rattle.regcode.specs.declared.instruction.FetchOperands.TheVariants as operands
 use Rattle.regcode.specs.declared.instruction.Instruction.{Instruction}
@@ -293,16 +293,16 @@ module _ (code : Listing) (s : State) (suits : Suits code s) where
         | inr n ↦ subst (λ xs. length xs ≤ slice_index code.arrays a) (sym (array_kept s.registers array elements a n)) (suits.room a)
       ]
 
-  set_next : (to : ℕ) (v : Option Operand) → to < length code.registers → ((w : Operand) → v ≡ Some w → kind_at code to ≡ Some (operand_kind w)) → Leads code (s.place + 1) (loops_at code s.place) → IsNext code s (with_put s to v)
+  set_next : (to : ℕ) (v : Option Operand) → to < length code.registers → ((w : Operand) → v ≡ Some w → kind_at code to ≡ Some (operand_kind w)) → MayGoOn code (s.place + 1) (loops_at code s.place) → IsNext code s (with_put s to v)
   set_next to v below fits leads =
       let counted = suits.counted in
       let few = leads.1 in
       record { suits = record { inside = leads.0; registers = put_size to v below; arrays = suits.arrays; typed = put_typed to v fits; room = suits.room; counted = omega (arith, counted, few) }; forward = inl (omega arith) }
 
-  put_next : (to : ℕ) (v : Operand) → kind_at code to ≡ Some (operand_kind v) → Leads code (s.place + 1) (loops_at code s.place) → IsNext code s (with_put s to (Some v))
+  put_next : (to : ℕ) (v : Operand) → kind_at code to ≡ Some (operand_kind v) → MayGoOn code (s.place + 1) (loops_at code s.place) → IsNext code s (with_put s to (Some v))
   put_next to v is leads = set_next to (Some v) (kind_within code to _ is) (λ w e. is ∙ ap (option_map operand_kind) e) leads
 
-  array_next : (array : ℕ) (elements : List (Option ℕ)) → array < length code.arrays → length elements ≤ slice_index code.arrays array → Leads code (s.place + 1) (loops_at code s.place) → IsNext code s (with_array s array elements)
+  array_next : (array : ℕ) (elements : List (Option ℕ)) → array < length code.arrays → length elements ≤ slice_index code.arrays array → MayGoOn code (s.place + 1) (loops_at code s.place) → IsNext code s (with_array s array elements)
   array_next array elements below small leads =
       let counted = suits.counted in
       let few = leads.1 in
@@ -310,13 +310,13 @@ module _ (code : Listing) (s : State) (suits : Suits code s) where
       let size = with_entry_length [] s.registers.arrays array elements (omega (arith, below, same)) ∙ same in
       record { suits = record { inside = leads.0; registers = suits.registers; arrays = size; typed = suits.typed; room = array_room array elements small; counted = omega (arith, counted, few) }; forward = inl (omega arith) }
 
-  onward_next : (next : ℕ) → s.place < next → Leads code next (loops_at code s.place) → IsNext code s (record s { place = next })
+  onward_next : (next : ℕ) → s.place < next → MayGoOn code next (loops_at code s.place) → IsNext code s (record s { place = next })
   onward_next next further leads =
       let counted = suits.counted in
       let few = leads.1 in
       record { suits = record { inside = leads.0; registers = suits.registers; arrays = suits.arrays; typed = suits.typed; room = suits.room; counted = omega (arith, counted, few) }; forward = inl further }
 
-  turns_next : (depth count : ℕ) → depth ≤ loops_at code s.place → Leads code (s.place + 1) (depth + 1) → IsNext code s (with_turns s (take depth s.counters ++ count ∷ []))
+  turns_next : (depth count : ℕ) → depth ≤ loops_at code s.place → MayGoOn code (s.place + 1) (depth + 1) → IsNext code s (with_turns s (take depth s.counters ++ count ∷ []))
   turns_next depth count within leads =
       let counted = suits.counted in
       let few = leads.1 in

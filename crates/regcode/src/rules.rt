@@ -225,7 +225,7 @@ impl Judged<'_> {
 
     /// Whether code may go on at a place where n loops are entered.
     fn leads(&self, place: usize, entered: usize) -> bool
-        ensures { IsTrue result ↔ spec.Leads (listing self.now.instructions.now self.now.tables.now) place entered }
+        ensures { IsTrue result ↔ spec.MayGoOn (listing self.now.instructions.now self.now.tables.now) place entered }
     {
         place < self.instructions.len() && self.loops(place) <= entered
     }

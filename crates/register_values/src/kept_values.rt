@@ -1,4 +1,4 @@
-//! Operators on what registers have (OpenCL 1.2, sections 6.2 and 6.3): numbers stay 64 bits.
+//! The operators on the values of registers, in all cases (OpenCL 1.2, sections 6.2 and 6.3). Numbers stay 64 bits.
 #![tactic(auto)]
 
 ghost use Rattle.std.specs.Prelude.{◌≡◌, Bool, Option, Some, pos};
@@ -10,7 +10,7 @@ ghost use Rattle.clmodel.specs.declared.operand.Operand.{Operand};
 ghost use Rattle.clmodel.specs.declared.operand.Operand.TheVariants as operand;
 ghost use Rattle.clmodel.specs.declared.tree.VariableType.TheVariants as variable_type;
 ghost use Rattle.register_values.specs.RegisterValues as kept;
-ghost use Rattle.register_values.specs.Leading.{Leads};
+ghost use Rattle.register_values.specs.Leading.{RunsOnAs};
 
 use crate::operators::binary_operation;
 use crate::register_value::{Form, RegisterValue};
@@ -53,7 +53,7 @@ pub fn held(kind: VariableType, value: RegisterValue) -> RegisterValue
 
 /// What a register has, which must be a number, in another type.
 pub fn converted_value(value: RegisterValue, kind: IntType) -> Result<RegisterValue, Termination>
-    ensures { (v : Operand) (after : Option Operand → Continuation) → value ≡ Some v → Leads result (next.number v (λ n. after (Some (operand.Integral (converted n kind))))) after }
+    ensures { (v : Operand) (after : Option Operand → Continuation) → value ≡ Some v → RunsOnAs result (next.number v (λ n. after (Some (operand.Integral (converted n kind))))) after }
 {
     match value.form {
         Form::Integral => Ok(converted_bits(value.kind, value.bits, kind)),
@@ -63,7 +63,7 @@ pub fn converted_value(value: RegisterValue, kind: IntType) -> Result<RegisterVa
 
 /// What a register has, which must be a number, in the common type of its own and another type (C99 6.3.1.8).
 pub fn common_value(value: RegisterValue, other: IntType) -> Result<RegisterValue, Termination>
-    ensures { (v : Operand) (after : Option Operand → Continuation) → value ≡ Some v → Leads result (next.chosen_value v (variable_type.Integer other) (λ w. after (Some w))) after }
+    ensures { (v : Operand) (after : Option Operand → Continuation) → value ≡ Some v → RunsOnAs result (next.chosen_value v (variable_type.Integer other) (λ w. after (Some w))) after }
 {
     match value.form {
         Form::Integral => {
@@ -85,7 +85,7 @@ fn unary_bits(operator: UnaryOperator, kind: IntType, bits: u64) -> RegisterValu
 
 /// An operator on what a register has, which must be a number.
 pub fn unary_of(operator: UnaryOperator, value: RegisterValue) -> Result<RegisterValue, Termination>
-    ensures { (v : Operand) (after : Option Operand → Continuation) → value ≡ Some v → Leads result (next.number v (λ n. after (Some (operand.Integral (unary_value operator n))))) after }
+    ensures { (v : Operand) (after : Option Operand → Continuation) → value ≡ Some v → RunsOnAs result (next.number v (λ n. after (Some (operand.Integral (unary_value operator n))))) after }
 {
     match value.form {
         Form::Integral => Ok(unary_bits(operator, value.kind, value.bits)),
@@ -104,7 +104,7 @@ pub(crate) fn binary_result(
 ) -> Result<RegisterValue, Termination>
     requires left { IsIn left_kind (kept.number_of left_kind left) }
     requires right { IsIn right_kind (kept.number_of right_kind right) }
-    ensures { (after : Option Operand → Continuation) → Leads result (next.arithmetic (binary_value operator (kept.integer left_kind left) (kept.integer right_kind right)) (λ x. after (Some x))) after }
+    ensures { (after : Option Operand → Continuation) → RunsOnAs result (next.arithmetic (binary_value operator (kept.integer left_kind left) (kept.integer right_kind right)) (λ x. after (Some x))) after }
 {
     match binary_word(operator, left_kind, left, right_kind, right) {
         Ok(bits) => Ok(RegisterValue::of_bits(binary_kind(operator, left_kind, right_kind), bits)),
@@ -119,7 +119,7 @@ fn binary_operation_by_value(
     left: RegisterValue,
     right: RegisterValue,
 ) -> Result<RegisterValue, Termination>
-    ensures { (v w : Operand) (after : Option Operand → Continuation) → left ≡ Some v → right ≡ Some w → Leads result (next.binary_operation operator v w (λ x. after (Some x))) after }
+    ensures { (v w : Operand) (after : Option Operand → Continuation) → left ≡ Some v → right ≡ Some w → RunsOnAs result (next.binary_operation operator v w (λ x. after (Some x))) after }
 {
     match left.value() {
         Some(v) => match right.value() {
@@ -139,7 +139,7 @@ pub fn binary_operation_on_values(
     left: RegisterValue,
     right: RegisterValue,
 ) -> Result<RegisterValue, Termination>
-    ensures { (v w : Operand) (after : Option Operand → Continuation) → left ≡ Some v → right ≡ Some w → Leads result (next.binary_operation operator v w (λ x. after (Some x))) after }
+    ensures { (v w : Operand) (after : Option Operand → Continuation) → left ≡ Some v → right ≡ Some w → RunsOnAs result (next.binary_operation operator v w (λ x. after (Some x))) after }
 {
     match left.form {
         Form::Integral => match right.form {
@@ -152,7 +152,7 @@ pub fn binary_operation_on_values(
 
 /// What a register has, which must be a pointer.
 pub fn pointer_of(value: RegisterValue) -> Result<RegisterValue, Termination>
-    ensures { (v : Operand) (after : Option Operand → Continuation) → value ≡ Some v → Leads result (next.pointing v (λ p. after (Some (operand.Pointed p)))) after }
+    ensures { (v : Operand) (after : Option Operand → Continuation) → value ≡ Some v → RunsOnAs result (next.pointing v (λ p. after (Some (operand.Pointed p)))) after }
 {
     match value.form {
         Form::Buffer => Ok(value),
@@ -168,7 +168,7 @@ pub fn moved_value(
     pointer: RegisterValue,
     index: RegisterValue,
 ) -> Result<RegisterValue, Termination>
-    ensures { (v w : Operand) (after : Option Operand → Continuation) → pointer ≡ Some v → index ≡ Some w → Leads result (next.moved v w (λ q. after (Some (operand.Pointed q)))) after }
+    ensures { (v w : Operand) (after : Option Operand → Continuation) → pointer ≡ Some v → index ≡ Some w → RunsOnAs result (next.moved v w (λ q. after (Some (operand.Pointed q)))) after }
 {
     let bits = pointer.bits.wrapping_add(index.bits);
     match index.form {
@@ -194,7 +194,7 @@ pub fn moved_value(
 /// Whether what a register has, which must be a number, isn't zero.
 #[inline(always)]
 pub fn tested_value(value: RegisterValue) -> Result<bool, Termination>
-    ensures { (v : Operand) (after : Bool → Continuation) → value ≡ Some v → Leads result (next.test v after) after }
+    ensures { (v : Operand) (after : Bool → Continuation) → value ≡ Some v → RunsOnAs result (next.test v after) after }
 {
     match value.form {
         Form::Integral => Ok(value.bits != 0),

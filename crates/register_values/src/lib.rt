@@ -1,4 +1,4 @@
-//! What the registers of an item have: a value in 16 bytes, or nothing; and the operators on it.
+//! The values of an item's registers, each of 16 bytes or unset, and the operators on them.
 //!
 //! A register gives back the value that was put there, or that there is none. Numbers stay 64 bits, those of a negative
 //! one as its two's complement: each operator gives the value of the defined one, the fault with which a run fails

@@ -39,7 +39,7 @@ pub fn wrapped_word(kind: IntType, bits: u64) -> u64
 
 /// The sum of two numbers of a type, from the bits of any numbers that wrap to them.
 #[inline(always)]
-pub fn added_words(kind: IntType, left: u64, right: u64) -> u64
+fn added_words(kind: IntType, left: u64, right: u64) -> u64
     ensures { (x y : ℤ) → word x ≡ left → word y ≡ right → result ≡ word (wrap kind (wrap kind x +ℤ wrap kind y)) }
 {
     wrapped_word(kind, left.wrapping_add(right))
@@ -47,7 +47,7 @@ pub fn added_words(kind: IntType, left: u64, right: u64) -> u64
 
 /// The difference.
 #[inline(always)]
-pub fn subtracted_words(kind: IntType, left: u64, right: u64) -> u64
+fn subtracted_words(kind: IntType, left: u64, right: u64) -> u64
     ensures { (x y : ℤ) → word x ≡ left → word y ≡ right → result ≡ word (wrap kind (wrap kind x -ℤ wrap kind y)) }
 {
     wrapped_word(kind, left.wrapping_sub(right))
@@ -55,7 +55,7 @@ pub fn subtracted_words(kind: IntType, left: u64, right: u64) -> u64
 
 /// The product.
 #[inline(always)]
-pub fn multiplied_words(kind: IntType, left: u64, right: u64) -> u64
+fn multiplied_words(kind: IntType, left: u64, right: u64) -> u64
     ensures { (x y : ℤ) → word x ≡ left → word y ≡ right → result ≡ word (wrap kind (wrap kind x *ℤ wrap kind y)) }
 {
     wrapped_word(kind, left.wrapping_mul(right))
@@ -63,7 +63,7 @@ pub fn multiplied_words(kind: IntType, left: u64, right: u64) -> u64
 
 /// The bits that both have.
 #[inline(always)]
-pub fn anded_words(kind: IntType, left: u64, right: u64) -> u64
+fn anded_words(kind: IntType, left: u64, right: u64) -> u64
     ensures { (x y : ℤ) → word x ≡ left → word y ≡ right → result ≡ word (wrap kind (pos (bit_and (bits_of kind x) (bits_of kind y)))) }
 {
     wrapped_word(kind, left & right)
@@ -71,7 +71,7 @@ pub fn anded_words(kind: IntType, left: u64, right: u64) -> u64
 
 /// The bits that just one of them has.
 #[inline(always)]
-pub fn xored_words(kind: IntType, left: u64, right: u64) -> u64
+fn xored_words(kind: IntType, left: u64, right: u64) -> u64
     ensures { (x y : ℤ) → word x ≡ left → word y ≡ right → result ≡ word (wrap kind (pos (bit_xor (bits_of kind x) (bits_of kind y)))) }
 {
     wrapped_word(kind, left ^ right)
@@ -79,7 +79,7 @@ pub fn xored_words(kind: IntType, left: u64, right: u64) -> u64
 
 /// The bits that one of them has.
 #[inline(always)]
-pub fn ored_words(kind: IntType, left: u64, right: u64) -> u64
+fn ored_words(kind: IntType, left: u64, right: u64) -> u64
     ensures { (x y : ℤ) → word x ≡ left → word y ≡ right → result ≡ word (wrap kind (pos (bit_or (bits_of kind x) (bits_of kind y)))) }
 {
     wrapped_word(kind, left | right)
@@ -87,7 +87,7 @@ pub fn ored_words(kind: IntType, left: u64, right: u64) -> u64
 
 /// Whether a number of a type is less than another of it, by their bits.
 #[inline(always)]
-pub fn is_less_word(kind: IntType, left: u64, right: u64) -> bool
+fn is_less_word(kind: IntType, left: u64, right: u64) -> bool
     ensures { (x y : ℤ) → IsIn kind x → IsIn kind y → word x ≡ left → word y ≡ right → result ≡ int_lt x y }
 {
     match kind {
@@ -98,7 +98,7 @@ pub fn is_less_word(kind: IntType, left: u64, right: u64) -> bool
 
 /// Whether two numbers of a type are equal, by their bits.
 #[inline(always)]
-pub fn is_same_word(kind: IntType, left: u64, right: u64) -> bool
+fn is_same_word(kind: IntType, left: u64, right: u64) -> bool
     ensures { (x y : ℤ) → IsIn kind x → IsIn kind y → word x ≡ left → word y ≡ right → result ≡ int_eq x y }
 {
     let _kind = kind;

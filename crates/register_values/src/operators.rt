@@ -6,7 +6,7 @@ ghost use Rattle.clmodel.specs.Next as next;
 ghost use Rattle.clmodel.specs.Next.{Continuation};
 ghost use Rattle.clmodel.specs.declared.operand.Operand.{Operand};
 ghost use Rattle.clmodel.specs.declared.operand.Operand.TheVariants as operand;
-ghost use Rattle.register_values.specs.Leading.{Leads};
+ghost use Rattle.register_values.specs.Leading.{RunsOnAs};
 
 use crate::pointers::{moved, moved_back, number};
 use crate::termination::Termination;
@@ -16,7 +16,7 @@ use clnum::{ArithFault, BinaryOperator, Builtin, Value, binary, builtin};
 
 /// What an operator on integers gave.
 fn arithmetic(outcome: Result<Value, ArithFault>) -> Result<Operand, Termination>
-    ensures { (after : Operand → Continuation) → Leads result (next.arithmetic outcome after) after }
+    ensures { (after : Operand → Continuation) → RunsOnAs result (next.arithmetic outcome after) after }
 {
     match outcome {
         Ok(value) => Ok(Operand::Integral(value)),
@@ -27,7 +27,7 @@ fn arithmetic(outcome: Result<Value, ArithFault>) -> Result<Operand, Termination
 
 /// A pointer moved on, as a value.
 fn advanced(pointer: Operand, by: Operand) -> Result<Operand, Termination>
-    ensures { (after : Operand → Continuation) → Leads result (next.moved pointer by (λ q. after (operand.Pointed q))) after }
+    ensures { (after : Operand → Continuation) → RunsOnAs result (next.moved pointer by (λ q. after (operand.Pointed q))) after }
 {
     let pointer = moved(pointer, by)?;
     Ok(Operand::Pointed(pointer))
@@ -35,7 +35,7 @@ fn advanced(pointer: Operand, by: Operand) -> Result<Operand, Termination>
 
 /// A pointer moved back, as a value.
 fn withdrawn(pointer: Operand, by: Operand) -> Result<Operand, Termination>
-    ensures { (after : Operand → Continuation) → Leads result (next.moved_back pointer by (λ q. after (operand.Pointed q))) after }
+    ensures { (after : Operand → Continuation) → RunsOnAs result (next.moved_back pointer by (λ q. after (operand.Pointed q))) after }
 {
     let pointer = moved_back(pointer, by)?;
     Ok(Operand::Pointed(pointer))
@@ -47,7 +47,7 @@ pub(crate) fn binary_operation(
     first: Operand,
     second: Operand,
 ) -> Result<Operand, Termination>
-    ensures { (after : Operand → Continuation) → Leads result (next.binary_operation operator first second after) after }
+    ensures { (after : Operand → Continuation) → RunsOnAs result (next.binary_operation operator first second after) after }
 {
     // One match in another, and values made whole again: so each arm is the definition at values that are known.
     match first {
@@ -68,7 +68,7 @@ pub(crate) fn binary_operation(
 
 /// The value of a function of integers.
 fn given_value(value: Option<Value>) -> Result<Operand, Termination>
-    ensures { (after : Operand → Continuation) → Leads result (next.given_value value after) after }
+    ensures { (after : Operand → Continuation) → RunsOnAs result (next.given_value value after) after }
 {
     match value {
         Some(value) => Ok(Operand::Integral(value)),
@@ -78,7 +78,7 @@ fn given_value(value: Option<Value>) -> Result<Operand, Termination>
 
 /// A function of one integer.
 pub fn of_one(function: Builtin, a: Operand) -> Result<Operand, Termination>
-    ensures { (after : Operand → Continuation) → Leads result (next.integer_call function (a ∷ []) after) after }
+    ensures { (after : Operand → Continuation) → RunsOnAs result (next.integer_call function (a ∷ []) after) after }
 {
     let a = number(a)?;
     given_value(builtin(function, &[a]))
@@ -86,7 +86,7 @@ pub fn of_one(function: Builtin, a: Operand) -> Result<Operand, Termination>
 
 /// A function of two integers.
 pub fn of_two(function: Builtin, a: Operand, b: Operand) -> Result<Operand, Termination>
-    ensures { (after : Operand → Continuation) → Leads result (next.integer_call function (a ∷ b ∷ []) after) after }
+    ensures { (after : Operand → Continuation) → RunsOnAs result (next.integer_call function (a ∷ b ∷ []) after) after }
 {
     let a = number(a)?;
     let b = number(b)?;

@@ -8,7 +8,7 @@ ghost use Rattle.clmodel.specs.Next as next;
 ghost use Rattle.clmodel.specs.Next.{Continuation};
 ghost use Rattle.clmodel.specs.declared.access.Object.TheVariants as object;
 ghost use Rattle.clmodel.specs.declared.operand.Pointer.{Pointer};
-ghost use Rattle.register_values.specs.Leading.{Leads};
+ghost use Rattle.register_values.specs.Leading.{RunsOnAs};
 
 use crate::termination::Termination;
 use clmodel::access::Object;
@@ -47,7 +47,7 @@ fn backward(pointer: Pointer, by: Value) -> Pointer
 
 /// A pointer moved on by a number of elements.
 pub(crate) fn moved(pointer: Operand, index: Operand) -> Result<Pointer, Termination>
-    ensures { (after : Pointer → Continuation) → Leads result (next.moved pointer index after) after }
+    ensures { (after : Pointer → Continuation) → RunsOnAs result (next.moved pointer index after) after }
 {
     match pointer {
         Operand::Pointed(pointer) => match index {
@@ -60,7 +60,7 @@ pub(crate) fn moved(pointer: Operand, index: Operand) -> Result<Pointer, Termina
 
 /// A pointer moved back by a number of elements.
 pub(crate) fn moved_back(pointer: Operand, index: Operand) -> Result<Pointer, Termination>
-    ensures { (after : Pointer → Continuation) → Leads result (next.moved_back pointer index after) after }
+    ensures { (after : Pointer → Continuation) → RunsOnAs result (next.moved_back pointer index after) after }
 {
     match pointer {
         Operand::Pointed(pointer) => match index {
@@ -91,7 +91,7 @@ pub fn local_pointer(number: u32, element: IntType) -> Pointer
 
 /// A value that is a number.
 pub fn number(value: Operand) -> Result<Value, Termination>
-    ensures { (after : Integer → Continuation) → Leads result (next.number value after) after }
+    ensures { (after : Integer → Continuation) → RunsOnAs result (next.number value after) after }
 {
     match value {
         Operand::Integral(number) => Ok(number),
@@ -101,7 +101,7 @@ pub fn number(value: Operand) -> Result<Value, Termination>
 
 /// A value that is a pointer.
 pub fn pointing(value: Operand) -> Result<Pointer, Termination>
-    ensures { (after : Pointer → Continuation) → Leads result (next.pointing value after) after }
+    ensures { (after : Pointer → Continuation) → RunsOnAs result (next.pointing value after) after }
 {
     match value {
         Operand::Pointed(pointer) => Ok(pointer),

@@ -7,7 +7,7 @@ use Rattle.std.specs.List.{All}
 use Rattle.std.specs.Option.{option_map}
 use Rattle.regcode.specs.Listing.{Listing}
 use Rattle.regcode.specs.Machine.{entry_at}
-use Rattle.regcode.specs.Rules.{IsVerified, IsFine, Fits, LeadsInside, Leads, kind_at, is_turn}
+use Rattle.regcode.specs.Rules.{IsVerified, IsFine, Fits, LeadsInside, MayGoOn, kind_at, is_turn}
 use Rattle.regcode.specs.Safety.{InTables, Below, sources, targets}
 use Rattle.regcode.specs.declared.instruction.FetchOperands.TheVariants as operands
 use Rattle.regcode.specs.declared.instruction.Instruction.{Instruction}
@@ -129,7 +129,7 @@ module _ (code : Listing) (news : List Register) (numbers : List (Option ℕ)) (
   as_long : length new.instructions ≡ length code.instructions
   as_long = length-map code.instructions (renamed (number_of numbers))
 
-  leads : (place entered : ℕ) → Leads code place entered → Leads new place entered
+  leads : (place entered : ℕ) → MayGoOn code place entered → MayGoOn new place entered
   leads place entered h = let inside = h.0 in (omega (arith, inside, as_long), h.1)
 
   turn_kept : (o : Option Instruction) → IsTrue (is_turn o) → IsTrue (is_turn (option_map (renamed (number_of numbers)) o))

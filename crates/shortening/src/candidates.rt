@@ -2,7 +2,7 @@
 
 ghost use Rattle.std.specs.Prelude.{◌<◌};
 
-use crate::ends::{GroupEnd, group_of};
+use crate::ends::{GroupNeed, group_of};
 use crate::judge::Named;
 use crate::runs::{count_of, push_item, push_run};
 use clmodel::schedule::EventRun;
@@ -16,7 +16,7 @@ pub(crate) struct Given<'a> {
     pub(crate) runs: &'a [EventRun],
     pub(crate) named: &'a [Named],
     pub(crate) group_size: u32,
-    pub(crate) ends: HashMap<u32, GroupEnd>,
+    pub(crate) ends: HashMap<u32, GroupNeed>,
     ghost some: { 0 < group_size },
 }
 
@@ -67,8 +67,8 @@ impl<'a> Given<'a> {
     }
 
     /// How far the events of a group are needed.
-    fn end_of(&self, group: u32) -> GroupEnd {
-        self.ends.get(&group).copied().unwrap_or(GroupEnd::new())
+    fn end_of(&self, group: u32) -> GroupNeed {
+        self.ends.get(&group).copied().unwrap_or(GroupNeed::new())
     }
 
     /// Up to which event of the schedule the events of an item are kept, not with it, where its group is kept. `whole`

@@ -10,17 +10,17 @@ use std::collections::HashMap;
 
 /// How far the events of a work-group are needed, by their numbers in the given schedule.
 #[derive(Clone, Copy)]
-pub(crate) struct GroupEnd {
+pub(crate) struct GroupNeed {
     /// Behind its last release that is kept; 0 where none is.
     pub(crate) release: u64,
     /// Up to its next release, not with it: no event of the group is possible behind that without it.
     pub(crate) end: u64,
 }
 
-impl GroupEnd {
+impl GroupNeed {
     /// Of a group without releases.
     pub(crate) fn new() -> Self {
-        GroupEnd {
+        GroupNeed {
             release: 0,
             end: u64::MAX,
         }
@@ -29,12 +29,12 @@ impl GroupEnd {
     /// With a release of this number more, which is needed where it stands before `needed`.
     fn with(self, at: u64, needed: u64) -> Self {
         if at < needed {
-            GroupEnd {
+            GroupNeed {
                 release: at.saturating_add(1),
                 end: self.end,
             }
         } else {
-            GroupEnd {
+            GroupNeed {
                 release: self.release,
                 end: self.end.min(at),
             }
@@ -68,14 +68,14 @@ pub(crate) fn group_ends(
     given: &[EventRun],
     named: &[Named],
     group_size: u32,
-) -> Result<HashMap<u32, GroupEnd>, AllocError>
+) -> Result<HashMap<u32, GroupNeed>, AllocError>
     requires { 0 < group_size }
 {
     let mut ends = HashMap::new(alloc);
     let mut at = 0u64;
     for run in given {
         if let EventRun::Release { group } = run {
-            let end = ends.get(group).copied().unwrap_or(GroupEnd::new());
+            let end = ends.get(group).copied().unwrap_or(GroupNeed::new());
             ends.insert(*group, end.with(at, needed_end(named, group_size, *group)))?;
         }
         at = at.saturating_add(count_of(run));

@@ -1,7 +1,7 @@
 use Rattle.std.proofs.Common.{◌≡◌, ◌+◌, ◌-◌, ◌++◌, length, drop, ap, sym, ◌∙◌, arith}
 use Rattle.std.proofs.lemmas.List.{drop-map}
 use Rattle.lower_expr.specs.Registers.{numbers}
-use Rattle.lower_expr.specs.declared.scope.Register.{Register}
+use Rattle.lower_expr.specs.declared.scope.RegisterNumber.{RegisterNumber}
 use Rattle.lower_code.specs.Variables.{pass_code}
 use Rattle.lower_code.proofs.Parameters.{drop_all, passed_more}
 use Rattle.lower_code.proofs.variables.put_passed.Goals as goal
@@ -16,7 +16,7 @@ pub loop-i-preserved : goal.loop-i-preserved
 loop-i-preserved c =
     let ps = c.args.parameters.now in
     let n = length ps - 1 - c.loop-i.i in
-    let rest = sym (drop-map (λ (r : Register). r.0) n c.args.arguments.now) in
+    let rest = sym (drop-map (λ (r : RegisterNumber). r.0) n c.args.arguments.now) in
     c.in_ok-put.ensures.code
     ∙ passed_more c.pass_one.result ps _ (numbers c.args.arguments.now) (numbers (drop n c.args.arguments.now)) c.args.level.0 c.level_at-at.result.0 n (length ps - c.loop-i.i) (length ps - (c.loop-i.i + 1)) c.loop-i.code c.args.code.now
     (omega (arith, c.loop-i-test.true)) (omega (arith, c.loop-i-test.true)) (omega arith) c.level_at-at.ensures rest c.pass_one.ensures c.loop-i.invariant

@@ -14,7 +14,7 @@ use Rattle.lower_expr.specs.Scope.{register_at}
 use Rattle.lower_expr.specs.Forms.{form_code}
 use Rattle.lower_expr.specs.Expressions.{expr_code, terms_code, registers_for, count}
 use Rattle.lower_expr.specs.Registers.{numbers}
-use Rattle.lower_expr.specs.declared.scope.Register.{Register}
+use Rattle.lower_expr.specs.declared.scope.RegisterNumber.{RegisterNumber}
 use Rattle.lower_expr.proofs.Arguments.{calls, terms_more, terms_count, type_here, type_stays, settled_form, unary_laid, cast_laid, call_laid, binary_laid, choice_laid, unary_known, cast_known, call_known, binary_known, choice_known}
 use Rattle.lower_expr.proofs.Growth.{behind, on_value, on_ok, on_err, on_error, none_ok, none_value, settled, cut_back}
 use Rattle.lower_expr.proofs.Room.{argument_room}
@@ -40,7 +40,7 @@ emit_arguments-loop-i-preserved t c =
           ∙ append_assoc c.args.code.now.items (terms_code scope level before) (expr_code scope (level + count before) (term e))
           ∙ ap (λ (ts : Terms). c.args.code.now.items ++ terms_code scope level ts) more,
       ap numbers c.in_ok-push-2.ensures.ok
-          ∙ map-append (λ (r : Register). r.0) c.loop-i.registers.items (c.register_at.result ∷ [])
+          ∙ map-append (λ (r : RegisterNumber). r.0) c.loop-i.registers.items (c.register_at.result ∷ [])
           ∙ ap₂ (λ (rs : List ℕ) (r : ℕ). rs ++ r ∷ []) c.loop-i.invariant.1 (c.register_at.ensures ∙ ap₂ (λ (n : ℕ) (k : VariableType). register_at n k) above kind)
           ∙ ap (λ (ts : Terms). registers_for scope level ts) more,
       elim c.if-i-eq0.branch [

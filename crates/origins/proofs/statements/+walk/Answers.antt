@@ -10,7 +10,7 @@ use Rattle.origins.specs.Names.{names_after_part}
 use Rattle.origins.specs.Origins.{node_of, times, expr_origins}
 use Rattle.origins.specs.Settings.{inside_in, stmt_in, part_in, row_in}
 use Rattle.origins.specs.Walks.{Walks}
-use Rattle.origins.specs.declared.names.Named.{Named}
+use Rattle.origins.specs.declared.names.NamedVariable.{NamedVariable}
 use Rattle.origins.proofs.Walking.{stops, goes_on, nothing}
 use Rattle.origins.proofs.Settling.{settle}
 use Rattle.origins.proofs.Stating.{first_names, if_whole, if_else_whole, while_whole, do_whole}
@@ -109,7 +109,7 @@ pass_branch-returns-clause-walks t c =
     let s = c.args.setting in
     let names = c.args.names.now.items in
     settle _ _ _ _ _
-    (ap (λ (ns : List Named). (expr_origins ns (term c.args.condition.now) ++ times 1 (node_of c.args.node)) ++ stmt_in s names (stmt c.args.chosen.now)) c.as_slice.ensures.value)
+    (ap (λ (ns : List NamedVariable). (expr_origins ns (term c.args.condition.now) ++ times 1 (node_of c.args.node)) ++ stmt_in s names (stmt c.args.chosen.now)) c.as_slice.ensures.value)
     (c.then_statement.ensures.walks _ _ (c.then_own-tested.ensures inside _ _ (c.pass_expression.ensures inside)))
 
 pub pass_loop-returns-clause-walks : goal.pass_loop-returns-clause-walks
@@ -119,7 +119,7 @@ pass_loop-returns-clause-walks t c =
     let names = c.args.names.now.items in
     let n = node_of c.args.node in
     settle _ _ _ _ _
-    (ap (λ (ns : List Named). (((times c.args.count n ++ stmt_in s names (stmt c.args.body.now)) ++ expr_origins ns (term c.args.condition.now)) ++ times 1 n) ++ times 1 n) (c.as_slice.ensures.value ∙ c.then_statement-inner.ensures.names))
+    (ap (λ (ns : List NamedVariable). (((times c.args.count n ++ stmt_in s names (stmt c.args.body.now)) ++ expr_origins ns (term c.args.condition.now)) ++ times 1 n) ++ times 1 n) (c.as_slice.ensures.value ∙ c.then_statement-inner.ensures.names))
     (c.then_own-2.ensures inside _ _ (c.then_own.ensures inside _ _ (c.then_expression-tested.ensures inside _ _ (c.then_statement-inner.ensures.walks _ _ (c.pass_own.ensures inside)))))
 
 pub pass_statement-returns-in-For-clause-walks : goal.pass_statement-returns-in-For-clause-walks
@@ -162,7 +162,7 @@ pass_for-returns-in-Ok-clause-walks t c =
     let inside = inside_in s in
     let p = c.args.parts in
     let n = node_of c.args.node in
-    let after : c.declare_part.new.names.items ≡ names_after_part names (part_of p.first) = c.in-Ok.ensures.declared ∙ ap (λ (ns : List Named). names_after_part ns (part_of p.first)) c.then_part-begun.ensures.names in
+    let after : c.declare_part.new.names.items ≡ names_after_part names (part_of p.first) = c.in-Ok.ensures.declared ∙ ap (λ (ns : List NamedVariable). names_after_part ns (part_of p.first)) c.then_part-begun.ensures.names in
     let later = c.then_statement-inner.ensures.names ∙ after in
     let last = c.then_part-stepped.ensures.names ∙ later in
     settle _ _ _ _ _
@@ -174,7 +174,7 @@ pass_for-returns-in-Ok-clause-names t c =
     let v = c.args.names.now in
     let names = v.items in
     let first = part_of c.args.parts.first in
-    let after : c.declare_part.new.names.items ≡ names_after_part names first = c.in-Ok.ensures.declared ∙ ap (λ (ns : List Named). names_after_part ns first) c.then_part-begun.ensures.names in
+    let after : c.declare_part.new.names.items ≡ names_after_part names first = c.in-Ok.ensures.declared ∙ ap (λ (ns : List NamedVariable). names_after_part ns first) c.then_part-begun.ensures.names in
     let more = part_after names first in
     c.truncate.ensures.items ∙ first_names c.len-count.result names more.0 _ (omega (arith, c.len-count.ensures, v.ok.0)) (c.then_part-stepped.ensures.names ∙ c.then_statement-inner.ensures.names ∙ after ∙ more.1)
 

@@ -16,10 +16,10 @@ invariant_of-self-2 c =
     let x : Entry = c.args.entry in
     let kept : IsKept (all_of l.whole.items) x (all_of c.with-self.result.items) = inr (ap all_of c.with-self.ensures ∙ all_more l.whole.items x false) in
     record {
-      one_launch = c.take.ensures.uniform ∙ l.one_launch;
-      local_tells = noted_tells l.local.uniform false l.local.interval l.local.kept.items (all_of l.whole.items) x l.local.uniform c.take.new.self.uniform l.local.interval c.take.new.self.interval
-          l.local.kept.items c.take.new.self.kept.items (all_of c.with-self.result.items) l.local_tells c.requires.interval
-          refl refl refl c.take.ensures.uniform c.take.ensures.interval c.in_ok-take.ensures.kept kept;
+      one_launch = c.note_entry.ensures.uniform ∙ l.one_launch;
+      local_tells = noted_tells l.local.uniform false l.local.interval l.local.kept.items (all_of l.whole.items) x l.local.uniform c.note_entry.new.self.uniform l.local.interval c.note_entry.new.self.interval
+          l.local.kept.items c.note_entry.new.self.kept.items (all_of c.with-self.result.items) l.local_tells c.requires.interval
+          refl refl refl c.note_entry.ensures.uniform c.note_entry.ensures.interval c.in_ok-note_entry.ensures.kept kept;
       global_tells = other_tells l.global.uniform true l.global.interval l.global.kept.items (all_of l.whole.items) (all_of c.with-self.result.items) x l.global_tells (λ e. false≢true (sym c.requires.space ∙ e)) kept;
       takes = subst (TakesOf l.global) (sym (ap (made []) c.with-self.ensures ∙ made_more [] l.whole.items (x, false))) (takes_more l.global (made [] l.whole.items) x.access l.takes);
       entries = c.pass.ensures.entries ∙ l.entries ∙ sym (ap short_of c.with-self.ensures ∙ short_more l.whole.items x false);
@@ -30,5 +30,5 @@ invariant_of-self-2 c =
 pub returns-clause-taken : goal.returns-clause-taken
 returns-clause-taken c =
     let l : GroupLog = c.args.self.now in
-    logged_same (all_of c.with-self.result.items) (all_of l.whole.items ++ c.args.entry ∷ []) c.take.new.self.interval l.local.interval l.global.interval l.global.interval l.global.uniform l.global.uniform
-    (ap all_of c.with-self.ensures ∙ all_more l.whole.items c.args.entry false) c.take.ensures.interval refl refl
+    logged_same (all_of c.with-self.result.items) (all_of l.whole.items ++ c.args.entry ∷ []) c.note_entry.new.self.interval l.local.interval l.global.interval l.global.interval l.global.uniform l.global.uniform
+    (ap all_of c.with-self.ensures ∙ all_more l.whole.items c.args.entry false) c.note_entry.ensures.interval refl refl

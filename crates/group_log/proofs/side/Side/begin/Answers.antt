@@ -1,6 +1,6 @@
 use Rattle.std.proofs.Common.{◌+◌, sym, subst}
 use Rattle.std.proofs.Math.Logic.{∥∥₁_map}
-use Rattle.group_log.specs.Stands.{AllStand}
+use Rattle.group_log.specs.SummarizesByte.{AllStand}
 use Rattle.group_log.proofs.Taking.{all_begun}
 use Rattle.group_log.proofs.side.Side.begin.Goals as goal
 

@@ -2,7 +2,7 @@ use Rattle.std.proofs.Common.{◌++◌, ◌∷◌, [], sym, ap, ◌∙◌, subst
 use Rattle.std.proofs.lemmas.Result.{on_ok_weaker, on_err_weaker}
 use Rattle.access_list.specs.declared.log.Entry.{Entry}
 use Rattle.std.specs.Prelude.{List}
-use Rattle.group_log.specs.Stands.{AllStand}
+use Rattle.group_log.specs.SummarizesByte.{AllStand}
 use Rattle.group_log.proofs.side.Side.keep.Goals as goal
 
 pub invariant_of-self : goal.invariant_of-self

@@ -3,7 +3,7 @@ use Rattle.std.specs.Prelude.{List, unwrap_or}
 use Rattle.std.proofs.Math.Logic.{∥∥₁_map}
 use Rattle.clmodel.specs.declared.access.Access.{Access}
 use Rattle.clmodel.specs.declared.access.Region.TheVariants as region
-use Rattle.group_log.specs.Stands.{AllStand, AllTake}
+use Rattle.group_log.specs.SummarizesByte.{AllStand, AllTake}
 use Rattle.group_log.proofs.Taking.{all_same, all_taken, same_take, marked_take, buffer_of}
 use Rattle.group_log.proofs.side.Side.keep_seen.Goals as goal
 

@@ -1,7 +1,7 @@
 use Rattle.std.proofs.Common.{refl, inl, inr}
 use Rattle.std.proofs.lemmas.Result.{on_ok_weaker}
 use Rattle.group_log.proofs.Taking.{takes_more}
-use Rattle.group_log.proofs.side.Side.take.Goals as goal
+use Rattle.group_log.proofs.side.Side.note_entry.Goals as goal
 
 pub returns-then-glance-clause-kept : goal.returns-then-glance-clause-kept
 returns-then-glance-clause-kept c = inr (refl, c.requires.told c.if-glance.true)

@@ -29,7 +29,7 @@ pub record Shown (uniform : Bool) (interval : ℕ) (kept : List Entry) (r : Regi
 -- What is kept of a byte of a region stands for the kept accesses of the running interval there: each kept one is
 -- described, and what is said was made: the first access, one of another item, and one of another sort where there is
 -- no other item (own)
-pub record Stands (uniform : Bool) (interval : ℕ) (kept : List Entry) (t : Trace) (r : Region) (byte : ℕ) : Type 0 where
+pub record SummarizesByte (uniform : Bool) (interval : ℕ) (kept : List Entry) (t : Trace) (r : Region) (byte : ℕ) : Type 0 where
   pub past : t.touched ≡ true → t.interval ≤ interval
   pub all : All (λ (e : Entry). at_byte r byte e.access ≡ true → IsOf t interval byte e.access) kept
   pub first : is_now t interval ≡ true → (y : Access) × Shown uniform interval kept r byte y × (mark_of y byte ≡ t.mark)
@@ -44,15 +44,10 @@ abbrev pub region_at : Region → ℕ → Region
 region_at (region.Buffer m) number = region.Buffer number
 region_at (region.Local group m) number = region.Local group number
 
--- the number of an object (own)
-abbrev pub number_of : Region → ℕ
-number_of (region.Buffer number) = number
-number_of (region.Local group number) = number
-
 -- what is kept of all bytes stands for the kept accesses, by the region of the first one (own)
 abbrev pub AllStand : Bool → ℕ → List Entry → Traces → Option Region → Type 0
 AllStand uniform interval kept traces None = (kept ≡ []) × ((key b : ℕ) → at_key traces key b ≡ untouched)
-AllStand uniform interval kept traces (Some home) = (number byte : ℕ) → number < 2 ^ 32 → Stands uniform interval kept (trace_of traces number byte) (region_at home number) byte
+AllStand uniform interval kept traces (Some home) = (number byte : ℕ) → number < 2 ^ 32 → SummarizesByte uniform interval kept (trace_of traces number byte) (region_at home number) byte
 
 -- what is kept of the bytes of buffers tells of each access that is seen to tell other groups nothing new that it does
 -- so (6.5.2, own)

@@ -1,4 +1,4 @@
--- What lines tell, with one entry more, and where the last entries of a line are told by another.
+-- The entries of progressions with one entry more, and where another progression computes the newest ones.
 use Rattle.std.proofs.Common.{◌≡◌, ℕ, zero, suc, ◌+◌, ◌-◌, ◌/◌, ◌%◌, ◌<◌, ◌≤◌, ◌⊎◌, ◌^◌, nat_lt, List, [], ◌∷◌, ◌++◌, length, get_or, take, drop, refl, sym, ap, ap₂, ◌∙◌, subst, inl, inr, arith, lt-ltb, le-ltb}
 use Rattle.std.specs.Prelude.{All}
 use Rattle.std.proofs.lemmas.Bool.{cases_lt}
@@ -7,7 +7,7 @@ use Rattle.std.proofs.lemmas.List.Elements.{All-head, All-tail, All-push, All-we
 use Rattle.std.proofs.lemmas.Nat.{mod_below}
 use Rattle.clmodel.proofs.Steps.{if_true, if_false}
 use Rattle.access_list.specs.declared.log.Entry.{Entry}
-use Rattle.group_log.specs.Progressions.{ahead, no_entry, no_step, entry_at, entries_to, entries_of, entries_all, IsIn, AreNext, IsLined, IsTail}
+use Rattle.group_log.specs.Progressions.{ahead, no_entry, no_step, entry_at, entries_to, entries_of, entries_all, IsIn, AreNext, AreProgressions, IsTail}
 use Rattle.group_log.specs.declared.progression.Progression.{Progression}
 use Rattle.group_log.specs.declared.stride.EntryStride.{EntryStride}
 
@@ -44,7 +44,7 @@ entry_same heads other steps more head period step k h s = go (cases_lt k period
         ∙ ap₂ (λ x y. ahead x y (k / period)) (t.1 (step + k % period) (omega (arith, place))) (h (head + k % period) (omega (arith, place)))
         ∙ sym (later_round heads steps head period step k b)
 
--- ---- a line
+-- ---- a progression
 
 pub to_same :
     (heads other : List Entry) (steps more : List EntryStride) (head period step n : ℕ) → SameBelow no_entry (head + period) heads other → (period < n → (0 < period) × SameBelow no_step (step + period) steps more)
@@ -93,12 +93,12 @@ pub plain_stand : (heads : List Entry) (steps : List EntryStride) (head period s
 plain_stand heads steps head period step n p b =
     stand heads steps head period step n (λ k l. first_round heads steps head period step k (omega (arith, l, p))) b
 
--- ---- lines
+-- ---- progressions
 
-pub all_push : (heads : List Entry) (steps : List EntryStride) (lines : List Progression) (l : Progression) → entries_all heads steps (lines ++ l ∷ []) ≡ entries_all heads steps lines ++ entries_of heads steps l
+pub all_push : (heads : List Entry) (steps : List EntryStride) (progressions : List Progression) (l : Progression) → entries_all heads steps (progressions ++ l ∷ []) ≡ entries_all heads steps progressions ++ entries_of heads steps l
 all_push heads steps [] l = append-nil (entries_of heads steps l)
-all_push heads steps (m ∷ lines) l =
-    ap (λ z. entries_of heads steps m ++ z) (all_push heads steps lines l) ∙ sym (append_assoc (entries_of heads steps m) (entries_all heads steps lines) (entries_of heads steps l))
+all_push heads steps (m ∷ progressions) l =
+    ap (λ z. entries_of heads steps m ++ z) (all_push heads steps progressions l) ∙ sym (append_assoc (entries_of heads steps m) (entries_all heads steps progressions) (entries_of heads steps l))
 
 of_same : (heads other : List Entry) (steps more : List EntryStride) (n m : ℕ) (l : Progression) → SameBelow no_entry n heads other → SameBelow no_step m steps more → IsIn n m l
     → entries_of other more l ≡ entries_of heads steps l
@@ -106,23 +106,23 @@ of_same heads other steps more n m l h s i =
     to_same heads other steps more l.head l.period l.step l.count (λ p b. h p (omega (arith, b, i.head)))
     (λ b. let t = i.step b in (t.0, λ p c. s p (omega (arith, c, t.1))))
 
-pub all_same : (heads other : List Entry) (steps more : List EntryStride) (n m : ℕ) (lines : List Progression) → SameBelow no_entry n heads other → SameBelow no_step m steps more → All (IsIn n m) lines
-    → entries_all other more lines ≡ entries_all heads steps lines
+pub all_same : (heads other : List Entry) (steps more : List EntryStride) (n m : ℕ) (progressions : List Progression) → SameBelow no_entry n heads other → SameBelow no_step m steps more → All (IsIn n m) progressions
+    → entries_all other more progressions ≡ entries_all heads steps progressions
 all_same heads other steps more n m [] h s i = refl
-all_same heads other steps more n m (l ∷ lines) h s i =
-    ap₂ (λ x y. x ++ y) (of_same heads other steps more n m l h s (All-head (IsIn n m) l lines i)) (all_same heads other steps more n m lines h s (All-tail (IsIn n m) l lines i))
+all_same heads other steps more n m (l ∷ progressions) h s i =
+    ap₂ (λ x y. x ++ y) (of_same heads other steps more n m l h s (All-head (IsIn n m) l progressions i)) (all_same heads other steps more n m progressions h s (All-tail (IsIn n m) l progressions i))
 
--- ---- where lines begin
+-- ---- where progressions begin
 
-pub next_push : (at : ℕ) (lines : List Progression) (end : ℕ) (l : Progression) (after : ℕ) → AreNext at lines end → l.start ≡ end → end + l.count ≡ after → AreNext at (lines ++ l ∷ []) after
+pub next_push : (at : ℕ) (progressions : List Progression) (end : ℕ) (l : Progression) (after : ℕ) → AreNext at progressions end → l.start ≡ end → end + l.count ≡ after → AreNext at (progressions ++ l ∷ []) after
 next_push at [] end l after h s e = (s ∙ sym h, omega (arith, h, e))
-next_push at (m ∷ lines) end l after h s e = (h.0, next_push (at + m.count) lines end l after h.1 s e)
+next_push at (m ∷ progressions) end l after h s e = (h.0, next_push (at + m.count) progressions end l after h.1 s e)
 
 pub wider : (n n2 m m2 : ℕ) (l : Progression) → n ≤ n2 → m ≤ m2 → IsIn n m l → IsIn n2 m2 l
 wider n n2 m m2 l a b i = record { head = omega (arith, i.head, a); step = λ r. let t = i.step r in (t.0, omega (arith, t.1, b)) }
 
-pub all_wider : (n n2 m m2 : ℕ) (lines : List Progression) → n ≤ n2 → m ≤ m2 → All (IsIn n m) lines → All (IsIn n2 m2) lines
-all_wider n n2 m m2 lines a b h = All-weaker (IsIn n m) (IsIn n2 m2) (λ l. wider n n2 m m2 l a b) lines h
+pub all_wider : (n n2 m m2 : ℕ) (progressions : List Progression) → n ≤ n2 → m ≤ m2 → All (IsIn n m) progressions → All (IsIn n2 m2) progressions
+all_wider n n2 m m2 progressions a b h = All-weaker (IsIn n m) (IsIn n2 m2) (λ l. wider n n2 m m2 l a b) progressions h
 
 -- ---- lists that agree
 
@@ -141,9 +141,9 @@ all_below d xs n p l = refl
 
 -- ---- one entry more
 
--- a line with its first round alone, and one entry more of it
+-- a progression with its first round alone, and one entry more of it
 pub plain_more :
-    (heads : List Entry) (steps : List EntryStride) (closed : List Progression) (last : Progression) (e : Entry) → IsLined heads steps closed last → last.count ≤ last.period
+    (heads : List Entry) (steps : List EntryStride) (closed : List Progression) (last : Progression) (e : Entry) → AreProgressions heads steps closed last → last.count ≤ last.period
     → entries_all (heads ++ e ∷ []) steps (closed ++ (record last { period = last.period + 1; count = last.count + 1 }) ∷ []) ≡ entries_all heads steps (closed ++ last ∷ []) ++ e ∷ []
 plain_more heads steps closed last e l p =
     all_push (heads ++ e ∷ []) steps closed (record last { period = last.period + 1; count = last.count + 1 })
@@ -169,10 +169,10 @@ plain_more heads steps closed last e l p =
         ∙ ap (take (last.count + 1)) (drop-append-le last.head heads (e ∷ []) (omega (arith, many.1)))
         ∙ take_all (last.count + 1) (drop last.head heads ++ e ∷ []) (omega (arith, length_push (drop last.head heads) e, length-drop last.head heads, many.0, many.1))
 
-pub plain_lined :
-    (heads : List Entry) (steps : List EntryStride) (closed : List Progression) (last : Progression) (e : Entry) → IsLined heads steps closed last → last.count ≤ last.period → last.start + last.count + 1 < 2 ^ 64
-    → IsLined (heads ++ e ∷ []) steps closed (record last { period = last.period + 1; count = last.count + 1 })
-plain_lined heads steps closed last e l p b =
+pub plain_progressed :
+    (heads : List Entry) (steps : List EntryStride) (closed : List Progression) (last : Progression) (e : Entry) → AreProgressions heads steps closed last → last.count ≤ last.period → last.start + last.count + 1 < 2 ^ 64
+    → AreProgressions (heads ++ e ∷ []) steps closed (record last { period = last.period + 1; count = last.count + 1 })
+plain_progressed heads steps closed last e l p b =
     let many : (last.count ≡ last.period) × (last.head + last.period ≡ length heads) = l.plain p in
     let longer : length (heads ++ e ∷ []) ≡ length heads + 1 = length_push heads e in
     record {
@@ -183,7 +183,7 @@ plain_lined heads steps closed last e l p b =
       short = omega (arith, b);
     }
 
--- a line of several rounds that goes on
+-- a progression of several rounds that goes on
 pub round_more :
     (heads : List Entry) (steps : List EntryStride) (closed : List Progression) (last : Progression) (e : Entry) → entry_at heads steps last.head last.period last.step last.count ≡ e
     → entries_all heads steps (closed ++ (record last { count = last.count + 1 }) ∷ []) ≡ entries_all heads steps (closed ++ last ∷ []) ++ e ∷ []
@@ -194,10 +194,10 @@ round_more heads steps closed last e h =
     ∙ sym (append_assoc (entries_all heads steps closed) (entries_of heads steps last) (e ∷ []))
     ∙ ap (λ z. z ++ e ∷ []) (sym (all_push heads steps closed last))
 
-pub round_lined :
-    (heads : List Entry) (steps : List EntryStride) (closed : List Progression) (last : Progression) → IsLined heads steps closed last → last.period < last.count → last.start + last.count + 1 < 2 ^ 64
-    → IsLined heads steps closed (record last { count = last.count + 1 })
-round_lined heads steps closed last l p b = record {
+pub round_progressed :
+    (heads : List Entry) (steps : List EntryStride) (closed : List Progression) (last : Progression) → AreProgressions heads steps closed last → last.period < last.count → last.start + last.count + 1 < 2 ^ 64
+    → AreProgressions heads steps closed (record last { count = last.count + 1 })
+round_progressed heads steps closed last l p b = record {
   closed_in = l.closed_in;
   last_in = record { head = l.last_in.head; step = λ _. l.last_in.step p };
   plain = λ r. absurd (omega (arith, r, p));
@@ -205,7 +205,7 @@ round_lined heads steps closed last l p b = record {
   short = omega (arith, b);
 }
 
--- an last line that is closed, and an empty one behind it
+-- a last progression that is closed, and an empty one behind it
 pub close_more :
     (heads : List Entry) (steps : List EntryStride) (closed : List Progression) (last empty : Progression) → empty.count ≡ 0
     → entries_all heads steps ((closed ++ last ∷ []) ++ empty ∷ []) ≡ entries_all heads steps (closed ++ last ∷ [])
@@ -214,10 +214,10 @@ close_more heads steps closed last empty n =
     ∙ ap (λ k. entries_all heads steps (closed ++ last ∷ []) ++ entries_to heads steps empty.head empty.period empty.step k) n
     ∙ append-nil (entries_all heads steps (closed ++ last ∷ []))
 
-pub close_lined :
-    (heads : List Entry) (steps : List EntryStride) (closed : List Progression) (last empty : Progression) → IsLined heads steps closed last → empty.start ≡ last.start + last.count → empty.head ≡ length heads → empty.period ≡ 0
-    → empty.count ≡ 0 → IsLined heads steps (closed ++ last ∷ []) empty
-close_lined heads steps closed last empty l s h p n = record {
+pub close_progressed :
+    (heads : List Entry) (steps : List EntryStride) (closed : List Progression) (last empty : Progression) → AreProgressions heads steps closed last → empty.start ≡ last.start + last.count → empty.head ≡ length heads → empty.period ≡ 0
+    → empty.count ≡ 0 → AreProgressions heads steps (closed ++ last ∷ []) empty
+close_progressed heads steps closed last empty l s h p n = record {
   closed_in =
       subst (λ k. All (IsIn k (length steps)) (closed ++ last ∷ [])) (sym h)
       (All-push (IsIn (length heads) (length steps)) closed last
@@ -228,7 +228,7 @@ close_lined heads steps closed last empty l s h p n = record {
   short = omega (arith, s, n, l.short);
 }
 
--- ---- a line that is told by two
+-- ---- a progression that becomes two
 
 take_none : {A : Type 0} (m : ℕ) → take {A = A} m [] ≡ []
 take_none zero = refl
@@ -246,10 +246,10 @@ rest_of last l = l.start - last.start
 abbrev pub cut_of : List Entry → Progression → List Entry
 cut_of heads l = take (l.head + l.period) heads
 
-module _ (heads : List Entry) (steps more : List EntryStride) (closed : List Progression) (last l : Progression) (lined : IsLined heads steps closed last) (plain : last.count ≤ last.period)
+module _ (heads : List Entry) (steps more : List EntryStride) (closed : List Progression) (last l : Progression) (in_progressions : AreProgressions heads steps closed last) (plain : last.count ≤ last.period)
     (kept : take (length steps) more ≡ steps) (t : IsTail heads more (length steps) last l) where
   ends : (last.count ≡ last.period) × (last.head + last.period ≡ length heads)
-  ends = lined.plain plain
+  ends = in_progressions.plain plain
 
   before : (rest_of last l) + l.count ≡ last.count
   before = omega (arith, t.ends, t.later)
@@ -261,7 +261,7 @@ module _ (heads : List Entry) (steps more : List EntryStride) (closed : List Pro
   cut_same n b = take_same no_entry heads n (l.head + l.period) b
 
   closed_same : entries_all (cut_of heads l) more closed ≡ entries_all heads steps closed
-  closed_same = all_same heads (cut_of heads l) steps more last.head (length steps) closed (cut_same last.head (omega (arith, behind))) (kept_same no_step steps more kept) lined.closed_in
+  closed_same = all_same heads (cut_of heads l) steps more last.head (length steps) closed (cut_same last.head (omega (arith, behind))) (kept_same no_step steps more kept) in_progressions.closed_in
 
   front_is : (front : Progression) → front.head ≡ last.head → front.period ≡ rest_of last l → front.count ≡ rest_of last l → entries_of (cut_of heads l) more front ≡ take (rest_of last l) (drop last.head heads)
   front_is front h p c =
@@ -270,8 +270,8 @@ module _ (heads : List Entry) (steps more : List EntryStride) (closed : List Pro
       ∙ to_same heads (cut_of heads l) more more last.head (rest_of last l) front.step (rest_of last l) (cut_same (last.head + (rest_of last l)) (omega (arith, behind))) (λ r. absurd (omega (arith, r)))
       ∙ plain_stand heads more last.head (rest_of last l) front.step (rest_of last l) (omega arith) (omega (arith, ends.0, ends.1, before))
 
-  line_is : entries_of (cut_of heads l) more l ≡ take l.count (drop l.head heads)
-  line_is =
+  progression_is : entries_of (cut_of heads l) more l ≡ take l.count (drop l.head heads)
+  progression_is =
       to_same heads (cut_of heads l) more more l.head l.period l.step l.count (cut_same (l.head + l.period) (omega arith)) (λ _. (t.some, all_below no_step more (l.step + l.period)))
       ∙ stand heads more l.head l.period l.step l.count at (omega (arith, t.heads_end, ends.0, ends.1))
     where
@@ -294,7 +294,7 @@ module _ (heads : List Entry) (steps more : List EntryStride) (closed : List Pro
       → entries_all (cut_of heads l) more ((closed ++ front ∷ []) ++ l ∷ []) ≡ entries_all heads steps (closed ++ last ∷ [])
   two_same front h p c =
       all_push (cut_of heads l) more (closed ++ front ∷ []) l
-      ∙ ap₂ (λ x y. x ++ y) (all_push (cut_of heads l) more closed front ∙ ap₂ (λ x y. x ++ y) closed_same (front_is front h p c)) line_is
+      ∙ ap₂ (λ x y. x ++ y) (all_push (cut_of heads l) more closed front ∙ ap₂ (λ x y. x ++ y) closed_same (front_is front h p c)) progression_is
       ∙ append_assoc (entries_all heads steps closed) (take (rest_of last l) (drop last.head heads)) (take l.count (drop l.head heads))
       ∙ ap (λ z. entries_all heads steps closed ++ z) (sym open_is)
       ∙ sym (all_push heads steps closed last)
@@ -302,7 +302,7 @@ module _ (heads : List Entry) (steps more : List EntryStride) (closed : List Pro
   pub one_same : (rest_of last l) ≡ 0 → entries_all (cut_of heads l) more (closed ++ l ∷ []) ≡ entries_all heads steps (closed ++ last ∷ [])
   one_same z =
       all_push (cut_of heads l) more closed l
-      ∙ ap₂ (λ x y. x ++ y) closed_same (line_is ∙ sym (ap (λ k. take k (drop last.head heads) ++ take l.count (drop l.head heads)) z))
+      ∙ ap₂ (λ x y. x ++ y) closed_same (progression_is ∙ sym (ap (λ k. take k (drop last.head heads) ++ take l.count (drop l.head heads)) z))
       ∙ ap (λ z. entries_all heads steps closed ++ z) (sym open_is)
       ∙ sym (all_push heads steps closed last)
 
@@ -312,32 +312,32 @@ module _ (heads : List Entry) (steps more : List EntryStride) (closed : List Pro
   steps_longer : length steps ≤ length more
   steps_longer = omega (arith, t.steps_from, t.steps_to)
 
-  lined_with : (lines : List Progression) → All (IsIn l.head (length more)) lines → AreNext 0 lines l.start → IsLined (cut_of heads l) more lines l
-  lined_with lines inside next = record {
+  progressed_with : (progressions : List Progression) → All (IsIn l.head (length more)) progressions → AreNext 0 progressions l.start → AreProgressions (cut_of heads l) more progressions l
+  progressed_with progressions inside next = record {
     closed_in = inside;
     last_in = record { head = omega (arith, cut_length); step = λ _. (t.some, t.steps_to) };
     plain = λ r. absurd (omega (arith, r, t.rounds));
     next = next;
-    short = omega (arith, t.ends, lined.short);
+    short = omega (arith, t.ends, in_progressions.short);
   }
 
   closed_inside : All (IsIn l.head (length more)) closed
-  closed_inside = all_wider last.head l.head (length steps) (length more) closed (omega (arith, behind)) steps_longer lined.closed_in
+  closed_inside = all_wider last.head l.head (length steps) (length more) closed (omega (arith, behind)) steps_longer in_progressions.closed_in
 
-  pub two_lined : (front : Progression) → front.start ≡ last.start → front.head ≡ last.head → front.period ≡ rest_of last l → front.count ≡ rest_of last l → IsLined (cut_of heads l) more (closed ++ front ∷ []) l
-  two_lined front s h p c =
-      lined_with (closed ++ front ∷ [])
+  pub two_progressed : (front : Progression) → front.start ≡ last.start → front.head ≡ last.head → front.period ≡ rest_of last l → front.count ≡ rest_of last l → AreProgressions (cut_of heads l) more (closed ++ front ∷ []) l
+  two_progressed front s h p c =
+      progressed_with (closed ++ front ∷ [])
       (All-push (IsIn l.head (length more)) closed front closed_inside (record { head = omega (arith, h, p, behind); step = λ r. absurd (omega (arith, r, p, c)) }))
-      (next_push 0 closed last.start front l.start lined.next s (start_at c))
+      (next_push 0 closed last.start front l.start in_progressions.next s (start_at c))
     where
       start_at : front.count ≡ (rest_of last l) → last.start + front.count ≡ l.start
       start_at e = omega (arith, e, t.later)
 
-  pub one_lined : l.start ≡ last.start → IsLined (cut_of heads l) more closed l
-  one_lined s = lined_with closed closed_inside (subst (AreNext 0 closed) (sym s) lined.next)
+  pub one_progressed : l.start ≡ last.start → AreProgressions (cut_of heads l) more closed l
+  one_progressed s = progressed_with closed closed_inside (subst (AreNext 0 closed) (sym s) in_progressions.next)
 
 -- the entries where steps are added
-pub kept_all : (heads : List Entry) (steps more : List EntryStride) (closed : List Progression) (last : Progression) → IsLined heads steps closed last → take (length steps) more ≡ steps
+pub kept_all : (heads : List Entry) (steps more : List EntryStride) (closed : List Progression) (last : Progression) → AreProgressions heads steps closed last → take (length steps) more ≡ steps
     → entries_all heads more (closed ++ last ∷ []) ≡ entries_all heads steps (closed ++ last ∷ [])
 kept_all heads steps more closed last l kept =
     all_same heads heads steps more (length heads) (length steps) (closed ++ last ∷ []) (all_below no_entry heads (length heads)) (kept_same no_step steps more kept)
