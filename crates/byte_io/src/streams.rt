@@ -1,7 +1,7 @@
 //! Readers and writers of the standard library, with their failed calls counted.
 //!
-//! `Input` and `Output` keep the promises of the traits `Read` and `Write` where the standard library promises the bytes. A
-//! failure that is counted is answered. That none is counted where no call failed is only tested.
+//! `Input` and `Output` keep the promises of the traits `Read` and `Write` where the standard library promises the
+//! bytes. A failure that is counted is answered. That none is counted where no call failed is only tested.
 #![tactic(auto)]
 
 ghost use Rattle.std.specs.Prelude.{◌≡◌, []};
