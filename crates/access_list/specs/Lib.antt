@@ -3,6 +3,7 @@ pub mod Clear
 pub mod Index
 pub mod Keys
 pub mod Kinds
+pub mod ListLogs
 pub mod Log
 pub mod Past
 pub mod Recent

@@ -9,8 +9,7 @@ use Rattle.group_run.specs.declared.result.GroupEnd.{GroupEnd}
 use Rattle.group_run.specs.declared.result.GroupEnd.TheVariants.{Done, Stopped}
 use Rattle.joining.specs.Steps.{HasGroup}
 use Rattle.shadow.specs.Lasting.{StandsWith}
-use Rattle.access_list.specs.Log.{Log, logged}
-use Rattle.access_list.specs.declared.list.ListLog.{ListLog}
+use Rattle.access_list.specs.Log.{Log}
 use Rattle.access_list.specs.declared.log.Entry.{Entry}
 use Rattle.group_join.specs.declared.heap_log.HeapLog.{HeapLog}
 
@@ -50,10 +49,6 @@ AreResultsTo bytes listed has_last launch last group [] = last ≤ group
 AreResultsTo bytes listed has_last launch last group (came ∷ results) =
     HasGroup launch group × IsShortResult bytes listed has_last launch group came
     × Followed came.end (AreResultsTo bytes listed has_last launch last (suc group) results) (results ≡ [])
-
--- a list log, as the accesses that it keeps with the running intervals (own)
-abbrev pub list_log : ListLog → Log
-list_log l = logged l.entries.items l.local_interval l.global_interval l.uniform
 
 -- the entries that the log of a running group has for other groups, and whether the last of all is one of them (own)
 abbrev pub listed_of : GroupLog → List Entry

@@ -96,7 +96,7 @@ impl GroupLog {
     /// Takes an access of local memory for one of the log's, by what is known of it, without judging it. Where memory
     /// is refused the log stays.
     #[inline(always)]
-    fn take_local(&mut self, glance: Glance, entry: Entry) -> Result<(), AllocError>
+    fn note_local(&mut self, glance: Glance, entry: Entry) -> Result<(), AllocError>
         requires space { in_buffer entry.access.region ≡ false }
         requires interval { entry.access.interval ≡ self.old.local.interval }
         requires told { glance.look.sight.told ≡ true → Covers self.old.local.uniform self.old.local.kept.items entry.access }
@@ -110,9 +110,9 @@ impl GroupLog {
         Ok(())
     }
 
-    /// Takes an access of a buffer for one of the log's, as `take_local` does.
+    /// Takes an access of a buffer for one of the log's, as `note_local` does.
     #[inline(always)]
-    fn take_global(&mut self, glance: Glance, entry: Entry) -> Result<(), AllocError>
+    fn note_global(&mut self, glance: Glance, entry: Entry) -> Result<(), AllocError>
         requires placed { IsPlaced entry }
         requires space { in_buffer entry.access.region ≡ true }
         requires interval { entry.access.interval ≡ self.old.global.interval }
@@ -140,7 +140,7 @@ impl GroupLog {
         let entry = entry.with_interval(self.local.interval);
         let glance = self.local.look(&entry.access);
         if glance.look.sight.clear {
-            self.take_local(glance, entry)?;
+            self.note_local(glance, entry)?;
             Ok(true)
         } else {
             Ok(false)
@@ -157,7 +157,7 @@ impl GroupLog {
         let entry = entry.with_interval(self.global.interval);
         let glance = self.global.look(&entry.access);
         if glance.look.sight.clear {
-            self.take_global(glance, entry)?;
+            self.note_global(glance, entry)?;
             Ok(true)
         } else {
             Ok(false)
@@ -174,7 +174,7 @@ impl GroupLog {
         let made = entry.with_interval(self.local.interval);
         let glance = self.local.look(&made.access);
         let found = self.local.conflict(&made);
-        self.take_local(glance, made)?;
+        self.note_local(glance, made)?;
         Ok(found)
     }
 
@@ -188,7 +188,7 @@ impl GroupLog {
         let made = entry.with_interval(self.global.interval);
         let glance = self.global.look(&made.access);
         let found = self.global.conflict(&made);
-        self.take_global(glance, made)?;
+        self.note_global(glance, made)?;
         Ok(found)
     }
 

@@ -9,7 +9,7 @@ use access_list::Entry;
 use std::marker::Send;
 
 /// The type's values may go to another thread.
-fn is_sent<T: Send>()
+pub(crate) fn is_sent<T: Send>()
     ensures { IsSend T.row }
 {}
 

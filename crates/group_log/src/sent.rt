@@ -5,16 +5,10 @@ ghost use Rattle.group_log.specs.contracts.group.GroupLog as GroupLogType;
 ghost use Rattle.group_log.specs.contracts.lasting.Lasting as LastingType;
 ghost use Rattle.group_log.specs.contracts.side.Side as SideType;
 
-use crate::progressions_sent::progressions_are_sent;
+use crate::progressions_sent::{is_sent, progressions_are_sent};
 use crate::whole::Whole;
 use clmodel::access::Region;
 use group_traces::traces_are_sent;
-use std::marker::Send;
-
-/// The type's values may go to another thread.
-fn is_sent<T: Send>()
-    ensures { IsSend T.row }
-{}
 
 /// What is kept of the running intervals may go to another thread.
 fn sides_are_sent()

@@ -13,7 +13,7 @@ ghost use Rattle.item_step.specs.Asking.{asks};
 ghost use Rattle.register_values.specs.Leading.{RunsOnAs};
 ghost use Rattle.item_state.specs.Running.{is_asking};
 
-use crate::rest::Wanted;
+use crate::rest::AskedAction;
 use clmodel::operand::Pointer;
 use clmodel::setup::AtomicFunction;
 use clnum::{Value, convert};
@@ -71,20 +71,20 @@ fn compared(
 }
 
 /// What a load asks.
-fn load(machine: &Machine<'_>, pointer: u32) -> Result<Wanted, Termination>
+fn load(machine: &Machine<'_>, pointer: u32) -> Result<AskedAction, Termination>
     ensures { (to : ℕ) (on after : State → Continuation) → RunsOnAs result (act machine.now.given (Some (instruction.Load to pointer)) on after machine.now.state) (asks (instruction.Load to pointer) machine.now.state after) }
 {
     let pointer = pointer_in(machine, pointer)?;
     let operation = load_of(pointer.element);
-    Ok(Wanted::Access { pointer, operation })
+    Ok(AskedAction::Access { pointer, operation })
 }
 
 /// What a store asks.
-fn store(machine: &Machine<'_>, pointer: u32, value: u32) -> Result<Wanted, Termination>
+fn store(machine: &Machine<'_>, pointer: u32, value: u32) -> Result<AskedAction, Termination>
     ensures { (on after : State → Continuation) → RunsOnAs result (act machine.now.given (Some (instruction.Store pointer value)) on after machine.now.state) (asks (instruction.Store pointer value) machine.now.state after) }
 {
     let pair = pointer_and_number(machine, pointer, value)?;
-    Ok(Wanted::Access {
+    Ok(AskedAction::Access {
         pointer: pair.0,
         operation: store_of(pair.0.element, pair.1),
     })
@@ -95,13 +95,13 @@ fn update_by_one(
     machine: &Machine<'_>,
     function: AtomicFunction,
     pointer: u32,
-) -> Result<Wanted, Termination>
+) -> Result<AskedAction, Termination>
     ensures { (on after : State → Continuation) → RunsOnAs result (act machine.now.given (Some (instruction.Update function pointer None)) on after machine.now.state) (asks (instruction.Update function pointer None) machine.now.state after) }
 {
     let pointer = pointer_in(machine, pointer)?;
     let one = Value::wrapped(pointer.element, 1);
     let operation = update_of(function, pointer.element, one);
-    Ok(Wanted::Access { pointer, operation })
+    Ok(AskedAction::Access { pointer, operation })
 }
 
 /// What an atomic update asks.
@@ -110,12 +110,12 @@ fn update(
     function: AtomicFunction,
     pointer: u32,
     value: u32,
-) -> Result<Wanted, Termination>
+) -> Result<AskedAction, Termination>
     ensures { (on after : State → Continuation) → RunsOnAs result (act machine.now.given (Some (instruction.Update function pointer (Some value))) on after machine.now.state) (asks (instruction.Update function pointer (Some value)) machine.now.state after) }
 {
     let pair = pointer_and_number(machine, pointer, value)?;
     let amount = convert(pair.1, pair.0.element);
-    Ok(Wanted::Access {
+    Ok(AskedAction::Access {
         pointer: pair.0,
         operation: update_of(function, pair.0.element, amount),
     })
@@ -126,14 +126,14 @@ fn fetch_by_one(
     machine: &Machine<'_>,
     function: AtomicFunction,
     pointer: u32,
-) -> Result<Wanted, Termination>
+) -> Result<AskedAction, Termination>
     ensures { (to : ℕ) (on after : State → Continuation) → RunsOnAs result (act machine.now.given (Some (instruction.Fetch to function pointer operands.Alone)) on after machine.now.state) (asks (instruction.Fetch to function pointer operands.Alone) machine.now.state after) }
 {
     let pointer = pointer_in(machine, pointer)?;
     let none = Value::wrapped(pointer.element, 0);
     let one = Value::wrapped(pointer.element, 1);
     let operation = fetch_of(function, pointer.element, none, one);
-    Ok(Wanted::Access { pointer, operation })
+    Ok(AskedAction::Access { pointer, operation })
 }
 
 /// What an atomic operation asks whose old number is used.
@@ -142,13 +142,13 @@ fn fetch(
     function: AtomicFunction,
     pointer: u32,
     value: u32,
-) -> Result<Wanted, Termination>
+) -> Result<AskedAction, Termination>
     ensures { (to : ℕ) (on after : State → Continuation) → RunsOnAs result (act machine.now.given (Some (instruction.Fetch to function pointer (operands.Number value))) on after machine.now.state) (asks (instruction.Fetch to function pointer (operands.Number value)) machine.now.state after) }
 {
     let pair = pointer_and_number(machine, pointer, value)?;
     let none = Value::wrapped(pair.0.element, 0);
     let amount = convert(pair.1, pair.0.element);
-    Ok(Wanted::Access {
+    Ok(AskedAction::Access {
         pointer: pair.0,
         operation: fetch_of(function, pair.0.element, none, amount),
     })
@@ -159,14 +159,14 @@ fn fetch_if_equal(
     machine: &Machine<'_>,
     function: AtomicFunction,
     registers: ComparedRegisters,
-) -> Result<Wanted, Termination>
+) -> Result<AskedAction, Termination>
     ensures { (to : ℕ) (on after : State → Continuation) → RunsOnAs result (act machine.now.given (Some (instruction.Fetch to function registers.pointer (operands.Pair registers.expected registers.value))) on after machine.now.state) (asks (instruction.Fetch to function registers.pointer (operands.Pair registers.expected registers.value)) machine.now.state after) }
 {
     let three = compared(machine, registers)?;
     let element = three.0.element;
     let wanted = convert(three.1, element);
     let amount = convert(three.2, element);
-    Ok(Wanted::Access {
+    Ok(AskedAction::Access {
         pointer: three.0,
         operation: fetch_of(function, element, wanted, amount),
     })
@@ -177,7 +177,7 @@ fn fetch_if_equal(
 pub(crate) fn wanted(
     machine: &Machine<'_>,
     instruction: &Instruction,
-) -> Result<Wanted, Termination>
+) -> Result<AskedAction, Termination>
     requires { IsTrue (is_asking instruction.now) }
     ensures { (on after : State → Continuation) → RunsOnAs result (act machine.now.given (Some instruction.now) on after machine.now.state) (asks instruction.now machine.now.state after) }
 {
@@ -213,7 +213,7 @@ pub(crate) fn wanted(
             site,
             depth,
             fences,
-        } => Ok(Wanted::Barrier {
+        } => Ok(AskedAction::Barrier {
             site: *site,
             depth: *depth,
             fences: *fences,

@@ -14,7 +14,7 @@ use item_state::Rest;
 
 /// What an instruction asks.
 #[derive(Clone, Copy)]
-pub(crate) enum Wanted {
+pub(crate) enum AskedAction {
     Access {
         pointer: Pointer,
         operation: Operation,
@@ -70,7 +70,7 @@ pub(crate) enum StepEnd {
 
 /// The action that an item makes, and how it goes on with the answer, if it takes one.
 #[derive(Clone, Copy)]
-pub(crate) struct Found {
+pub(crate) struct FoundAction {
     pub(crate) action: BriefAction,
     pub(crate) pending: Option<Pending>,
 }

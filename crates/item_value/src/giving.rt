@@ -16,7 +16,7 @@ use crate::private_array::PrivateArray;
 use crate::queries::work_dim;
 use crate::registers::RegisterFile;
 use crate::values::{
-    Variable, apply_binary, apply_unary, assign, call_builtin, call_builtin_of_two, cast,
+    VariableRead, apply_binary, apply_unary, assign, call_builtin, call_builtin_of_two, cast,
     load_private, load_variable, move_pointer, pointer_operand, query_work_item, to_common_type,
 };
 use clmodel::operand::Operand;
@@ -48,7 +48,7 @@ pub fn value_of(
         Instruction::Unset { .. } => Ok(RegisterValue::unset()),
         Instruction::Move { from, name, .. } => load_variable(
             registers,
-            Variable {
+            VariableRead {
                 register: *from,
                 name: *name,
             },

@@ -36,7 +36,7 @@ use register_values::termination::Termination;
 
 /// A variable: the number of its register, and the place of its name in the table of names.
 #[derive(Clone, Copy)]
-pub struct Variable {
+pub struct VariableRead {
     pub register: u32,
     pub name: u32,
 }
@@ -45,7 +45,7 @@ pub struct Variable {
 #[inline(always)]
 pub(crate) fn load_variable(
     registers: RegisterFile<'_>,
-    variable: Variable,
+    variable: VariableRead,
 ) -> Result<RegisterValue, Termination>
     ensures { (after : Option Operand → Continuation) → RunsOnAs result (next.known variable.name (entry_at None registers.entry.values.now variable.register) (λ v. after (Some v))) after }
 {

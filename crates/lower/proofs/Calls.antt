@@ -121,7 +121,7 @@ module _ (given : ItemContext) (code : List Instruction) (most : ℕ) (calls : C
       → Agree given code limit now (exec_all most given.here helpers inside f.body site ts (as_body returned) vs)
   body_runs f limit below level s ts site at now vs returned stands same has lost go =
       let scope : Scope = record { base = level; variables = parameter_variables f.parameters [] } in
-      let end = no_value_code f.result level in
+      let end = no_value_code f.result in
       let exits : Exits = record { broken = 0; continued = 0; returned = length end } in
       let first = stmts_code calls results inside f.result scope f.body (length ts) site exits in
       let lengths = length-append first end in

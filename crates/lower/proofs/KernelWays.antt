@@ -31,7 +31,7 @@ body_sound : (earlier : Funcs) (f : Func) (level depth site : ℕ) (exits : Exit
     → Sound (row_size (sizes_of earlier) f.body).loops depth exits (body_code (call_code earlier) (result_in earlier) (sites_in earlier) f level depth site)
 body_sound earlier f level depth site exits calls =
     let n = (row_size (sizes_of earlier) f.body).loops in
-    let end = no_value_code f.result level in
+    let end = no_value_code f.result in
     let scope : Scope = record { base = level; variables = parameter_variables f.parameters [] } in
     let inner : Exits = record { broken = 0; continued = 0; returned = length end } in
     sound_then n depth inner exits (stmts_code (call_code earlier) (result_in earlier) (sites_in earlier) f.result scope f.body depth site inner) end
@@ -43,7 +43,7 @@ body_sound earlier f level depth site exits calls =
       returned = leads_at L depth last (middle + length end) (sym e) o.next;
     })
     (stmts_sound (sizes_of earlier) (call_code earlier) (result_in earlier) (sites_in earlier) f.result calls scope f.body depth site inner)
-    (sound_flat n depth exits end (no_value_flat f.result level))
+    (sound_flat n depth exits end (no_value_flat f.result))
 
 pub calls_sound : (fs : Funcs) → Distinct fs → (name : ℕ) (numbers : List ℕ) (level depth site : ℕ) (exits : Exits)
     → Sound (size_in (sizes_of fs) name).loops depth exits (call_code fs name numbers level depth site)

@@ -38,7 +38,7 @@ module _ (all : List ℕ) (earlier : Funcs) (f : Func) (typed : IsTypedFunction 
       let count : length (parameter_variables f.parameters []) ≡ length f.parameters + 0 = parameters_counted f.parameters [] in
       low_both (16 * top) _ _
       (stmts_low (sizes_of earlier) top (call_code earlier) (result_in earlier) (sites_in earlier) f.result (with_params (begin all earlier f) f.parameters) f.body typed.body scope known depth site _ (omega (arith, h, count)))
-      (no_value_low (16 * top) f.result level)
+      (no_value_low (16 * top) f.result)
 
   function_low : (numbers : List ℕ) (level depth site : ℕ)
       → LowCall (size_of earlier f) (signature f).parameters numbers level (pass_code f.parameters numbers level ++ body_code (call_code earlier) (result_in earlier) (sites_in earlier) f level depth site)

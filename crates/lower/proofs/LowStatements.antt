@@ -38,9 +38,9 @@ needed_low : (n : ℕ) (result : Option IntType) → Low n (needed_code result)
 needed_low n None = (tt, tt)
 needed_low n (Some kind) = tt
 
-pub no_value_low : (n : ℕ) (result : Option IntType) (level : ℕ) → Low n (no_value_code result level)
-no_value_low n None level = tt
-no_value_low n (Some kind) level = (tt, tt)
+pub no_value_low : (n : ℕ) (result : Option IntType) → Low n (no_value_code result)
+no_value_low n None = tt
+no_value_low n (Some kind) = (tt, tt)
 
 value_low : (top : ℕ) (result : Option IntType) (level from : ℕ) → level + 1 ≤ top → from < 16 * top → Low (16 * top) (value_code result level from)
 value_low top None level from h k = tt
@@ -242,7 +242,7 @@ module _ (sizes : Sizes) (top : ℕ) (calls : Calls) (results : ℕ → Option I
         )
     stmt_low _ _ (rule.break loop) scope known depth site exits h = (tt, tt)
     stmt_low _ _ (rule.continue loop) scope known depth site exits h = (tt, tt)
-    stmt_low _ _ (rule.return none) scope known depth site exits h = low_both (16 * top) (no_value_code result scope.base) _ (no_value_low (16 * top) result scope.base) (tt, tt)
+    stmt_low _ _ (rule.return none) scope known depth site exits h = low_both (16 * top) (no_value_code result) _ (no_value_low (16 * top) result) (tt, tt)
     stmt_low _ _ (rule.return_value {c = c} {e = e} {u = u} some value) scope known depth site exits h =
         let level = free_level scope in
         low_both (16 * top) (expr_code scope level e) _ (expr_low sizes top scope (omega (arith, h)) level e (omega (arith, h)))

@@ -92,11 +92,11 @@ pub body_placed : (gs : List Function) (f : Function) (level depth site first be
     → ss ≡ f.body.items
     → behind ≡ site + all_sites (inside gs) (all_of ss) → first + all_sites (inside gs) (all_of ss) ≡ behind
     → scope ≡ record { base = level; variables = parameter_variables f.parameters.items [] }
-    → one ≡ no_value_code f.result level ++ old → returned ≡ length one - length old
+    → one ≡ no_value_code f.result ++ old → returned ≡ length one - length old
     → two ≡ stmts_code (call_code (functions_of gs)) (result_in (functions_of gs)) (inside gs) f.result scope (all_of ss) depth first (record { broken = 0; continued = 0; returned = returned }) ++ one
     → two ≡ body_of gs f level depth site ++ old
 body_placed gs f level depth site first behind scope ss returned old one two ss_is behind_is first_is scope_is one_is returned_is two_is =
-    let end = no_value_code f.result level in
+    let end = no_value_code f.result in
     let size = longer end old one one_is in
     let returned_at : returned ≡ length end = omega (arith, returned_is, size) in
     let first_at : first ≡ site = omega (arith, first_is, behind_is) in

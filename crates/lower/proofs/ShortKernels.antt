@@ -23,7 +23,7 @@ module _ (all : List ℕ) (earlier : Funcs) (f : Func) (typed : IsTypedFunction 
   body_short level depth site =
       let scope : Scope = record { base = level; variables = parameter_variables f.parameters [] } in
       both (stmts_short (sizes_of earlier) (call_code earlier) (result_in earlier) (sites_in earlier) f.result (with_params (begin all earlier f) f.parameters) f.body typed.body scope known depth site _)
-      (no_value_short f.result level)
+      (no_value_short f.result)
 
   function_short : (numbers : List ℕ) (level depth site : ℕ)
       → ShortCall (size_of earlier f) (signature f).parameters numbers level (pass_code f.parameters numbers level ++ body_code (call_code earlier) (result_in earlier) (sites_in earlier) f level depth site)

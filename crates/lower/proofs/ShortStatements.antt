@@ -104,7 +104,7 @@ module _ (sizes : Sizes) (calls : Calls) (results : ℕ → Option IntType) (ins
         (both (condition_short sizes inner e) single)))))) (omega arith)
     stmt_short _ _ (rule.break loop) scope known depth site exits = within single (omega arith)
     stmt_short _ _ (rule.continue loop) scope known depth site exits = within single (omega arith)
-    stmt_short _ _ (rule.return none) scope known depth site exits = within (both (no_value_short result scope.base) single) (omega arith)
+    stmt_short _ _ (rule.return none) scope known depth site exits = within (both (no_value_short result) single) (omega arith)
     stmt_short _ _ (rule.return_value {c = c} {e = e} {u = u} some value) scope known depth site exits =
         within (both (expr_short sizes scope (free_level scope) e) (both (value_short result scope.base _) single)) (omega arith)
 

@@ -104,8 +104,8 @@ ends_leaving given code bound result s scope inner ts places k count w e h =
 
 -- a function returns without a value: one that gives a value ends the item
 pub no_value_runs : (given : ItemContext) (code : List Instruction) (bound : ℕ) (result : Option IntType) (s : State) (level : ℕ) (ts : List ℕ) (place : ℕ) (now : State) (run : Continuation)
-    → Stands level s ts place now → HasAt code place (no_value_code result level) → ((kind : IntType) → result ≡ Some kind → run ≡ finish)
-    → ((last : State) → Stands level s ts (place + length (no_value_code result level)) last → Returned result level last.registers (returned_as result None) → Agree given code bound last run)
+    → Stands level s ts place now → HasAt code place (no_value_code result) → ((kind : IntType) → result ≡ Some kind → run ≡ finish)
+    → ((last : State) → Stands level s ts (place + length (no_value_code result)) last → Returned result level last.registers (returned_as result None) → Agree given code bound last run)
     → Agree given code bound now run
 no_value_runs given code bound None s level ts place now run stands has lost go = go now (stands_to level s ts place now (place + 0) (omega arith) stands) refl
 no_value_runs given code bound (Some kind) s level ts place now run stands has lost go =
@@ -394,7 +394,7 @@ module _ (given : ItemContext) (code : List Instruction) (most : ℕ) (calls : C
         (stands_to scope.base s ts _ (onward now exits.continued) places.continued (let l = leads.continued in omega (arith, end, l)) (onward_stands scope.base s ts at now exits.continued stands))
         (self_left scope now.registers vs same))
     stmt_runs (Return at') bound below scope s ts site exits places k at now vs stands same (has, end) leads h =
-        let first = no_value_code result scope.base in
+        let first = no_value_code result in
         let jump : List Instruction = instruction.Jump exits.returned ∷ [] in
         let lengths = length-append first jump in
         no_value_runs given code bound result s scope.base ts at now (k.returned None) stands (has_left code first jump at has) h.lost

@@ -42,7 +42,7 @@ arguments_suit parameters (p ∷ ps) level at = (
 module _ (parameters : List VariableType) (all : List ℕ) (earlier : Funcs) (f : Func) (typed : IsTypedFunction all earlier f) (known : KnownIn (λ size. SuitCall parameters) all earlier (with_params (begin all earlier f) f.parameters)) where
   body_suits : (level depth site : ℕ) → Suit parameters (body_code (call_code earlier) (result_in earlier) (sites_in earlier) f level depth site)
   body_suits level depth site =
-      let end = no_value_code f.result level in
+      let end = no_value_code f.result in
       let empty : Scope = record { base = level; variables = [] } in
       let scope : Scope = record { base = level; variables = parameter_variables f.parameters [] } in
       let inner : Exits = record { broken = 0; continued = 0; returned = length end } in
@@ -51,7 +51,7 @@ module _ (parameters : List VariableType) (all : List ℕ) (earlier : Funcs) (f 
       let m : Matches start empty = λ name kind is. absurd (function_unbound (nat_eq name f.name) (signature f) (signature_of (signatures earlier) name) (built_in name) (is_barrier name) kind is) in
       suit_both parameters (stmts_code (call_code earlier) (result_in earlier) (sites_in earlier) f.result scope f.body depth site inner) end
       (stmts_suit parameters (call_code earlier) (result_in earlier) (sites_in earlier) f.result c f.body typed.body scope (matches_params start empty f.parameters typed.parameters m) known depth site inner)
-      (no_value_suits parameters f.result level)
+      (no_value_suits parameters f.result)
 
   function_suits : (numbers : List ℕ) (level depth site : ℕ)
       → SuitCall parameters (signature f).parameters numbers level (pass_code f.parameters numbers level ++ body_code (call_code earlier) (result_in earlier) (sites_in earlier) f level depth site)

@@ -94,9 +94,9 @@ abbrev pub SuitCall : List VariableType → List VariableType → List ℕ → �
 SuitCall parameters taken numbers level code = Filled taken numbers → Suit parameters code
 
 module _ (parameters : List VariableType) where
-  pub no_value_suits : (result : Option IntType) (level : ℕ) → Suit parameters (no_value_code result level)
-  no_value_suits None level = tt
-  no_value_suits (Some kind) level = ((λ code same wide. tt), tt)
+  pub no_value_suits : (result : Option IntType) → Suit parameters (no_value_code result)
+  no_value_suits None = tt
+  no_value_suits (Some kind) = ((λ code same wide. tt), tt)
 
   pub value_suits : (result : Option IntType) (level from : ℕ) (u : IntType) → Is from (Integer u) → Suit parameters (value_code result level from)
   value_suits None level from u of = tt

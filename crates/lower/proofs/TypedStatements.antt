@@ -123,7 +123,7 @@ module _ (parameters : List VariableType) (calls : Calls) (results : ℕ → Opt
     stmt_suits _ _ (rule.break loop) scope m known depth site exits = ((λ code same wide. tt), tt)
     stmt_suits _ _ (rule.continue loop) scope m known depth site exits = ((λ code same wide. tt), tt)
     stmt_suits _ _ (rule.return none) scope m known depth site exits =
-        suit_both parameters (no_value_code result scope.base) (instruction.Jump exits.returned ∷ []) (no_value_suits parameters result scope.base) ((λ code same wide. tt), tt)
+        suit_both parameters (no_value_code result) (instruction.Jump exits.returned ∷ []) (no_value_suits parameters result) ((λ code same wide. tt), tt)
     stmt_suits _ _ (rule.return_value {c = c} {e = e} {u = u} some value) scope m known depth site exits =
         let level = free_level scope in
         let middle = value_code result scope.base (register_for scope level e) in

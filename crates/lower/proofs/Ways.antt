@@ -51,9 +51,9 @@ needed_flat : (t : Option IntType) → Flat (needed_code t)
 needed_flat None = (tt, tt)
 needed_flat (Some t) = tt
 
-pub no_value_flat : (t : Option IntType) (level : ℕ) → Flat (no_value_code t level)
-no_value_flat None level = tt
-no_value_flat (Some t) level = (tt, tt)
+pub no_value_flat : (t : Option IntType) → Flat (no_value_code t)
+no_value_flat None = tt
+no_value_flat (Some t) = (tt, tt)
 
 value_flat : (t : Option IntType) (level from : ℕ) → Flat (value_code t level from)
 value_flat None level from = tt
@@ -234,8 +234,8 @@ module _ (sizes : Sizes) (calls : Calls) (results : ℕ → Option IntType) (ins
     stmt_sound scope (Break at) depth site exits = sound_exit _ depth exits exits.broken (λ L end o. o.broken)
     stmt_sound scope (Continue at) depth site exits = sound_exit _ depth exits exits.continued (λ L end o. o.continued)
     stmt_sound scope (Return at) depth site exits =
-        sound_both _ depth exits (no_value_code result scope.base) (instruction.Jump exits.returned ∷ [])
-        (sound_flat _ depth _ (no_value_code result scope.base) (no_value_flat result scope.base)) (sound_exit _ depth exits exits.returned (λ L end o. o.returned))
+        sound_both _ depth exits (no_value_code result) (instruction.Jump exits.returned ∷ [])
+        (sound_flat _ depth _ (no_value_code result) (no_value_flat result)) (sound_exit _ depth exits exits.returned (λ L end o. o.returned))
     stmt_sound scope (ReturnValue at value) depth site exits =
         let n = (term_size sizes value).loops in
         let level = free_level scope in

@@ -9,7 +9,7 @@ ghost use Rattle.lower_code.specs.Emission.{callee_sites, found_sites, inside};
 
 use clmodel::tree::Statement;
 use lower_code::callees::{Callee, callee_in, callee_of};
-use lower_code::functions::{Found, find};
+use lower_code::functions::{FoundFunction, find};
 use lower_code::holes::Helpers;
 
 /// The barriers in a statement; None where there are 2^32 or more.
@@ -71,7 +71,7 @@ pub fn sites_in_all(helpers: Helpers<'_>, statements: &[Statement]) -> Option<u3
 }
 
 /// The barriers in a helper; None where there are 2^32 or more.
-fn sites_in_helper(helpers: Helpers<'_>, found: Found<'_>) -> Option<u32>
+fn sites_in_helper(helpers: Helpers<'_>, found: FoundFunction<'_>) -> Option<u32>
     requires within { found.place < length helpers.functions.now }
     requires there { found.function.now ≡ get_or helpers.functions.now found.place found.function.now }
     ensures some { IfSome result (λ n. n ≡ found_sites helpers.entry.functions.now (Some found.entry)) }

@@ -166,7 +166,7 @@ fn emit_statement<'a>(
         }
         Statement::Return { value, .. } => match value {
             None => {
-                put_return(context.result, scope, ending.exits.returned, code)?;
+                put_return(context.result, ending.exits.returned, code)?;
                 Ok(ending.behind)
             }
             Some(value) => {
@@ -225,7 +225,7 @@ pub fn emit_body<'a>(
     ensures longer { OnErr result (GrowsBefore code.old code.new) }
 {
     let end = code.len();
-    put_no_value(function.result, position.level, code)?;
+    put_no_value(function.result, code)?;
     let exits = Exits {
         broken: 0,
         continued: 0,

@@ -15,7 +15,7 @@ use Rattle.clmodel.specs.declared.tree.VariableType.{VariableType}
 use Rattle.regcode.specs.declared.instruction.Instruction.{Instruction}
 use Rattle.clmodel.specs.declared.tree.Function.{Function}
 use Rattle.clmodel.specs.Tree.{func}
-use Rattle.lower_code.specs.declared.functions.Found.{Found}
+use Rattle.lower_code.specs.declared.functions.FoundFunction.{FoundFunction}
 use Rattle.lower_code.specs.Emission.{functions_of, found_code}
 use Rattle.lower_code.specs.Emission as emission
 use Rattle.lower_code.proofs.Helpers.{code_hit}
@@ -55,9 +55,9 @@ arguments_length (p ∷ ps) level = ap (λ n. suc n) (arguments_length ps (level
 needed_same : (result : Option IntType) → SameLength (needed_code result) (needed_code result)
 needed_same result = record { same = refl }
 
-no_value_same : (result : Option IntType) (level level2 : ℕ) → SameLength (no_value_code result level) (no_value_code result level2)
-no_value_same None level level2 = record { same = refl }
-no_value_same (Some kind) level level2 = single
+no_value_same : (result : Option IntType) → SameLength (no_value_code result) (no_value_code result)
+no_value_same None = record { same = refl }
+no_value_same (Some kind) = single
 
 value_same : (result : Option IntType) (level level2 from from2 : ℕ) → SameLength (value_code result level from) (value_code result level2 from2)
 value_same None level level2 from from2 = record { same = refl }
@@ -155,7 +155,7 @@ module _ (base other : ℕ) where
           (while_same depth depth2 (joined (stmt_same inner body (depth + 1) (depth2 + 1) _ _ _ _) (part_same inner third (depth + 1) (depth2 + 1) _ _ _ _)) (condition_same inner test))
       stmt_same vs (Break at) depth depth2 site site2 exits exits2 = single
       stmt_same vs (Continue at) depth depth2 site site2 exits exits2 = single
-      stmt_same vs (Return at) depth depth2 site site2 exits exits2 = joined (no_value_same result base other) single
+      stmt_same vs (Return at) depth depth2 site site2 exits exits2 = joined (no_value_same result) single
       stmt_same vs (ReturnValue at value) depth depth2 site site2 exits exits2 =
           joined (expr_same base other vs _ _ value) (joined (value_same result base other _ _) single)
 
@@ -175,7 +175,7 @@ pub body_alike : (calls calls2 : Calls) → AlikeCalls calls calls2 → (results
     → length (body_code calls results inside f level depth site) ≡ length (body_code calls2 results inside2 f level2 depth2 site2)
 body_alike calls calls2 alike results inside inside2 f level depth site level2 depth2 site2 =
     let body : SameLength (body_code calls results inside f level depth site) (body_code calls2 results inside2 f level2 depth2 site2) =
-    joined (stmts_same level level2 calls calls2 alike results inside inside2 f.result (parameter_variables f.parameters []) f.body depth depth2 site site2 _ _) (no_value_same f.result level level2) in
+    joined (stmts_same level level2 calls calls2 alike results inside inside2 f.result (parameter_variables f.parameters []) f.body depth depth2 site site2 _ _) (no_value_same f.result) in
     body.same
 
 -- the body of a function has one length, at any level and any depth of loops, and whatever its first barrier's number
@@ -218,7 +218,7 @@ hit_length gs i name g arguments level depth site h p t =
     ∙ placed_length (call_code (functions_of (take i gs))) (call_length (functions_of (take i gs))) (result_in (functions_of (take i gs))) (emission.inside (take i gs)) (func g) arguments level depth site
 
 -- and as it is found
-pub found_length : (gs : List Function) (f : Found) (arguments : List ℕ) (level depth site : ℕ)
+pub found_length : (gs : List Function) (f : FoundFunction) (arguments : List ℕ) (level depth site : ℕ)
     → length (found_code gs (Some f) arguments level depth site)
     ≡ length f.function.now.parameters.items
     + length (body_code (call_code (functions_of (take f.place gs))) (result_in (functions_of (take f.place gs))) (emission.inside (take f.place gs)) (func f.function.now) 0 0 0)

@@ -31,9 +31,9 @@ pub needed_short : (result : Option IntType) → Short 1 (needed_code result)
 needed_short None = single
 needed_short (Some kind) = within none (omega arith)
 
-pub no_value_short : (result : Option IntType) (level : ℕ) → Short 1 (no_value_code result level)
-no_value_short None level = within none (omega arith)
-no_value_short (Some kind) level = single
+pub no_value_short : (result : Option IntType) → Short 1 (no_value_code result)
+no_value_short None = within none (omega arith)
+no_value_short (Some kind) = single
 
 pub value_short : (result : Option IntType) (level from : ℕ) → Short 1 (value_code result level from)
 value_short None level from = within none (omega arith)
@@ -126,7 +126,7 @@ module _ (sizes : Sizes) (calls : Calls) (known : AreShort sizes calls) (results
         (while_short depth (both (stmt_short inner body (depth + 1) _ _) (part_short inner third (depth + 1) _ _)) (condition_short sizes inner test))) (omega arith)
     stmt_short scope (Break at) depth site exits = within single (omega arith)
     stmt_short scope (Continue at) depth site exits = within single (omega arith)
-    stmt_short scope (Return at) depth site exits = within (both (no_value_short result scope.base) single) (omega arith)
+    stmt_short scope (Return at) depth site exits = within (both (no_value_short result) single) (omega arith)
     stmt_short scope (ReturnValue at value) depth site exits =
         within (both (expr_short sizes scope (free_level scope) value) (both (value_short result scope.base _) single)) (omega arith)
 
@@ -143,7 +143,7 @@ function_short : (sizes : Sizes) (calls : Calls) → AreShort sizes calls → (r
     → Short (instructions (row_size sizes f.body).nodes + 1) (body_code calls results inside f level depth site)
 function_short sizes calls known results inside f level depth site =
     let scope : Scope = record { base = level; variables = parameter_variables f.parameters [] } in
-    both (stmts_short sizes calls known results inside f.result scope f.body depth site _) (no_value_short f.result level)
+    both (stmts_short sizes calls known results inside f.result scope f.body depth site _) (no_value_short f.result)
 
 -- a helper of these functions and one more, in place of its call
 case_short : (earlier : Funcs) (f : Func) → AreShort (sizes_of earlier) (call_code earlier)

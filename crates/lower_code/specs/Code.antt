@@ -50,9 +50,9 @@ needed_code None = instruction.End ∷ []
 needed_code (Some kind) = []
 
 -- a function returns no value: one that gives a value ends the item there
-abbrev pub no_value_code : Option IntType → ℕ → List Instruction
-no_value_code None level = []
-no_value_code (Some kind) level = instruction.End ∷ []
+abbrev pub no_value_code : Option IntType → List Instruction
+no_value_code None = []
+no_value_code (Some kind) = instruction.End ∷ []
 
 -- a function returns a register's value, in its type
 abbrev pub value_code : Option IntType → ℕ → ℕ → List Instruction
@@ -172,7 +172,7 @@ module _ (calls : Calls) (results : ℕ → Option IntType) (inside : ℕ → �
         part_code scope first depth site (past (length loop) exits) ++ loop
     stmt_code scope (Break at) depth site exits = instruction.Jump exits.broken ∷ []
     stmt_code scope (Continue at) depth site exits = instruction.Jump exits.continued ∷ []
-    stmt_code scope (Return at) depth site exits = no_value_code result scope.base ++ instruction.Jump exits.returned ∷ []
+    stmt_code scope (Return at) depth site exits = no_value_code result ++ instruction.Jump exits.returned ∷ []
     stmt_code scope (ReturnValue at value) depth site exits =
         expr_code scope (free_level scope) value
         ++ (value_code result scope.base (register_for scope (free_level scope) value) ++ instruction.Jump exits.returned ∷ [])
@@ -196,7 +196,7 @@ result_in (ThenFunc earlier f) name = elim (name == f.name) [ true ↦ f.result 
 -- a function's body, whose parameters are at a level and above
 abbrev pub body_code : Calls → (ℕ → Option IntType) → (ℕ → ℕ) → Func → ℕ → ℕ → ℕ → List Instruction
 body_code calls results inside f level depth site =
-    let end = no_value_code f.result level in
+    let end = no_value_code f.result in
     stmts_code calls results inside f.result (record { base = level; variables = parameter_variables f.parameters [] }) f.body depth site
     (record { broken = 0; continued = 0; returned = length end })
     ++ end

@@ -18,7 +18,7 @@ use Rattle.lower_code.specs.declared.assignments.Call.{Call}
 use Rattle.lower_code.specs.declared.callees.Callee.{Callee}
 use Rattle.lower_code.specs.declared.callees.Callee.TheVariants as callee
 use Rattle.lower_code.specs.declared.assignments.Split.{Split}
-use Rattle.lower_code.specs.declared.functions.Found.{Found}
+use Rattle.lower_code.specs.declared.functions.FoundFunction.{FoundFunction}
 use Rattle.lower_code.specs.declared.positions.Exits.{Exits}
 use Rattle.lower_code.specs.declared.positions.Position.{Position}
 use Rattle.lower_code.specs.declared.holes.StatementContext.{StatementContext}
@@ -28,19 +28,19 @@ test_of None = WithoutTerm
 test_of (Some e) = WithTerm (term e.now)
 
 -- the body of a helper with the functions before it, or the end of the item where there is none of a name
-abbrev pub found_code : List Function → Option Found → List ℕ → ℕ → ℕ → ℕ → List Instruction
+abbrev pub found_code : List Function → Option FoundFunction → List ℕ → ℕ → ℕ → ℕ → List Instruction
 found_code functions None arguments level depth site = instruction.End ∷ []
 found_code functions (Some f) arguments level depth site =
     pass_code f.function.now.parameters.items arguments level
     ++ body_of (take f.place functions) f.function.now level depth site
 
 -- the type of its value
-abbrev pub found_result : Option Found → Option IntType
+abbrev pub found_result : Option FoundFunction → Option IntType
 found_result None = None
 found_result (Some f) = f.function.now.result
 
 -- the barriers in it
-abbrev pub found_sites : List Function → Option Found → ℕ
+abbrev pub found_sites : List Function → Option FoundFunction → ℕ
 found_sites functions None = 0
 found_sites functions (Some f) = all_sites (inside (take f.place functions)) (all_of f.function.now.body.items)
 

@@ -13,7 +13,7 @@ ghost use Rattle.lower_code.specs.Room.{levels, called_level};
 
 use crate::assignments::Split;
 use crate::draft::Draft;
-use crate::functions::{Found, find};
+use crate::functions::{FoundFunction, find};
 use crate::holes::{Helpers, Hole};
 use crate::positions::{BodyPosition, Position};
 use crate::variables::put_passed;
@@ -74,7 +74,7 @@ fn emit_call<'a>(
 
 /// How long the code of a helper's body is, wherever it is called. It has no more nodes than a kernel may have, so the
 /// length is known.
-fn length_of(helpers: Helpers<'_>, found: Found<'_>) -> usize
+fn length_of(helpers: Helpers<'_>, found: FoundFunction<'_>) -> usize
     requires within { found.place < length helpers.functions.now }
     requires there { found.function.now ≡ get_or helpers.functions.now found.place found.function.now }
     requires few { all_sites (inside (take found.place helpers.functions.now)) (all_of found.function.now.body.items) < 2 ^ 32 }
@@ -90,7 +90,7 @@ fn length_of(helpers: Helpers<'_>, found: Found<'_>) -> usize
 /// Puts the body of a helper before the code, and leaves it out.
 fn leave_body<'a>(
     helpers: Helpers<'a>,
-    found: Found<'a>,
+    found: FoundFunction<'a>,
     level: Level,
     position: Position,
     code: &mut Draft<'a>,

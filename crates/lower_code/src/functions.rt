@@ -13,7 +13,7 @@ use std::alloc::{AllocError, Global};
 
 /// A function, and how many are before it.
 #[derive(Clone, Copy)]
-pub struct Found<'a> {
+pub struct FoundFunction<'a> {
     pub place: usize,
     pub function: &'a Function,
 }
@@ -32,7 +32,7 @@ fn end_of(helpers: Helpers<'_>, name: u32) -> usize
 
 /// The helper function of a name: the last of the functions that has it. The table of ends says where it stands, so
 /// that no other is looked at, unless functions share a name.
-pub fn find<'a>(helpers: Helpers<'a>, name: u32) -> Option<Found<'a>>
+pub fn find<'a>(helpers: Helpers<'a>, name: u32) -> Option<FoundFunction<'a>>
     ensures code { (arguments : List ℕ) (level depth site : ℕ) → call_code (functions_of helpers.entry.functions.now) name arguments level depth site ≡ found_code helpers.entry.functions.now result arguments level depth site }
     ensures value { result_in (functions_of helpers.entry.functions.now) name ≡ found_result result }
     ensures sites { inside helpers.entry.functions.now name ≡ found_sites helpers.entry.functions.now result }
@@ -46,7 +46,7 @@ pub fn find<'a>(helpers: Helpers<'a>, name: u32) -> Option<Found<'a>>
         let place = end - 1 - i;
         let function = &functions[place];
         if name == function.name {
-            return Some(Found { place, function });
+            return Some(FoundFunction { place, function });
         }
     }
     None

@@ -120,12 +120,8 @@ pub fn end_while<'a>(
 }
 
 /// Puts before the code that a function returns no value: one that gives a value ends the item there.
-pub fn put_no_value(
-    kind: Option<IntType>,
-    level: Level,
-    code: &mut Draft<'_>,
-) -> Result<(), AllocError>
-    ensures code { OnOk result (code.new ≡ spec.no_value_code kind level.0 ++ code.old) }
+pub fn put_no_value(kind: Option<IntType>, code: &mut Draft<'_>) -> Result<(), AllocError>
+    ensures code { OnOk result (code.new ≡ spec.no_value_code kind ++ code.old) }
     ensures longer { OnErr result (GrowsBefore code.old code.new) }
 {
     match kind {
@@ -135,17 +131,12 @@ pub fn put_no_value(
 }
 
 /// Puts a return without a value before the code, with a jump past `by` instructions.
-pub fn put_return(
-    kind: Option<IntType>,
-    scope: &Scope,
-    by: u32,
-    code: &mut Draft<'_>,
-) -> Result<(), AllocError>
-    ensures code { OnOk result (code.new ≡ spec.no_value_code kind scope.now.base ++ (instruction.Jump by ∷ code.old)) }
+pub fn put_return(kind: Option<IntType>, by: u32, code: &mut Draft<'_>) -> Result<(), AllocError>
+    ensures code { OnOk result (code.new ≡ spec.no_value_code kind ++ (instruction.Jump by ∷ code.old)) }
     ensures longer { OnErr result (GrowsBefore code.old code.new) }
 {
     code.put(Instruction::Jump { by })?;
-    put_no_value(kind, scope.base(), code)
+    put_no_value(kind, code)
 }
 
 /// Adds that a function returns a register's value, in its type.

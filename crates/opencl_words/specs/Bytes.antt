@@ -1,7 +1,7 @@
 -- Bytes that begin no token, or that can't follow a number, and what is said of them (own).
-use Rattle.std.specs.Prelude.{ℕ, Bool, ◌&&◌, nat_eq, List, take, drop, map, codes, slice_index, Option, None, unwrap_or, if◌then◌else◌}
+use Rattle.std.specs.Prelude.{ℕ, Bool, ◌&&◌, List, take, drop, map, codes, slice_index, Option, None, unwrap_or, if◌then◌else◌}
 use Rattle.std.specs.Char.{is_ascii_digit}
-use Rattle.std.specs.List.{starts_with}
+use Rattle.clsyntax_lex.specs.Numbers.{begins_with}
 use Rattle.opencl_words.specs.Spelling.{word_at, ends_in_number}
 use Rattle.opencl_words.specs.Tables.{Table, row_of, row_in_front}
 use Rattle.opencl_words.specs.declared.bytes.TheConstants.{BYTES, DIRECTIVES, NO_TOKEN, SUFFIXES, TAILS}
@@ -20,9 +20,6 @@ fronts = map (λ row. (row.0.now, row.1.now)) BYTES
 -- bytes that can't follow a number
 abbrev pub tails : Table
 tails = map (λ row. (row.0.now, row.1.now)) TAILS
-
-abbrev pub begins_with : List ℕ → List ℕ → Bool
-begins_with text bytes = starts_with nat_eq bytes text
 
 -- of the bytes behind a number
 abbrev pub tail_said : List ℕ → List ℕ

@@ -89,9 +89,9 @@ needed_marked : (result : Option IntType) (n : Node) → Marks (times (needed_co
 needed_marked None n = single tt
 needed_marked (Some kind) n = none
 
-no_value_marked : (result : Option IntType) (level : ℕ) (n : Node) → Marks (times (value_count result) n) (no_value_code result level)
-no_value_marked None level n = none
-no_value_marked (Some kind) level n = single tt
+no_value_marked : (result : Option IntType) (n : Node) → Marks (times (value_count result) n) (no_value_code result)
+no_value_marked None n = none
+no_value_marked (Some kind) n = single tt
 
 value_marked : (result : Option IntType) (level from : ℕ) (n : Node) → Marks (times (value_count result) n) (value_code result level from)
 value_marked None level from n = none
@@ -196,7 +196,7 @@ module _ (base : ℕ) where
           (joined (condition_marked inner test (OfStmt (For at first test third body))) (single tt)))))))))
       stmt_marked vs (Break at) depth site exits = single tt
       stmt_marked vs (Continue at) depth site exits = single tt
-      stmt_marked vs (Return at) depth site exits = joined (no_value_marked result _ _) (single tt)
+      stmt_marked vs (Return at) depth site exits = joined (no_value_marked result _) (single tt)
       stmt_marked vs (ReturnValue at value) depth site exits = joined (expr_marked (from_level base vs) _ value) (joined (value_marked result _ _ _) (single tt))
 
       part_marked : (vs : Variables) (part : MaybeStmt) (depth site : ℕ) (exits : Exits)
@@ -222,9 +222,9 @@ body_marked : (calls : Calls) (code : spec.Calls) (results : ℕ → Option IntT
 body_marked calls code results barriers all f level depth site =
     joined
     (named_row calls results f (names_of (parameter_variables f.parameters [])) (parameter_names f.parameters) (parameters_named f.parameters [])
-    (stmts_code code results barriers f.result (from_level level (parameter_variables f.parameters [])) f.body depth site (record { broken = 0; continued = 0; returned = length (no_value_code f.result level) }))
-    (row_marked level calls code results barriers f.result all (parameter_variables f.parameters []) f.body depth site (record { broken = 0; continued = 0; returned = length (no_value_code f.result level) })))
-    (no_value_marked f.result level (OfFunc f))
+    (stmts_code code results barriers f.result (from_level level (parameter_variables f.parameters [])) f.body depth site (record { broken = 0; continued = 0; returned = length (no_value_code f.result) }))
+    (row_marked level calls code results barriers f.result all (parameter_variables f.parameters []) f.body depth site (record { broken = 0; continued = 0; returned = length (no_value_code f.result) })))
+    (no_value_marked f.result (OfFunc f))
 
 one_of : (h : Bool) {os ps : List Origin} {is js : List Instruction} → Marks os is → Marks ps js
     → Marks (elim h as (λ _. List Origin) [ true ↦ os | false ↦ ps ]) (elim h as (λ _. List Instruction) [ true ↦ is | false ↦ js ])

@@ -4,7 +4,8 @@ ghost use Rattle.clmodel.specs.Next.{launch_of};
 ghost use Rattle.clmodel.specs.Setup.{item_count, group_items};
 ghost use Rattle.item_step.specs.Launches.{setup_of};
 ghost use Rattle.launches.specs.Groups.{HasGroups};
-ghost use Rattle.group_join.specs.Launches.{AreResults, list_log};
+ghost use Rattle.access_list.specs.ListLogs.{list_log};
+ghost use Rattle.group_join.specs.Launches.{AreResults};
 ghost use Rattle.spaces.specs.Buffers.{bytes_in};
 
 use crate::came::{Came, done_if, is_done, refuse_all, refuse_none};

@@ -1,6 +1,6 @@
 -- The text of a script. A script is the texts of its commands, one after another, in version 2 behind a line that says
 -- so.
-use Rattle.std.specs.Prelude.{◌≡◌, ℕ, ◌+◌, ◌<◌, ◌≤◌, ◌^◌, ◌==◌, Bool, true, false, IsTrue, List, [], ◌∷◌, ◌++◌, length, replicate, codes, decimal, if◌then◌else◌, ◌⊎◌}
+use Rattle.std.specs.Prelude.{◌≡◌, ℕ, ◌+◌, ◌<◌, ◌≤◌, ◌^◌, ◌==◌, Bool, true, false, IsTrue, List, [], ◌∷◌, ◌++◌, length, replicate, codes, decimal, ◌⊎◌}
 use Rattle.std.specs.Fmt.{signed_decimal}
 use Rattle.clmodel.specs.declared.setup.Argument.{Argument}
 use Rattle.clmodel.specs.declared.setup.Argument.TheVariants as argument
@@ -9,12 +9,9 @@ use Rattle.host_commands.specs.declared.command.Command.TheVariants as command
 use Rattle.byte_io.specs.Pieces.{joined}
 use Rattle.simfile.specs.declared.lines.Version.{Version}
 use Rattle.simfile.specs.declared.lines.Version.TheVariants as version
+pub use Rattle.text_lines.specs.Lines.{line_feeds}
 use Rattle.text_lines.specs.Texts.{list_text, IsValue}
 use Rattle.simfile.specs.Fields.{is_name, IsList, AreBytes, hex}
-
-abbrev pub line_feeds : List ℕ → ℕ
-line_feeds [] = 0
-line_feeds (b ∷ bs) = if b == 10 then 1 + line_feeds bs else line_feeds bs
 
 -- n lines, at least one, each with its line feed
 pub record AreLines (text : List ℕ) (n : ℕ) : Type 0 where

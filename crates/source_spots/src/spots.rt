@@ -8,20 +8,20 @@ use crate::loops::loops_of;
 use crate::places::{Source, line_of, place_of};
 use explanation::{CallSite, Code, LoopSite, NodeKind, Spot};
 use std::alloc::{AllocError, Global};
-use text_lines::{Form, extent};
+use text_lines::{SourceForm, extent};
 
 /// How much text of a place is told in short, in bytes.
 const SHORT: usize = 48;
 
 /// What kind of text a node has.
-fn form_of(node: NodeKind) -> Form {
+fn form_of(node: NodeKind) -> SourceForm {
     match node {
-        NodeKind::Operand | NodeKind::Function => Form::Word,
-        NodeKind::Element | NodeKind::Call => Form::Bracketed,
-        NodeKind::Dereference => Form::Prefixed,
-        NodeKind::Operation => Form::Product,
-        NodeKind::Loop => Form::Head,
-        NodeKind::Declaration | NodeKind::Assignment | NodeKind::Statement => Form::Simple,
+        NodeKind::Operand | NodeKind::Function => SourceForm::Word,
+        NodeKind::Element | NodeKind::Call => SourceForm::Bracketed,
+        NodeKind::Dereference => SourceForm::Prefixed,
+        NodeKind::Operation => SourceForm::Product,
+        NodeKind::Loop => SourceForm::Head,
+        NodeKind::Declaration | NodeKind::Assignment | NodeKind::Statement => SourceForm::Simple,
     }
 }
 

@@ -1,9 +1,11 @@
 -- Lines of a text (own): a line ends with its line feed, which is byte 10. Lines and columns count from 1, columns in
 -- bytes.
-use Rattle.std.specs.Prelude.{◌≡◌, ◌≢◌, ℕ, ◌+◌, ◌-◌, ◌<◌, ◌≤◌, ◌==◌, List, take, length, count_by, slice_index}
+use Rattle.std.specs.Prelude.{◌≡◌, ◌≢◌, ℕ, ◌+◌, ◌-◌, ◌<◌, ◌≤◌, ◌==◌, List, [], ◌∷◌, take, length, slice_index, if◌then◌else◌}
 
+-- how many line feeds bytes have
 abbrev pub line_feeds : List ℕ → ℕ
-line_feeds bytes = count_by (λ byte. byte == 10) bytes
+line_feeds [] = 0
+line_feeds (byte ∷ bytes) = if byte == 10 then 1 + line_feeds bytes else line_feeds bytes
 
 -- the number of the line in which a byte stands
 abbrev pub line_of : List ℕ → ℕ → ℕ

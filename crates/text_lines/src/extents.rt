@@ -5,7 +5,7 @@ ghost use Rattle.std.specs.Prelude.{◌≡◌, ◌+◌, ◌<◌, ◌≤◌, leng
 
 /// What kind of text begins at a byte.
 #[derive(Clone, Copy, Debug, PartialEq, Eq)]
-pub enum Form {
+pub enum SourceForm {
     /// A name, a number or a keyword: one token
     Word,
     /// A name with what stands in the brackets behind it: `a[i]`, `f(x)`
@@ -141,18 +141,19 @@ fn ends_statement(byte: u8) -> bool {
 }
 
 /// Whether a token outside of all brackets is behind a form.
-fn is_behind(form: Form, walk: Walk, byte: u8) -> bool {
+fn is_behind(form: SourceForm, walk: Walk, byte: u8) -> bool {
     match form {
-        Form::Word => walk.begun,
-        Form::Bracketed | Form::Head => walk.begun && byte != b'(' && byte != b'[',
-        Form::Prefixed => walk.after_operand && byte != b'(' && byte != b'[',
-        Form::Product => walk.after_operand && !matches!(byte, b'*' | b'/' | b'%' | b'(' | b'['),
-        Form::Simple => false,
+        SourceForm::Word => walk.begun,
+        SourceForm::Bracketed | SourceForm::Head => walk.begun && byte != b'(' && byte != b'[',
+        SourceForm::Prefixed => walk.after_operand && byte != b'(' && byte != b'[',
+        SourceForm::Product => walk.after_operand
+            && !matches!(byte, b'*' | b'/' | b'%' | b'(' | b'['),
+        SourceForm::Simple => false,
     }
 }
 
 /// How a walk goes on at a token that begins with this byte.
-fn turn_at(form: Form, walk: Walk, byte: u8) -> Turn {
+fn turn_at(form: SourceForm, walk: Walk, byte: u8) -> Turn {
     let closes = byte == b')' || byte == b']';
     if walk.depth == 0 {
         if closes || ends_statement(byte) || is_behind(form, walk, byte) {
@@ -160,7 +161,7 @@ fn turn_at(form: Form, walk: Walk, byte: u8) -> Turn {
         }
         return Turn::On;
     }
-    if closes && walk.depth == 1 && (form == Form::Bracketed || form == Form::Head) {
+    if closes && walk.depth == 1 && (form == SourceForm::Bracketed || form == SourceForm::Head) {
         return Turn::Last;
     }
     Turn::On
@@ -186,7 +187,7 @@ fn walked(walk: Walk, byte: u8) -> Walk {
 
 /// How many bytes what begins at `at` has, without blanks and comments behind it: at least the first one, if there is
 /// one. It takes the time of its text.
-pub fn extent(source: &[u8], at: usize, form: Form) -> usize
+pub fn extent(source: &[u8], at: usize, form: SourceForm) -> usize
     requires { at ≤ length source.now }
     ensures { at + result ≤ length source.now }
 {

@@ -1,7 +1,7 @@
 //! How many line feeds a text has.
 #![tactic(auto)]
 
-ghost use Rattle.std.specs.Prelude.{◌≡◌, ◌*◌, ◌≤◌, length, take};
+ghost use Rattle.std.specs.Prelude.{◌≡◌, ◌*◌, ◌≤◌, ◌==◌, count_by, length, take};
 ghost use Rattle.text_lines.specs.Lines.{line_feeds};
 
 /// The bytes whose line feeds are counted at once.
@@ -10,7 +10,7 @@ const BLOCK: usize = 128;
 /// How many line feeds a block has.
 fn feeds_in_block(block: &[u8]) -> u8
     requires { length block.now ≤ 128 }
-    ensures value { result ≡ line_feeds block.now }
+    ensures value { result ≡ count_by (λ byte. byte == 10) block.now }
     ensures within { result ≤ length block.now }
 {
     let mut count = 0;
@@ -25,7 +25,7 @@ fn feeds_in_block(block: &[u8]) -> u8
 /// How many line feeds so many whole blocks in front have.
 fn feeds_in_blocks(blocks: usize, bytes: &[u8]) -> usize
     requires { 128 * blocks ≤ length bytes.now }
-    ensures value { result ≡ line_feeds (take (128 * blocks) bytes.now) }
+    ensures value { result ≡ count_by (λ byte. byte == 10) (take (128 * blocks) bytes.now) }
     ensures within { result ≤ 128 * blocks }
 {
     let mut count = 0;

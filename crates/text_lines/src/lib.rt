@@ -17,9 +17,9 @@ mod names;
 mod numbers;
 mod words;
 
-pub use extents::{Form, extent};
+pub use extents::{SourceForm, extent};
 pub use feeds::line_feeds;
-pub use lines::{Position, line_text, position_of};
+pub use lines::{LineAndColumn, line_text, position_of};
 pub use lists::{list_before, list_below, number_below};
 pub use names::{name_before, name_to};
 pub use numbers::{number_at, number_before, value_at};

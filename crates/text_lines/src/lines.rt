@@ -8,7 +8,7 @@ use crate::feeds::line_feeds;
 
 /// Where a byte stands: the line and the column, both from 1, and the byte at which the line begins, from 0.
 #[derive(Clone, Copy, Debug, PartialEq, Eq)]
-pub struct Position {
+pub struct LineAndColumn {
     pub line: usize,
     pub column: usize,
     pub begin: usize,
@@ -30,7 +30,7 @@ fn begin_of(front: &[u8]) -> usize
 }
 
 /// Where a byte of a source stands, or its end. It takes the time of the bytes before it.
-pub fn position_of(source: &[u8], at: usize) -> Position
+pub fn position_of(source: &[u8], at: usize) -> LineAndColumn
     requires { at ≤ length source.now }
     ensures line { result.line ≡ line_of source.now at }
     ensures begin { BeginsLine source.now at result.begin }
@@ -38,7 +38,7 @@ pub fn position_of(source: &[u8], at: usize) -> Position
 {
     let (front, _) = source.split_at(at);
     let begin = begin_of(front);
-    Position {
+    LineAndColumn {
         line: line_feeds(front) + 1,
         column: at - begin + 1,
         begin,

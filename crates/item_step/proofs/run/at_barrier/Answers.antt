@@ -1,5 +1,5 @@
 use Rattle.std.proofs.Common.{◌<◌, refl, arith}
-use Rattle.item_step.specs.declared.rest.Wanted.TheVariants as wanted
+use Rattle.item_step.specs.declared.rest.AskedAction.TheVariants as wanted
 use Rattle.item_step.proofs.AnswerLaws.{asks_waits}
 use Rattle.item_step.proofs.run.at_barrier.Goals as goal
 

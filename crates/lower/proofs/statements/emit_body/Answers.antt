@@ -29,7 +29,7 @@ emit_all-requires c =
     c.in_ok-declare_parameters.ensures.declared ∙ ap₂ (λ (z : Scope) qs. record z { variables = parameter_variables qs z.variables }) c.new-scope.ensures c.as_slice.ensures.value in
     let level : free_level c.declare_parameters.new.scope ≡ c.args.position.level.0 + length (parameter_variables ps []) = ap (λ (z : Scope). free_level z) scope in
     let count = parameters_counted ps [] in
-    let end = put_length c.args.code.now one (no_value_short c.args.function.now.result c.args.position.level.0) c.in_ok-put_no_value.ensures.code in
+    let end = put_length c.args.code.now one (no_value_short c.args.function.now.result) c.in_ok-put_no_value.ensures.code in
     let added : c.added.result ≡ length one - length c.args.code.now = c.added.ensures ∙ ap (λ n. length one - n) c.len-end.ensures in
     let same = c.as_slice-body.ensures.value in
     let nodes : (row_size (sizes_in c.args.helpers.functions.now) (all_of c.as_slice-body.result.now)).nodes ≡ (row_size (sizes_in c.args.helpers.functions.now) (all_of c.args.function.now.body.items)).nodes =
@@ -50,6 +50,6 @@ emit_all-requires c =
 
 pub added-requires : goal.added-requires
 added-requires c =
-    let end = put_length c.args.code.now c.put_no_value.new.code (no_value_short c.args.function.now.result c.args.position.level.0) c.in_ok-put_no_value.ensures.code in
+    let end = put_length c.args.code.now c.put_no_value.new.code (no_value_short c.args.function.now.result) c.in_ok-put_no_value.ensures.code in
     let far = c.requires.short in
     omega (arith, end, far)

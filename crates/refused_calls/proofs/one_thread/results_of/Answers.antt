@@ -4,7 +4,7 @@ use Rattle.clmodel.specs.Launch.{Launch}
 use Rattle.clmodel.specs.Next.{launch_of}
 use Rattle.item_step.specs.Launches.{setup_of}
 use Rattle.joining.specs.Steps.{HasGroup}
-use Rattle.group_join.specs.Launches.{list_log}
+use Rattle.access_list.specs.ListLogs.{list_log}
 use Rattle.group_join.specs.Launches.{AreResults}
 use Rattle.group_join.proofs.Ending.{below_there}
 use Rattle.spaces.specs.Buffers.{bytes_in}

@@ -1,6 +1,6 @@
 use Rattle.clmodel.specs.Next.{launch_of}
 use Rattle.item_step.specs.Launches.{setup_of}
-use Rattle.group_join.specs.Launches.{list_log}
+use Rattle.access_list.specs.ListLogs.{list_log}
 use Rattle.spaces.specs.Buffers.{bytes_in}
 use Rattle.group_join.proofs.Leading.{Lead}
 use Rattle.tests.proofs.merges.merged.Given as goal

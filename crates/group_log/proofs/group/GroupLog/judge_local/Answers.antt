@@ -14,7 +14,7 @@ returns c =
     let x : Entry = c.with_interval-made.result in
     let space : in_buffer x.access.region ≡ false = ap (λ (z : Entry). in_buffer z.access.region) c.with_interval-made.ensures ∙ c.requires.space in
     let same : x ≡ stamped (log_of l) c.args.entry = stamped_local (log_of l) c.args.entry x c.requires.space c.with_interval-made.ensures in
-    noted_last (log_of l) (log_of c.take_local.new.self) c.args.entry x c.conflict-found.result same c.in_ok-take_local.ensures.taken
+    noted_last (log_of l) (log_of c.note_local.new.self) c.args.entry x c.conflict-found.result same c.in_ok-note_local.ensures.taken
     (told l.local.uniform false l.local.interval l.local.kept.items (all_of l.whole.items) (log_of l) c.args.entry x c.conflict-found.result l.local_tells
     c.conflict-found.ensures same space (ap (λ (z : Entry). z.access.interval) c.with_interval-made.ensures)
     ∙ ap (λ u. hit (within_group u) (stamped (log_of l) c.args.entry) (all_of l.whole.items)) l.one_launch)

@@ -8,12 +8,12 @@ use Rattle.group_log.proofs.Shortened.{log_of}
 use Rattle.group_log.proofs.Telling.{stamped_global, none_hit, told, noted_last}
 use Rattle.group_log.proofs.group.GroupLog.note_buffer_if_clear.Goals as goal
 
-pub returns-in_ok-take_global : goal.returns-in_ok-take_global
-returns-in_ok-take_global c =
+pub returns-in_ok-note_global : goal.returns-in_ok-note_global
+returns-in_ok-note_global c =
     let l : GroupLog = c.args.self.now in
     let x : Entry = c.with_interval-entry.result in
     let space : in_buffer x.access.region ≡ true = ap (λ (z : Entry). in_buffer z.access.region) c.with_interval-entry.ensures ∙ c.requires.space in
     let same : x ≡ stamped (log_of l) c.args.entry = stamped_global (log_of l) c.args.entry x c.requires.space c.with_interval-entry.ensures in
-    noted_last (log_of l) (log_of c.take_global.new.self) c.args.entry x None same c.in_ok-take_global.ensures.taken
+    noted_last (log_of l) (log_of c.note_global.new.self) c.args.entry x None same c.in_ok-note_global.ensures.taken
     (told l.global.uniform true l.global.interval l.global.kept.items (all_of l.whole.items) (log_of l) c.args.entry x None l.global_tells
     (sym (none_hit (within_group l.global.uniform) x l.global.kept.items (c.look-glance.ensures.clear c.if-glance.true))) same space (ap (λ (z : Entry). z.access.interval) c.with_interval-entry.ensures))

@@ -8,7 +8,7 @@ use Rattle.group_log.proofs.Taking.{takes_more}
 use Rattle.group_log.specs.declared.group.GroupLog.{GroupLog}
 use Rattle.group_log.proofs.Shortened.{made_more, short_more, last_more, all_more, left_out_more, local_stays}
 use Rattle.group_log.proofs.Telling.{noted_tells, other_tells, logged_same}
-use Rattle.group_log.proofs.group.GroupLog.take_local.Goals as goal
+use Rattle.group_log.proofs.group.GroupLog.note_local.Goals as goal
 
 pub invariant_of-self-2 : goal.invariant_of-self-2
 invariant_of-self-2 c =
