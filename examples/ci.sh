@@ -2,7 +2,8 @@
 # Runs each script that is named with $CLSIM, or with the clsim on the path, and shows the first fault, refusal or bad
 # line of each: FILE:LINE of its command, and below it the explanation where `clsim explain` has one of that very fault
 # or source, else the line itself. Where $SARIF names a file, these and the explanations are written there as
-# SARIF 2.1.0, which takes Python 3. Status 0 if there are none, else 1, and 2 where there is no such program, no script
+# SARIF 2.1.0, which takes Python 3. $CLSIM_WORKERS and $CLSIM_BUDGET, where they are set, are the options of the program
+# by these names. Status 0 if there are none, else 1, and 2 where there is no such program, no script
 # is named, or the file can't be written.
 CLSIM=${CLSIM:-clsim}
 if ! command -v "$CLSIM" >/dev/null; then
@@ -58,8 +59,11 @@ first_reply() {
 }
 
 failed=0
+budget=${CLSIM_BUDGET:+--budget $CLSIM_BUDGET}
 for script in "$@"; do
-    "$CLSIM" run "$script" >"$folder/replies" 2>&1 && continue
+    # (CLSIM_WORKERS and CLSIM_BUDGET are options of the program, as for the driver)
+    # shellcheck disable=SC2086
+    "$CLSIM" run "$script" ${CLSIM_WORKERS:+--workers $CLSIM_WORKERS} $budget >"$folder/replies" 2>&1 && continue
     first_reply "$script" $? >"$folder/first"
     failed=1
     first=$(sed 1q "$folder/first")
@@ -67,7 +71,7 @@ for script in "$@"; do
     # (the explanation is that of the first fault or source that doesn't build, which may stand behind another refusal)
     case $first in
         [0-9]*': fault '* | [0-9]*': refused 10 BuildFailed '*)
-            told=$("$CLSIM" explain "$script" 2>/dev/null) || told= ;;
+            told=$("$CLSIM" explain "$script" $budget 2>/dev/null) || told= ;;
         *) told= ;;
     esac
     if [ -n "$told" ]; then printf '%s\n' "$told"; else sed 1d "$folder/first"; fi
@@ -75,7 +79,8 @@ for script in "$@"; do
     if [ -z "$told" ]; then
         case $first in [0-9]*) printf '%s:%s\n' "$script" "$first" >>"$folder/explained" ;; esac
     fi
-    told=$("$CLSIM" explain "$script" --format json 2>/dev/null)
+    # shellcheck disable=SC2086
+    told=$("$CLSIM" explain "$script" $budget --format json 2>/dev/null)
     # (of a script with neither a fault nor a source that doesn't build it is the word clean)
     case $told in '{'*) printf '%s\n' "$told" >>"$folder/explained" ;; esac
 done

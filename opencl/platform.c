@@ -1,4 +1,7 @@
 #include "objects.h"
+#include <pthread.h>
+#include <stdio.h>
+#include <stdlib.h>
 
 // The one platform with its one device.
 
@@ -10,6 +13,17 @@ struct _cl_device_id the_device = {&dispatch_table};
 #define EXTENSIONS \
     "cl_khr_byte_addressable_store cl_khr_global_int32_base_atomics cl_khr_global_int32_extended_atomics " \
     "cl_khr_local_int32_base_atomics cl_khr_local_int32_extended_atomics"
+
+// Notes in the file that CLSIM_ASKED names that a client asked for the device, so that `clsim-exec` can tell where none
+// did.
+static void note_asked(void) {
+    const char *path = getenv("CLSIM_ASKED");
+    FILE *file = path && *path ? fopen(path, "a") : NULL;
+    if (!file) return;
+    fputs("asked\n", file);
+    fclose(file);
+}
+static pthread_once_t asked = PTHREAD_ONCE_INIT;
 
 CL_API_ENTRY cl_int CL_API_CALL clIcdGetPlatformIDsKHR(cl_uint room, cl_platform_id *to, cl_uint *count) {
     if ((!to && !count) || (to && !room)) return CL_INVALID_VALUE;
@@ -39,6 +53,7 @@ CL_API_ENTRY cl_int CL_API_CALL clGetDeviceIDs(cl_platform_id p, cl_device_type 
                                                cl_uint *count) {
     if (p && p != &the_platform) return CL_INVALID_PLATFORM;
     if ((!to && !count) || (to && !room)) return CL_INVALID_VALUE;
+    pthread_once(&asked, note_asked);
     if (!(type & DEVICE_TYPES)) return type & CL_DEVICE_TYPE_CUSTOM ? CL_DEVICE_NOT_FOUND : CL_INVALID_DEVICE_TYPE;
     if (to) *to = &the_device;
     if (count) *count = 1;

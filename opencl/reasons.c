@@ -8,6 +8,7 @@
 
 typedef struct {
     const prepared *source;
+    const kernel_form *kernel;
     unsigned long first_line;
 } script_form;
 
@@ -51,11 +52,20 @@ static void add_place(text *t, const script_form *s, const char *word, unsigned 
         addf(t, "%s at %s", word, place);
 }
 
+// Adds the name that a sentence begins with, as the client's source has it, and gives what stands behind it: the whole
+// sentence where it begins otherwise.
+static const char *add_name(text *t, const script_form *s, const char *words) {
+    size_t n = strcspn(words, " ");
+    const char *shown = strncmp(words + n, " has ", 5) ? NULL : shown_as(s->kernel, words, n);
+    if (!shown || shown == words) return words;
+    add(t, shown);
+    return words + n;
+}
+
 // A sentence in the client's terms. The text of a place is left out: it may be what the driver wrote.
 static void add_sentence(text *t, const script_form *s, const char *words) {
     unsigned long line, column;
-    char own[128]; // begins a name that the driver wrote in place of the client's
-    size_t length = (size_t)snprintf(own, sizeof own, "%smy_", s->source->mark);
+    words = add_name(t, s, words);
     while (*words) {
         const char *end = strncmp(words, ", ", 2) ? NULL : read_text(s, words + 2, &line, &column);
         const char *word = end ? "," : "";
@@ -63,8 +73,7 @@ static void add_sentence(text *t, const script_form *s, const char *words) {
         if (end) {
             add_place(t, s, word, line, column);
             words = end;
-        } else if (!strncmp(words, own, length)) words += length;
-        else {
+        } else {
             add_bytes(t, (unsigned char)*words < ' ' ? " " : words, 1);
             words++;
         }
@@ -88,7 +97,7 @@ static void tell_reason(const script_form *s, json sentence) {
     free_arena(&a);
 }
 
-void tell_reasons(const prepared *source, unsigned long first_line, json list) {
-    script_form s = {source, first_line};
+void tell_reasons(const prepared *source, const kernel_form *kernel, unsigned long first_line, json list) {
+    script_form s = {source, kernel, first_line};
     for (json w = json_first(list); w.at; w = json_next(list, w)) tell_reason(&s, w);
 }

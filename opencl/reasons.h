@@ -6,5 +6,5 @@
 
 // Tells each sentence of a list, with its places in the client's source. `first_line` is that of the judged text in the
 // script that was explained, from 1.
-void tell_reasons(const prepared *source, unsigned long first_line, json list);
+void tell_reasons(const prepared *source, const kernel_form *kernel, unsigned long first_line, json list);
 #endif

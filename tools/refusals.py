@@ -11,9 +11,10 @@ come of a run with one request refused is one of these:
     was being read, or the program was starting;
   - `refused 16 OutOfMemory` for one command whose row in docs/use/script.md lists it, and for all others what comes of
     the script without that command: so it has changed nothing, and given again it is answered as if for the first time.
-`clsim serve` reads the same commands from standard input. There, `clsim: out of memory` may also end a talk, behind
-whole replies. A script's first launch and the commands before it have to be answered as its row says. No run may leave
-more blocks of memory than the run with none refused."""
+Of a script with a command that takes memory, some run has to come to the last of these: a program that gives up
+wherever a request is refused would else pass. `clsim serve` reads the same commands from standard input. There,
+`clsim: out of memory` may also end a talk, behind whole replies. A script's first launch and the commands before it
+have to be answered as its row says. No run may leave more blocks of memory than the run with none refused."""
 
 import os
 import re
@@ -262,6 +263,8 @@ class Script:
                 wrong = self.wrong(whole, run)
                 said += [f"request {run.number}: {wrong}"] if wrong else []
             said += left(whole, run, self.workers)
+        if not counts["answered 16"] and any(piece.name() in GROWING for piece in self.pieces):
+            said.append("commands take memory, and no run answers one by refusal 16: each gives up as a whole")
         return whole.asked, counts, said
 
 

@@ -1,12 +1,13 @@
 //! The only client of a queue over a device.
 #![tactic(auto)]
 
-ghost use Rattle.std.specs.Prelude.{◌≡◌, ◌≤◌, ◌<◌, ◌+◌, IfOk, length};
+ghost use Rattle.std.specs.Prelude.{◌≡◌, ◌≤◌, ◌<◌, ◌+◌, IfOk};
 ghost use Rattle.std.specs.Box.{box_value};
 ghost use Rattle.device.specs.Machine.{Step, machine_of, opening};
 ghost use Rattle.host_commands.specs.declared.command.Reply.{Reply as ReplyOf};
 ghost use Rattle.host_queue.specs.declared.view.Request.TheVariants.{Answered};
 ghost use Rattle.host_queue.specs.Clients.{IsOnly};
+ghost use Rattle.host_queue.specs.Seats.{answered_count};
 
 use crate::session::Options;
 use device::{Device, Driver, OpenGate, open};
@@ -24,13 +25,13 @@ pub(crate) struct OnlyClient {
     client: Client<Device, Command, Reply>,
     driver: Driver,
     ghost one: { (client.seat.table_id ≡ queue.table.shared.table_id) × (driver.driver.seat.table_id ≡ queue.table.shared.table_id) },
-    ghost only: { IsOnly driver.driver.seat.me.0 client.seat.me.0 },
+    ghost only: { IsOnly driver.driver.seat client.seat },
 }
 
 impl OnlyClient {
     /// The only client of a queue over a new device, before the first command.
     pub(crate) fn open(alloc: Global, options: Options) -> Result<Self, AllocError>
-        ensures new { IfOk result (λ opened. (machine_of opened.driver.driver.machine ≡ opening options.budget) × (length opened.driver.driver.seat.me.0.known ≡ 0)) }
+        ensures new { IfOk result (λ opened. (machine_of opened.driver.driver.machine ≡ opening options.budget) × (answered_count opened.driver.driver.seat ≡ 0)) }
     {
         let device = Device::new(alloc, options.budget);
         let (queue, mut clients, driver) = open(alloc, device, options.workers, 1)?;
@@ -49,9 +50,9 @@ impl OnlyClient {
         mut request: Box<Request<Command, Reply>>,
         command: Command,
     ) -> Box<Request<Command, Reply>>
-        requires room { length self.old.driver.driver.seat.me.0.known < 4096 }
+        requires room { answered_count self.old.driver.driver.seat < 4096 }
         ensures answered { (reply : ReplyOf) × (box_value result ≡ Answered reply) × Step (machine_of self.old.driver.driver.machine) command reply (machine_of self.new.driver.driver.machine) }
-        ensures counts { length self.new.driver.driver.seat.me.0.known ≡ length self.old.driver.driver.seat.me.0.known + 1 }
+        ensures counts { answered_count self.new.driver.driver.seat ≡ answered_count self.old.driver.driver.seat + 1 }
     {
         *request = Request::Asked(command);
         let (driver, client) = (&mut self.driver, &mut self.client);

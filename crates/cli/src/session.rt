@@ -8,6 +8,7 @@ ghost use Rattle.host_queue.specs.declared.view.Request.TheVariants.{Answered as
 ghost use Rattle.byte_io.specs.Sink.{Wrote, Stopped};
 ghost use Rattle.simfile.specs.Lines.{line};
 ghost use Rattle.cli.specs.Session.{one_end, Answered, Broken, Unanswered, Ran, Failed, status_of};
+ghost use Rattle.host_queue.specs.Seats.{answered_count};
 
 use crate::only_client::OnlyClient;
 use crate::reading::commands_of;
@@ -257,7 +258,7 @@ fn answer_all<T: Threads + Wait + Sync, W: Write>(
     commands: Vec<Command>,
     writer: &mut W,
 ) -> Result<RunEnd, WriteFailed>
-    requires new { length client.old.driver.driver.seat.me.0.known ≡ 0 }
+    requires new { answered_count client.old.driver.driver.seat ≡ 0 }
     requires few { length commands.items ≤ 4096 }
     ensures ok { IfOk result (λ end. (budget : ℕ) → machine_of client.old.driver.driver.machine ≡ opening budget → Answered budget commands.items (W.sink writer.old) (W.sink writer.new) end) }
     ensures err { OnErr result ((budget : ℕ) → machine_of client.old.driver.driver.machine ≡ opening budget → Broken budget commands.items (W.sink writer.old) (W.sink writer.new)) }

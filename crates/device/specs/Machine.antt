@@ -238,3 +238,7 @@ LacksMemory old c r new = IsTrue (takes_memory c) × (r ≡ reply.Refused OutOfM
 -- one step of the machine
 abbrev pub Step : Machine → Command → Reply → Machine → Type 0
 Step old c r new = Answers old c r new ⊎ LacksMemory old c r new
+
+-- one step of a device: what a command may answer, and leave of the device (3.2.1)
+abbrev pub DeviceStep : Device → Command → Reply → Device → Type 0
+DeviceStep before command reply after = Step (machine_of before) command reply (machine_of after)

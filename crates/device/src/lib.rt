@@ -15,7 +15,11 @@ ghost use Rattle.clmodel.specs.Typing.Sizes.{parameter_limit};
 ghost use Rattle.item_step.specs.Launches.{setup_of};
 ghost use Rattle.launches.specs.Groups.{HasGroups};
 ghost use Rattle.spaces.specs.Tables.{find};
+ghost use Rattle.clmodel.specs.Next.{launch_of};
+ghost use Rattle.clmodel.specs.Outcome.{Concludes};
+ghost use Rattle.spaces.specs.Buffers.{bytes_in};
 ghost use Rattle.device.specs.Kept.{ActsAs, AllCompiled, IsCodeOf};
+ghost use Rattle.device.specs.declared.TheConstants.{MAX_BUDGET};
 
 mod compiled;
 mod launching;
@@ -23,6 +27,7 @@ mod prepared;
 mod tickets;
 
 use crate::compiled::{CompiledKernel, code_of, has_program, holds_buffer, set_argument};
+use clmodel::outcome::Outcome;
 use clmodel::setup::Argument;
 use clmodel::text::{Bytes, Name};
 use cltypes::Checked;
@@ -34,7 +39,7 @@ use host_commands::kernel::{Kernel, parameters_of, suits};
 pub use item_step::Launch;
 pub use spaces::Buffers;
 use spaces::Table;
-use std::alloc::Global;
+use std::alloc::{AllocError, Global};
 use std::marker::Sync;
 use std::sync::Wait;
 use std::thread::Threads;
@@ -47,6 +52,9 @@ const MAX_BUFFERS: usize = 64;
 
 /// The most bytes that a buffer has.
 const MAX_SIZE: u64 = 1048576;
+
+/// The largest budget: so many ticks an item of a launch may make (own).
+pub const MAX_BUDGET: u32 = 1000000;
 
 /// Whether some of the `count` bytes from an offset on aren't a buffer's.
 fn is_outside(buffer: &Bytes, offset: u64, count: u64) -> bool
@@ -66,7 +74,7 @@ pub struct Device {
     programs: Table<Checked>,
     kernels: Table<CompiledKernel>,
     ghost kept: { AllCompiled programs kernels },
-    ghost limited: { budget ≤ 1000000 },
+    ghost limited: { budget ≤ MAX_BUDGET },
 }
 
 impl Device {
@@ -74,7 +82,7 @@ impl Device {
 
     /// A device without buffers, programs and kernels, on which an item of a launch may make `budget` ticks.
     pub fn new(alloc: Global, budget: u32) -> Self
-        requires { budget ≤ 1000000 }
+        requires { budget ≤ MAX_BUDGET }
         ensures { machine_of result ≡ opening budget }
     {
         Device {
@@ -377,8 +385,14 @@ impl Device {
         }
     }
 
-    /// What a command answers and does. A refused one does nothing.
-    fn perform(&mut self, command: Command) -> Result<Reply, Refusal>
+    /// What a command answers and does, a launch by what runs it. A refused one does nothing.
+    fn perform<R: FnOnce(Global, &Launch<'_>, &Buffers) -> Result<Outcome, AllocError> + Drop>(
+        &mut self,
+        command: Command,
+        run: R,
+    ) -> Result<Reply, Refusal>
+        requires runs { (alloc : _) (launch : _) (buffers : _) → HasGroups (setup_of launch.now) → R.pre run alloc launch buffers }
+        requires concludes { (alloc : _) (launch : _) (buffers : _) (outcome : _) → R.post run alloc launch buffers outcome → IfOk outcome (Concludes (launch_of (setup_of launch.now) (bytes_in buffers.now))) }
         ensures ok { IfOk result (λ reply. Answers (machine_of self.old) command reply (machine_of self.new)) }
         ensures err { IfErr result (λ refusal. Step (machine_of self.old) command (Reply.Refused refusal) (machine_of self.new)) }
     {
@@ -419,11 +433,23 @@ impl Device {
                 index,
                 argument,
             } => self.set_argument(&kernel, index, argument),
-            Command::Launch { kernel, range } => {
-                self.launch(&kernel, &range, |alloc, launch, buffers| {
-                    run_launch(alloc, launch, buffers)
-                })
-            }
+            Command::Launch { kernel, range } => self.launch(&kernel, &range, run),
+        }
+    }
+
+    /// One step of the machine, where `run` runs a launch.
+    fn apply_by<R: FnOnce(Global, &Launch<'_>, &Buffers) -> Result<Outcome, AllocError> + Drop>(
+        &mut self,
+        command: Command,
+        run: R,
+    ) -> Reply
+        requires runs { (alloc : _) (launch : _) (buffers : _) → HasGroups (setup_of launch.now) → R.pre run alloc launch buffers }
+        requires concludes { (alloc : _) (launch : _) (buffers : _) (outcome : _) → R.post run alloc launch buffers outcome → IfOk outcome (Concludes (launch_of (setup_of launch.now) (bytes_in buffers.now))) }
+        ensures { Step (machine_of self.old) command result (machine_of self.new) }
+    {
+        match self.perform(command, run) {
+            Ok(reply) => reply,
+            Err(refusal) => Reply::Refused(refusal),
         }
     }
 
@@ -431,10 +457,9 @@ impl Device {
     pub fn apply(&mut self, command: Command) -> Reply
         ensures { Step (machine_of self.old) command result (machine_of self.new) }
     {
-        match self.perform(command) {
-            Ok(reply) => reply,
-            Err(refusal) => Reply::Refused(refusal),
-        }
+        self.apply_by(command, |alloc, launch, buffers| {
+            run_launch(alloc, launch, buffers)
+        })
     }
 
     /// One step of the machine, where 1 to 16 workers run the groups of a launch, between two calls of the gate (OpenCL
@@ -451,19 +476,11 @@ impl Device {
         requires workers { (1 ≤ workers) × (workers ≤ 16) }
         ensures { Step (machine_of self.old) command result (machine_of self.new) }
     {
-        let Command::Launch { kernel, range } = command else {
-            return self.apply(command);
-        };
-        let launched = self.launch(
-            &kernel,
-            &range,
+        self.apply_by(
+            command,
             |alloc, launch, buffers|
                 requires { HasGroups (setup_of launch.now) × (1 ≤ workers) × (workers ≤ 16) }
             { run_parallel(rt, alloc, launch, buffers, workers, gate) },
-        );
-        match launched {
-            Ok(reply) => reply,
-            Err(refusal) => Reply::Refused(refusal),
-        }
+        )
     }
 }

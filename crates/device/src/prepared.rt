@@ -9,6 +9,7 @@ ghost use Rattle.clmodel.specs.Tree.{program};
 ghost use Rattle.clmodel.specs.Typing.Sizes.{parameter_limit};
 ghost use Rattle.host_commands.specs.Ranges.{IsLaunchable};
 ghost use Rattle.device.specs.Kept.{ActsAs, IsCodeOf};
+ghost use Rattle.device.specs.declared.TheConstants.{MAX_BUDGET};
 
 use clmodel::outcome::Outcome;
 use clmodel::setup::Range;
@@ -29,7 +30,7 @@ pub(crate) struct Prepared<'a> {
     pub(crate) budget: u32,
     pub(crate) ghost faithful: { ActsAs (program checked.now.tree) kernel.now.function code.now },
     pub(crate) ghost listed: { IsCodeOf (program checked.now.tree) kernel.now.function code.now },
-    pub(crate) ghost limited: { budget ≤ 1000000 },
+    pub(crate) ghost limited: { budget ≤ MAX_BUDGET },
     pub(crate) ghost few: { length kernel.now.arguments ≤ parameter_limit },
     pub(crate) ghost fits: { are_too_large (objects_of (kernel_in (program checked.now.tree).functions kernel.now.function) kernel.now.arguments) ≡ false },
 }

@@ -1,18 +1,19 @@
 //! A queue of tickets over a device, whose driver runs each launch by 1 to 16 workers.
 #![tactic(auto)]
 
-ghost use Rattle.std.specs.Prelude.{◌≡◌, ◌+◌, ◌<◌, ◌≤◌, ◌++◌, [], ◌∷◌, List, length, vec_len, IfOk, IfErr, IfSome, IfNone};
+ghost use Rattle.std.specs.Prelude.{◌≡◌, ◌≤◌, [], ◌∷◌, List, length, vec_len, IfOk};
 ghost use Rattle.std.specs.Box.{box_value};
 ghost use Rattle.host_commands.specs.declared.command.Command.{Command as CommandOf};
 ghost use Rattle.host_commands.specs.declared.command.Reply.{Reply as ReplyOf};
-ghost use Rattle.host_queue.specs.declared.view.Request.TheVariants.{Asked, Answered as AnsweredBy};
+ghost use Rattle.host_queue.specs.declared.view.Request.TheVariants.{Asked};
 ghost use Rattle.host_queue.specs.declared.view.Entry.{Entry};
-ghost use Rattle.host_queue.specs.Clients.{IsOnly, Serves};
-ghost use Rattle.host_queue.specs.History.{Begins, RunsTo};
-ghost use Rattle.host_queue.specs.Opened.{Each, IsGuest};
-ghost use Rattle.host_queue.specs.Plays.{IsUnheard};
-ghost use Rattle.host_queue.specs.Views.{entry, total};
-ghost use Rattle.device.specs.Machine.{Step, machine_of};
+ghost use Rattle.host_queue.specs.Clients.{IsOnly};
+ghost use Rattle.host_queue.specs.Driving.{AnsweredAtOnce, Drove};
+ghost use Rattle.host_queue.specs.History.{Begins};
+ghost use Rattle.host_queue.specs.Opened.{Each, IsGuest, IsNewDriver};
+ghost use Rattle.host_queue.specs.Seats.{known_of, ticket_count, admitted_of, left_count, IsServed, EndsAt};
+ghost use Rattle.host_queue.specs.Views.{total};
+ghost use Rattle.device.specs.Machine.{DeviceStep};
 
 use crate::{Command, Device, Gate, OpenGate, Reply};
 use host_queue::{Answered, Client, Full, Machine, Queue, Request};
@@ -22,7 +23,7 @@ use std::sync::Wait;
 use std::thread::Threads;
 
 impl Machine<Command, Reply> for Device {
-    ghost step = { λ before command reply after. Step (machine_of before) command reply (machine_of after) };
+    ghost step = { DeviceStep };
 
     fn apply(&mut self, command: Command) -> Reply {
         Device::apply(self, command)
@@ -56,8 +57,8 @@ pub fn open(
 >
     requires workers { (1 ≤ workers) × (workers ≤ 16) }
     requires clients { clients ≤ 16 }
-    ensures driver { IfOk result (λ r. (r.2.driver.seat.table_id ≡ r.0.table.shared.table_id) × (r.2.driver.machine ≡ device) × (r.2.driver.seat.me.0.start ≡ device ∷ []) × (r.2.driver.seat.me.0.known ≡ []) × (r.2.driver.seat.me.0.admitted ≡ clients) × (r.2.driver.seat.me.0.share ≡ 0)) }
-    ensures clients { IfOk result (λ r. (vec_len r.1 ≡ clients) × Each r.1.items (λ k c. (c.seat.table_id ≡ r.0.table.shared.table_id) × IsGuest (device ∷ []) k c.seat.me.0)) }
+    ensures driver { IfOk result (λ r. (r.2.driver.seat.table_id ≡ r.0.table.shared.table_id) × (r.2.driver.machine ≡ device) × IsNewDriver device clients r.2.driver.seat) }
+    ensures clients { IfOk result (λ r. (vec_len r.1 ≡ clients) × Each r.1.items (λ k c. (c.seat.table_id ≡ r.0.table.shared.table_id) × IsGuest (device ∷ []) k c.seat)) }
 {
     let (queue, list, driver) = host_queue::open(alloc, device, clients)?;
     Ok((queue, list, Driver { driver, workers }))
@@ -73,12 +74,7 @@ impl Driver {
         gate: &G,
     ) -> Option<Answered<Device, Command, Reply>>
         requires one { self.old.driver.seat.table_id ≡ queue.now.table.shared.table_id }
-        ensures one { self.new.driver.seat.table_id ≡ self.old.driver.seat.table_id }
-        ensures some { IfSome result (λ a. (a.seat.table_id ≡ self.old.driver.seat.table_id) × (a.count ≡ length self.old.driver.seat.me.0.known + 1) × (a.seat.me.0.known ≡ self.new.driver.seat.me.0.known) × ((x : Entry CommandOf ReplyOf) × (self.new.driver.seat.me.0.known ≡ self.old.driver.seat.me.0.known ++ x ∷ []) × Step (machine_of self.old.driver.machine) x.command x.reply (machine_of self.new.driver.machine))) }
-        ensures grows { Begins self.old.driver.seat.me.0.known self.new.driver.seat.me.0.known × (length self.new.driver.seat.me.0.known ≤ length self.old.driver.seat.me.0.known + 1) }
-        ensures none { IfNone result ((self.new.driver.machine ≡ self.old.driver.machine) × (self.new.driver.seat.me.0 ≡ self.old.driver.seat.me.0)) }
-        ensures waits { IfNone result (length self.old.driver.seat.me.0.known < 4096 → IsUnheard self.old.driver.seat.me.0) }
-        ensures same { (self.new.driver.seat.me.0.start ≡ self.old.driver.seat.me.0.start) × (self.new.driver.seat.me.0.admitted ≡ self.old.driver.seat.me.0.admitted) × (self.new.driver.seat.me.0.share ≡ self.old.driver.seat.me.0.share) × (self.new.driver.seat.me.0.count ≡ self.old.driver.seat.me.0.count) }
+        ensures drove { Drove DeviceStep self.old.driver self.new.driver result }
         ensures workers { self.new.workers ≡ self.old.workers }
     {
         let workers = self.workers;
@@ -86,7 +82,7 @@ impl Driver {
             queue,
             |device: &mut Device, command: Command| -> Reply
                 requires { (1 ≤ workers) × (workers ≤ 16) }
-                ensures { Step (machine_of device.old) command result (machine_of device.new) }
+                ensures { DeviceStep device.old command result device.new }
             { device.apply_with(rt, command, workers, gate) },
         )
     }
@@ -98,12 +94,7 @@ impl Driver {
         queue: &Queue<Device, Command, Reply>,
     ) -> Option<Answered<Device, Command, Reply>>
         requires one { self.old.driver.seat.table_id ≡ queue.now.table.shared.table_id }
-        ensures one { self.new.driver.seat.table_id ≡ self.old.driver.seat.table_id }
-        ensures some { IfSome result (λ a. (a.seat.table_id ≡ self.old.driver.seat.table_id) × (a.count ≡ length self.old.driver.seat.me.0.known + 1) × (a.seat.me.0.known ≡ self.new.driver.seat.me.0.known) × ((x : Entry CommandOf ReplyOf) × (self.new.driver.seat.me.0.known ≡ self.old.driver.seat.me.0.known ++ x ∷ []) × Step (machine_of self.old.driver.machine) x.command x.reply (machine_of self.new.driver.machine))) }
-        ensures grows { Begins self.old.driver.seat.me.0.known self.new.driver.seat.me.0.known × (length self.new.driver.seat.me.0.known ≤ length self.old.driver.seat.me.0.known + 1) }
-        ensures none { IfNone result ((self.new.driver.machine ≡ self.old.driver.machine) × (self.new.driver.seat.me.0 ≡ self.old.driver.seat.me.0)) }
-        ensures waits { IfNone result (length self.old.driver.seat.me.0.known < 4096 → IsUnheard self.old.driver.seat.me.0) }
-        ensures same { (self.new.driver.seat.me.0.start ≡ self.old.driver.seat.me.0.start) × (self.new.driver.seat.me.0.admitted ≡ self.old.driver.seat.me.0.admitted) × (self.new.driver.seat.me.0.share ≡ self.old.driver.seat.me.0.share) × (self.new.driver.seat.me.0.count ≡ self.old.driver.seat.me.0.count) }
+        ensures drove { Drove DeviceStep self.old.driver self.new.driver result }
         ensures workers { self.new.workers ≡ self.old.workers }
     {
         self.drive_with(rt, queue, &OpenGate)
@@ -120,14 +111,9 @@ impl Driver {
         gate: &G,
     ) -> Result<Box<Request<Command, Reply>>, Full<Command, Reply>>
         requires one { (self.old.driver.seat.table_id ≡ queue.now.table.shared.table_id) × (client.old.seat.table_id ≡ queue.now.table.shared.table_id) }
-        requires only { IsOnly self.old.driver.seat.me.0 client.old.seat.me.0 }
+        requires only { IsOnly self.old.driver.seat client.old.seat }
         requires asked { (c : CommandOf) × (box_value request ≡ Asked c) }
-        ensures one { (self.new.driver.seat.table_id ≡ self.old.driver.seat.table_id) × (client.new.seat.table_id ≡ client.old.seat.table_id) }
-        ensures only { IsOnly self.new.driver.seat.me.0 client.new.seat.me.0 }
-        ensures ok { IfOk result (λ b. (c : CommandOf) × (r : ReplyOf) × (box_value request ≡ Asked c) × (box_value b ≡ AnsweredBy r) × Step (machine_of self.old.driver.machine) c r (machine_of self.new.driver.machine) × (self.new.driver.seat.me.0.known ≡ self.old.driver.seat.me.0.known ++ entry c r ∷ [])) }
-        ensures room { IfOk result (λ b. length self.old.driver.seat.me.0.known < 4096) }
-        ensures err { IfErr result (λ f. (f.request ≡ request) × (length self.old.driver.seat.me.0.known ≡ 4096) × (self.new.driver ≡ self.old.driver) × (client.new ≡ client.old)) }
-        ensures start { (self.new.driver.seat.me.0.start ≡ self.old.driver.seat.me.0.start) × (client.new.seat.me.0.start ≡ client.old.seat.me.0.start) × (client.new.seat.me.0.name ≡ client.old.seat.me.0.name) }
+        ensures answered { AnsweredAtOnce DeviceStep request self.old.driver self.new.driver client.old client.new result }
         ensures workers { self.new.workers ≡ self.old.workers }
     {
         let workers = self.workers;
@@ -137,7 +123,7 @@ impl Driver {
             request,
             |device: &mut Device, asked: Command| -> Reply
                 requires { (1 ≤ workers) × (workers ≤ 16) }
-                ensures { Step (machine_of device.old) asked result (machine_of device.new) }
+                ensures { DeviceStep device.old asked result device.new }
             { device.apply_with(rt, asked, workers, gate) },
         )
     }
@@ -152,7 +138,7 @@ pub fn close<W: Wait>(
     driver: Driver,
 ) -> Device
     requires one { (driver.driver.seat.table_id ≡ queue.table.shared.table_id) × Each clients.items (λ k c. c.seat.table_id ≡ queue.table.shared.table_id) }
-    ensures { (log : List (Entry CommandOf ReplyOf)) × ((d : _) → driver.driver.seat.me.0.start ≡ d ∷ [] → RunsTo (λ before command reply after. Step (machine_of before) command reply (machine_of after)) d log result) × Begins driver.driver.seat.me.0.known log × Each clients.items (λ k c. Begins c.seat.me.0.known log × Serves c.seat.me.0.tickets log) × (driver.driver.seat.me.0.share ≡ 0 → driver.driver.seat.me.0.admitted ≡ length clients.items → length log ≡ total (λ c. length c.seat.me.0.tickets) clients.items) }
+    ensures { (log : List (Entry CommandOf ReplyOf)) × EndsAt DeviceStep driver.driver.seat log result × Begins (known_of driver.driver.seat) log × Each clients.items (λ k c. IsServed c.seat log) × (left_count driver.driver.seat ≡ 0 → admitted_of driver.driver.seat ≡ length clients.items → length log ≡ total (λ c. ticket_count c.seat) clients.items) }
 {
     host_queue::close(rt, queue, clients, driver.driver)
 }

@@ -67,7 +67,7 @@ fn wait<R: Wait>(
     ticket: Ticket,
 ) -> Box<Request<Command, Reply>>
     requires one { client.old.seat.table_id ≡ queue.now.table.shared.table_id }
-    requires own { IsOpen client.old.seat.me.0 ticket.number }
+    requires own { IsOpen client.old.seat ticket.number }
     ensures one { client.new.seat.table_id ≡ client.old.seat.table_id }
 {
     let mut ticket = ticket;

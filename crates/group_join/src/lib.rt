@@ -1,12 +1,12 @@
-//! The work-groups of a launch, run apart and joined.
+//! The work-groups of a launch, run apart and joined to its outcome.
 //!
-//! `one_group` runs one work-group on overlays of the launch's buffers: it answers what `run_group` answers on their
-//! bytes, and the buffers stay, so that each group begins with the same bytes, in whatever order the groups run.
+//! `one_group` runs one work-group on overlays of the launch's buffers. Its result is that of `run_group` on their
+//! bytes. The buffers don't change, so each group begins with the same bytes, in whatever order the groups run.
 //!
-//! `run_launch` answers what the launch's canonical run on one memory comes to: clean with the bytes that it leaves, or
-//! its report and its schedule. `merge` answers the same from the groups' results, of all groups or of those up to one
-//! that stopped. `join_round` joins results whose logs are short lists that stand for them. All ask for whole groups
-//! with items and answers below 2^32.
+//! `run_launch` answers the outcome of the launch's canonical run on one memory: the bytes that a clean run leaves, or
+//! a report and its schedule. `merge` answers the same from the results of all groups, or of the first ones up to one
+//! that stopped. `join_round` joins results whose logs are short lists, each of which represents a whole log. Each of
+//! them asks that the launch has whole groups, and items and answers below 2^32.
 #![tactic(auto)]
 
 mod changes;

@@ -4,7 +4,7 @@ use Rattle.std.specs.List.{prefix_len}
 use Rattle.clsyntax_lex.specs.declared.token.Token.{Token}
 use Rattle.opencl_words.specs.Spelling.{word_at}
 use Rattle.hint_rules.specs.declared.near.TokensAround.{TokensAround}
-use Rattle.hint_rules.specs.declared.near.Setting.{Setting}
+use Rattle.hint_rules.specs.declared.near.Surroundings.{Surroundings}
 use Rattle.hint_rules.specs.Marks.{mark_at}
 use Rattle.hint_rules.specs.Seen.{seen_of}
 
@@ -39,5 +39,5 @@ word_of source None = []
 word_of source (Some token) = word_from source token.at
 
 -- what is known of a place: the token at it, the one behind that, and what stands in front
-abbrev pub setting_of : Near → Setting
+abbrev pub setting_of : Near → Surroundings
 setting_of n = record { here = mark_at (slice_get n.rest 0); next = mark_at (slice_get n.rest 1); seen = seen_of n.front }

@@ -4,7 +4,7 @@ use Rattle.std.specs.Borrow.{Bor}
 use Rattle.opencl_words.specs.declared.words.TheConstants.{NO_STRUCTS}
 use Rattle.hint_rules.specs.declared.marks.Mark.{Mark}
 use Rattle.hint_rules.specs.declared.marks.Mark.TheVariants as marks
-use Rattle.hint_rules.specs.declared.near.Setting.{Setting}
+use Rattle.hint_rules.specs.declared.near.Surroundings.{Surroundings}
 use Rattle.hint_rules.specs.declared.rules.Is.{Is}
 use Rattle.hint_rules.specs.declared.rules.Is.TheVariants as is
 use Rattle.hint_rules.specs.declared.rules.SourcePart.{SourcePart}
@@ -104,11 +104,11 @@ all_rules = map (λ rule. (rule.0, rule.1.now)) RULES
 
 -- A rule fits a place where the token at it, the last one and the one in front of that are what it looks for, in its
 -- part of a source.
-abbrev pub meets : Looked → Setting → Bool
+abbrev pub meets : Looked → Surroundings → Bool
 meets looked p = fits looked.3 p.here && fits looked.2 p.seen.tail.last && fits looked.1 p.seen.tail.second && is_in looked.0 p.seen
 
 -- what the first of some rules says that fits
-abbrev pub first_said : Rules → Setting → Option (List ℕ)
+abbrev pub first_said : Rules → Surroundings → Option (List ℕ)
 first_said rules p = option_map (λ rule. rule.1) (find (λ rule. meets rule.0 p) rules)
 
 -- what -> is read as
@@ -116,7 +116,7 @@ abbrev pub is_arrow : Mark → Mark → Bool
 is_arrow first second = is_same first marks.Minus && is_same second marks.Greater
 
 -- what is said of a place: that there are no fields where an arrow stands; else what the first rule says that fits
-abbrev pub setting_said : Setting → List ℕ
+abbrev pub setting_said : Surroundings → List ℕ
 setting_said p =
     if is_arrow p.here p.next || is_arrow p.seen.tail.last p.here then NO_STRUCTS.now
     else unwrap_or (first_said all_rules p) NO_RULE.now

@@ -7,7 +7,7 @@ use Rattle.hint_rules.specs.declared.marks.Mark.{Mark}
 use Rattle.hint_rules.specs.declared.marks.Mark.TheVariants as marks
 use Rattle.hint_rules.specs.declared.seen.Brackets.{Brackets}
 use Rattle.hint_rules.specs.declared.seen.Seen.{Seen}
-use Rattle.hint_rules.specs.declared.seen.Statement.{Statement}
+use Rattle.hint_rules.specs.declared.seen.StatementSoFar.{StatementSoFar}
 use Rattle.hint_rules.specs.Marks.{mark_of, is_nothing}
 
 -- whether two marks are one
@@ -36,7 +36,7 @@ ends_statement marks.CloseBrace = true
 ends_statement _ = false
 
 -- a statement without tokens
-abbrev pub no_statement : Statement
+abbrev pub no_statement : StatementSoFar
 no_statement = record { first = marks.Nothing; is_one = false; assigns = false }
 
 -- the first token of a statement with one more
@@ -44,7 +44,7 @@ abbrev pub first_with : Mark → Mark → Mark
 first_with first mark = if is_nothing first then mark else first
 
 -- the statement that goes on behind one token more
-abbrev pub statement_with : Statement → Mark → Statement
+abbrev pub statement_with : StatementSoFar → Mark → StatementSoFar
 statement_with s mark = if ends_statement mark then no_statement else record {
   first = first_with s.first mark;
   is_one = is_nothing s.first;

@@ -1,6 +1,6 @@
-//! What may stand next to a token: rules for the first token that no program has, by the tokens round it. It knows a
-//! source and its tokens alone, and neither faults nor a tree. Its table of rules is the definition: what is said of a
-//! place is what the first rule says that fits, and when a rule fits, the contracts say exactly.
+//! Hints at the first token of a source at which no program goes on, by the tokens round it. The table of rules is the
+//! definition: the hint at a place is that of the first rule that fits, and the contracts say exactly when a rule fits.
+//! The crate knows a source and its tokens alone, and neither faults nor a tree.
 #![tactic(auto)]
 
 mod marks;

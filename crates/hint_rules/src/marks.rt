@@ -1,4 +1,4 @@
-//! What tokens are, as far as hints tell them apart.
+//! The kinds of tokens that hints tell apart.
 #![tactic(auto)]
 
 ghost use Rattle.std.specs.Prelude.{◌≡◌};
@@ -7,7 +7,7 @@ ghost use Rattle.hint_rules.specs.Marks as marks;
 use clmodel::tree::AddressSpace;
 use clsyntax_lex::token::{Token, TokenKind};
 
-/// What stands at a place.
+/// The kind of the token at a place.
 #[derive(Clone, Copy, Debug, PartialEq, Eq)]
 pub enum Mark {
     /// No token: in front of the first, or behind the last

@@ -119,19 +119,19 @@ pub fn callee(tokens: &[Token]) -> Option<Token>
     None
 }
 
-/// What is known of a place: the token at it, the one behind that, and what stands in front.
+/// The surroundings of a place: the token at it, the one behind that, and a summary of those in front.
 #[derive(Clone, Copy)]
-pub(crate) struct Setting {
+pub(crate) struct Surroundings {
     pub here: Mark,
     pub next: Mark,
     pub seen: Seen,
 }
 
-/// What is known of a place. It takes the time of the tokens in front.
-pub(crate) fn setting_of(place: TokensAround<'_>) -> Setting
+/// The surroundings of a place. It takes time for each token in front.
+pub(crate) fn setting_of(place: TokensAround<'_>) -> Surroundings
     ensures { result ≡ near.setting_of (near.near_of place.entry) }
 {
-    Setting {
+    Surroundings {
         here: mark_at(nth(place.rest, 0)),
         next: mark_at(nth(place.rest, 1)),
         seen: seen_of(place.front),

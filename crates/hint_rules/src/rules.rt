@@ -6,7 +6,7 @@ ghost use Rattle.hint_rules.specs.Near.{near_of};
 ghost use Rattle.hint_rules.specs.Rules as rules;
 
 use crate::marks::{Mark, is_nothing};
-use crate::near::{Setting, TokensAround, setting_of};
+use crate::near::{Surroundings, TokensAround, setting_of};
 use crate::seen::Seen;
 use Is::{Any, Assigns, One, Operator, Space, Type};
 use Mark::{
@@ -453,7 +453,7 @@ fn is_in(part: SourcePart, seen: Seen) -> bool
 }
 
 /// Whether a rule fits a place: its part, the last two tokens, and the one at the place.
-fn meets(looked: Looked, setting: Setting) -> bool
+fn meets(looked: Looked, setting: Surroundings) -> bool
     ensures { result ≡ rules.meets looked setting }
 {
     let (part, second, last, here) = looked;
@@ -465,7 +465,7 @@ fn meets(looked: Looked, setting: Setting) -> bool
 }
 
 /// What the first rule says that fits.
-fn hint_in(table: &[(Looked, &'static str)], setting: Setting) -> Option<&'static str>
+fn hint_in(table: &[(Looked, &'static str)], setting: Surroundings) -> Option<&'static str>
     ensures { option_copied result ≡ rules.first_said (rules.rows table.now) setting }
 {
     for rule in table {
@@ -484,7 +484,7 @@ fn is_arrow(first: Mark, second: Mark) -> bool
 }
 
 /// What is said of a place.
-fn hint_of(setting: Setting) -> &'static str
+fn hint_of(setting: Surroundings) -> &'static str
     ensures { result.now ≡ rules.setting_said setting }
 {
     if is_arrow(setting.here, setting.next) || is_arrow(setting.seen.tail.last, setting.here) {

@@ -1,4 +1,4 @@
-//! What is known of tokens that stand in front of a place.
+//! A summary of the tokens in front of a place, for the rules.
 #![tactic(auto)]
 
 ghost use Rattle.std.specs.Prelude.{◌≡◌};
@@ -24,9 +24,9 @@ pub(crate) struct Brackets {
     pub braces: usize,
 }
 
-/// The statement that goes on: what stands behind the last `;`, `{` or `}`.
+/// The statement that goes on at a place: the tokens behind the last `;`, `{` or `}`.
 #[derive(Clone, Copy)]
-pub(crate) struct Statement {
+pub(crate) struct StatementSoFar {
     /// Its first token
     pub first: Mark,
     /// Whether it has one token
@@ -35,15 +35,15 @@ pub(crate) struct Statement {
     pub assigns: bool,
 }
 
-/// What is known of tokens.
+/// A summary of the tokens in front of a place.
 #[derive(Clone, Copy)]
 pub(crate) struct Seen {
     pub tail: Tail,
     pub brackets: Brackets,
-    pub statement: Statement,
+    pub statement: StatementSoFar,
 }
 
-/// What is known of no tokens.
+/// The summary of no tokens.
 const NONE: Seen = Seen {
     tail: Tail {
         last: Mark::Nothing,
@@ -55,7 +55,7 @@ const NONE: Seen = Seen {
         squares: 0,
         braces: 0,
     },
-    statement: Statement {
+    statement: StatementSoFar {
         first: Mark::Nothing,
         is_one: false,
         assigns: false,
@@ -102,15 +102,15 @@ fn first_with(first: Mark, mark: Mark) -> Mark
     if is_nothing(first) { mark } else { first }
 }
 
-impl Statement {
+impl StatementSoFar {
     /// The one that goes on behind one token more.
-    fn with(self, mark: Mark) -> Statement
+    fn with(self, mark: Mark) -> StatementSoFar
         ensures { result ≡ seen.statement_with self mark }
     {
         if ends_statement(mark) {
             return NONE.statement;
         }
-        Statement {
+        StatementSoFar {
             first: first_with(self.first, mark),
             is_one: is_nothing(self.first),
             assigns: self.assigns || mark == Mark::Assign,
@@ -135,7 +135,7 @@ impl Seen {
     }
 }
 
-/// What is known of tokens.
+/// Summarizes tokens.
 pub(crate) fn seen_of(tokens: &[Token]) -> Seen
     ensures { result ≡ seen.seen_of tokens.now }
 {

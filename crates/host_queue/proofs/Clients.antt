@@ -6,6 +6,7 @@ use mathlib.Core.Path.{Path}
 use mathlib.Core.Logic.{dite}
 use native.Mathlib.Decide.{ℕ_discrete, dec_le}
 use lib.ListN.{get_elem?}
+use Rattle.atomic_table.specs.declared.shared.Seat.{Seat}
 use Rattle.atomic_table.proofs.Lists.{at_last, at_longer}
 use Rattle.host_queue.specs.declared.view.Stage.TheVariants.{Idle, Drawn, Taken}
 use Rattle.host_queue.specs.declared.view.Held.{Held}
@@ -150,25 +151,26 @@ module _ {D C R : Type 0} (model : D → C → R → D → Type 0) where
 pub same_head : {A : Type 0} (cs xs ys : List (ℕ × Option A)) (j k : ℕ) (a b : Option A) → cs ≡ (j, a) ∷ xs → cs ≡ (k, b) ∷ ys → a ≡ b
 same_head cs xs ys j k a b e f = ap (head_or None) (sym e ∙ f)
 
-module _ {D C R : Type 0} where
+module _ {B D C R : Type 0} where
   -- tickets stay open where none is added to what was collected
-  pub stay_open : (v w : View D C R) → w.tickets ≡ v.tickets → w.collected ≡ v.collected → StaysOpen v w
+  pub stay_open : (v w : Seat B (View D C R)) → w.me.0.tickets ≡ v.me.0.tickets → w.me.0.collected ≡ v.me.0.collected → StaysOpen v w
   stay_open v w tickets collected n o = (o.0, o.1, ap (λ l. get_elem? l o.0) tickets ∙ o.2, o.3, λ has. o.4 (subst (λ (l : List ℕ). Has l n) collected has))
 
-  pub stay_open_but : (v w : View D C R) (n : ℕ) → w.tickets ≡ v.tickets → w.collected ≡ n ∷ v.collected → StaysOpenBut n v w
+  pub stay_open_but : (v w : Seat B (View D C R)) (n : ℕ) → w.me.0.tickets ≡ v.me.0.tickets → w.me.0.collected ≡ n ∷ v.me.0.collected → StaysOpenBut n v w
   stay_open_but v w n tickets collected m other o = (o.0, o.1, ap (λ l. get_elem? l o.0) tickets ∙ o.2, o.3, λ has. not_in (subst (λ (l : List ℕ). Has l m) collected has))
     where
-      not_in : Has (n ∷ v.collected) m → ⊥
+      not_in : Has (n ∷ v.me.0.collected) m → ⊥
       not_in (zero, e) = other (sym (some-injective n m e))
       not_in (suc j, e) = o.4 (j, e)
 
   -- a ticket that was placed is open
-  pub opened : (v w : View D C R) (n : ℕ) (c : C) → IsReady v → v.floor ≤ n → w.tickets ≡ v.tickets ++ held n c ∷ [] → w.collected ≡ v.collected → IsOpen w n
-  opened v w n c a low tickets collected = (length v.tickets, held n c, ap (λ l. get_elem? l (length v.tickets)) tickets ∙ at_last v.tickets (held n c) (length v.tickets) refl, refl, λ has. absurd (let l = a.collected n (subst (λ (l : List ℕ). Has l n) collected has) in omega arith))
+  pub opened : (v w : Seat B (View D C R)) (n : ℕ) (c : C) → IsReady v.me.0 → v.me.0.floor ≤ n → w.me.0.tickets ≡ v.me.0.tickets ++ held n c ∷ [] → w.me.0.collected ≡ v.me.0.collected → IsOpen w n
+  opened v w n c a low tickets collected = (length v.me.0.tickets, held n c, ap (λ l. get_elem? l (length v.me.0.tickets)) tickets ∙ at_last v.me.0.tickets (held n c) (length v.me.0.tickets) refl, refl, λ has. absurd (let l = a.collected n (subst (λ (l : List ℕ). Has l n) collected has) in omega arith))
 
-  pub stay_open_more : (v w : View D C R) (n : ℕ) (c : C) → w.tickets ≡ v.tickets ++ held n c ∷ [] → w.collected ≡ v.collected → StaysOpen v w
-  stay_open_more v w n c tickets collected m o = (o.0, o.1, ap (λ l. get_elem? l o.0) tickets ∙ at_longer v.tickets (held n c ∷ []) o.0 o.1 o.2, o.3, λ has. o.4 (subst (λ (l : List ℕ). Has l m) collected has))
+  pub stay_open_more : (v w : Seat B (View D C R)) (n : ℕ) (c : C) → w.me.0.tickets ≡ v.me.0.tickets ++ held n c ∷ [] → w.me.0.collected ≡ v.me.0.collected → StaysOpen v w
+  stay_open_more v w n c tickets collected m o = (o.0, o.1, ap (λ l. get_elem? l o.0) tickets ∙ at_longer v.me.0.tickets (held n c ∷ []) o.0 o.1 o.2, o.3, λ has. o.4 (subst (λ (l : List ℕ). Has l m) collected has))
 
+module _ {D C R : Type 0} where
   -- a client's tickets are below its floor
   pub all_below : (v : View D C R) (n : ℕ) → IsReady v → v.floor ≤ n → AllBelow v.tickets n
   all_below v n a low i t at = let b = (a.below i t at).0 in omega arith

@@ -3,6 +3,7 @@
 use Rattle.std.specs.Prelude.{◌≡◌, ◌≢◌, ℕ, ◌<◌, List, [], ◌∷◌, length}
 use mathlib.Core.Option.{some}
 use lib.ListN.{get_elem?}
+use Rattle.atomic_table.specs.declared.shared.Seat.{Seat}
 use Rattle.host_queue.specs.declared.view.Stage.TheVariants.{Idle}
 use Rattle.host_queue.specs.declared.view.Held.{Held}
 use Rattle.host_queue.specs.declared.view.Entry.{Entry}
@@ -12,18 +13,6 @@ use Rattle.host_queue.specs.Views.{Has}
 use Rattle.host_queue.specs.Plays.{Fits}
 
 module _ {D C R : Type 0} where
-  -- the ticket n is the client's, and not collected (own)
-  abbrev pub IsOpen : View D C R → ℕ → Type 0
-  IsOpen v n = (i : ℕ) × (t : Held C) × (get_elem? v.tickets i ≡ some t) × (t.number ≡ n) × (Has v.collected n → ⊥)
-
-  -- no ticket was collected (own)
-  abbrev pub StaysOpen : View D C R → View D C R → Type 0
-  StaysOpen v w = (n : ℕ) → IsOpen v n → IsOpen w n
-
-  -- no other ticket than n was collected (own)
-  abbrev pub StaysOpenBut : ℕ → View D C R → View D C R → Type 0
-  StaysOpenBut n v w = (m : ℕ) → m ≢ n → IsOpen v m → IsOpen w m
-
   -- a client's seat that may draw (own)
   pub record IsReady (v : View D C R) : Type 0 where
     pub idle : v.stage ≡ Idle
@@ -52,16 +41,29 @@ module _ {D C R : Type 0} where
     pub share : v.share ≡ 0
     pub count : v.count ≡ 0
 
-  -- the driver let one client in, and each ticket of the client is answered, as the client knows (own)
-  pub record IsOnly (driver client : View D C R) : Type 0 where
-    pub admitted : driver.admitted ≡ 1
-    pub share : driver.share ≡ 0
-    pub answered : length client.tickets ≡ length driver.known
-    pub known : Begins driver.known client.known
+module _ {B D C R : Type 0} where
+  -- the client drew the ticket n, and has not collected its reply (own)
+  abbrev pub IsOpen : Seat B (View D C R) → ℕ → Type 0
+  IsOpen client n = (i : ℕ) × (t : Held C) × (get_elem? client.me.0.tickets i ≡ some t) × (t.number ≡ n) × (Has client.me.0.collected n → ⊥)
 
-  -- no ticket is in both views (own)
-  abbrev pub IsApart : View D C R → View D C R → Type 0
-  IsApart v w = (i j : ℕ) (t u : Held C) → get_elem? v.tickets i ≡ some t → get_elem? w.tickets j ≡ some u → t.number ≢ u.number
+  -- each ticket that was open is open (own)
+  abbrev pub StaysOpen : Seat B (View D C R) → Seat B (View D C R) → Type 0
+  StaysOpen old new = (n : ℕ) → IsOpen old n → IsOpen new n
+
+  -- each ticket that was open is open, but for n (own)
+  abbrev pub StaysOpenBut : ℕ → Seat B (View D C R) → Seat B (View D C R) → Type 0
+  StaysOpenBut n old new = (m : ℕ) → m ≢ n → IsOpen old m → IsOpen new m
+
+  -- the driver let one client in, and each ticket of the client is answered, as the client knows (own)
+  pub record IsOnly (driver client : Seat B (View D C R)) : Type 0 where
+    pub admitted : driver.me.0.admitted ≡ 1
+    pub share : driver.me.0.share ≡ 0
+    pub answered : length client.me.0.tickets ≡ length driver.me.0.known
+    pub known : Begins driver.me.0.known client.me.0.known
+
+  -- no ticket is that of both clients (own)
+  abbrev pub IsApart : Seat B (View D C R) → Seat B (View D C R) → Type 0
+  IsApart one other = (i j : ℕ) (t u : Held C) → get_elem? one.me.0.tickets i ≡ some t → get_elem? other.me.0.tickets j ≡ some u → t.number ≢ u.number
 
 module _ {C : Type 0} where
   -- the tickets are below the number (own)

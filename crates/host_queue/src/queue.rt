@@ -1,17 +1,15 @@
 //! The queue, and those who use it.
-ghost use Rattle.std.specs.Prelude.{◌≡◌, ℕ, List, ◌+◌, ◌<◌, ◌≤◌, ◌≢◌, [], ◌∷◌, ◌++◌, length, slice_get, vec_len, OnOk, IfOk, IfErr, IfSome, IfNone, MatchResult, MatchOption, Some, None, false, true};
+ghost use Rattle.std.specs.Prelude.{◌≡◌, ℕ, List, ◌+◌, ◌<◌, ◌≤◌, ◌≢◌, [], ◌∷◌, length, vec_len, OnOk, IfOk, IfErr, true, false};
 ghost use Rattle.std.specs.Box.{box_value};
-ghost use mathlib.Core.Option.{some};
-ghost use lib.ListN.{get_elem?};
+ghost use Rattle.host_queue.specs.declared.queue.TheConstants.{FIRST, TICKETS};
 ghost use Rattle.host_queue.specs.declared.view.Request.TheVariants.{Asked, Answered as AnsweredBy};
 ghost use Rattle.host_queue.specs.declared.view.Entry.{Entry};
-ghost use Rattle.host_queue.specs.History.{Begins, RunsTo};
-ghost use Rattle.host_queue.specs.Views.{total, entry, held};
-ghost use Rattle.host_queue.specs.Clients.{IsClient, IsDriver, IsNote, IsOpen, IsOnly, IsApart, AgreeAt, AllBelow, Serves, StaysOpen, StaysOpenBut};
-ghost use Rattle.host_queue.specs.Plays.{IsUnheard, Fits};
-ghost use Rattle.host_queue.specs.Notes.{host_of, guest_of};
+ghost use Rattle.host_queue.specs.History.{Begins};
+ghost use Rattle.host_queue.specs.Views.{total};
+ghost use Rattle.host_queue.specs.Clients.{IsClient, IsDriver, IsNote, IsOpen, IsOnly, IsApart, AllBelow, StaysOpen, StaysOpenBut};
 ghost use Rattle.host_queue.specs.Hands.{DoesSteps};
-ghost use Rattle.host_queue.specs.Opened.{Each, IsGuest};
+ghost use Rattle.host_queue.specs.Opened.{Each, IsGuest, IsNewDriver};
+ghost use Rattle.host_queue.specs.Seats.{known_of, answered_count, tickets_of, ticket_count, collected_of, floor_of, name_of, start_of, admitted_of, left_count, left_tickets, IsUnchanged, MayDraw, Drew, OnlyDrew, HasReply, Collected, OnlyCollected, LearnedMore, OnlyLearned, ShareHistory, KnowsBoth, DrawsAbove, OnlyLent, HasOneClient, HeardOf, DrewAll, HasSameClients, MayAdmit, MayAdmitFirst, LetIn, IsNext, HasNoClients, IsServed, HasLeft, LetNobodyIn, EndsAt};
 
 use crate::machine::Machine;
 use crate::table::{
@@ -41,7 +39,7 @@ const FIRST: usize = 32;
 #[derive(Drop)]
 pub struct Queue<D: Machine<C, R>, C: Drop, R: Drop> {
     pub table: Rows<D, C, R>,
-    ghost sized: { (table.shared.table_id.slots ≡ 4096) × (table.shared.table_id.words ≡ 4128) },
+    ghost sized: { (table.shared.table_id.slots ≡ TICKETS) × (table.shared.table_id.words ≡ FIRST + TICKETS) },
 }
 
 /// Who submits requests and collects their replies. It may go to a thread of its own.
@@ -52,9 +50,9 @@ pub struct Client<D: Machine<C, R>, C: Drop, R: Drop> {
     // One above the last ticket.
     next: u64,
     ghost client: { IsClient D.step seat.me.0 },
-    ghost above: { AllBelow seat.me.0.tickets next },
+    ghost above: { AllBelow (tickets_of seat) next },
     ghost room: { full ≡ false → 0 < seat.me.0.credit },
-    ghost past: { full ≡ true → 4096 ≤ seat.me.0.floor },
+    ghost past: { full ≡ true → TICKETS ≤ floor_of seat },
 }
 
 /// The right to one answer.
@@ -91,16 +89,16 @@ impl<D: Machine<C, R>, C: Drop, R: Drop> Client<D, C, R> {
         requires one { self.old.seat.table_id ≡ queue.now.table.shared.table_id }
         requires asked { (c : C) × (box_value request ≡ Asked c) }
         ensures one { self.new.seat.table_id ≡ self.old.seat.table_id }
-        ensures ok { IfOk result (λ t. (t.number < 4096) × (self.old.seat.me.0.floor ≤ t.number) × (length self.old.seat.me.0.known ≤ t.number)) }
-        ensures rises { IfOk result (λ t. AllBelow self.old.seat.me.0.tickets t.number) }
-        ensures open { IfOk result (λ t. IsOpen self.new.seat.me.0 t.number) }
-        ensures others { StaysOpen self.old.seat.me.0 self.new.seat.me.0 }
-        ensures floor { self.old.seat.me.0.floor ≤ self.new.seat.me.0.floor }
-        ensures ticket { IfOk result (λ t. (c : C) × (box_value request ≡ Asked c) × (self.new.seat.me.0.tickets ≡ self.old.seat.me.0.tickets ++ held t.number c ∷ [])) }
-        ensures next { IfOk result (λ t. self.new.seat.me.0.floor ≡ t.number + 1) }
-        ensures err { IfErr result (λ f. (f.request ≡ request) × (self.new.seat.me.0.tickets ≡ self.old.seat.me.0.tickets)) }
-        ensures full { IfErr result (λ f. 4096 ≤ self.new.seat.me.0.floor) }
-        ensures same { (self.new.seat.me.0.known ≡ self.old.seat.me.0.known) × (self.new.seat.me.0.collected ≡ self.old.seat.me.0.collected) × (self.new.seat.me.0.start ≡ self.old.seat.me.0.start) × (self.new.seat.me.0.name ≡ self.old.seat.me.0.name) }
+        ensures ok { IfOk result (λ t. MayDraw self.old.seat t.number) }
+        ensures rises { IfOk result (λ t. AllBelow (tickets_of self.old.seat) t.number) }
+        ensures open { IfOk result (λ t. IsOpen self.new.seat t.number) }
+        ensures others { StaysOpen self.old.seat self.new.seat }
+        ensures floor { floor_of self.old.seat ≤ floor_of self.new.seat }
+        ensures ticket { IfOk result (λ t. Drew (box_value request) t.number self.old.seat self.new.seat) }
+        ensures next { IfOk result (λ t. floor_of self.new.seat ≡ t.number + 1) }
+        ensures err { IfErr result (λ f. (f.request ≡ request) × (tickets_of self.new.seat ≡ tickets_of self.old.seat)) }
+        ensures full { IfErr result (λ f. TICKETS ≤ floor_of self.new.seat) }
+        ensures same { OnlyDrew self.old.seat self.new.seat }
     {
         if self.full {
             return Err(Full { request });
@@ -132,13 +130,14 @@ impl<D: Machine<C, R>, C: Drop, R: Drop> Client<D, C, R> {
         ticket: Ticket,
     ) -> Result<Box<Request<C, R>>, Ticket>
         requires one { self.old.seat.table_id ≡ queue.now.table.shared.table_id }
-        requires own { IsOpen self.old.seat.me.0 ticket.number }
+        requires own { IsOpen self.old.seat ticket.number }
         ensures one { self.new.seat.table_id ≡ self.old.seat.table_id }
-        ensures known { Fits D.step self.old.seat.me.0 self.new.seat.me.0.known }
-        ensures ok { IfOk result (λ b. (x : Entry C R) × (get_elem? self.new.seat.me.0.known ticket.number ≡ some x) × (box_value b ≡ AnsweredBy x.reply) × (self.new.seat.me.0.collected ≡ ticket.number ∷ self.old.seat.me.0.collected)) }
-        ensures err { IfErr result (λ t. (t ≡ ticket) × (length self.new.seat.me.0.known ≤ ticket.number) × (self.new.seat.me.0.collected ≡ self.old.seat.me.0.collected) × StaysOpen self.old.seat.me.0 self.new.seat.me.0) }
-        ensures others { StaysOpenBut ticket.number self.old.seat.me.0 self.new.seat.me.0 }
-        ensures same { (self.new.seat.me.0.tickets ≡ self.old.seat.me.0.tickets) × (self.new.seat.me.0.floor ≡ self.old.seat.me.0.floor) × (self.new.seat.me.0.start ≡ self.old.seat.me.0.start) × (self.new.seat.me.0.name ≡ self.old.seat.me.0.name) }
+        ensures known { LearnedMore D.step self.old.seat self.new.seat }
+        ensures ok { IfOk result (λ b. HasReply self.new.seat ticket.number (box_value b)) }
+        ensures collected { IfOk result (λ b. Collected ticket.number self.old.seat self.new.seat) }
+        ensures err { IfErr result (λ t. (t ≡ ticket) × (answered_count self.new.seat ≤ ticket.number) × (collected_of self.new.seat ≡ collected_of self.old.seat) × StaysOpen self.old.seat self.new.seat) }
+        ensures others { StaysOpenBut ticket.number self.old.seat self.new.seat }
+        ensures same { OnlyCollected self.old.seat self.new.seat }
     {
         let shared = &queue.table.shared;
         let number = ticket.number as usize;
@@ -156,7 +155,7 @@ pub struct Answered<D: Machine<C, R>, C: Drop, R: Drop> {
     pub count: u64,
     ghost note: { IsNote seat.me.0 },
     ghost empty_handed: { seat.me.1 ≡ [] },
-    ghost counted: { count ≡ length seat.me.0.known },
+    ghost counted: { count ≡ answered_count seat },
 }
 
 impl<D: Machine<C, R>, C: Drop, R: Drop> Answered<D, C, R> {
@@ -175,8 +174,8 @@ pub struct Driver<D: Machine<C, R>, C: Drop, R: Drop> {
     pub machine: D,
     count: u64,
     ghost driver: { IsDriver D.step seat.me.0 machine },
-    ghost counted: { count ≡ length seat.me.0.known },
-    ghost short: { count ≤ 4096 },
+    ghost counted: { count ≡ answered_count seat },
+    ghost short: { count ≤ TICKETS },
 }
 
 impl<D: Machine<C, R>, C: Drop, R: Drop> Client<D, C, R> {
@@ -189,15 +188,15 @@ impl<D: Machine<C, R>, C: Drop, R: Drop> Client<D, C, R> {
         answered: &mut Answered<D, C, R>,
     ) -> Box<Request<C, R>>
         requires one { (self.old.seat.table_id ≡ queue.now.table.shared.table_id) × (answered.old.seat.table_id ≡ queue.now.table.shared.table_id) }
-        requires own { IsOpen self.old.seat.me.0 ticket.number }
+        requires own { IsOpen self.old.seat ticket.number }
         requires below { ticket.number < answered.old.count }
         ensures one { (self.new.seat.table_id ≡ self.old.seat.table_id) × (answered.new.seat.table_id ≡ answered.old.seat.table_id) }
-        ensures answered { (answered.new.count ≡ answered.old.count) × (answered.new.seat.me.0 ≡ answered.old.seat.me.0) }
-        ensures known { Fits D.step self.old.seat.me.0 self.new.seat.me.0.known × Begins answered.old.seat.me.0.known self.new.seat.me.0.known }
-        ensures ok { (x : Entry C R) × (get_elem? self.new.seat.me.0.known ticket.number ≡ some x) × (box_value result ≡ AnsweredBy x.reply) }
-        ensures collected { self.new.seat.me.0.collected ≡ ticket.number ∷ self.old.seat.me.0.collected }
-        ensures others { StaysOpenBut ticket.number self.old.seat.me.0 self.new.seat.me.0 }
-        ensures same { (self.new.seat.me.0.tickets ≡ self.old.seat.me.0.tickets) × (self.new.seat.me.0.floor ≡ self.old.seat.me.0.floor) × (self.new.seat.me.0.start ≡ self.old.seat.me.0.start) × (self.new.seat.me.0.name ≡ self.old.seat.me.0.name) }
+        ensures answered { (answered.new.count ≡ answered.old.count) × IsUnchanged answered.old.seat answered.new.seat }
+        ensures known { LearnedMore D.step self.old.seat self.new.seat × Begins (known_of answered.old.seat) (known_of self.new.seat) }
+        ensures ok { HasReply self.new.seat ticket.number (box_value result) }
+        ensures collected { Collected ticket.number self.old.seat self.new.seat }
+        ensures others { StaysOpenBut ticket.number self.old.seat self.new.seat }
+        ensures same { OnlyCollected self.old.seat self.new.seat }
     {
         let shared = &queue.table.shared;
         let note = shared.split_seat::<Tell>(&mut answered.seat);
@@ -242,6 +241,8 @@ fn serve<D: Machine<C, R>, C: Drop, R: Drop, F: FnOnce(&mut D, C) -> R>(
 }
 
 impl<D: Machine<C, R>, C: Drop, R: Drop> Driver<D, C, R> {
+    ghost use Rattle.host_queue.specs.Driving.{Drove};
+
     /// Answers the next ticket, if its request is there, with the command done as `how` does it. None where the request
     /// isn't there, or where all 4,096 tickets are answered; then nothing changed.
     pub fn drive_by<F: FnOnce(&mut D, C) -> R + Drop>(
@@ -252,12 +253,7 @@ impl<D: Machine<C, R>, C: Drop, R: Drop> Driver<D, C, R> {
         requires callable { F.IsAlwaysCallable how }
         requires steps { DoesSteps D.step F.FnOnce how }
         requires one { self.old.seat.table_id ≡ queue.now.table.shared.table_id }
-        ensures one { self.new.seat.table_id ≡ self.old.seat.table_id }
-        ensures some { IfSome result (λ a. (a.seat.table_id ≡ self.old.seat.table_id) × (a.count ≡ length self.old.seat.me.0.known + 1) × (a.seat.me.0.known ≡ self.new.seat.me.0.known) × ((x : Entry C R) × (self.new.seat.me.0.known ≡ self.old.seat.me.0.known ++ x ∷ []) × D.step self.old.machine x.command x.reply self.new.machine)) }
-        ensures grows { Begins self.old.seat.me.0.known self.new.seat.me.0.known × (length self.new.seat.me.0.known ≤ length self.old.seat.me.0.known + 1) }
-        ensures none { IfNone result ((self.new.machine ≡ self.old.machine) × (self.new.seat.me.0 ≡ self.old.seat.me.0)) }
-        ensures waits { IfNone result (length self.old.seat.me.0.known < 4096 → IsUnheard self.old.seat.me.0) }
-        ensures same { (self.new.seat.me.0.start ≡ self.old.seat.me.0.start) × (self.new.seat.me.0.admitted ≡ self.old.seat.me.0.admitted) × (self.new.seat.me.0.share ≡ self.old.seat.me.0.share) × (self.new.seat.me.0.count ≡ self.old.seat.me.0.count) }
+        ensures { Drove D.step self.old self.new result }
     {
         if self.count >= TICKETS as u64 {
             return None;
@@ -283,12 +279,7 @@ impl<D: Machine<C, R>, C: Drop, R: Drop> Driver<D, C, R> {
     /// then nothing changed.
     pub fn drive_one(&mut self, queue: &Queue<D, C, R>) -> Option<Answered<D, C, R>>
         requires one { self.old.seat.table_id ≡ queue.now.table.shared.table_id }
-        ensures one { self.new.seat.table_id ≡ self.old.seat.table_id }
-        ensures some { IfSome result (λ a. (a.seat.table_id ≡ self.old.seat.table_id) × (a.count ≡ length self.old.seat.me.0.known + 1) × (a.seat.me.0.known ≡ self.new.seat.me.0.known) × ((x : Entry C R) × (self.new.seat.me.0.known ≡ self.old.seat.me.0.known ++ x ∷ []) × D.step self.old.machine x.command x.reply self.new.machine)) }
-        ensures grows { Begins self.old.seat.me.0.known self.new.seat.me.0.known × (length self.new.seat.me.0.known ≤ length self.old.seat.me.0.known + 1) }
-        ensures none { IfNone result ((self.new.machine ≡ self.old.machine) × (self.new.seat.me.0 ≡ self.old.seat.me.0)) }
-        ensures waits { IfNone result (length self.old.seat.me.0.known < 4096 → IsUnheard self.old.seat.me.0) }
-        ensures same { (self.new.seat.me.0.start ≡ self.old.seat.me.0.start) × (self.new.seat.me.0.admitted ≡ self.old.seat.me.0.admitted) × (self.new.seat.me.0.share ≡ self.old.seat.me.0.share) × (self.new.seat.me.0.count ≡ self.old.seat.me.0.count) }
+        ensures { Drove D.step self.old self.new result }
     {
         self.drive_by(
             queue,
@@ -300,17 +291,19 @@ impl<D: Machine<C, R>, C: Drop, R: Drop> Driver<D, C, R> {
 }
 
 impl<D: Machine<C, R>, C: Drop, R: Drop> Driver<D, C, R> {
+    ghost use Rattle.host_queue.specs.Driving.{OnlyHeard, AnsweredAtOnce};
+
     /// Hears of the tickets of the only client, and looks at how many are drawn.
     /// The client lends its right to draw for the look: while the driver has all these rights, the count of draws is
     /// that of the tickets.
     fn hear(&mut self, queue: &Queue<D, C, R>, client: &mut Client<D, C, R>)
         requires one { (self.old.seat.table_id ≡ queue.now.table.shared.table_id) × (client.old.seat.table_id ≡ queue.now.table.shared.table_id) }
-        requires alone { (self.old.seat.me.0.admitted ≡ 1) × (self.old.seat.me.0.share ≡ 0) }
+        requires alone { HasOneClient self.old.seat }
         ensures one { (self.new.seat.table_id ≡ self.old.seat.table_id) × (client.new.seat.table_id ≡ client.old.seat.table_id) }
-        ensures heard { self.new.seat.me.0.heard_tickets ≡ client.old.seat.me.0.tickets }
-        ensures drawn { (client.old.seat.me.0.floor ≤ 4096 → client.old.seat.me.0.floor ≤ length client.old.seat.me.0.tickets) × (4096 ≤ client.old.seat.me.0.floor → 4096 ≤ length client.old.seat.me.0.tickets) }
-        ensures same { (self.new.machine ≡ self.old.machine) × (self.new.seat.me.0.known ≡ self.old.seat.me.0.known) × (self.new.seat.me.0.start ≡ self.old.seat.me.0.start) × (self.new.seat.me.0.admitted ≡ self.old.seat.me.0.admitted) × (self.new.seat.me.0.share ≡ self.old.seat.me.0.share) }
-        ensures client { (client.new.seat.me.0.tickets ≡ client.old.seat.me.0.tickets) × (client.new.seat.me.0.collected ≡ client.old.seat.me.0.collected) × (client.new.seat.me.0.known ≡ client.old.seat.me.0.known) × (client.new.seat.me.0.floor ≡ client.old.seat.me.0.floor) × (client.new.seat.me.0.start ≡ client.old.seat.me.0.start) × (client.new.seat.me.0.name ≡ client.old.seat.me.0.name) }
+        ensures heard { HeardOf self.new.seat client.old.seat }
+        ensures drawn { DrewAll client.old.seat }
+        ensures same { OnlyHeard self.old self.new }
+        ensures client { OnlyLent client.old.seat client.new.seat }
     {
         let shared = &queue.table.shared;
         let note = shared.split_seat::<Leave>(&mut client.seat);
@@ -332,15 +325,9 @@ impl<D: Machine<C, R>, C: Drop, R: Drop> Driver<D, C, R> {
         requires callable { F.IsAlwaysCallable how }
         requires steps { DoesSteps D.step F.FnOnce how }
         requires one { (self.old.seat.table_id ≡ queue.now.table.shared.table_id) × (client.old.seat.table_id ≡ queue.now.table.shared.table_id) }
-        requires only { IsOnly self.old.seat.me.0 client.old.seat.me.0 }
+        requires only { IsOnly self.old.seat client.old.seat }
         requires asked { (c : C) × (box_value request ≡ Asked c) }
-        ensures one { (self.new.seat.table_id ≡ self.old.seat.table_id) × (client.new.seat.table_id ≡ client.old.seat.table_id) }
-        ensures only { IsOnly self.new.seat.me.0 client.new.seat.me.0 }
-        ensures ok { IfOk result (λ b. (c : C) × (r : R) × (box_value request ≡ Asked c) × (box_value b ≡ AnsweredBy r) × D.step self.old.machine c r self.new.machine × (self.new.seat.me.0.known ≡ self.old.seat.me.0.known ++ entry c r ∷ [])) }
-        ensures room { IfOk result (λ b. length self.old.seat.me.0.known < 4096) }
-        ensures err { IfErr result (λ f. (f.request ≡ request) × (length self.old.seat.me.0.known ≡ 4096) × (self.new ≡ self.old) × (client.new ≡ client.old)) }
-        ensures others { StaysOpen client.old.seat.me.0 client.new.seat.me.0 }
-        ensures start { (self.new.seat.me.0.start ≡ self.old.seat.me.0.start) × (client.new.seat.me.0.start ≡ client.old.seat.me.0.start) × (client.new.seat.me.0.name ≡ client.old.seat.me.0.name) }
+        ensures { AnsweredAtOnce D.step request self.old self.new client.old client.new result }
     {
         if self.count >= TICKETS as u64 {
             return Err(Full { request });
@@ -365,15 +352,9 @@ impl<D: Machine<C, R>, C: Drop, R: Drop> Driver<D, C, R> {
         request: Box<Request<C, R>>,
     ) -> Result<Box<Request<C, R>>, Full<C, R>>
         requires one { (self.old.seat.table_id ≡ queue.now.table.shared.table_id) × (client.old.seat.table_id ≡ queue.now.table.shared.table_id) }
-        requires only { IsOnly self.old.seat.me.0 client.old.seat.me.0 }
+        requires only { IsOnly self.old.seat client.old.seat }
         requires asked { (c : C) × (box_value request ≡ Asked c) }
-        ensures one { (self.new.seat.table_id ≡ self.old.seat.table_id) × (client.new.seat.table_id ≡ client.old.seat.table_id) }
-        ensures only { IsOnly self.new.seat.me.0 client.new.seat.me.0 }
-        ensures ok { IfOk result (λ b. (c : C) × (r : R) × (box_value request ≡ Asked c) × (box_value b ≡ AnsweredBy r) × D.step self.old.machine c r self.new.machine × (self.new.seat.me.0.known ≡ self.old.seat.me.0.known ++ entry c r ∷ [])) }
-        ensures room { IfOk result (λ b. length self.old.seat.me.0.known < 4096) }
-        ensures err { IfErr result (λ f. (f.request ≡ request) × (length self.old.seat.me.0.known ≡ 4096) × (self.new ≡ self.old) × (client.new ≡ client.old)) }
-        ensures others { StaysOpen client.old.seat.me.0 client.new.seat.me.0 }
-        ensures start { (self.new.seat.me.0.start ≡ self.old.seat.me.0.start) × (client.new.seat.me.0.start ≡ client.old.seat.me.0.start) × (client.new.seat.me.0.name ≡ client.old.seat.me.0.name) }
+        ensures { AnsweredAtOnce D.step request self.old self.new client.old client.new result }
     {
         self.answer_by(
             queue,
@@ -391,11 +372,11 @@ impl<D: Machine<C, R>, C: Drop, R: Drop> Client<D, C, R> {
     fn learn_from(&mut self, queue: &Queue<D, C, R>, other: &mut Client<D, C, R>)
         requires one { (self.old.seat.table_id ≡ queue.now.table.shared.table_id) × (other.old.seat.table_id ≡ queue.now.table.shared.table_id) }
         ensures one { (self.new.seat.table_id ≡ self.old.seat.table_id) × (other.new.seat.table_id ≡ other.old.seat.table_id) }
-        ensures known { Fits D.step self.old.seat.me.0 self.new.seat.me.0.known × Begins other.old.seat.me.0.known self.new.seat.me.0.known }
-        ensures floor { (self.old.seat.me.0.floor ≤ self.new.seat.me.0.floor) × (other.old.seat.me.0.floor ≤ self.new.seat.me.0.floor) }
-        ensures apart { self.old.seat.me.0.name ≢ other.old.seat.me.0.name → IsApart other.old.seat.me.0 self.old.seat.me.0 }
-        ensures same { (self.new.seat.me.0.tickets ≡ self.old.seat.me.0.tickets) × (self.new.seat.me.0.collected ≡ self.old.seat.me.0.collected) × (self.new.seat.me.0.start ≡ self.old.seat.me.0.start) × (self.new.seat.me.0.name ≡ self.old.seat.me.0.name) }
-        ensures other { other.new.seat.me.0 ≡ other.old.seat.me.0 }
+        ensures known { LearnedMore D.step self.old.seat self.new.seat × Begins (known_of other.old.seat) (known_of self.new.seat) }
+        ensures floor { DrawsAbove self.old.seat other.old.seat self.new.seat }
+        ensures apart { name_of self.old.seat ≢ name_of other.old.seat → IsApart other.old.seat self.old.seat }
+        ensures same { OnlyLearned self.old.seat self.new.seat }
+        ensures other { IsUnchanged other.old.seat other.new.seat }
     {
         let shared = &queue.table.shared;
         let note = shared.split_seat::<Tell>(&mut other.seat);
@@ -407,17 +388,17 @@ impl<D: Machine<C, R>, C: Drop, R: Drop> Client<D, C, R> {
     /// draws above what the other drew. No other thread is waited for.
     pub fn agree(&mut self, queue: &Queue<D, C, R>, other: &mut Client<D, C, R>)
         requires one { (self.old.seat.table_id ≡ queue.now.table.shared.table_id) × (other.old.seat.table_id ≡ queue.now.table.shared.table_id) }
-        requires two { self.old.seat.me.0.name ≢ other.old.seat.me.0.name }
+        requires two { name_of self.old.seat ≢ name_of other.old.seat }
         ensures one { (self.new.seat.table_id ≡ self.old.seat.table_id) × (other.new.seat.table_id ≡ other.old.seat.table_id) }
-        ensures history { (length self.old.seat.me.0.known ≤ length other.old.seat.me.0.known → Begins self.old.seat.me.0.known other.old.seat.me.0.known) × (length other.old.seat.me.0.known ≤ length self.old.seat.me.0.known → Begins other.old.seat.me.0.known self.old.seat.me.0.known) }
-        ensures mine { Begins self.old.seat.me.0.known self.new.seat.me.0.known × Begins other.old.seat.me.0.known self.new.seat.me.0.known }
-        ensures theirs { Begins self.old.seat.me.0.known other.new.seat.me.0.known × Begins other.old.seat.me.0.known other.new.seat.me.0.known }
-        ensures floors { (self.old.seat.me.0.floor ≤ self.new.seat.me.0.floor) × (other.old.seat.me.0.floor ≤ self.new.seat.me.0.floor) × (self.old.seat.me.0.floor ≤ other.new.seat.me.0.floor) × (other.old.seat.me.0.floor ≤ other.new.seat.me.0.floor) }
-        ensures above { AllBelow other.old.seat.me.0.tickets self.new.seat.me.0.floor × AllBelow self.old.seat.me.0.tickets other.new.seat.me.0.floor }
-        ensures open { StaysOpen self.old.seat.me.0 self.new.seat.me.0 × StaysOpen other.old.seat.me.0 other.new.seat.me.0 }
-        ensures apart { IsApart other.old.seat.me.0 self.old.seat.me.0 }
-        ensures same { (self.new.seat.me.0.tickets ≡ self.old.seat.me.0.tickets) × (self.new.seat.me.0.collected ≡ self.old.seat.me.0.collected) × (self.new.seat.me.0.start ≡ self.old.seat.me.0.start) × (self.new.seat.me.0.name ≡ self.old.seat.me.0.name) }
-        ensures others { (other.new.seat.me.0.tickets ≡ other.old.seat.me.0.tickets) × (other.new.seat.me.0.collected ≡ other.old.seat.me.0.collected) × (other.new.seat.me.0.start ≡ other.old.seat.me.0.start) × (other.new.seat.me.0.name ≡ other.old.seat.me.0.name) }
+        ensures history { ShareHistory self.old.seat other.old.seat }
+        ensures mine { KnowsBoth self.old.seat other.old.seat self.new.seat }
+        ensures theirs { KnowsBoth self.old.seat other.old.seat other.new.seat }
+        ensures floors { DrawsAbove self.old.seat other.old.seat self.new.seat × DrawsAbove self.old.seat other.old.seat other.new.seat }
+        ensures above { AllBelow (tickets_of other.old.seat) (floor_of self.new.seat) × AllBelow (tickets_of self.old.seat) (floor_of other.new.seat) }
+        ensures open { StaysOpen self.old.seat self.new.seat × StaysOpen other.old.seat other.new.seat }
+        ensures apart { IsApart other.old.seat self.old.seat }
+        ensures same { OnlyLearned self.old.seat self.new.seat }
+        ensures others { OnlyLearned other.old.seat other.new.seat }
     {
         self.learn_from(queue, other);
         other.learn_from(queue, self);
@@ -425,12 +406,14 @@ impl<D: Machine<C, R>, C: Drop, R: Drop> Client<D, C, R> {
 }
 
 impl<D: Machine<C, R>, C: Drop, R: Drop> Driver<D, C, R> {
+    ghost use Rattle.host_queue.specs.Driving.{OnlyLetIn};
+
     /// A new client, with the next number.
     fn admit(&mut self, queue: &Queue<D, C, R>) -> Client<D, C, R>
         requires one { self.old.seat.table_id ≡ queue.now.table.shared.table_id }
-        requires room { 0 < self.old.seat.me.0.credit }
-        ensures driver { (self.new.seat.table_id ≡ self.old.seat.table_id) × (self.new.seat.me.0 ≡ host_of self.old.seat.me.0) × (self.new.machine ≡ self.old.machine) × (self.new.count ≡ self.old.count) }
-        ensures client { (result.seat.table_id ≡ self.old.seat.table_id) × (result.seat.me.0 ≡ guest_of self.old.seat.me.0) }
+        requires room { MayAdmit self.old.seat }
+        ensures driver { (self.new.seat.table_id ≡ self.old.seat.table_id) × LetIn self.old.seat self.new.seat × (self.new.machine ≡ self.old.machine) × (self.new.count ≡ self.old.count) }
+        ensures client { (result.seat.table_id ≡ self.old.seat.table_id) × IsNext self.old.seat result.seat }
     {
         let seat = queue.table.shared.split_seat::<Admit>(&mut self.seat);
         Client {
@@ -448,10 +431,10 @@ impl<D: Machine<C, R>, C: Drop, R: Drop> Driver<D, C, R> {
         clients: usize,
     ) -> Result<Vec<Client<D, C, R>>, AllocError>
         requires one { self.old.seat.table_id ≡ queue.now.table.shared.table_id }
-        requires fresh { (clients ≤ 16) × (self.old.seat.me.0.credit ≡ 16) × (self.old.seat.me.0.admitted ≡ 0) }
-        ensures driver { (self.new.seat.table_id ≡ self.old.seat.table_id) × (self.new.machine ≡ self.old.machine) × (self.new.seat.me.0.start ≡ self.old.seat.me.0.start) × (self.new.seat.me.0.known ≡ self.old.seat.me.0.known) × (self.new.seat.me.0.share ≡ self.old.seat.me.0.share) }
-        ensures admitted { OnOk result (self.new.seat.me.0.admitted ≡ clients) }
-        ensures clients { IfOk result (λ v. (vec_len v ≡ clients) × Each v.items (λ k c. (c.seat.table_id ≡ queue.now.table.shared.table_id) × IsGuest self.old.seat.me.0.start k c.seat.me.0)) }
+        requires fresh { MayAdmitFirst clients self.old.seat }
+        ensures driver { OnlyLetIn self.old self.new }
+        ensures admitted { OnOk result (admitted_of self.new.seat ≡ clients) }
+        ensures clients { IfOk result (λ v. (vec_len v ≡ clients) × Each v.items (λ k c. (c.seat.table_id ≡ queue.now.table.shared.table_id) × IsGuest (start_of self.old.seat) k c.seat)) }
     {
         let mut list = Vec::with_capacity(alloc, clients)?;
         for i in 0..clients {
@@ -469,8 +452,8 @@ pub fn open<D: Machine<C, R>, C: Drop, R: Drop>(
     clients: usize,
 ) -> Result<(Queue<D, C, R>, Vec<Client<D, C, R>>, Driver<D, C, R>), AllocError>
     requires clients { clients ≤ 16 }
-    ensures driver { IfOk result (λ r. (r.2.seat.table_id ≡ r.0.table.shared.table_id) × (r.2.machine ≡ machine) × (r.2.seat.me.0.start ≡ machine ∷ []) × (r.2.seat.me.0.known ≡ []) × (r.2.seat.me.0.admitted ≡ clients) × (r.2.seat.me.0.share ≡ 0)) }
-    ensures clients { IfOk result (λ r. (vec_len r.1 ≡ clients) × Each r.1.items (λ k c. (c.seat.table_id ≡ r.0.table.shared.table_id) × IsGuest (machine ∷ []) k c.seat.me.0)) }
+    ensures driver { IfOk result (λ r. (r.2.seat.table_id ≡ r.0.table.shared.table_id) × (r.2.machine ≡ machine) × IsNewDriver machine clients r.2.seat) }
+    ensures clients { IfOk result (λ r. (vec_len r.1 ≡ clients) × Each r.1.items (λ k c. (c.seat.table_id ≡ r.0.table.shared.table_id) × IsGuest (machine ∷ []) k c.seat)) }
 {
     let words = Vec::from_elem(alloc, 0u64, FIRST + TICKETS)?;
     let about = Snapshot::of(&machine);
@@ -492,8 +475,8 @@ pub fn open<D: Machine<C, R>, C: Drop, R: Drop>(
 
 /// How many tickets so many draws gave.
 fn tickets_of(draws: u64) -> u64
-    ensures all { draws ≤ 4096 → result ≡ draws }
-    ensures most { 4096 ≤ draws → result ≡ 4096 }
+    ensures all { draws ≤ TICKETS → result ≡ draws }
+    ensures most { TICKETS ≤ draws → result ≡ TICKETS }
 {
     let most = TICKETS as u64;
     if draws < most { draws } else { most }
@@ -504,10 +487,10 @@ impl<D: Machine<C, R>, C: Drop, R: Drop> Driver<D, C, R> {
     fn drive_to<W: Wait>(&mut self, rt: &W, queue: &Queue<D, C, R>, count: u64)
         requires one { self.old.seat.table_id ≡ queue.now.table.shared.table_id }
         ensures one { self.new.seat.table_id ≡ self.old.seat.table_id }
-        ensures reached { count ≤ length self.new.seat.me.0.known }
-        ensures no_more { length self.old.seat.me.0.known ≤ count → length self.new.seat.me.0.known ≤ count }
-        ensures known { Begins self.old.seat.me.0.known self.new.seat.me.0.known }
-        ensures same { (self.new.seat.me.0.start ≡ self.old.seat.me.0.start) × (self.new.seat.me.0.admitted ≡ self.old.seat.me.0.admitted) × (self.new.seat.me.0.share ≡ self.old.seat.me.0.share) × (self.new.seat.me.0.count ≡ self.old.seat.me.0.count) }
+        ensures reached { count ≤ answered_count self.new.seat }
+        ensures no_more { answered_count self.old.seat ≤ count → answered_count self.new.seat ≤ count }
+        ensures known { Begins (known_of self.old.seat) (known_of self.new.seat) }
+        ensures same { HasSameClients self.old.seat self.new.seat }
     {
         for _ in rt.forever() {
             if self.count >= count {
@@ -521,9 +504,9 @@ impl<D: Machine<C, R>, C: Drop, R: Drop> Driver<D, C, R> {
     /// Answers all that was drawn.
     fn drive_rest<W: Wait>(&mut self, rt: &W, queue: &Queue<D, C, R>)
         requires one { self.old.seat.table_id ≡ queue.now.table.shared.table_id }
-        ensures known { Begins self.old.seat.me.0.known self.new.seat.me.0.known }
-        ensures same { self.new.seat.me.0.start ≡ self.old.seat.me.0.start }
-        ensures all { self.old.seat.me.0.share ≡ self.old.seat.me.0.admitted → length self.new.seat.me.0.known ≡ self.old.seat.me.0.count }
+        ensures known { Begins (known_of self.old.seat) (known_of self.new.seat) }
+        ensures same { start_of self.new.seat ≡ start_of self.old.seat }
+        ensures all { HasNoClients self.old.seat → answered_count self.new.seat ≡ left_tickets self.old.seat }
     {
         let drawn = queue.table.shared.load::<Look<D>>(&mut self.seat, DRAWS);
         let count = tickets_of(drawn);
@@ -534,11 +517,12 @@ impl<D: Machine<C, R>, C: Drop, R: Drop> Driver<D, C, R> {
     /// count of draws.
     fn dismiss(&mut self, queue: &Queue<D, C, R>, client: Client<D, C, R>) -> u64
         requires one { (self.old.seat.table_id ≡ queue.now.table.shared.table_id) × (client.seat.table_id ≡ queue.now.table.shared.table_id) }
-        requires answered { client.next ≤ length self.old.seat.me.0.known }
+        requires answered { client.next ≤ answered_count self.old.seat }
         ensures one { self.new.seat.table_id ≡ self.old.seat.table_id }
-        ensures client { Begins client.seat.me.0.known self.new.seat.me.0.known × Serves client.seat.me.0.tickets self.new.seat.me.0.known }
-        ensures counts { (self.new.seat.me.0.share ≡ self.old.seat.me.0.share + 1) × (self.new.seat.me.0.count ≡ self.old.seat.me.0.count + length client.seat.me.0.tickets) }
-        ensures same { (self.new.seat.me.0.known ≡ self.old.seat.me.0.known) × (self.new.seat.me.0.start ≡ self.old.seat.me.0.start) × (self.new.seat.me.0.admitted ≡ self.old.seat.me.0.admitted) }
+        ensures client { IsServed client.seat (known_of self.new.seat) }
+        ensures counts { HasLeft 1 (ticket_count client.seat) self.old.seat self.new.seat }
+        ensures known { known_of self.new.seat ≡ known_of self.old.seat }
+        ensures same { LetNobodyIn self.old.seat self.new.seat }
     {
         let shared = &queue.table.shared;
         let mut client = client;
@@ -556,10 +540,10 @@ impl<D: Machine<C, R>, C: Drop, R: Drop> Driver<D, C, R> {
     fn part_from<W: Wait>(&mut self, rt: &W, queue: &Queue<D, C, R>, client: Client<D, C, R>)
         requires one { (self.old.seat.table_id ≡ queue.now.table.shared.table_id) × (client.seat.table_id ≡ queue.now.table.shared.table_id) }
         ensures one { self.new.seat.table_id ≡ self.old.seat.table_id }
-        ensures client { Begins client.seat.me.0.known self.new.seat.me.0.known × Serves client.seat.me.0.tickets self.new.seat.me.0.known }
-        ensures counts { (self.new.seat.me.0.share ≡ self.old.seat.me.0.share + 1) × (self.new.seat.me.0.count ≡ self.old.seat.me.0.count + length client.seat.me.0.tickets) }
-        ensures known { Begins self.old.seat.me.0.known self.new.seat.me.0.known }
-        ensures same { (self.new.seat.me.0.start ≡ self.old.seat.me.0.start) × (self.new.seat.me.0.admitted ≡ self.old.seat.me.0.admitted) }
+        ensures client { IsServed client.seat (known_of self.new.seat) }
+        ensures counts { HasLeft 1 (ticket_count client.seat) self.old.seat self.new.seat }
+        ensures known { Begins (known_of self.old.seat) (known_of self.new.seat) }
+        ensures same { LetNobodyIn self.old.seat self.new.seat }
     {
         self.drive_to(rt, queue, client.next);
         self.dismiss(queue, client);
@@ -574,10 +558,10 @@ impl<D: Machine<C, R>, C: Drop, R: Drop> Driver<D, C, R> {
     )
         requires one { (self.old.seat.table_id ≡ queue.now.table.shared.table_id) × Each clients.items (λ k c. c.seat.table_id ≡ queue.now.table.shared.table_id) }
         ensures one { self.new.seat.table_id ≡ self.old.seat.table_id }
-        ensures clients { Each clients.items (λ k c. Begins c.seat.me.0.known self.new.seat.me.0.known × Serves c.seat.me.0.tickets self.new.seat.me.0.known) }
-        ensures counts { (self.new.seat.me.0.share ≡ self.old.seat.me.0.share + length clients.items) × (self.new.seat.me.0.count ≡ self.old.seat.me.0.count + total (λ c. length c.seat.me.0.tickets) clients.items) }
-        ensures known { Begins self.old.seat.me.0.known self.new.seat.me.0.known }
-        ensures same { (self.new.seat.me.0.start ≡ self.old.seat.me.0.start) × (self.new.seat.me.0.admitted ≡ self.old.seat.me.0.admitted) }
+        ensures clients { Each clients.items (λ k c. IsServed c.seat (known_of self.new.seat)) }
+        ensures counts { HasLeft (length clients.items) (total (λ c. ticket_count c.seat) clients.items) self.old.seat self.new.seat }
+        ensures known { Begins (known_of self.old.seat) (known_of self.new.seat) }
+        ensures same { LetNobodyIn self.old.seat self.new.seat }
     {
         while let Some(client) = clients.pop() {
             self.part_from(rt, queue, client);
@@ -606,7 +590,7 @@ pub fn close<D: Machine<C, R>, C: Drop, R: Drop, W: Wait>(
     driver: Driver<D, C, R>,
 ) -> D
     requires one { (driver.seat.table_id ≡ queue.table.shared.table_id) × Each clients.items (λ k c. c.seat.table_id ≡ queue.table.shared.table_id) }
-    ensures { (log : List (Entry C R)) × ((d : D) → driver.seat.me.0.start ≡ d ∷ [] → RunsTo D.step d log result) × Begins driver.seat.me.0.known log × Each clients.items (λ k c. Begins c.seat.me.0.known log × Serves c.seat.me.0.tickets log) × (driver.seat.me.0.share ≡ 0 → driver.seat.me.0.admitted ≡ length clients.items → length log ≡ total (λ c. length c.seat.me.0.tickets) clients.items) }
+    ensures { (log : List (Entry C R)) × EndsAt D.step driver.seat log result × Begins (known_of driver.seat) log × Each clients.items (λ k c. IsServed c.seat log) × (left_count driver.seat ≡ 0 → admitted_of driver.seat ≡ length clients.items → length log ≡ total (λ c. ticket_count c.seat) clients.items) }
 {
     let mut driver = driver;
     driver.part_from_all(rt, &queue, clients);

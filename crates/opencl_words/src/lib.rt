@@ -1,6 +1,6 @@
-//! Words and bytes of OpenCL C that the language lacks, each with what to write in its place. It knows bytes alone, and
-//! neither tokens nor faults. Its tables are the definition: a word is lacking where a row has it, and what is said of
-//! it is that row's text; what comes where no row fits, the contracts say exactly.
+//! Words and bytes of OpenCL C that the language lacks, each with a text that says what to write in its place. The
+//! tables are the definition: a word is lacking where a row has it, and its hint is the text of that row; the contracts
+//! say exactly which hint comes where no row fits. The crate knows bytes alone, and neither tokens nor faults.
 #![tactic(auto)]
 
 mod bytes;

@@ -1,5 +1,6 @@
 //! Two clients that draw tickets in threads of their own, and then agree.
 ghost use Rattle.std.specs.Prelude.{◌≡◌};
+ghost use Rattle.host_queue.specs.Seats.{name_of};
 
 use crate::pair::{Pair, number, open_two, submit};
 use crate::tally::Tally;
@@ -14,7 +15,7 @@ type Adder = Client<Tally, u32, u32>;
 fn draw(alloc: Global, queue: &Queue<Tally, u32, u32>, adder: &mut Adder) -> u64
     requires one { adder.old.seat.table_id ≡ queue.now.table.shared.table_id }
     ensures one { adder.new.seat.table_id ≡ adder.old.seat.table_id }
-    ensures name { adder.new.seat.me.0.name ≡ adder.old.seat.me.0.name }
+    ensures name { name_of adder.new.seat ≡ name_of adder.old.seat }
 {
     let mut last = 0;
     for add in 0..100 {
@@ -33,17 +34,17 @@ fn draw_both<W: Threads>(
 ) -> u64
     requires one { (first.old.seat.table_id ≡ queue.now.table.shared.table_id) × (second.old.seat.table_id ≡ queue.now.table.shared.table_id) }
     ensures one { (first.new.seat.table_id ≡ first.old.seat.table_id) × (second.new.seat.table_id ≡ second.old.seat.table_id) }
-    ensures names { (first.new.seat.me.0.name ≡ first.old.seat.me.0.name) × (second.new.seat.me.0.name ≡ second.old.seat.me.0.name) }
+    ensures names { (name_of first.new.seat ≡ name_of first.old.seat) × (name_of second.new.seat ≡ name_of second.old.seat) }
 {
     let (low, high) = join_mut(
         rt,
         &mut || -> u64
             requires { first.now.seat.table_id ≡ queue.now.table.shared.table_id }
-            ensures { (first.exit.now.seat.table_id ≡ first.entry.now.seat.table_id) × (first.exit.now.seat.me.0.name ≡ first.entry.now.seat.me.0.name) }
+            ensures { (first.exit.now.seat.table_id ≡ first.entry.now.seat.table_id) × (name_of first.exit.now.seat ≡ name_of first.entry.now.seat) }
         { draw(alloc, queue, first) },
         &mut || -> u64
             requires { second.now.seat.table_id ≡ queue.now.table.shared.table_id }
-            ensures { (second.exit.now.seat.table_id ≡ second.entry.now.seat.table_id) × (second.exit.now.seat.me.0.name ≡ second.entry.now.seat.me.0.name) }
+            ensures { (second.exit.now.seat.table_id ≡ second.entry.now.seat.table_id) × (name_of second.exit.now.seat ≡ name_of second.entry.now.seat) }
         { draw(alloc, queue, second) },
     );
     low.max(high)

@@ -37,7 +37,7 @@ fn wait<W: Wait, D: Machine<C, R>, C: Drop, R: Drop>(
     ticket: Ticket,
 ) -> Box<Request<C, R>>
     requires one { client.old.seat.table_id ≡ queue.now.table.shared.table_id }
-    requires own { IsOpen client.old.seat.me.0 ticket.number }
+    requires own { IsOpen client.old.seat ticket.number }
     ensures one { client.new.seat.table_id ≡ client.old.seat.table_id }
 {
     let mut ticket = ticket;

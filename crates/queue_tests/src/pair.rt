@@ -3,6 +3,7 @@ ghost use Rattle.std.specs.Prelude.{◌≡◌, ◌≢◌, IfOk, IfSome};
 ghost use Rattle.std.specs.Box.{box_value};
 ghost use Rattle.host_queue.specs.declared.view.Request.TheVariants.{Asked};
 ghost use Rattle.host_queue.specs.Clients.{IsOnly, IsOpen, StaysOpen, StaysOpenBut};
+ghost use Rattle.host_queue.specs.Seats.{name_of};
 
 use crate::clients::answered;
 use crate::tally::Tally;
@@ -25,7 +26,7 @@ pub fn open_one<D: Machine<C, R>, C: Drop, R: Drop>(
     machine: D,
 ) -> Result<(Queue<D, C, R>, Client<D, C, R>, Driver<D, C, R>), AllocError>
     ensures one { IfOk result (λ r. (r.1.seat.table_id ≡ r.0.table.shared.table_id) × (r.2.seat.table_id ≡ r.0.table.shared.table_id)) }
-    ensures only { IfOk result (λ r. IsOnly r.2.seat.me.0 r.1.seat.me.0) }
+    ensures only { IfOk result (λ r. IsOnly r.2.seat r.1.seat) }
 {
     let (queue, mut clients, driver) = open(alloc, machine, 1)?;
     let client = clients.pop().unwrap();
@@ -40,7 +41,7 @@ pub struct Pair<D: Machine<C, R>, C: Drop, R: Drop> {
     pub second: Client<D, C, R>,
     pub driver: Driver<D, C, R>,
     ghost one: { (first.seat.table_id ≡ queue.table.shared.table_id) × (second.seat.table_id ≡ queue.table.shared.table_id) × (driver.seat.table_id ≡ queue.table.shared.table_id) },
-    ghost two: { first.seat.me.0.name ≢ second.seat.me.0.name },
+    ghost two: { name_of first.seat ≢ name_of second.seat },
 }
 
 /// Opens a queue with two clients.
@@ -101,9 +102,9 @@ pub fn submit<D: Machine<C, R>, C: Drop, R: Drop>(
 ) -> Option<Ticket>
     requires one { client.old.seat.table_id ≡ queue.now.table.shared.table_id }
     ensures one { client.new.seat.table_id ≡ client.old.seat.table_id }
-    ensures name { client.new.seat.me.0.name ≡ client.old.seat.me.0.name }
-    ensures open { IfSome result (λ t. IsOpen client.new.seat.me.0 t.number) }
-    ensures others { StaysOpen client.old.seat.me.0 client.new.seat.me.0 }
+    ensures name { name_of client.new.seat ≡ name_of client.old.seat }
+    ensures open { IfSome result (λ t. IsOpen client.new.seat t.number) }
+    ensures others { StaysOpen client.old.seat client.new.seat }
 {
     let Ok(question) = question else {
         return None;
@@ -132,10 +133,10 @@ pub fn polled<D: Machine<C, R>, C: Drop, R: Drop>(
     ticket: Ticket,
 ) -> Option<R>
     requires one { client.old.seat.table_id ≡ queue.now.table.shared.table_id }
-    requires own { IsOpen client.old.seat.me.0 ticket.number }
+    requires own { IsOpen client.old.seat ticket.number }
     ensures one { client.new.seat.table_id ≡ client.old.seat.table_id }
-    ensures name { client.new.seat.me.0.name ≡ client.old.seat.me.0.name }
-    ensures others { StaysOpenBut ticket.number client.old.seat.me.0 client.new.seat.me.0 }
+    ensures name { name_of client.new.seat ≡ name_of client.old.seat }
+    ensures others { StaysOpenBut ticket.number client.old.seat client.new.seat }
 {
     match client.poll(queue, ticket) {
         Ok(request) => reply(request),
@@ -147,7 +148,7 @@ pub fn polled<D: Machine<C, R>, C: Drop, R: Drop>(
 /// isn't the sum.
 fn sums(alloc: Global, queue: &Tallies, driver: &mut Runner, client: &mut Member, count: u32) -> u32
     requires one { (driver.old.seat.table_id ≡ queue.now.table.shared.table_id) × (client.old.seat.table_id ≡ queue.now.table.shared.table_id) }
-    requires only { IsOnly driver.old.seat.me.0 client.old.seat.me.0 }
+    requires only { IsOnly driver.old.seat client.old.seat }
     ensures one { driver.new.seat.table_id ≡ driver.old.seat.table_id }
 {
     let mut sum = 0u32;
@@ -245,7 +246,7 @@ fn turned(
     ticket: Ticket,
 ) -> Option<(u64, u32)>
     requires one { (driver.old.seat.table_id ≡ queue.now.table.shared.table_id) × (client.old.seat.table_id ≡ queue.now.table.shared.table_id) }
-    requires own { IsOpen client.old.seat.me.0 ticket.number }
+    requires own { IsOpen client.old.seat ticket.number }
     ensures one { driver.new.seat.table_id ≡ driver.old.seat.table_id }
 {
     if answered(queue, driver) == 0 {

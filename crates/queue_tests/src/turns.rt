@@ -1,6 +1,7 @@
 //! Five requests of two clients in turns, and their replies.
 ghost use Rattle.std.specs.Prelude.{◌≡◌, ◌<◌, IfSome};
 ghost use Rattle.host_queue.specs.Clients.{IsOpen};
+ghost use Rattle.host_queue.specs.Seats.{name_of};
 
 use crate::clients::answered;
 use crate::pair::{Pair, open_two, polled, reply, submit};
@@ -48,11 +49,11 @@ fn draw_five<D: Machine<C, R> + Questions<C, R>, C: Drop, R: Drop>(
     pair: &mut Pair<D, C, R>,
     numbers: &[u8; 5],
 ) -> Option<Five>
-    ensures zero { IfSome result (λ f. IsOpen pair.new.first.seat.me.0 f.zero.number) }
-    ensures one { IfSome result (λ f. IsOpen pair.new.second.seat.me.0 f.one.number) }
-    ensures two { IfSome result (λ f. IsOpen pair.new.first.seat.me.0 f.two.number) }
-    ensures three { IfSome result (λ f. IsOpen pair.new.second.seat.me.0 f.three.number) }
-    ensures four { IfSome result (λ f. IsOpen pair.new.first.seat.me.0 f.four.number) }
+    ensures zero { IfSome result (λ f. IsOpen pair.new.first.seat f.zero.number) }
+    ensures one { IfSome result (λ f. IsOpen pair.new.second.seat f.one.number) }
+    ensures two { IfSome result (λ f. IsOpen pair.new.first.seat f.two.number) }
+    ensures three { IfSome result (λ f. IsOpen pair.new.second.seat f.three.number) }
+    ensures four { IfSome result (λ f. IsOpen pair.new.first.seat f.four.number) }
 {
     let (queue, first, second) = (&pair.queue, &mut pair.first, &mut pair.second);
     let zero = submit(alloc, queue, first, D::question(alloc, numbers[0], 0))?;
@@ -88,11 +89,11 @@ fn poll_five<D: Machine<C, R> + Questions<C, R>, C: Drop, R: Drop>(
     five: Five,
     numbers: &[u8; 5],
 ) -> bool
-    requires zero { IsOpen pair.old.first.seat.me.0 five.zero.number }
-    requires its_one { IsOpen pair.old.second.seat.me.0 five.one.number }
-    requires two { IsOpen pair.old.first.seat.me.0 five.two.number }
-    requires three { IsOpen pair.old.second.seat.me.0 five.three.number }
-    requires four { IsOpen pair.old.first.seat.me.0 five.four.number }
+    requires zero { IsOpen pair.old.first.seat five.zero.number }
+    requires its_one { IsOpen pair.old.second.seat five.one.number }
+    requires two { IsOpen pair.old.first.seat five.two.number }
+    requires three { IsOpen pair.old.second.seat five.three.number }
+    requires four { IsOpen pair.old.first.seat five.four.number }
 {
     let (queue, first, second) = (&pair.queue, &mut pair.first, &mut pair.second);
     let mut total = 0;
@@ -114,13 +115,13 @@ fn know_five<D: Machine<C, R> + Questions<C, R>, C: Drop, R: Drop>(
     known: &mut Answered<D, C, R>,
 ) -> bool
     requires one { (first.old.seat.table_id ≡ queue.now.table.shared.table_id) × (second.old.seat.table_id ≡ queue.now.table.shared.table_id) × (known.old.seat.table_id ≡ queue.now.table.shared.table_id) }
-    requires zero { IsOpen first.old.seat.me.0 five.zero.number }
-    requires its_one { IsOpen second.old.seat.me.0 five.one.number }
-    requires two { IsOpen first.old.seat.me.0 five.two.number }
-    requires three { IsOpen second.old.seat.me.0 five.three.number }
-    requires four { IsOpen first.old.seat.me.0 five.four.number }
+    requires zero { IsOpen first.old.seat five.zero.number }
+    requires its_one { IsOpen second.old.seat five.one.number }
+    requires two { IsOpen first.old.seat five.two.number }
+    requires three { IsOpen second.old.seat five.three.number }
+    requires four { IsOpen first.old.seat five.four.number }
     ensures one { (first.new.seat.table_id ≡ first.old.seat.table_id) × (second.new.seat.table_id ≡ second.old.seat.table_id) }
-    ensures names { (first.new.seat.me.0.name ≡ first.old.seat.me.0.name) × (second.new.seat.me.0.name ≡ second.old.seat.me.0.name) }
+    ensures names { (name_of first.new.seat ≡ name_of first.old.seat) × (name_of second.new.seat ≡ name_of second.old.seat) }
 {
     if known.count() != 5 {
         return false;
@@ -150,13 +151,13 @@ fn note_five<D: Machine<C, R> + Questions<C, R>, C: Drop, R: Drop>(
     numbers: &[u8; 5],
 ) -> bool
     requires one { (first.old.seat.table_id ≡ queue.now.table.shared.table_id) × (second.old.seat.table_id ≡ queue.now.table.shared.table_id) × (driver.old.seat.table_id ≡ queue.now.table.shared.table_id) }
-    requires zero { IsOpen first.old.seat.me.0 five.zero.number }
-    requires its_one { IsOpen second.old.seat.me.0 five.one.number }
-    requires two { IsOpen first.old.seat.me.0 five.two.number }
-    requires three { IsOpen second.old.seat.me.0 five.three.number }
-    requires four { IsOpen first.old.seat.me.0 five.four.number }
+    requires zero { IsOpen first.old.seat five.zero.number }
+    requires its_one { IsOpen second.old.seat five.one.number }
+    requires two { IsOpen first.old.seat five.two.number }
+    requires three { IsOpen second.old.seat five.three.number }
+    requires four { IsOpen first.old.seat five.four.number }
     ensures one { (first.new.seat.table_id ≡ first.old.seat.table_id) × (second.new.seat.table_id ≡ second.old.seat.table_id) × (driver.new.seat.table_id ≡ driver.old.seat.table_id) }
-    ensures names { (first.new.seat.me.0.name ≡ first.old.seat.me.0.name) × (second.new.seat.me.0.name ≡ second.old.seat.me.0.name) }
+    ensures names { (name_of first.new.seat ≡ name_of first.old.seat) × (name_of second.new.seat ≡ name_of second.old.seat) }
 {
     let count = drive_times(queue, driver, 4);
     let Some(mut known) = driver.drive_one(queue) else {

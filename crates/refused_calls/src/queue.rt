@@ -3,6 +3,7 @@ ghost use Rattle.std.specs.Prelude.{◌≡◌, ◌≢◌};
 ghost use Rattle.std.specs.Box.{box_value};
 ghost use Rattle.host_queue.specs.declared.view.Request.TheVariants.{Asked};
 ghost use Rattle.host_queue.specs.Clients.{IsOnly};
+ghost use Rattle.host_queue.specs.Seats.{name_of};
 
 use crate::came::{Came, done_if, is_done, refuse_all, refuse_none};
 use crate::machine::{Command, Holding, Holds};
@@ -31,7 +32,7 @@ fn replied<D: Machine<C, R>, C: Drop, R: Drop>(
     requires one { (client.old.seat.table_id ≡ queue.now.table.shared.table_id) × (driver.old.seat.table_id ≡ queue.now.table.shared.table_id) }
     requires asked { (c : C) × (box_value request ≡ Asked c) }
     ensures one { (client.new.seat.table_id ≡ client.old.seat.table_id) × (driver.new.seat.table_id ≡ driver.old.seat.table_id) }
-    ensures name { client.new.seat.me.0.name ≡ client.old.seat.me.0.name }
+    ensures name { name_of client.new.seat ≡ name_of client.old.seat }
 {
     match way {
         Way::Poll => polled(queue, client, driver, request),
@@ -49,7 +50,7 @@ fn asked<D: Machine<C, R>, C: Drop, R: Drop + Tells>(
 ) -> Came
     requires one { (client.old.seat.table_id ≡ queue.now.table.shared.table_id) × (driver.old.seat.table_id ≡ queue.now.table.shared.table_id) }
     ensures one { (client.new.seat.table_id ≡ client.old.seat.table_id) × (driver.new.seat.table_id ≡ driver.old.seat.table_id) }
-    ensures name { client.new.seat.me.0.name ≡ client.old.seat.me.0.name }
+    ensures name { name_of client.new.seat ≡ name_of client.old.seat }
 {
     let Some(request) = requests.next() else {
         return Came::Wrong;
@@ -81,7 +82,7 @@ fn asked_to<D: Machine<C, R> + Holds, C: Drop, R: Drop + Tells>(
 ) -> Came
     requires one { (client.old.seat.table_id ≡ queue.now.table.shared.table_id) × (driver.old.seat.table_id ≡ queue.now.table.shared.table_id) }
     ensures one { (client.new.seat.table_id ≡ client.old.seat.table_id) × (driver.new.seat.table_id ≡ driver.old.seat.table_id) }
-    ensures name { client.new.seat.me.0.name ≡ client.old.seat.me.0.name }
+    ensures name { name_of client.new.seat ≡ name_of client.old.seat }
 {
     let before = driver.machine.holding();
     let came = asked(queue, client, driver, requests, way);
@@ -107,7 +108,7 @@ fn results_of_calls<D: Machine<C, R> + Holds, C: Drop, R: Drop + Tells>(
     requests: &mut Requests<C, R>,
 ) -> CallResults
     requires one { (first.old.seat.table_id ≡ queue.now.table.shared.table_id) × (second.old.seat.table_id ≡ queue.now.table.shared.table_id) × (driver.old.seat.table_id ≡ queue.now.table.shared.table_id) }
-    requires two { first.old.seat.me.0.name ≢ second.old.seat.me.0.name }
+    requires two { name_of first.old.seat ≢ name_of second.old.seat }
     ensures one { (second.new.seat.table_id ≡ second.old.seat.table_id) × (driver.new.seat.table_id ≡ driver.old.seat.table_id) }
 {
     let polled = asked_to(queue, first, driver, requests, Command::Count, Way::Poll);
@@ -182,7 +183,7 @@ fn try_calls<T: Print + Eprint, D: Machine<C, R> + Holds, C: Drop, R: Drop + Tel
     requests: &mut Requests<C, R>,
 )
     requires one { (first.old.seat.table_id ≡ queue.now.table.shared.table_id) × (second.old.seat.table_id ≡ queue.now.table.shared.table_id) × (driver.old.seat.table_id ≡ queue.now.table.shared.table_id) }
-    requires two { first.old.seat.me.0.name ≢ second.old.seat.me.0.name }
+    requires two { name_of first.old.seat ≢ name_of second.old.seat }
 {
     refuse_all(rt);
     let results = results_of_calls(queue, first, second, driver, requests);
@@ -217,9 +218,9 @@ fn is_answered<D: Machine<C, R>, C: Drop, R: Drop + Tells>(
     requests: &mut Requests<C, R>,
 ) -> bool
     requires one { (client.old.seat.table_id ≡ queue.now.table.shared.table_id) × (driver.old.seat.table_id ≡ queue.now.table.shared.table_id) }
-    requires only { IsOnly driver.old.seat.me.0 client.old.seat.me.0 }
+    requires only { IsOnly driver.old.seat client.old.seat }
     ensures one { (client.new.seat.table_id ≡ client.old.seat.table_id) × (driver.new.seat.table_id ≡ driver.old.seat.table_id) }
-    ensures only { IsOnly driver.new.seat.me.0 client.new.seat.me.0 }
+    ensures only { IsOnly driver.new.seat client.new.seat }
 {
     let Some(request) = requests.next() else {
         return false;
@@ -239,7 +240,7 @@ fn are_answered<D: Machine<C, R> + Holds, C: Drop, R: Drop + Tells>(
     requests: &mut Requests<C, R>,
 ) -> bool
     requires one { (client.old.seat.table_id ≡ queue.now.table.shared.table_id) × (driver.old.seat.table_id ≡ queue.now.table.shared.table_id) }
-    requires only { IsOnly driver.old.seat.me.0 client.old.seat.me.0 }
+    requires only { IsOnly driver.old.seat client.old.seat }
 {
     let before = driver.machine.holding();
     let first = is_answered(queue, client, driver, requests);
@@ -259,7 +260,7 @@ fn try_answers<T: Print + Eprint, D: Machine<C, R> + Holds, C: Drop, R: Drop + T
     requests: &mut Requests<C, R>,
 )
     requires one { (client.old.seat.table_id ≡ queue.now.table.shared.table_id) × (driver.old.seat.table_id ≡ queue.now.table.shared.table_id) }
-    requires only { IsOnly driver.old.seat.me.0 client.old.seat.me.0 }
+    requires only { IsOnly driver.old.seat client.old.seat }
 {
     refuse_all(rt);
     let are_done = are_answered(queue, client, driver, requests);

@@ -3,6 +3,7 @@ ghost use Rattle.std.specs.Prelude.{◌≡◌, ◌≢◌, IfOk};
 ghost use Rattle.std.specs.Box.{box_value};
 ghost use Rattle.host_queue.specs.declared.view.Request.TheVariants.{Asked};
 ghost use Rattle.host_queue.specs.Clients.{IsOnly, IsOpen};
+ghost use Rattle.host_queue.specs.Seats.{name_of};
 
 use host_queue::{Answered, Client, Driver, Machine, Queue, Request, Ticket, open};
 use std::alloc::{AllocError, Global};
@@ -13,7 +14,7 @@ pub fn open_one<D: Machine<C, R>, C: Drop, R: Drop>(
     machine: D,
 ) -> Result<(Queue<D, C, R>, Client<D, C, R>, Driver<D, C, R>), AllocError>
     ensures one { IfOk result (λ r. (r.1.seat.table_id ≡ r.0.table.shared.table_id) × (r.2.seat.table_id ≡ r.0.table.shared.table_id)) }
-    ensures only { IfOk result (λ r. IsOnly r.2.seat.me.0 r.1.seat.me.0) }
+    ensures only { IfOk result (λ r. IsOnly r.2.seat r.1.seat) }
 {
     let (queue, mut clients, driver) = open(alloc, machine, 1)?;
     let client = clients.pop().unwrap();
@@ -34,7 +35,7 @@ pub fn open_two<D: Machine<C, R>, C: Drop, R: Drop>(
     AllocError,
 >
     ensures one { IfOk result (λ r. (r.1.seat.table_id ≡ r.0.table.shared.table_id) × (r.2.seat.table_id ≡ r.0.table.shared.table_id) × (r.3.seat.table_id ≡ r.0.table.shared.table_id)) }
-    ensures two { IfOk result (λ r. r.1.seat.me.0.name ≢ r.2.seat.me.0.name) }
+    ensures two { IfOk result (λ r. name_of r.1.seat ≢ name_of r.2.seat) }
 {
     let (queue, mut clients, driver) = open(alloc, machine, 2)?;
     let second = clients.pop().unwrap();
@@ -50,9 +51,9 @@ fn driven<D: Machine<C, R>, C: Drop, R: Drop>(
     ticket: Ticket,
 ) -> Option<Box<Request<C, R>>>
     requires one { (client.old.seat.table_id ≡ queue.now.table.shared.table_id) × (driver.old.seat.table_id ≡ queue.now.table.shared.table_id) }
-    requires own { IsOpen client.old.seat.me.0 ticket.number }
+    requires own { IsOpen client.old.seat ticket.number }
     ensures one { (client.new.seat.table_id ≡ client.old.seat.table_id) × (driver.new.seat.table_id ≡ driver.old.seat.table_id) }
-    ensures name { client.new.seat.me.0.name ≡ client.old.seat.me.0.name }
+    ensures name { name_of client.new.seat ≡ name_of client.old.seat }
 {
     drop(driver.drive_one(queue));
     match client.poll(queue, ticket) {
@@ -69,9 +70,9 @@ fn polled_twice<D: Machine<C, R>, C: Drop, R: Drop>(
     ticket: Ticket,
 ) -> Option<Box<Request<C, R>>>
     requires one { (client.old.seat.table_id ≡ queue.now.table.shared.table_id) × (driver.old.seat.table_id ≡ queue.now.table.shared.table_id) }
-    requires own { IsOpen client.old.seat.me.0 ticket.number }
+    requires own { IsOpen client.old.seat ticket.number }
     ensures one { (client.new.seat.table_id ≡ client.old.seat.table_id) × (driver.new.seat.table_id ≡ driver.old.seat.table_id) }
-    ensures name { client.new.seat.me.0.name ≡ client.old.seat.me.0.name }
+    ensures name { name_of client.new.seat ≡ name_of client.old.seat }
 {
     match client.poll(queue, ticket) {
         Ok(_) => None,
@@ -90,7 +91,7 @@ pub fn polled<D: Machine<C, R>, C: Drop, R: Drop>(
     requires one { (client.old.seat.table_id ≡ queue.now.table.shared.table_id) × (driver.old.seat.table_id ≡ queue.now.table.shared.table_id) }
     requires asked { (c : C) × (box_value request ≡ Asked c) }
     ensures one { (client.new.seat.table_id ≡ client.old.seat.table_id) × (driver.new.seat.table_id ≡ driver.old.seat.table_id) }
-    ensures name { client.new.seat.me.0.name ≡ client.old.seat.me.0.name }
+    ensures name { name_of client.new.seat ≡ name_of client.old.seat }
 {
     match client.submit(queue, request) {
         Ok(ticket) => polled_twice(queue, client, driver, ticket),
@@ -106,9 +107,9 @@ fn collected<D: Machine<C, R>, C: Drop, R: Drop>(
     answered: &mut Answered<D, C, R>,
 ) -> Option<Box<Request<C, R>>>
     requires one { (client.old.seat.table_id ≡ queue.now.table.shared.table_id) × (answered.old.seat.table_id ≡ queue.now.table.shared.table_id) }
-    requires own { IsOpen client.old.seat.me.0 ticket.number }
+    requires own { IsOpen client.old.seat ticket.number }
     ensures one { client.new.seat.table_id ≡ client.old.seat.table_id }
-    ensures name { client.new.seat.me.0.name ≡ client.old.seat.me.0.name }
+    ensures name { name_of client.new.seat ≡ name_of client.old.seat }
 {
     let number = ticket.number();
     let count = answered.count();
@@ -127,9 +128,9 @@ fn driven_known<D: Machine<C, R>, C: Drop, R: Drop>(
     ticket: Ticket,
 ) -> Option<Box<Request<C, R>>>
     requires one { (client.old.seat.table_id ≡ queue.now.table.shared.table_id) × (driver.old.seat.table_id ≡ queue.now.table.shared.table_id) }
-    requires own { IsOpen client.old.seat.me.0 ticket.number }
+    requires own { IsOpen client.old.seat ticket.number }
     ensures one { (client.new.seat.table_id ≡ client.old.seat.table_id) × (driver.new.seat.table_id ≡ driver.old.seat.table_id) }
-    ensures name { client.new.seat.me.0.name ≡ client.old.seat.me.0.name }
+    ensures name { name_of client.new.seat ≡ name_of client.old.seat }
 {
     match driver.drive_one(queue) {
         Some(mut answered) => {
@@ -151,7 +152,7 @@ pub fn known<D: Machine<C, R>, C: Drop, R: Drop>(
     requires one { (client.old.seat.table_id ≡ queue.now.table.shared.table_id) × (driver.old.seat.table_id ≡ queue.now.table.shared.table_id) }
     requires asked { (c : C) × (box_value request ≡ Asked c) }
     ensures one { (client.new.seat.table_id ≡ client.old.seat.table_id) × (driver.new.seat.table_id ≡ driver.old.seat.table_id) }
-    ensures name { client.new.seat.me.0.name ≡ client.old.seat.me.0.name }
+    ensures name { name_of client.new.seat ≡ name_of client.old.seat }
 {
     match client.submit(queue, request) {
         Ok(ticket) => driven_known(queue, client, driver, ticket),

@@ -12,7 +12,7 @@ use std::sync::Wait;
 /// A seat that worked, and the results of the groups that it ran.
 #[derive(Drop)]
 pub struct Worker<T> {
-    /// Its place at the board, which knows which numbers it drew.
+    /// Its seat at the board, which knows which numbers it drew.
     pub seat: WorkerSeat,
     /// The results of the groups that it ran, in the order in which it drew them.
     pub outputs: Vec<T>,

@@ -5,5 +5,5 @@ use Rattle.queue_tests.proofs.clients.wait.Given as goal
 abbrev pub invariant-loop : goal.invariant-loop
 invariant-loop g l = record {
   one : l.client.seat.table_id ≡ l.fn.client.seat.table_id;
-  own : IsOpen l.client.seat.me.0 l.ticket.number;
+  own : IsOpen l.client.seat l.ticket.number;
 }

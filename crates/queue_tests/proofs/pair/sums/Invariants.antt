@@ -6,5 +6,5 @@ abbrev pub invariant-loop-add : goal.invariant-loop-add
 invariant-loop-add l = record {
   driver : l.driver.seat.table_id ≡ l.fn.driver.seat.table_id;
   client : l.client.seat.table_id ≡ l.fn.client.seat.table_id;
-  only : IsOnly l.driver.seat.me.0 l.client.seat.me.0;
+  only : IsOnly l.driver.seat l.client.seat;
 }

@@ -15,8 +15,8 @@ invariant_of-result-clause-one c = let rest = c.pop.new.self.items in let items 
 pub invariant_of-result-clause-only : goal.invariant_of-result-clause-only
 invariant_of-result-clause-only c = let rest = c.pop.new.self.items in let items = c.pop.ensures.items ∙ ap (λ o. rest ++ option_to_list o) c.unwrap-client.ensures in let opened = c.in_ok-queue.ensures in
     let guest = (opened.clients.1 (length rest) c.unwrap-client.result (ap (λ l. get_elem? l (length rest)) items ∙ at_last rest c.unwrap-client.result)).1 in record {
-      admitted = opened.driver.4;
-      share = opened.driver.5;
-      answered = ap length guest.2 ∙ sym (ap length opened.driver.3);
-      known = λ i x e. absurd (some-ne-none x (sym e ∙ ap (λ l. get_elem? l i) opened.driver.3));
+      admitted = opened.driver.2.admitted;
+      share = opened.driver.2.share;
+      answered = ap length guest.2 ∙ sym (ap length opened.driver.2.known);
+      known = λ i x e. absurd (some-ne-none x (sym e ∙ ap (λ l. get_elem? l i) opened.driver.2.known));
     }

@@ -3,6 +3,7 @@ use Rattle.std.specs.Prelude.{unwrap_or, MatchOption}
 use Rattle.clmodel.proofs.Steps.{some_inj}
 use Rattle.group_traces.specs.Cells.{at_key, key_of, IsOwn, IsNear}
 use Rattle.group_traces.specs.Traces.{untouched}
+use Rattle.access_list.specs.Keys.{object_number}
 use Rattle.group_log.specs.SummarizesByte.{region_at}
 use Rattle.group_log.proofs.Taking.{none_stood, all_told, all_clear, all_absorbed}
 use Rattle.group_log.proofs.side.Side.look.Goals as goal

@@ -13,6 +13,6 @@ returns-clause-above g c = let one = c.learn_from.ensures.floor in let two = c.l
 
 pub returns-clause-open : goal.returns-clause-open
 returns-clause-open g c = let one = c.learn_from.ensures in let two = c.learn_from-2.ensures in (
-  stay_open c.args.self.now.seat.me.0 c.learn_from-2.new.other.seat.me.0 (ap (λ z. z.tickets) two.other ∙ one.same.0) (ap (λ z. z.collected) two.other ∙ one.same.1),
-  stay_open c.args.other.now.seat.me.0 c.learn_from-2.new.self.seat.me.0 (two.same.0 ∙ ap (λ z. z.tickets) one.other) (two.same.1 ∙ ap (λ z. z.collected) one.other),
+  stay_open c.args.self.now.seat c.learn_from-2.new.other.seat (ap (λ z. z.tickets) two.other ∙ one.same.0) (ap (λ z. z.collected) two.other ∙ one.same.1),
+  stay_open c.args.other.now.seat c.learn_from-2.new.self.seat (two.same.0 ∙ ap (λ z. z.tickets) one.other) (two.same.1 ∙ ap (λ z. z.collected) one.other),
 )

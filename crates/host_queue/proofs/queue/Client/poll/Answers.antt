@@ -25,11 +25,11 @@ pub returns-then-compare_exchange-ne3-clause-known : goal.returns-then-compare_e
 returns-then-compare_exchange-ne3-clause-known g c = (c.compare_exchange.ensures.2 c.args.ticket.number refl).0
 
 pub returns-then-compare_exchange-ne3-clause-err : goal.returns-then-compare_exchange-ne3-clause-err
-returns-then-compare_exchange-ne3-clause-err g c = let miss = (c.compare_exchange.ensures.2 c.args.ticket.number refl).3 (search rules) in (refl, miss.2, ap (λ z. z.collected) miss.0, stay_open c.args.self.now.seat.me.0 c.compare_exchange.new.seat.me.0 (ap (λ z. z.tickets) miss.0) (ap (λ z. z.collected) miss.0))
+returns-then-compare_exchange-ne3-clause-err g c = let miss = (c.compare_exchange.ensures.2 c.args.ticket.number refl).3 (search rules) in (refl, miss.2, ap (λ z. z.collected) miss.0, stay_open c.args.self.now.seat c.compare_exchange.new.seat (ap (λ z. z.tickets) miss.0) (ap (λ z. z.collected) miss.0))
 
 pub returns-then-compare_exchange-ne3-clause-others : goal.returns-then-compare_exchange-ne3-clause-others
 returns-then-compare_exchange-ne3-clause-others g c = let miss = (c.compare_exchange.ensures.2 c.args.ticket.number refl).3 (search rules) in
-    λ m other. stay_open c.args.self.now.seat.me.0 c.compare_exchange.new.seat.me.0 (ap (λ z. z.tickets) miss.0) (ap (λ z. z.collected) miss.0) m
+    λ m other. stay_open c.args.self.now.seat c.compare_exchange.new.seat (ap (λ z. z.tickets) miss.0) (ap (λ z. z.collected) miss.0) m
 
 pub returns-then-compare_exchange-ne3-clause-same : goal.returns-then-compare_exchange-ne3-clause-same
 returns-then-compare_exchange-ne3-clause-same g c = let miss = (c.compare_exchange.ensures.2 c.args.ticket.number refl).3 (search rules) in
@@ -60,7 +60,11 @@ returns-clause-known g c = let told = c.compare_exchange.ensures.2 c.args.ticket
 pub returns-clause-ok : goal.returns-clause-ok
 returns-clause-ok g c = let hit = (c.compare_exchange.ensures.2 c.args.ticket.number refl).2 (search rules) in let now = ap (λ m. m.0) c.exchange.ensures.3 in
     let got = same_head _ _ _ _ _ _ _ c.exchange.ensures.2 hit.3 in let is = some_same _ _ (sym c.unwrap.ensures ∙ got) in
-    (hit.1, ap (λ z. get_elem? z.known c.args.ticket.number) now ∙ hit.4, ap box_value is ∙ hit.5, ap (λ z. z.collected) now ∙ ap (λ z. z.collected) hit.2)
+    (hit.1, ap (λ z. get_elem? z.known c.args.ticket.number) now ∙ hit.4, ap box_value is ∙ hit.5)
+
+pub returns-clause-collected : goal.returns-clause-collected
+returns-clause-collected g c = let hit = (c.compare_exchange.ensures.2 c.args.ticket.number refl).2 (search rules) in let now = ap (λ m. m.0) c.exchange.ensures.3 in
+    ap (λ z. z.collected) now ∙ ap (λ z. z.collected) hit.2
 
 pub returns-clause-same : goal.returns-clause-same
 returns-clause-same g c = let hit = (c.compare_exchange.ensures.2 c.args.ticket.number refl).2 (search rules) in let now = ap (λ m. m.0) c.exchange.ensures.3 in
@@ -68,4 +72,4 @@ returns-clause-same g c = let hit = (c.compare_exchange.ensures.2 c.args.ticket.
 
 pub returns-clause-others : goal.returns-clause-others
 returns-clause-others g c = let hit = (c.compare_exchange.ensures.2 c.args.ticket.number refl).2 (search rules) in let now = ap (λ m. m.0) c.exchange.ensures.3 in
-    stay_open_but c.args.self.now.seat.me.0 c.exchange.new.seat.me.0 c.args.ticket.number (ap (λ z. z.tickets) now ∙ ap (λ z. z.tickets) hit.2) (ap (λ z. z.collected) now ∙ ap (λ z. z.collected) hit.2)
+    stay_open_but c.args.self.now.seat c.exchange.new.seat c.args.ticket.number (ap (λ z. z.tickets) now ∙ ap (λ z. z.tickets) hit.2) (ap (λ z. z.collected) now ∙ ap (λ z. z.collected) hit.2)

@@ -78,4 +78,4 @@ returns-clause-known g c = let told = c.compare_exchange.ensures.2 c.args.ticket
 
 pub returns-clause-others : goal.returns-clause-others
 returns-clause-others g c = let h = goal.at.returns-clause-others g c in let e = after g h.After-exchange (hit g h.After-compare_exchange) in let j = ap (λ m. m.0) c.join_seat.ensures.2 in
-    stay_open_but c.args.self.now.seat.me.0 c.exchange.new.seat.me.0 c.args.ticket.number (ap (λ z. z.tickets) e ∙ ap (λ z. z.tickets) j) (ap (λ z. z.collected) e ∙ ap (λ z. c.args.ticket.number ∷ z.collected) j)
+    stay_open_but c.args.self.now.seat c.exchange.new.seat c.args.ticket.number (ap (λ z. z.tickets) e ∙ ap (λ z. z.tickets) j) (ap (λ z. z.collected) e ∙ ap (λ z. c.args.ticket.number ∷ z.collected) j)

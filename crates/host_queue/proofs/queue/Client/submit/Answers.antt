@@ -50,11 +50,11 @@ returns-clause-rises g c = let drew = c.fetch_add-drawn.ensures.2.0 (search rule
 
 pub returns-clause-open : goal.returns-clause-open
 returns-clause-open g c = let e = after g (goal.at.returns-clause-open g c).After-compare_exchange-self in
-    opened c.args.self.now.seat.me.0 c.compare_exchange-self.new.seat.me.0 c.fetch_add-drawn.result c.requires.asked.0 c.args.self.now.client.ready (c.fetch_add-drawn.ensures.2.0 (search rules)).2 (ap (λ v. v.tickets) e) (ap (λ v. v.collected) e)
+    opened c.args.self.now.seat c.compare_exchange-self.new.seat c.fetch_add-drawn.result c.requires.asked.0 c.args.self.now.client.ready (c.fetch_add-drawn.ensures.2.0 (search rules)).2 (ap (λ v. v.tickets) e) (ap (λ v. v.collected) e)
 
 pub returns-clause-others : goal.returns-clause-others
 returns-clause-others g c = let e = after g (goal.at.returns-clause-others g c).After-compare_exchange-self in
-    stay_open_more c.args.self.now.seat.me.0 c.compare_exchange-self.new.seat.me.0 c.fetch_add-drawn.result c.requires.asked.0 (ap (λ v. v.tickets) e) (ap (λ v. v.collected) e)
+    stay_open_more c.args.self.now.seat c.compare_exchange-self.new.seat c.fetch_add-drawn.result c.requires.asked.0 (ap (λ v. v.tickets) e) (ap (λ v. v.collected) e)
 
 pub returns-clause-floor : goal.returns-clause-floor
 returns-clause-floor g c = let e = after g (goal.at.returns-clause-floor g c).After-compare_exchange-self in
@@ -65,4 +65,4 @@ returns-clause-next g c = ap (λ v. v.floor) (after g (goal.at.returns-clause-ne
 
 pub returns-then-drawn-clause-others : goal.returns-then-drawn-clause-others
 returns-then-drawn-clause-others g c = let drew = c.fetch_add-drawn.ensures.2.1 (search rules) in
-    stay_open c.args.self.now.seat.me.0 c.fetch_add-drawn.new.seat.me.0 (ap (λ z. z.tickets) drew.0) (ap (λ z. z.collected) drew.0)
+    stay_open c.args.self.now.seat c.fetch_add-drawn.new.seat (ap (λ z. z.tickets) drew.0) (ap (λ z. z.collected) drew.0)

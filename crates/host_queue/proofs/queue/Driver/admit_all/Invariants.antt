@@ -13,5 +13,5 @@ invariant-loop-i g l = record {
   admitted : l.self.seat.me.0.admitted ≡ l.i;
   long : vec_len l.list ≡ l.i;
   size : length l.list.items ≡ l.i;
-  guests : Each l.list.items (λ k c. (c.seat.table_id ≡ l.queue.table.shared.table_id) × IsGuest l.fn.self.seat.me.0.start k c.seat.me.0);
+  guests : Each l.list.items (λ k c. (c.seat.table_id ≡ l.queue.table.shared.table_id) × IsGuest l.fn.self.seat.me.0.start k c.seat);
 }

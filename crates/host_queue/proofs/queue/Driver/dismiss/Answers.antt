@@ -43,6 +43,9 @@ returns-clause-counts g c = let j = ap (λ m. m.0) c.join_seat.ensures.2 in let 
   ap (λ z. z.count) look.0 ∙ (ap (λ z. z.count) j ∙ ap (λ (n : ℕ). c.args.self.now.seat.me.0.count + n) (ap (λ z. z.count) o ∙ a.count)),
 )
 
+pub returns-clause-known : goal.returns-clause-known
+returns-clause-known g c = same g (goal.at.returns-clause-known g c).After-load ∙ ap (λ m. m.0.known) c.join_seat.ensures.2
+
 pub returns-clause-same : goal.returns-clause-same
 returns-clause-same g c = let j = ap (λ m. m.0) c.join_seat.ensures.2 in let look = c.load.ensures.2 in
-    (same g (goal.at.returns-clause-same g c).After-load ∙ ap (λ z. z.known) j, ap (λ z. z.start) look.0 ∙ ap (λ z. z.start) j, ap (λ z. z.admitted) look.0 ∙ ap (λ z. z.admitted) j)
+    (ap (λ z. z.start) look.0 ∙ ap (λ z. z.start) j, ap (λ z. z.admitted) look.0 ∙ ap (λ z. z.admitted) j)

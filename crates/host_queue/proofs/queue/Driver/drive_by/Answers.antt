@@ -68,19 +68,20 @@ invariant_of-self-2 g c =
       short = (let low : c.args.self.now.count < 4096 = search rules in omega arith);
     }
 
-pub returns-clause-some : goal.returns-clause-some
-returns-clause-some g c =
-    let h = goal.at.returns-clause-some g c in let e = taken g h.After-exchange-2 in let f = after g h.After-split_seat-seat e (put g h.After-compare_exchange-self e) in let did = c.serve.ensures in
-    (search rules, ap (λ (j : ℕ). j + 1) c.args.self.now.counted, ap (λ m. m.0.known) c.split_seat-seat.ensures.4 ∙ sym (ap (λ m. m.0.known) c.split_seat-seat.ensures.2), (entry did.0 did.1, ap (λ z. z.known) f, did.4))
-
-pub returns-clause-same : goal.returns-clause-same
-returns-clause-same g c =
-    let h = goal.at.returns-clause-same g c in let e = taken g h.After-exchange-2 in let f = after g h.After-split_seat-seat e (put g h.After-compare_exchange-self e) in
-    (ap (λ z. z.start) f, ap (λ z. z.admitted) f, ap (λ z. z.share) f, ap (λ z. z.count) f)
-
-pub returns-clause-grows : goal.returns-clause-grows
-returns-clause-grows g c =
-    let h = goal.at.returns-clause-grows g c in let e = taken g h.After-exchange-2 in let f = after g h.After-split_seat-seat e (put g h.After-compare_exchange-self e) in
-    let was = c.args.self.now.seat.me.0 in let one = entry c.serve.ensures.0 c.serve.ensures.1 ∷ [] in
-    let long : length c.split_seat-seat.new.seat.me.0.known ≡ length was.known + 1 = ap (λ z. length z.known) f ∙ length-append was.known one in
-    (subst (λ l. Begins was.known l) (sym (ap (λ z. z.known) f)) (begins_more was.known one), omega arith)
+pub returns : goal.returns
+returns g c =
+    let h = goal.at.returns g c in let e = taken g h.After-exchange-2 in let f = after g h.After-split_seat-seat e (put g h.After-compare_exchange-self e) in let did = c.serve.ensures in
+    let was = c.args.self.now.seat.me.0 in let one = entry did.0 did.1 ∷ [] in
+    let long : length c.split_seat-seat.new.seat.me.0.known ≡ length was.known + 1 = ap (λ z. length z.known) f ∙ length-append was.known one in record {
+      one = search rules;
+      some = (
+        search rules,
+        ap (λ (j : ℕ). j + 1) c.args.self.now.counted,
+        ap (λ m. m.0.known) c.split_seat-seat.ensures.4 ∙ sym (ap (λ m. m.0.known) c.split_seat-seat.ensures.2),
+        (entry did.0 did.1, ap (λ z. z.known) f, did.4),
+      );
+      grows = (subst (λ l. Begins was.known l) (sym (ap (λ z. z.known) f)) (begins_more was.known one), omega arith);
+      none = tt;
+      waits = tt;
+      same = (ap (λ z. z.start) f, ap (λ z. z.admitted) f, ap (λ z. z.share) f, ap (λ z. z.count) f);
+    }

@@ -7,7 +7,7 @@ returns-clause-counts g c = let same = c.drive_to.ensures.same in let left = c.d
     (left.0 ∙ ap (λ (n : ℕ). n + 1) same.2, left.1 ∙ ap (λ (n : ℕ). n + length c.args.client.seat.me.0.tickets) same.3)
 
 pub returns-clause-known : goal.returns-clause-known
-returns-clause-known g c = subst (λ z. Begins c.args.self.now.seat.me.0.known z) (sym c.dismiss.ensures.same.0) c.drive_to.ensures.known
+returns-clause-known g c = subst (λ z. Begins c.args.self.now.seat.me.0.known z) (sym c.dismiss.ensures.known) c.drive_to.ensures.known
 
 pub returns-clause-same : goal.returns-clause-same
-returns-clause-same g c = let same = c.drive_to.ensures.same in let left = c.dismiss.ensures.same in (left.1 ∙ same.0, left.2 ∙ same.1)
+returns-clause-same g c = let same = c.drive_to.ensures.same in let left = c.dismiss.ensures.same in (left.0 ∙ same.0, left.1 ∙ same.1)

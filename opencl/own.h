@@ -1,0 +1,8 @@
+// Programs in Clsim's language: what the driver has to know of them.
+#ifndef CLSIM_OWN_H
+#define CLSIM_OWN_H
+#include "source.h"
+
+// Lists the kernels of a text that the device takes, with their parameters and their objects in local memory.
+void list_own_kernels(prepared *p);
+#endif
