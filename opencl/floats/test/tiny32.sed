@@ -1,0 +1,22 @@
+# a format of 8 bits: a sign, 4 bits of exponent, 3 of fraction; in words of 32 bits
+s/FORMAT_/tiny32_/g
+s/SIGNED_WORD/int/g
+s/WORD/uint/g
+s/UNIT/1u/g
+s/WIDTH/32/g
+s/FRACTION_BITS/3/g
+s/FRACTION_MASK/0x07u/g
+s/GUARD_BITS/27/g
+s/GUARD_MASK/0x7ffffffu/g
+s/GUARD_HALF/0x4000000u/g
+s/TOP_SHIFT/28/g
+s/TOP_BIT/0x80000000u/g
+s/SECOND_BIT/0x40000000u/g
+s/LARGEST_EXPONENT/15/g
+s/BIAS/7/g
+s/SIGN_BIT/0x80u/g
+s/MAGNITUDE_MASK/0x7fu/g
+s/EXPONENT_AND_SIGN/0xf8u/g
+s/SMALLEST_NORMAL/0x08u/g
+s/INFINITY_BITS/0x78u/g
+s/NAN_BITS/0x7cu/g
