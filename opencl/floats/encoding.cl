@@ -38,6 +38,35 @@ WORD FORMAT_round(WORD sign, int exponent, WORD significand) {
     return result;
 }
 
+/* ---- rounding in a given direction (4.3) ----
+   mode 0: to nearest, ties to even; 1: toward zero; 2: upward; 3: downward; 4: to nearest, ties away from zero */
+
+/* 1 if the magnitude is to be increased: `rest` is what is cut off, of a unit of 2 * middle; `odd` is what is kept. */
+int FORMAT_increases(int mode, WORD sign, WORD odd, WORD rest, WORD middle) {
+    if (mode == 1 || rest == 0) return 0;
+    if (mode == 2) return sign == 0;
+    if (mode == 3) return sign != 0;
+    if (rest != middle) return rest > middle;
+    return mode == 4 || (odd & UNIT) != 0;
+}
+
+/* FORMAT_round in a given direction, and for any exponent. */
+WORD FORMAT_round_in(int mode, WORD sign, int exponent, WORD significand) {
+    if (exponent >= LARGEST_EXPONENT) {
+        int up = FORMAT_increases(mode, sign, UNIT, 3, 2);
+        return (sign | INFINITY_BITS) - (up != 0 ? 0 : UNIT);
+    }
+    if (exponent < 1) {
+        significand = FORMAT_shift_right(significand, 1 - exponent);
+        exponent = 1;
+    }
+    WORD kept = significand >> GUARD_BITS;
+    int increased = FORMAT_increases(mode, sign, kept, significand & GUARD_MASK, GUARD_HALF);
+    return sign + ((WORD)(exponent - 1) << FRACTION_BITS) + kept + (WORD)increased;
+}
+
+/* ---- the parts of a number ---- */
+
 /* The biased exponent of a finite number other than 0, below 1 for the subnormal ones: that of its leading bit. */
 int FORMAT_exponent_of(WORD a) {
     WORD x = a & MAGNITUDE_MASK;

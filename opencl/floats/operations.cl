@@ -83,24 +83,49 @@ WORD FORMAT_mul_special(WORD sign, WORD x, WORD y) {
     return sign | INFINITY_BITS;
 }
 
-/* a * b */
-WORD FORMAT_mul(WORD a, WORD b) {
-    WORD sign = (a ^ b) & SIGN_BIT;
-    a &= MAGNITUDE_MASK;
-    b &= MAGNITUDE_MASK;
-    if (a == 0 || b == 0 || a >= INFINITY_BITS || b >= INFINITY_BITS) {
-        a = FORMAT_mul_special(sign, a, b);
-        return a;
+/* a * b of two finite magnitudes other than 0. `exponent` is the sum of the biased exponents. */
+WORD FORMAT_mul_finite(WORD sign, WORD a, WORD b) {
+    WORD exponent = (a >> FRACTION_BITS) + (b >> FRACTION_BITS);
+    if (a < SMALLEST_NORMAL) {
+        WORD up = clz(a) - TOP_SHIFT;
+        a <<= up;
+        exponent += 1 - up;
     }
-    int exponent = FORMAT_exponent_of(a);
-    int other = FORMAT_exponent_of(b);
-    exponent += other - BIAS;
-    a = FORMAT_significand_of(a);
-    b = FORMAT_significand_of(b);
-    a = FORMAT_product(a, b >> 1);
+    if (b < SMALLEST_NORMAL) {
+        WORD up = clz(b) - TOP_SHIFT;
+        b <<= up;
+        exponent += 1 - up;
+    }
+    a <<= TOP_SHIFT;
+    a |= TOP_BIT;
+    b &= FRACTION_MASK;
+    b |= SMALLEST_NORMAL;
+    b <<= TOP_SHIFT - 1;
+    a = FORMAT_product(a, b);
     if (a < SECOND_BIT) a <<= 1;
     else exponent += 1;
-    a = FORMAT_round(sign, exponent, a);
+    if (exponent > BIAS) {
+        if (exponent < BIAS + LARGEST_EXPONENT) {
+            exponent -= BIAS + 1;
+            a = FORMAT_pack(sign + (exponent << FRACTION_BITS), a);
+            return a;
+        }
+    }
+    a = FORMAT_round(sign, (int)exponent - BIAS, a);
+    return a;
+}
+
+/* a * b */
+WORD FORMAT_mul(WORD a, WORD b) {
+    WORD sign = a ^ b;
+    sign &= SIGN_BIT;
+    a &= MAGNITUDE_MASK;
+    b &= MAGNITUDE_MASK;
+    if (a != 0) if (b != 0) if (a < INFINITY_BITS) if (b < INFINITY_BITS) {
+        a = FORMAT_mul_finite(sign, a, b);
+        return a;
+    }
+    a = FORMAT_mul_special(sign, a, b);
     return a;
 }
 
@@ -112,26 +137,51 @@ WORD FORMAT_div_special(WORD sign, WORD x, WORD y) {
     return sign;
 }
 
-/* a / b */
-WORD FORMAT_div(WORD a, WORD b) {
-    WORD sign = (a ^ b) & SIGN_BIT;
-    a &= MAGNITUDE_MASK;
-    b &= MAGNITUDE_MASK;
-    if (a == 0 || b == 0 || a >= INFINITY_BITS || b >= INFINITY_BITS) {
-        a = FORMAT_div_special(sign, a, b);
-        return a;
+/* a / b of two finite magnitudes other than 0. `exponent` is the difference of the biased exponents, plus BIAS. */
+WORD FORMAT_div_finite(WORD sign, WORD a, WORD b) {
+    WORD exponent = (a >> FRACTION_BITS) - (b >> FRACTION_BITS);
+    exponent += BIAS;
+    if (a < SMALLEST_NORMAL) {
+        WORD up = clz(a) - TOP_SHIFT;
+        a <<= up;
+        exponent += 1 - up;
     }
-    int exponent = FORMAT_exponent_of(a);
-    int other = FORMAT_exponent_of(b);
-    exponent += BIAS - other;
-    a = FORMAT_significand_of(a);
-    b = FORMAT_significand_of(b);
+    if (b < SMALLEST_NORMAL) {
+        WORD up = clz(b) - TOP_SHIFT;
+        b <<= up;
+        exponent -= 1 - up;
+    }
+    a <<= TOP_SHIFT;
+    a |= TOP_BIT;
+    b <<= TOP_SHIFT;
+    b |= TOP_BIT;
     a = FORMAT_quotient(a, b);
     if (a < SECOND_BIT) {
         a <<= 1;
         exponent -= 1;
     }
-    a = FORMAT_round(sign, exponent, a);
+    if (exponent != 0) {
+        if (exponent < LARGEST_EXPONENT) {
+            exponent -= 1;
+            a = FORMAT_pack(sign + (exponent << FRACTION_BITS), a);
+            return a;
+        }
+    }
+    a = FORMAT_round(sign, (int)exponent, a);
+    return a;
+}
+
+/* a / b */
+WORD FORMAT_div(WORD a, WORD b) {
+    WORD sign = a ^ b;
+    sign &= SIGN_BIT;
+    a &= MAGNITUDE_MASK;
+    b &= MAGNITUDE_MASK;
+    if (a != 0) if (b != 0) if (a < INFINITY_BITS) if (b < INFINITY_BITS) {
+        a = FORMAT_div_finite(sign, a, b);
+        return a;
+    }
+    a = FORMAT_div_special(sign, a, b);
     return a;
 }
 
@@ -140,7 +190,8 @@ WORD FORMAT_sqrt(WORD a) {
     if ((a & MAGNITUDE_MASK) > INFINITY_BITS) return NAN_BITS;
     if ((a & MAGNITUDE_MASK) == 0 || a == INFINITY_BITS) return a;
     if (a >= SIGN_BIT) return NAN_BITS;
-    int exponent = FORMAT_exponent_of(a) - BIAS;
+    int exponent = FORMAT_exponent_of(a);
+    exponent -= BIAS;
     a = FORMAT_significand_of(a);
     a = FORMAT_root(a, exponent & 1);
     a = FORMAT_pack((WORD)((exponent >> 1) + BIAS - 1) << FRACTION_BITS, a);
@@ -179,12 +230,6 @@ WORD FORMAT_fma(WORD a, WORD b, WORD c) {
 
 /* ---- comparisons (5.11); a NaN is unordered ---- */
 
-/* Numbers in the order of the values; -0 and +0 are one. */
-SIGNED_WORD FORMAT_order(WORD a) {
-    SIGNED_WORD magnitude = (SIGNED_WORD)(a & MAGNITUDE_MASK);
-    return a >= SIGN_BIT ? -magnitude : magnitude;
-}
-
 int FORMAT_isnan(WORD a) {
     return (a & MAGNITUDE_MASK) > INFINITY_BITS;
 }
@@ -195,20 +240,27 @@ int FORMAT_equal(WORD a, WORD b) {
     return ((a | b) & MAGNITUDE_MASK) == 0;
 }
 
-/* a < b */
+/* a < b. Bits without a sign are in the order of the values, those with one in the reverse order. */
 int FORMAT_less(WORD a, WORD b) {
-    if ((a & MAGNITUDE_MASK) > INFINITY_BITS || (b & MAGNITUDE_MASK) > INFINITY_BITS) return 0;
-    SIGNED_WORD first = FORMAT_order(a);
-    SIGNED_WORD second = FORMAT_order(b);
-    return first < second;
+    if (a < SIGN_BIT) {
+        if (b > INFINITY_BITS) return 0;
+        return a < b;
+    }
+    if (a > NEGATIVE_INFINITY) return 0;
+    if (b >= SIGN_BIT) return a > b;
+    if (b > INFINITY_BITS) return 0;
+    return ((a | b) & MAGNITUDE_MASK) != 0;
 }
 
 /* a <= b */
 int FORMAT_less_equal(WORD a, WORD b) {
-    if ((a & MAGNITUDE_MASK) > INFINITY_BITS || (b & MAGNITUDE_MASK) > INFINITY_BITS) return 0;
-    SIGNED_WORD first = FORMAT_order(a);
-    SIGNED_WORD second = FORMAT_order(b);
-    return first <= second;
+    if (a < SIGN_BIT) {
+        if (b <= INFINITY_BITS) return a <= b;
+        return (a | b) == SIGN_BIT;
+    }
+    if (a > NEGATIVE_INFINITY) return 0;
+    if (b >= SIGN_BIT) return a >= b;
+    return b <= INFINITY_BITS;
 }
 
 /* a < b or a > b */
@@ -216,33 +268,6 @@ int FORMAT_less_greater(WORD a, WORD b) {
     if ((a & MAGNITUDE_MASK) > INFINITY_BITS || (b & MAGNITUDE_MASK) > INFINITY_BITS) return 0;
     int equal = FORMAT_equal(a, b);
     return !equal;
-}
-
-/* ---- rounding in a given direction ----
-   mode 0: to nearest, ties to even; 1: toward zero; 2: upward; 3: downward; 4: to nearest, ties away from zero */
-
-/* 1 if the magnitude is to be increased: `rest` is what is cut off, of a unit of 2 * half; `odd` is what is kept. */
-int FORMAT_increases(int mode, WORD sign, WORD odd, WORD rest, WORD half) {
-    if (mode == 1 || rest == 0) return 0;
-    if (mode == 2) return sign == 0;
-    if (mode == 3) return sign != 0;
-    if (rest != half) return rest > half;
-    return mode == 4 || (odd & UNIT) != 0;
-}
-
-/* FORMAT_round in a given direction, and for any exponent. */
-WORD FORMAT_round_in(int mode, WORD sign, int exponent, WORD significand) {
-    if (exponent >= LARGEST_EXPONENT) {
-        int up = FORMAT_increases(mode, sign, UNIT, 3, 2);
-        return (sign | INFINITY_BITS) - (up != 0 ? 0 : UNIT);
-    }
-    if (exponent < 1) {
-        significand = FORMAT_shift_right(significand, 1 - exponent);
-        exponent = 1;
-    }
-    WORD kept = significand >> GUARD_BITS;
-    int increased = FORMAT_increases(mode, sign, kept, significand & GUARD_MASK, GUARD_HALF);
-    return sign + ((WORD)(exponent - 1) << FRACTION_BITS) + kept + (WORD)increased;
 }
 
 /* ---- conversions between whole numbers and the format (5.4.1) ---- */
@@ -303,3 +328,49 @@ ulong FORMAT_to_unsigned(int mode, WORD a, ulong largest) {
     return min(magnitude, largest);
 }
 
+/* a as a whole number of the format (5.9): trunc, floor, ceil, rint and round by their modes. BIAS is odd, so that the
+   lowest bit of the exponent of 1 is that of the whole number 1. */
+WORD FORMAT_to_integral(int mode, WORD a) {
+    WORD x = a & MAGNITUDE_MASK;
+    int exponent = (int)(x >> FRACTION_BITS) - BIAS;
+    if (exponent >= FRACTION_BITS) return x > INFINITY_BITS ? NAN_BITS : a;
+    if (x == 0) return a;
+    int up = 0;
+    if (exponent < 0) {
+        WORD rest = x > HALF_BITS ? 3 : x == HALF_BITS ? 2 : 1;
+        up = FORMAT_increases(mode, a & SIGN_BIT, 0, rest, 2);
+        return (a & SIGN_BIT) | (up != 0 ? ONE_BITS : 0);
+    }
+    int cut = FRACTION_BITS - exponent;
+    WORD unit = UNIT << cut;
+    WORD rest = x & (unit - UNIT);
+    up = FORMAT_increases(mode, a & SIGN_BIT, x >> cut, rest, unit >> 1);
+    return a - rest + (up != 0 ? unit : 0);
+}
+
+/* ---- remainders (5.3.1; C99 7.12.10) ---- */
+
+/* The magnitude of a finite number in units of the smallest subnormal number, divided by 2 to the power of
+   FORMAT_shift_of. */
+ulong FORMAT_digits_of(WORD x) {
+    if (x < SMALLEST_NORMAL) return (ulong)x;
+    return (ulong)((x & FRACTION_MASK) | SMALLEST_NORMAL);
+}
+int FORMAT_shift_of(WORD x) {
+    return max((int)(x >> FRACTION_BITS), 1);
+}
+
+/* What is left of x, divided by y, both finite magnitudes and y not 0: in units of the smallest subnormal number,
+   divided by 2 to the power of y's shift. Long division, CHUNK_BITS bits of the quotient at a time. */
+ulong FORMAT_rest_of(WORD x, WORD y) {
+    ulong rest = FORMAT_digits_of(x);
+    ulong divisor = FORMAT_digits_of(y);
+    int shift = FORMAT_shift_of(x);
+    int other = FORMAT_shift_of(y);
+    shift -= other;
+    while (shift > CHUNK_BITS) {
+        rest = (rest << CHUNK_BITS) % divisor;
+        shift -= CHUNK_BITS;
+    }
+    return (rest << shift) % divisor;
+}
