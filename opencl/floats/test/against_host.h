@@ -34,12 +34,51 @@ static void EACH(want_number)(const char *operation, ulong a, ulong b, ulong cam
     if (came != wanted) tell(operation, arguments, came, wanted);
 }
 
+// Whether both are the same value; zeros of both signs are.
+static void EACH(want_value)(const char *operation, ulong a, ulong b, WORD came, REAL wanted) {
+    if (EACH(value)(came) != wanted) EACH(want)(operation, a, b, 0, came, wanted);
+}
+
+static void EACH(parts)(WORD a) {
+    REAL x = EACH(value)(a), whole;
+    int exponent = 0;
+    REAL part = M(frexp)(x, &exponent);
+    EACH(want)("frexp", a, 0, 0, H(frexp)(a), part);
+    EACH(want_number)("frexp_exponent", a, 0, (ulong)H(frexp_exponent)(a), isfinite(x) ? (ulong)exponent : 0);
+    exponent = isnan(x) || isinf(x) ? INT32_MAX : x == 0 ? INT32_MIN : M(ilogb)(x);
+    EACH(want_number)("ilogb", a, 0, (ulong)H(ilogb)(a), (ulong)exponent);
+    EACH(want)("logb", a, 0, 0, H(logb)(a), M(logb)(x));
+    EACH(want)("modf", a, 0, 0, H(modf)(a), M(modf)(x, &whole));
+    part = x - M(floor)(x);
+    if (part >= 1) part = M(nextafter)(1, 0);
+    if (isinf(x) || x == 0) part = M(copysign)(0, x);
+    EACH(want)("fract", a, 0, 0, H(fract)(a), part);
+    EACH(want)("sign", a, 0, 0, H(sign)(a), isnan(x) ? 0 : x == 0 ? x : M(copysign)(1, x));
+}
+
+static void EACH(classes)(WORD a) {
+    REAL x = EACH(value)(a);
+    EACH(want_number)("isnan", a, 0, (ulong)H(isnan)(a), isnan(x));
+    EACH(want_number)("isinf", a, 0, (ulong)H(isinf)(a), isinf(x) != 0);
+    EACH(want_number)("isfinite", a, 0, (ulong)H(isfinite)(a), isfinite(x));
+    EACH(want_number)("isnormal", a, 0, (ulong)H(isnormal)(a), isnormal(x));
+    EACH(want_number)("signbit", a, 0, (ulong)H(signbit)(a), signbit(x) != 0);
+}
+
 static void EACH(one_argument)(WORD a) {
     REAL x = EACH(value)(a);
     EACH(want)("sqrt", a, 0, 0, H(sqrt)(a), M(sqrt)(x));
+    EACH(want)("rint", a, 0, 0, H(to_integral)(0, a), M(rint)(x));
+    EACH(want)("trunc", a, 0, 0, H(to_integral)(1, a), M(trunc)(x));
+    EACH(want)("ceil", a, 0, 0, H(to_integral)(2, a), M(ceil)(x));
+    EACH(want)("floor", a, 0, 0, H(to_integral)(3, a), M(floor)(x));
+    EACH(want)("round", a, 0, 0, H(to_integral)(4, a), M(round)(x));
+    EACH(want)("fabs", a & ~((WORD)1 << (WIDTH - 1)), 0, 0, H(fabs)(isnan(x) ? EACH(bits)((REAL)NAN) : a), M(fabs)(x));
+    EACH(parts)(a);
+    EACH(classes)(a);
 }
 
-static void EACH(two_arguments)(WORD a, WORD b) {
+static void EACH(arithmetic)(WORD a, WORD b) {
     volatile REAL x = EACH(value)(a), y = EACH(value)(b);
     EACH(want)("add", a, b, 0, H(add)(a, b), x + y);
     EACH(want)("sub", a, b, 0, H(sub)(a, b), x - y);
@@ -49,6 +88,54 @@ static void EACH(two_arguments)(WORD a, WORD b) {
     EACH(want_number)("less", a, b, (ulong)H(less)(a, b), x < y);
     EACH(want_number)("less_equal", a, b, (ulong)H(less_equal)(a, b), x <= y);
     EACH(want_number)("less_greater", a, b, (ulong)H(less_greater)(a, b), x < y || x > y);
+    EACH(want_number)("isunordered", a, b, (ulong)H(isunordered)(a, b), isnan(x) || isnan(y));
+}
+
+static void EACH(remainders)(WORD a, WORD b) {
+    REAL x = EACH(value)(a), y = EACH(value)(b);
+    EACH(want)("fmod", a, b, 0, H(fmod)(a, b), M(fmod)(x, y));
+    // The host's library gives some zeros another sign than that of x, which IEEE 754-2008, 5.3.1, asks for.
+    REAL rest = M(remainder)(x, y);
+    EACH(want)("remainder", a, b, 0, H(remainder)(a, b), rest == 0 ? M(copysign)(0, x) : rest);
+    int wanted = 0, came = H(quotient_of)(a, b);
+    if (!isnan(M(remquo)(x, y, &wanted))) {
+        // The host's library gives 3 bits of it.
+        EACH(want_number)("remquo", a, b, (ulong)(abs(came) & 7), (ulong)(abs(wanted) & 7));
+        if (wanted && came) EACH(want_number)("sign of remquo", a, b, came < 0, wanted < 0);
+    } else {
+        EACH(want_number)("remquo", a, b, (ulong)came, 0);
+    }
+}
+
+static REAL EACH(larger_magnitude)(REAL x, REAL y) {
+    return M(fabs)(x) > M(fabs)(y) ? x : M(fabs)(y) > M(fabs)(x) ? y : M(fmax)(x, y);
+}
+static REAL EACH(smaller_magnitude)(REAL x, REAL y) {
+    return M(fabs)(x) < M(fabs)(y) ? x : M(fabs)(y) < M(fabs)(x) ? y : M(fmin)(x, y);
+}
+
+// The host's fmin and fmax give a NaN for a signalling one.
+static REAL EACH(quiet_value)(WORD bits) { return isnan(EACH(value)(bits)) ? (REAL)NAN : EACH(value)(bits); }
+
+static void EACH(choices)(WORD a, WORD b) {
+    REAL x = EACH(quiet_value)(a), y = EACH(quiet_value)(b);
+    EACH(want_value)("fmin", a, b, H(fmin)(a, b), M(fmin)(x, y));
+    EACH(want_value)("fmax", a, b, H(fmax)(a, b), M(fmax)(x, y));
+    EACH(want_value)("minmag", a, b, H(minmag)(a, b), EACH(smaller_magnitude)(x, y));
+    EACH(want_value)("maxmag", a, b, H(maxmag)(a, b), EACH(larger_magnitude)(x, y));
+    EACH(want)("fdim", a, b, 0, H(fdim)(a, b), M(fdim)(x, y));
+    EACH(want)("step", a, b, 0, H(step)(a, b), y < x ? 0 : 1);
+    EACH(want)("nextafter", a, b, 0, H(nextafter)(a, b), M(nextafter)(x, y));
+    if (!isnan(x)) EACH(want)("copysign", a, b, 0, H(copysign)(a, b), M(copysign)(x, EACH(value)(b)));
+    int n = (int)(chance() >> (32 + chance() % 32));
+    n = chance() & 1 ? n : -n;
+    EACH(want)("ldexp", a, (ulong)n, 0, H(ldexp)(a, n), M(ldexp)(x, n));
+}
+
+static void EACH(two_arguments)(WORD a, WORD b) {
+    EACH(arithmetic)(a, b);
+    EACH(remainders)(a, b);
+    EACH(choices)(a, b);
 }
 
 // a * b + c with c near the product, or where the product's last bits are.

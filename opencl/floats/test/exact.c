@@ -38,6 +38,80 @@
 #undef M
 #undef EACH
 
+// ---- between formats ----
+
+static void want_between(const char *operation, ulong a, int mode, ulong came, ulong wanted) {
+    ulong arguments[] = {a, (ulong)mode, 0};
+    if (came != wanted) tell(operation, arguments, came, wanted);
+}
+
+static void test_widened(uint a) {
+    host_double_want("double_from_float", a, 0, 0, double_from_float(a), (double)host_float_value(a));
+}
+
+static void test_narrowed(ulong a) {
+    for (int mode = 0; mode < 4; mode++) {
+        fesetround(host_double_directions[mode]);
+        volatile double x = host_double_value(a);
+        volatile float wanted = (float)x;
+        fesetround(FE_TONEAREST);
+        host_float_want("float_from_double", a, (ulong)mode, 0, float_from_double(mode, a), wanted);
+    }
+}
+
+// A half's magnitude, by its definition.
+static double half_value(uint bits) {
+    uint exponent = bits >> 10, fraction = bits & 1023;
+    return exponent ? ldexp(1024 + fraction, (int)exponent - 25) : ldexp(fraction, -24);
+}
+
+// The bits of the half that x is rounded to, found by halving.
+static uint half_bits(int mode, double x) {
+    if (isnan(x)) return 0x7e00;
+    uint sign = signbit(x) ? 0x8000 : 0, low = 0, high = 0x7c00;
+    x = fabs(x);
+    if (isinf(x)) return sign | high;
+    while (high - low > 1) {
+        uint middle = (low + high) / 2;
+        if (half_value(middle) <= x) low = middle;
+        else high = middle;
+    }
+    double below = x - half_value(low), above = half_value(high) - x;
+    bool up = mode == 0 ? above < below || (above == below && low % 2) : below > 0 && mode == (sign ? 3 : 2);
+    return sign | (up ? high : low);
+}
+
+static void test_halved(uint a, ulong b) {
+    for (int mode = 0; mode < 4; mode++) {
+        want_between("half_from_float", a, mode, half_from_float(mode, a), half_bits(mode, host_float_value(a)));
+        want_between("half_from_double", b, mode, half_from_double(mode, b), half_bits(mode, host_double_value(b)));
+    }
+}
+
+// A double near a half, or near the middle of two.
+static ulong near_half(void) {
+    ulong bits = double_from_float(float_from_half((ushort)chance()));
+    return bits + (chance() & 1) * (1ul << 41) + chance() % 3 - 1;
+}
+
+static void test_between(unsigned long count) {
+    for (uint a = 0; a < 0x10000; a++) {
+        double sign = a & 0x8000 ? -1 : 1, magnitude = half_value(a & 0x7fff);
+        if ((a & 0x7fff) >= 0x7c00) magnitude = a & 0x3ff ? (double)NAN : INFINITY;
+        host_float_want("float_from_half", a, 0, 0, float_from_half((ushort)a), (float)(sign * magnitude));
+        if ((a & 0x7fff) <= 0x7c00) want_between("half and back", a, 0, half_from_float(0, float_from_half((ushort)a)), a);
+    }
+    for (unsigned long i = 0; i < count; i++) {
+        ulong a = chosen(64, 52, chance()), b = chosen(32, 23, chance());
+        test_widened((uint)b);
+        test_narrowed(a);
+        test_narrowed(double_from_float((uint)b) + (chance() & 1) * (1ul << 28) + chance() % 3 - 1);
+        test_halved((uint)b, a);
+        ulong near = near_half();
+        test_halved(float_from_double(1, near), near);
+    }
+}
+
 // ---- the format of 8 bits: the nearest of all its values, found by a table of them ----
 
 static double tiny_value(uint bits) {
@@ -69,6 +143,8 @@ static void fill_magnitudes(void) {
     magnitudes[0x78] = 256;
 }
 
+static double copysign_of_zero(double x, double sign) { return x == 0 ? copysign(0, sign) : x; }
+
 #define H(NAME) tiny32_##NAME
 #define EACH(NAME) test_tiny32_##NAME
 #include "tiny.h"
@@ -86,6 +162,7 @@ int main(int argc, char **argv) {
     test_tiny64_test();
     host_float_test(count);
     host_double_test(count);
+    test_between(count);
     printf("exact: %lu arguments by chance, %lu wrong\n", count, failures);
     return failures != 0;
 }

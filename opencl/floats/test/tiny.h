@@ -12,6 +12,8 @@ static void EACH(two_arguments)(uint a, uint b) {
     EACH(want)("sub", a, b, 0, H(sub)(a, b), tiny_bits(x - y));
     EACH(want)("mul", a, b, 0, H(mul)(a, b), tiny_bits(x * y));
     EACH(want)("div", a, b, 0, H(div)(a, b), tiny_bits(x / y));
+    EACH(want)("fmod", a, b, 0, H(fmod)(a, b), tiny_bits(fmod(x, y)));
+    EACH(want)("remainder", a, b, 0, H(remainder)(a, b), tiny_bits(copysign_of_zero(remainder(x, y), x)));
     EACH(want)("equal", a, b, 0, (ulong)H(equal)(a, b), x == y);
     EACH(want)("less", a, b, 0, (ulong)H(less)(a, b), x < y);
     EACH(want)("less_equal", a, b, 0, (ulong)H(less_equal)(a, b), x <= y);
@@ -21,6 +23,8 @@ static void EACH(two_arguments)(uint a, uint b) {
 static void EACH(test)(void) {
     for (uint a = 0; a < 256; a++) {
         EACH(want)("sqrt", a, 0, 0, H(sqrt)(a), tiny_bits(sqrt(tiny_value(a))));
+        EACH(want)("rint", a, 0, 0, H(to_integral)(0, a), tiny_bits(rint(tiny_value(a))));
+        EACH(want)("round", a, 0, 0, H(to_integral)(4, a), tiny_bits(round(tiny_value(a))));
         for (uint b = 0; b < 256; b++) {
             EACH(two_arguments)(a, b);
             double product = tiny_value(a) * tiny_value(b);
