@@ -1,0 +1,62 @@
+# Makes the rows of helpers.h of floats.cl: HELPER(name, result, parameters, calls, text) for each helper, in an order
+# in which each stands behind those that it calls. `parameters` and `calls` are words with a space between; the text is
+# the helper as it is sent, without comments.
+#
+# In floats.cl a helper's head is one line that begins with its type and ends with `{`, and its last line is `}`.
+
+function quoted(text) {
+    gsub(/\\/, "\\\\", text)
+    gsub(/"/, "\\\"", text)
+    return "\"" text "\""
+}
+
+# The types of the parameters between the brackets of a head.
+function types_of(head, parts, count, i, words, types) {
+    sub(/^[^(]*\(/, "", head)
+    sub(/\).*$/, "", head)
+    count = split(head, parts, /, */)
+    types = ""
+    for (i = 1; i <= count; i++) {
+        split(parts[i], words, " ")
+        types = types (i > 1 ? " " : "") words[1]
+    }
+    return types
+}
+
+# The known names in front of a bracket, each once, in the order of their first calls.
+function note_calls(line, name) {
+    while (match(line, /[a-z][a-z0-9_]*\(/)) {
+        name = substr(line, RSTART, RLENGTH - 1)
+        line = substr(line, RSTART + RLENGTH)
+        if ((name in known) && index(" " calls " ", " " name " ") == 0) calls = calls (calls == "" ? "" : " ") name
+    }
+}
+
+BEGIN { print "/* Made of floats.cl by helpers.awk. */" }
+
+/^[a-z].*\{$/ {
+    inside = 1
+    split($0, words, /[ (]/)
+    result = words[1]
+    name = words[2]
+    parameters = types_of($0)
+    calls = ""
+    text = "    " quoted($0 "\n")
+    next
+}
+
+inside {
+    line = $0
+    gsub(/\/\*[^*]*\*\//, "", line)
+    note_calls(line)
+    sub(/^ +/, "", line)
+    gsub(/\\/, "\\\\", line)
+    text = text "\n    \"" line "\\n\""
+}
+
+inside && /^\}$/ {
+    inside = 0
+    sub(/\n"/, "\\n\"", text)
+    known[name] = 1
+    printf "HELPER(%s, %s, \"%s\", \"%s\",\n%s)\n", name, result, parameters, calls, text
+}
