@@ -1,6 +1,11 @@
 /* ---- what the operations of binary32 are made of: words of 32 bits, with 64 bits for what is between ---- */
 
-/* The upper 32 bits of x * y, the lowest sticky. */
+/* The upper 32 bits of x * y. */
+WORD FORMAT_product_upper(WORD x, WORD y) {
+    return (WORD)((ulong)x * y >> 32);
+}
+
+/* The same, the lowest bit sticky. */
 WORD FORMAT_product(WORD x, WORD y) {
     ulong product = (ulong)x * y;
     WORD upper = (WORD)(product >> 32);
@@ -14,6 +19,11 @@ WORD FORMAT_quotient(WORD x, WORD y) {
     ulong quotient = dividend / y;
     if (quotient * y != dividend) quotient |= 1ul;
     return (WORD)quotient;
+}
+
+/* x * 2^31 / y for x and y from 2^31 on, without what is behind the point. */
+WORD FORMAT_ratio(WORD x, WORD y) {
+    return (WORD)(((ulong)x << 31) / y);
 }
 
 /* The square root of x * 2^29, or if `odd` is 1 of x * 2^30, for x from 2^31 on; the lowest bit sticky. */

@@ -46,6 +46,24 @@ WORD FORMAT_quotient(WORD x, WORD y) {
     return quotient;
 }
 
+/* x * 2^63 / y for x and y from 2^63 on, too large by at most 2: two digits of 32 bits by the upper half of y, of which
+   the first is set right (Knuth, The Art of Computer Programming 2, 4.3.1, algorithm D). */
+WORD FORMAT_ratio(WORD x, WORD y) {
+    WORD divisor = y >> 32;
+    WORD lower = y & 0xfffffffful;
+    WORD digit = (x >> 1) / divisor;
+    WORD rest = (x >> 1) - digit * divisor;
+    if (digit * lower > (rest << 32 | (x & UNIT) << 31)) {
+        digit -= UNIT;
+        rest += divisor;
+        if (rest <= 0xfffffffful) {
+            if (digit * lower > (rest << 32 | (x & UNIT) << 31)) digit -= UNIT;
+        }
+    }
+    rest = (x << 31) - digit * y;
+    return digit << 32 | min(rest / divisor, 0xfffffffful);
+}
+
 /* The square root of x * 2^61, or if `odd` is 1 of x * 2^62, for x from 2^63 on with 11 zero bits at the end; the
    lowest bit sticky. The upper 31 bits of the root are that of the upper half of the radicand. The next 31 are what is
    left of it, divided by twice the upper bits: at most 1 too large, since these are at least 2^30. */
