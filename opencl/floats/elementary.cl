@@ -740,3 +740,217 @@ WORD FORMAT_hypot(WORD a, WORD b) {
     x = FORMAT_round(0, (e >> 1) + BIAS, x);
     return x;
 }
+
+/* ---- hyperbolic functions ---- */
+
+/* (e^x - e^-x) / 2, or with `plus` the sum of both, for x = m * 2^(e - (WIDTH - 1)) below 2^(EXPONENT_BITS + 1); the
+   difference for x from 1 on. */
+WORD FORMAT_hyperbolic_far(WORD sign, int plus, int e, WORD m) {
+    WORD upper = FORMAT_upper_of_product(m, LOG2_E_UPPER, LOG2_E_LOWER);
+    WORD lower = FORMAT_lower_of_product(m, LOG2_E_UPPER, LOG2_E_LOWER);
+    int whole = FORMAT_whole_of(upper, e + 2);
+    WORD part = FORMAT_part_of(upper, lower, e + 2);
+    lower = FORMAT_exp2_part(part);
+    upper = FORMAT_product_upper(part, lower);
+    part = ~part;
+    lower = FORMAT_exp2_part(part);
+    lower = FORMAT_product_upper(part, lower);
+    upper = SECOND_BIT + (upper >> 1);
+    lower = FORMAT_down(SECOND_BIT + (lower >> 1), 2 * whole + 1);
+    m = FORMAT_rounded(sign, whole, plus != 0 ? upper + lower : upper - lower);
+    return m;
+}
+
+/* (e^a - e^-a) / 2 */
+WORD FORMAT_sinh(WORD a) {
+    WORD x = a & MAGNITUDE_MASK;
+    if (x > INFINITY_BITS) return NAN_BITS;
+    if (x == 0 || x == INFINITY_BITS) return a;
+    int e = FORMAT_exponent_of(x);
+    e -= BIAS;
+    if (e > EXPONENT_BITS) return (a & SIGN_BIT) | INFINITY_BITS;
+    x = FORMAT_significand_of(x);
+    if (e >= 0) {
+        x = FORMAT_hyperbolic_far(a & SIGN_BIT, 0, e, x);
+        return x;
+    }
+    WORD z = FORMAT_down(x, -e - 1);
+    z = FORMAT_product_upper(z, z);
+    WORD part = FORMAT_sinh_part(z);
+    part = FORMAT_product_upper(part, z);
+    x >>= 1;
+    part = FORMAT_product_upper(part, x);
+    x = FORMAT_rounded(a & SIGN_BIT, e + 1, x + part);
+    return x;
+}
+
+/* (e^a + e^-a) / 2 */
+WORD FORMAT_cosh(WORD a) {
+    WORD x = a & MAGNITUDE_MASK;
+    if (x > INFINITY_BITS) return NAN_BITS;
+    if (x == 0) return ONE_BITS;
+    int e = FORMAT_exponent_of(x);
+    e -= BIAS;
+    if (e > EXPONENT_BITS) return INFINITY_BITS;
+    if (e < -FRACTION_BITS - 2) return ONE_BITS;
+    x = FORMAT_significand_of(x);
+    x = FORMAT_hyperbolic_far(0, 1, e, x);
+    return x;
+}
+
+/* tanh(x) for x = m * 2^(e - (WIDTH - 1)) from 1/4 on: 1 - 2 / (e^(2 * x) + 1). */
+WORD FORMAT_tanh_far(WORD sign, int e, WORD m) {
+    WORD upper = FORMAT_upper_of_product(m, LOG2_E_UPPER, LOG2_E_LOWER);
+    WORD lower = FORMAT_lower_of_product(m, LOG2_E_UPPER, LOG2_E_LOWER);
+    int whole = FORMAT_whole_of(upper, e + 3);
+    WORD part = FORMAT_part_of(upper, lower, e + 3);
+    part = ~part;
+    upper = FORMAT_exp2_part(part);
+    upper = FORMAT_product_upper(upper, part);
+    upper = FORMAT_down(SECOND_BIT + (upper >> 1), whole + 1);
+    lower = SECOND_BIT + upper;
+    upper = SECOND_BIT - upper;
+    int up = (int)clz(upper);
+    m = FORMAT_ratio(upper << up, lower << 1);
+    m = FORMAT_rounded(sign, 1 - up, m);
+    return m;
+}
+
+/* The same for x below 1/4: for y = e^(2 * x) - 1 it is y / (y + 2). */
+WORD FORMAT_tanh_near(WORD sign, int e, WORD m) {
+    WORD part = FORMAT_down(m, -e - 2);
+    part = FORMAT_expm1_part(TOP_BIT + part);
+    m = FORMAT_product_upper(m, part);
+    int up = (int)clz(m);
+    m <<= up;
+    e += 2 - up;
+    part = FORMAT_down(m, 1 - e);
+    m = FORMAT_ratio(m, TOP_BIT + part);
+    m = FORMAT_rounded(sign, e - 1, m);
+    return m;
+}
+
+/* sinh(a) / cosh(a) */
+WORD FORMAT_tanh(WORD a) {
+    WORD x = a & MAGNITUDE_MASK;
+    if (x > INFINITY_BITS) return NAN_BITS;
+    if (x == 0) return a;
+    int e = FORMAT_exponent_of(x);
+    e -= BIAS;
+    if (e > EXPONENT_BITS - 3) return (a & SIGN_BIT) | ONE_BITS;
+    if (e < -FRACTION_BITS - 2) return a;
+    x = FORMAT_significand_of(x);
+    if (e < -2) x = FORMAT_tanh_near(a & SIGN_BIT, e, x);
+    else x = FORMAT_tanh_far(a & SIGN_BIT, e, x);
+    return x;
+}
+
+/* ---- inverse hyperbolic functions ---- */
+
+/* log(m * 2^(e - (WIDTH - 1))) / 2^half of a number above 1. */
+WORD FORMAT_log_above_one(WORD sign, int half, int e, WORD m) {
+    int up = (int)clz(m);
+    m <<= up;
+    WORD value = FORMAT_log_value(e - up, m, LOG_2, 1, TOP_BIT);
+    int scale = FORMAT_log_scale(e - up, m, 1);
+    m = FORMAT_rounded(sign, scale - 1 - half, value);
+    return m;
+}
+
+/* The exponent of x^2 + 1, or with `minus` of x^2 - 1, for x = m * 2^(e - (WIDTH - 1)) and e from -3 to WIDTH / 2, and
+   its significand. */
+WORD FORMAT_square_and_one(int minus, int e, WORD m) {
+    WORD square = FORMAT_product_upper(m, m >> 1);
+    if (e < 0) square >>= -2 * e;
+    WORD one = FORMAT_down(SECOND_BIT >> 1, max(2 * e, 0));
+    return minus != 0 ? square - one : square + one;
+}
+
+/* log(x + sqrt(x^2 + 1)), or with `minus` of x^2 - 1, for x = m * 2^(e - (WIDTH - 1)). */
+WORD FORMAT_log_of_sum(WORD sign, int minus, int e, WORD m) {
+    if (e > WIDTH / 2) {
+        m = FORMAT_log_above_one(sign, 0, e + 1, m);
+        return m;
+    }
+    WORD sum = FORMAT_square_and_one(minus, e, m);
+    int up = (int)clz(sum);
+    int other = 2 * max(e, 0) + 2 - up;
+    sum = FORMAT_root(sum << up, other & 1);
+    other >>= 1;
+    int exponent = max(e, other) + 1;
+    m = (m >> (exponent - e)) + (sum >> (exponent - other - 1));
+    m = FORMAT_log_above_one(sign, 0, exponent, m);
+    return m;
+}
+
+/* log(a + sqrt(a^2 + 1)); near 0 it is 2 * atanh(a / (1 + sqrt(a^2 + 1))). */
+WORD FORMAT_asinh(WORD a) {
+    WORD x = a & MAGNITUDE_MASK;
+    if (x > INFINITY_BITS) return NAN_BITS;
+    if (x == 0 || x == INFINITY_BITS) return a;
+    int e = FORMAT_exponent_of(x);
+    e -= BIAS;
+    if (e < -FRACTION_BITS - 2) return a;
+    x = FORMAT_significand_of(x);
+    if (e >= -2) {
+        x = FORMAT_log_of_sum(a & SIGN_BIT, 0, e, x);
+        return x;
+    }
+    WORD z = FORMAT_down(x, -e - 1);
+    z = FORMAT_product_upper(z, z);
+    z = FORMAT_root(TOP_BIT + (z >> 1), 0);
+    x = FORMAT_ratio(x, SECOND_BIT + z);
+    x = FORMAT_atanh_of(e - 1, x);
+    x = FORMAT_rounded(a & SIGN_BIT, e + 1, x);
+    return x;
+}
+
+/* log(a + sqrt(a^2 - 1)); near 1 it is 2 * atanh(sqrt((a - 1) / (a + 1))). */
+WORD FORMAT_acosh(WORD a) {
+    if (a == ONE_BITS) return 0;
+    if (a < ONE_BITS || a > INFINITY_BITS) return NAN_BITS;
+    if (a == INFINITY_BITS) return a;
+    int e = FORMAT_exponent_of(a);
+    e -= BIAS;
+    a = FORMAT_significand_of(a);
+    WORD distance = a - TOP_BIT;
+    if (e > 0 || distance > TOP_BIT >> 5) {
+        a = FORMAT_log_of_sum(0, 1, e, a);
+        return a;
+    }
+    int up = (int)clz(distance);
+    a = FORMAT_ratio(distance << up, (a >> 1) + SECOND_BIT);
+    e = -1 - up;
+    if (a < TOP_BIT) {
+        a <<= 1;
+        e -= 1;
+    }
+    a = FORMAT_root(a, e & 1);
+    e >>= 1;
+    a = FORMAT_atanh_of(e, a << 1);
+    a = FORMAT_rounded(0, e + 2, a);
+    return a;
+}
+
+/* log((1 + a) / (1 - a)) / 2 */
+WORD FORMAT_atanh(WORD a) {
+    WORD x = a & MAGNITUDE_MASK;
+    if (x > ONE_BITS) return NAN_BITS;
+    if (x == ONE_BITS) return (a & SIGN_BIT) | INFINITY_BITS;
+    if (x == 0) return a;
+    int e = FORMAT_exponent_of(x);
+    e -= BIAS;
+    x = FORMAT_significand_of(x);
+    if (e < -3) {
+        x = FORMAT_atanh_of(e, x);
+        x = FORMAT_rounded(a & SIGN_BIT, e + 1, x);
+        return x;
+    }
+    x >>= -e;
+    WORD rest = TOP_BIT - x;
+    int up = (int)clz(rest);
+    x = FORMAT_ratio(TOP_BIT + x, rest << up);
+    x = FORMAT_log_above_one(a & SIGN_BIT, 1, up, x);
+    return x;
+}
+

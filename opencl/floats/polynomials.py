@@ -39,6 +39,10 @@ def atanh_part(z):
     return series(lambda n, x: x ** n / (2 * n + 3), z)
 
 
+def sinh_part(z):
+    return series(lambda n, x: x ** n / mp.factorial(2 * n + 3), z)
+
+
 def sine_part(z):
     return series(lambda n, x: (-x) ** n / mp.factorial(2 * n + 3), z)
 
@@ -64,6 +68,7 @@ POLYNOMIALS = [
     ("exp2_part", exp2_part, "(2^z - 1) / (2 * z)", mp.mpf(1)),
     ("expm1_part", expm1_part, "(e^x - 1) / (2 * x) for x = z - 1/2", mp.mpf(1)),
     ("atanh_part", atanh_part, "(atanh(x) / x - 1) / z for z = x^2", SMALL * mp.mpf("1.01")),
+    ("sinh_part", sinh_part, "(sinh(x) / x - 1) / z for z = x^2", mp.mpf(1)),
     ("sine_part", sine_part, "(1 - sin(x) / x) / z for z = x^2", (mp.pi / 4) ** 2 * mp.mpf("1.001")),
     ("cosine_part", cosine_part, "(1 - cos(x)) / z for z = x^2", (mp.pi / 4) ** 2 * mp.mpf("1.001")),
     ("atan_part", atan_part, "(1 - atan(x) / x) / z for z = x^2", (mp.sqrt(2) - 1) ** 2 * mp.mpf("1.01")),

@@ -35,6 +35,16 @@ uint float_atanh_part(uint z) {
     return sum;
 }
 
+/* (sinh(x) / x - 1) / z for z = x^2, up to z = 1.0; without what is cut off it errs by less than 2^-41. */
+uint float_sinh_part(uint z) {
+    uint sum = 0x0000006du;
+    sum = 0x00002e3au + (uint)((ulong)sum * z >> 32);
+    sum = 0x000d00d1u + (uint)((ulong)sum * z >> 32);
+    sum = 0x02222222u + (uint)((ulong)sum * z >> 32);
+    sum = 0x2aaaaaabu + (uint)((ulong)sum * z >> 32);
+    return sum;
+}
+
 /* (1 - sin(x) / x) / z for z = x^2, up to z = 0.617467; without what is cut off it errs by less than 2^-35. */
 uint float_sine_part(uint z) {
     uint sum = 0x00002db8u;

@@ -84,6 +84,26 @@ ulong double_atanh_part(ulong z) {
     return sum;
 }
 
+/* (sinh(x) / x - 1) / z for z = x^2, up to z = 1.0; without what is cut off it errs by less than 2^-71. */
+ulong double_sinh_part(ulong z) {
+    ulong sum = 0x000000000000ccf8ul;
+    sum = double_product_upper(sum, z);
+    sum = 0x0000000000d73bbeul + sum;
+    sum = double_product_upper(sum, z);
+    sum = 0x00000000b09233e6ul + sum;
+    sum = double_product_upper(sum, z);
+    sum = 0x0000006b99159e4bul + sum;
+    sum = double_product_upper(sum, z);
+    sum = 0x00002e3bc74aadf3ul + sum;
+    sum = double_product_upper(sum, z);
+    sum = 0x000d00d00d00d000ul + sum;
+    sum = double_product_upper(sum, z);
+    sum = 0x0222222222222223ul + sum;
+    sum = double_product_upper(sum, z);
+    sum = 0x2aaaaaaaaaaaaaabul + sum;
+    return sum;
+}
+
 /* (1 - sin(x) / x) / z for z = x^2, up to z = 0.617467; without what is cut off it errs by less than 2^-66. */
 ulong double_sine_part(ulong z) {
     ulong sum = 0x0000000000d58b7bul;

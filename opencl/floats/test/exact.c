@@ -1,5 +1,6 @@
 // The exact operations: addition to square root, fused multiplication and addition, comparisons, conversions.
 //   exact [COUNT [SEED]]   all arguments of a format of 8 bits, and COUNT arguments by chance of float and double
+//   exact all              all arguments of the operations of one float: some 10 minutes
 // The last line tells how many answers were wrong; the status is 0 where none was.
 #include "floats.cl"
 #include "tiny.cl"
@@ -154,7 +155,30 @@ static double copysign_of_zero(double x, double sign) { return x == 0 ? copysign
 #define EACH(NAME) test_tiny64_##NAME
 #include "tiny.h"
 
+// ---- all floats ----
+
+static void test_every(uint a) {
+    float x = host_float_value(a);
+    host_float_want("sqrt", a, 0, 0, float_sqrt(a), sqrtf(x));
+    host_float_want("rint", a, 0, 0, float_to_integral(0, a), rintf(x));
+    host_float_want("trunc", a, 0, 0, float_to_integral(1, a), truncf(x));
+    host_float_want("ceil", a, 0, 0, float_to_integral(2, a), ceilf(x));
+    host_float_want("floor", a, 0, 0, float_to_integral(3, a), floorf(x));
+    host_float_want("round", a, 0, 0, float_to_integral(4, a), roundf(x));
+    host_double_want("double_from_float", a, 0, 0, double_from_float(a), (double)x);
+    long whole = x != x ? 0 : x >= 0x1p63f ? INT64_MAX : x <= -0x1p63f ? INT64_MIN : (long)x;
+    want_between("to_signed", a, 1, (ulong)float_to_signed(1, a, INT64_MAX), (ulong)whole);
+    want_between("float and back", a, 0, float_from_double(0, double_from_float(a)), x != x ? 0x7fc00000 : a);
+}
+
+static int test_all(void) {
+    for (ulong a = 0; a < 0x100000000; a++) test_every((uint)a);
+    printf("exact: all floats, %lu wrong\n", failures);
+    return failures != 0;
+}
+
 int main(int argc, char **argv) {
+    if (argc > 1 && strcmp(argv[1], "all") == 0) return test_all();
     unsigned long count = argc > 1 ? strtoul(argv[1], NULL, 10) : 100000;
     set_seed(argc > 2 ? strtoul(argv[2], NULL, 10) : 1);
     fill_magnitudes();

@@ -181,6 +181,9 @@ static const struct one ones[] = {
     ONE(asin, mpfr_asin, UNIT_INTERVAL, 4, 4),  ONE(acos, mpfr_acos, UNIT_INTERVAL, 4, 4),
     ONE(atan, mpfr_atan, ANGLE, 5, 5),          ONE(asinpi, exact_asinpi, UNIT_INTERVAL, 5, 5),
     ONE(acospi, exact_acospi, UNIT_INTERVAL, 5, 5), ONE(atanpi, exact_atanpi, ANGLE, 5, 5),
+    ONE(sinh, mpfr_sinh, EXPONENT, 4, 4),       ONE(cosh, mpfr_cosh, EXPONENT, 4, 4),
+    ONE(tanh, mpfr_tanh, EXPONENT, 5, 5),       ONE(asinh, mpfr_asinh, ANY, 4, 4),
+    ONE(acosh, mpfr_acosh, POSITIVE, 4, 4),     ONE(atanh, mpfr_atanh, UNIT_INTERVAL, 5, 5),
     ONE(rsqrt, mpfr_rec_sqrt, POSITIVE, 2, 2),  ONE(cbrt, mpfr_cbrt, ANY, 2, 2),
 };
 
