@@ -847,13 +847,13 @@ WORD FORMAT_tanh(WORD a) {
 
 /* ---- inverse hyperbolic functions ---- */
 
-/* log(m * 2^(e - (WIDTH - 1))) / 2^half of a number above 1. */
-WORD FORMAT_log_above_one(WORD sign, int half, int e, WORD m) {
+/* log(m * 2^(e - (WIDTH - 1))) / 2^halved of a number above 1. */
+WORD FORMAT_log_above_one(WORD sign, int halved, int e, WORD m) {
     int up = (int)clz(m);
     m <<= up;
     WORD value = FORMAT_log_value(e - up, m, LOG_2, 1, TOP_BIT);
     int scale = FORMAT_log_scale(e - up, m, 1);
-    m = FORMAT_rounded(sign, scale - 1 - half, value);
+    m = FORMAT_rounded(sign, scale - 1 - halved, value);
     return m;
 }
 

@@ -4,10 +4,11 @@
 #
 # In floats.cl a helper's head is one line that begins with its type and ends with `{`, and its last line is `}`.
 
-function quoted(text) {
-    gsub(/\\/, "\\\\", text)
-    gsub(/"/, "\\\"", text)
-    return "\"" text "\""
+# A line as a string of C.
+function quoted(line) {
+    gsub(/\\/, "\\\\", line)
+    gsub(/"/, "\\\"", line)
+    return "\n    \"" line "\\n\""
 }
 
 # The types of the parameters between the brackets of a head.
@@ -23,7 +24,7 @@ function types_of(head, parts, count, i, words, types) {
     return types
 }
 
-# The known names in front of a bracket, each once, in the order of their first calls.
+# Adds the known names in front of a bracket to `calls`, each once.
 function note_calls(line, name) {
     while (match(line, /[a-z][a-z0-9_]*\(/)) {
         name = substr(line, RSTART, RLENGTH - 1)
@@ -37,26 +38,23 @@ BEGIN { print "/* Made of floats.cl by helpers.awk. */" }
 /^[a-z].*\{$/ {
     inside = 1
     split($0, words, /[ (]/)
-    result = words[1]
     name = words[2]
-    parameters = types_of($0)
     calls = ""
-    text = "    " quoted($0 "\n")
+    text = quoted($0)
+    head = name ", " words[1] ", \"" types_of($0) "\""
     next
 }
 
 inside {
     line = $0
     gsub(/\/\*[^*]*\*\//, "", line)
-    note_calls(line)
     sub(/^ +/, "", line)
-    gsub(/\\/, "\\\\", line)
-    text = text "\n    \"" line "\\n\""
+    note_calls(line)
+    text = text quoted(line)
 }
 
 inside && /^\}$/ {
     inside = 0
-    sub(/\n"/, "\\n\"", text)
     known[name] = 1
-    printf "HELPER(%s, %s, \"%s\", \"%s\",\n%s)\n", name, result, parameters, calls, text
+    print "HELPER(" head ", \"" calls "\"," text ")"
 }

@@ -645,3 +645,49 @@ int FORMAT_signbit(WORD a) {
     return a >= SIGN_BIT;
 }
 
+/* -a */
+WORD FORMAT_negate(WORD a) {
+    return a ^ SIGN_BIT;
+}
+
+/* 1 / a */
+WORD FORMAT_recip(WORD a) {
+    a = FORMAT_div(ONE_BITS, a);
+    return a;
+}
+
+/* ---- blends (OpenCL 1.2, 6.12.4) ---- */
+
+/* x + (y - x) * a */
+WORD FORMAT_mix(WORD x, WORD y, WORD a) {
+    y = FORMAT_sub(y, x);
+    y = FORMAT_mul(y, a);
+    y = FORMAT_add(x, y);
+    return y;
+}
+
+/* t * t * (3 - 2 * t) for t = clamp((x - low) / (high - low), 0, 1) */
+WORD FORMAT_smoothstep(WORD low, WORD high, WORD x) {
+    x = FORMAT_sub(x, low);
+    high = FORMAT_sub(high, low);
+    x = FORMAT_div(x, high);
+    x = FORMAT_clamp(x, 0, ONE_BITS);
+    high = FORMAT_add(x, x);
+    high = FORMAT_sub(THREE_BITS, high);
+    x = FORMAT_mul(x, x);
+    x = FORMAT_mul(x, high);
+    return x;
+}
+
+/* a * (180 / pi) */
+WORD FORMAT_degrees(WORD a) {
+    a = FORMAT_mul(a, DEGREES_BITS);
+    return a;
+}
+
+/* a * (pi / 180) */
+WORD FORMAT_radians(WORD a) {
+    a = FORMAT_mul(a, RADIANS_BITS);
+    return a;
+}
+
