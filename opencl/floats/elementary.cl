@@ -326,75 +326,63 @@ WORD FORMAT_cosine_of(int e, WORD m) {
     return ~part;
 }
 
-/* The tangent of r, or the negative reciprocal of it if the quadrant is odd. */
-WORD FORMAT_tangent_of(WORD sign, int quadrant, int e, WORD m) {
-    WORD cosine = FORMAT_cosine_of(e, m);
-    m = FORMAT_sine_of(e, m);
-    if (m < TOP_BIT) {
-        m <<= 1;
-        e -= 1;
-    }
-    if ((quadrant & 1) == 0) {
-        m = FORMAT_ratio(m, cosine);
-        m = FORMAT_rounded(sign, e + 1, m);
-        return m;
-    }
-    m = FORMAT_ratio(cosine, m);
-    m = FORMAT_rounded(sign ^ SIGN_BIT, -1 - e, m);
-    return m;
-}
-
 /* The sine (kind 0), cosine (1) or tangent (2) of quadrant * pi / 2 + r; r has this sign. */
 WORD FORMAT_circular(int kind, int quadrant, WORD sign, int e, WORD m) {
+    if (kind == 1) quadrant += 1;
+    int odd = quadrant & 1;
+    if (kind != 2 && odd != 0) sign = 0;
+    if (kind == 2 ? odd != 0 : (quadrant & 2) != 0) sign ^= SIGN_BIT;
+    WORD sine = 0;
+    WORD cosine = 0;
+    if (kind == 2 || odd == 0) sine = FORMAT_sine_of(e, m);
+    if (kind == 2 || odd != 0) cosine = FORMAT_cosine_of(e, m);
     if (kind == 2) {
-        m = FORMAT_tangent_of(sign, quadrant, e, m);
-        return m;
+        int up = (int)clz(sine);
+        sine <<= up;
+        e -= up;
+        m = FORMAT_ratio(odd != 0 ? cosine : sine, odd != 0 ? sine : cosine);
+        e = odd != 0 ? -1 - e : e + 1;
+    } else {
+        m = odd != 0 ? cosine : sine;
+        if (odd != 0) e = -1;
     }
-    quadrant += kind;
-    WORD half_turn = (quadrant & 2) == 0 ? 0 : SIGN_BIT;
-    if ((quadrant & 1) == 0) {
-        m = FORMAT_sine_of(e, m);
-        m = FORMAT_rounded(sign ^ half_turn, e, m);
-        return m;
-    }
-    m = FORMAT_cosine_of(e, m);
-    m = FORMAT_rounded(half_turn, -1, m);
+    m = FORMAT_rounded(sign, e, m);
     return m;
 }
 
-/* The same of an argument of this sign, whose magnitude is pi / 2 times (upper + lower / 2^WIDTH) * 2^(2 - WIDTH), but for
-   whole turns. What is behind the point of that number of quadrants isn't 0. */
-WORD FORMAT_circular_of_quadrants(int kind, WORD sign, WORD upper, WORD lower) {
-    int quadrant = (int)(upper >> (WIDTH - 2));
-    upper = upper << 2 | lower >> (WIDTH - 2);
-    lower <<= 2;
-    WORD rest_sign = 0;
-    if (upper >= TOP_BIT) {
-        quadrant += 1;
-        rest_sign = SIGN_BIT;
-        lower = 0 - lower;
-        upper = ~upper + (WORD)(lower == 0);
+/* The same of an argument of this sign. Its magnitude is pi / 2 times (upper + lower / 2^WIDTH) * 2^(2 - WIDTH), but for
+   whole turns, where that number of quadrants isn't whole; or, where it is 0, m * 2^(e - (WIDTH - 1)), up to pi / 4. */
+WORD FORMAT_circular_of_quadrants(int kind, WORD sign, int e, WORD m, WORD upper, WORD lower) {
+    int quadrant = 0;
+    if (upper != 0 || lower != 0) {
+        quadrant = (int)(upper >> (WIDTH - 2));
+        if (sign != 0) quadrant = -quadrant;
+        upper = upper << 2 | lower >> (WIDTH - 2);
+        lower <<= 2;
+        if (upper >= TOP_BIT) {
+            quadrant += sign != 0 ? -1 : 1;
+            sign ^= SIGN_BIT;
+            lower = 0 - lower;
+            upper = ~upper + (WORD)(lower == 0);
+        }
+        e = 0;
+        if (upper == 0) {
+            upper = lower;
+            lower = 0;
+            e = -WIDTH;
+        }
+        int up = (int)clz(upper);
+        if (up != 0) upper = upper << up | lower >> (WIDTH - up);
+        m = FORMAT_product_upper(upper, PI_QUARTER);
+        e -= up;
+        up = (int)clz(m);
+        m <<= up;
+        e -= up;
     }
-    int e = 0;
-    if (upper == 0) {
-        upper = lower;
-        lower = 0;
-        e = -WIDTH;
-    }
-    int up = (int)clz(upper);
-    if (up != 0) upper = upper << up | lower >> (WIDTH - up);
-    upper = FORMAT_product_upper(upper, PI_QUARTER);
-    if (upper < TOP_BIT) {
-        upper <<= 1;
-        up += 1;
-    }
-    if (sign != 0) {
-        quadrant = -quadrant;
-        rest_sign ^= SIGN_BIT;
-    }
-    upper = FORMAT_circular(kind, quadrant & 3, rest_sign, e - up, upper);
-    return upper;
+    m = FORMAT_circular(kind, quadrant & 3, sign, e, m);
+    return m;
 }
+
 /* 64 bits of 2 / pi from a place of its fraction on, which is counted as in FORMAT_two_over_pi. */
 ulong FORMAT_bits_of_two_over_pi(int place) {
     ulong first = FORMAT_two_over_pi(place >> 6);
@@ -418,19 +406,19 @@ WORD FORMAT_circular_of(int kind, WORD a) {
     int e = FORMAT_exponent_of(x);
     e -= BIAS;
     x = FORMAT_significand_of(x);
-    if (e < -1) {
-        x = FORMAT_circular(kind, 0, a & SIGN_BIT, e, x);
-        return x;
+    WORD upper = 0;
+    WORD lower = 0;
+    if (e >= -1) {
+        int place = e + WIDTH - 1;
+        WORD first = FORMAT_word_of_two_over_pi(place);
+        WORD second = FORMAT_word_of_two_over_pi(place + WIDTH);
+        WORD third = FORMAT_word_of_two_over_pi(place + 2 * WIDTH);
+        third = FORMAT_product_upper(x, third);
+        lower = x * second + third;
+        second = FORMAT_product_upper(x, second);
+        upper = x * first + second + (WORD)(lower < third);
     }
-    int place = e + WIDTH - 1;
-    WORD first = FORMAT_word_of_two_over_pi(place);
-    WORD second = FORMAT_word_of_two_over_pi(place + WIDTH);
-    WORD third = FORMAT_word_of_two_over_pi(place + 2 * WIDTH);
-    third = FORMAT_product_upper(x, third);
-    WORD lower = x * second + third;
-    second = FORMAT_product_upper(x, second);
-    WORD upper = x * first + second + (WORD)(lower < third);
-    x = FORMAT_circular_of_quadrants(kind, a & SIGN_BIT, upper, lower);
+    x = FORMAT_circular_of_quadrants(kind, a & SIGN_BIT, e, x, upper, lower);
     return x;
 }
 
@@ -470,17 +458,16 @@ WORD FORMAT_circular_of_pi(int kind, WORD a) {
     int e = FORMAT_exponent_of(x);
     e -= BIAS;
     x = FORMAT_significand_of(x);
-    if (e < -2) {
-        x = FORMAT_product_upper(x, PI_QUARTER);
-        x = FORMAT_circular(kind, 0, sign, e + 2, x);
-        return x;
+    WORD quadrants = 0;
+    if (e >= -2) {
+        quadrants = e >= WIDTH ? 0 : e < 0 ? x >> -e : x << e;
+        if (quadrants << 2 == 0) {
+            x = FORMAT_circular_of_whole(kind, sign, (int)(quadrants >> (WIDTH - 2)));
+            return x;
+        }
     }
-    x = e >= WIDTH ? 0 : e < 0 ? x >> -e : x << e;
-    if (x << 2 == 0) {
-        x = FORMAT_circular_of_whole(kind, sign, (int)(x >> (WIDTH - 2)));
-        return x;
-    }
-    x = FORMAT_circular_of_quadrants(kind, sign, x, 0);
+    x = FORMAT_product_upper(x, PI_QUARTER);
+    x = FORMAT_circular_of_quadrants(kind, sign, e + 2, x, quadrants, 0);
     return x;
 }
 
@@ -625,49 +612,40 @@ WORD FORMAT_asin_of(WORD m, WORD z) {
     return m + part;
 }
 
-/* The arc sine, or with `complement` the arc cosine, of a magnitude up to 1/2. */
-WORD FORMAT_arc_near(WORD sign, int complement, int e, WORD m, int per_pi) {
-    WORD z = FORMAT_down(m, -e - 1);
-    z = FORMAT_product_upper(z, z);
-    m = FORMAT_asin_of(m, z);
-    if (complement != 0) m = FORMAT_angle(0, HALF_PI, (int)(sign == 0), e + 1, m, per_pi);
-    else m = FORMAT_angle(sign, 0, 0, e + 1, m, per_pi);
-    return m;
-}
-
-/* The same of a magnitude x / 2^WIDTH from 1/2 to below 1: acos(x) is 2 * asin(sqrt((1 - x) / 2)). */
-WORD FORMAT_arc_far(WORD sign, int complement, WORD x, int per_pi) {
-    WORD z = (0 - x) >> 1;
-    int up = (int)clz(z);
-    int e = -1 - up;
-    x = FORMAT_root(z << up, e & 1);
-    x = FORMAT_asin_of(x << 1, z);
-    e = (e >> 1) + 2;
-    if (complement == 0) x = FORMAT_angle(sign, HALF_PI, 1, e, x, per_pi);
-    else x = FORMAT_angle(0, sign == 0 ? 0 : WHOLE_PI, 1, e, x, per_pi);
-    return x;
-}
-
-/* The arc sine of a, or with `complement` the arc cosine; with `per_pi` divided by pi. */
+/* The arc sine of a, or with `complement` the arc cosine; with `per_pi` divided by pi. Above 1/2 the arc cosine of a
+   magnitude x is 2 * asin(sqrt((1 - x) / 2)). */
 WORD FORMAT_arc(int complement, WORD a, int per_pi) {
     WORD x = a & MAGNITUDE_MASK;
     WORD sign = a & SIGN_BIT;
     if (x > ONE_BITS) return NAN_BITS;
-    if (x == 0 || x == ONE_BITS) {
-        if (complement == (x == ONE_BITS)) {
-            if (complement == 0) return a;
-            if (sign == 0) return 0;
-            x = FORMAT_angle(0, WHOLE_PI, 0, 0, 0, per_pi);
-            return x;
+    if (x == 0 && complement == 0) return a;
+    if (a == ONE_BITS && complement != 0) return 0;
+    int e = -WIDTH;
+    WORD m = 0;
+    WORD z = 0;
+    int far = x > HALF_BITS;
+    if (x != 0 && x != ONE_BITS) {
+        e = FORMAT_exponent_of(x);
+        e -= BIAS;
+        m = FORMAT_significand_of(x);
+        if (far != 0) {
+            z = (0 - m) >> 1;
+            int up = (int)clz(z);
+            e = -1 - up;
+            m = FORMAT_root(z << up, e & 1);
+            m <<= 1;
+            e = (e >> 1) + 1;
+        } else {
+            z = FORMAT_down(m, -e - 1);
+            z = FORMAT_product_upper(z, z);
         }
-        x = FORMAT_angle(complement != 0 ? 0 : sign, HALF_PI, 0, 0, 0, per_pi);
-        return x;
+        m = FORMAT_asin_of(m, z);
+        e += 1;
     }
-    int e = FORMAT_exponent_of(x);
-    e -= BIAS;
-    WORD m = FORMAT_significand_of(x);
-    if (x > HALF_BITS) x = FORMAT_arc_far(sign, complement, m, per_pi);
-    else x = FORMAT_arc_near(sign, complement, e, m, per_pi);
+    WORD base = 0;
+    if (complement != far) base = HALF_PI;
+    else if (complement != 0 && sign != 0) base = WHOLE_PI;
+    x = FORMAT_angle(complement != 0 ? 0 : sign, base, (int)(far != 0 || sign == 0), e, m, per_pi);
     return x;
 }
 
