@@ -2,6 +2,9 @@
 # in which each stands behind those that it calls. `parameters` and `calls` are words with a space between; the text is
 # the helper as it is sent, without comments.
 #
+# Each variable and parameter gets a `_` at its end, so that a kernel whose name is `sum` doesn't meet a variable of this
+# name: no variable may have the name of a function of the text.
+#
 # In floats.cl a helper's head is one line that begins with its type and ends with `{`, and its last line is `}`.
 
 # A line as a string of C.
@@ -24,6 +27,18 @@ function types_of(head, parts, count, i, words, types) {
     return types
 }
 
+# A line with a `_` behind each name that is no word of the language and no helper.
+function with_own_names(line, result, name) {
+    result = ""
+    while (match(line, /[A-Za-z0-9_]+/)) {
+        name = substr(line, RSTART, RLENGTH)
+        result = result substr(line, 1, RSTART - 1) name
+        if (name ~ /^[a-z]/ && !(name in word) && !(name in known)) result = result "_"
+        line = substr(line, RSTART + RLENGTH)
+    }
+    return result line
+}
+
 # Adds the known names in front of a bracket to `calls`, each once.
 function note_calls(line, name) {
     while (match(line, /[a-z][a-z0-9_]*\(/)) {
@@ -33,14 +48,19 @@ function note_calls(line, name) {
     }
 }
 
-BEGIN { print "/* Made of floats.cl by helpers.awk. */" }
+BEGIN {
+    print "/* Made of floats.cl by helpers.awk. */"
+    count = split("int uint long ulong ushort if else while return min max clz abs", list, " ")
+    for (i = 1; i <= count; i++) word[list[i]] = 1
+}
 
 /^[a-z].*\{$/ {
     inside = 1
     split($0, words, /[ (]/)
     name = words[2]
     calls = ""
-    text = quoted($0)
+    known[name] = 1
+    text = quoted(with_own_names($0))
     head = name ", " words[1] ", \"" types_of($0) "\""
     next
 }
@@ -50,11 +70,10 @@ inside {
     gsub(/\/\*[^*]*\*\//, "", line)
     sub(/^ +/, "", line)
     note_calls(line)
-    text = text quoted(line)
+    text = text quoted(with_own_names(line))
 }
 
 inside && /^\}$/ {
     inside = 0
-    known[name] = 1
     print "HELPER(" head ", \"" calls "\"," text ")"
 }

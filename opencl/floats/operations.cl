@@ -83,46 +83,40 @@ WORD FORMAT_mul_special(WORD sign, WORD x, WORD y) {
     return sign | INFINITY_BITS;
 }
 
-/* a * b of two finite magnitudes other than 0. `exponent` is the sum of the biased exponents. */
-WORD FORMAT_mul_finite(WORD sign, WORD a, WORD b) {
-    WORD exponent = (a >> FRACTION_BITS) + (b >> FRACTION_BITS);
-    if (a < SMALLEST_NORMAL) {
-        WORD up = clz(a) - TOP_SHIFT;
-        a <<= up;
-        exponent += 1 - up;
-    }
-    if (b < SMALLEST_NORMAL) {
-        WORD up = clz(b) - TOP_SHIFT;
-        b <<= up;
-        exponent += 1 - up;
-    }
-    a <<= TOP_SHIFT;
-    a |= TOP_BIT;
-    b &= FRACTION_MASK;
-    b |= SMALLEST_NORMAL;
-    b <<= TOP_SHIFT - 1;
-    a = FORMAT_product(a, b);
-    if (a < SECOND_BIT) a <<= 1;
-    else exponent += 1;
-    if (exponent > BIAS) {
-        if (exponent < BIAS + LARGEST_EXPONENT) {
-            exponent -= BIAS + 1;
-            a = FORMAT_pack(sign + (exponent << FRACTION_BITS), a);
-            return a;
-        }
-    }
-    a = FORMAT_round(sign, (int)exponent - BIAS, a);
-    return a;
-}
-
-/* a * b */
+/* a * b. `exponent` is the sum of the biased exponents. */
 WORD FORMAT_mul(WORD a, WORD b) {
     WORD sign = a ^ b;
     sign &= SIGN_BIT;
     a &= MAGNITUDE_MASK;
     b &= MAGNITUDE_MASK;
     if (a != 0) if (b != 0) if (a < INFINITY_BITS) if (b < INFINITY_BITS) {
-        a = FORMAT_mul_finite(sign, a, b);
+        WORD exponent = (a >> FRACTION_BITS) + (b >> FRACTION_BITS);
+        if (a < SMALLEST_NORMAL) {
+            WORD up = clz(a) - TOP_SHIFT;
+            a <<= up;
+            exponent += 1 - up;
+        }
+        if (b < SMALLEST_NORMAL) {
+            WORD up = clz(b) - TOP_SHIFT;
+            b <<= up;
+            exponent += 1 - up;
+        }
+        a <<= TOP_SHIFT;
+        a |= TOP_BIT;
+        b &= FRACTION_MASK;
+        b |= SMALLEST_NORMAL;
+        b <<= TOP_SHIFT - 1;
+        a = FORMAT_product(a, b);
+        if (a < SECOND_BIT) a <<= 1;
+        else exponent += 1;
+        if (exponent > BIAS) {
+            if (exponent < BIAS + LARGEST_EXPONENT) {
+                exponent -= BIAS + 1;
+                a = FORMAT_pack(sign + (exponent << FRACTION_BITS), a);
+                return a;
+            }
+        }
+        a = FORMAT_round(sign, (int)exponent - BIAS, a);
         return a;
     }
     a = FORMAT_mul_special(sign, a, b);
@@ -137,48 +131,42 @@ WORD FORMAT_div_special(WORD sign, WORD x, WORD y) {
     return sign;
 }
 
-/* a / b of two finite magnitudes other than 0. `exponent` is the difference of the biased exponents, plus BIAS. */
-WORD FORMAT_div_finite(WORD sign, WORD a, WORD b) {
-    WORD exponent = (a >> FRACTION_BITS) - (b >> FRACTION_BITS);
-    exponent += BIAS;
-    if (a < SMALLEST_NORMAL) {
-        WORD up = clz(a) - TOP_SHIFT;
-        a <<= up;
-        exponent += 1 - up;
-    }
-    if (b < SMALLEST_NORMAL) {
-        WORD up = clz(b) - TOP_SHIFT;
-        b <<= up;
-        exponent -= 1 - up;
-    }
-    a <<= TOP_SHIFT;
-    a |= TOP_BIT;
-    b <<= TOP_SHIFT;
-    b |= TOP_BIT;
-    a = FORMAT_quotient(a, b);
-    if (a < SECOND_BIT) {
-        a <<= 1;
-        exponent -= 1;
-    }
-    if (exponent != 0) {
-        if (exponent < LARGEST_EXPONENT) {
-            exponent -= 1;
-            a = FORMAT_pack(sign + (exponent << FRACTION_BITS), a);
-            return a;
-        }
-    }
-    a = FORMAT_round(sign, (int)exponent, a);
-    return a;
-}
-
-/* a / b */
+/* a / b. `exponent` is the difference of the biased exponents, plus BIAS. */
 WORD FORMAT_div(WORD a, WORD b) {
     WORD sign = a ^ b;
     sign &= SIGN_BIT;
     a &= MAGNITUDE_MASK;
     b &= MAGNITUDE_MASK;
     if (a != 0) if (b != 0) if (a < INFINITY_BITS) if (b < INFINITY_BITS) {
-        a = FORMAT_div_finite(sign, a, b);
+        WORD exponent = (a >> FRACTION_BITS) - (b >> FRACTION_BITS);
+        exponent += BIAS;
+        if (a < SMALLEST_NORMAL) {
+            WORD up = clz(a) - TOP_SHIFT;
+            a <<= up;
+            exponent += 1 - up;
+        }
+        if (b < SMALLEST_NORMAL) {
+            WORD up = clz(b) - TOP_SHIFT;
+            b <<= up;
+            exponent -= 1 - up;
+        }
+        a <<= TOP_SHIFT;
+        a |= TOP_BIT;
+        b <<= TOP_SHIFT;
+        b |= TOP_BIT;
+        a = FORMAT_quotient(a, b);
+        if (a < SECOND_BIT) {
+            a <<= 1;
+            exponent -= 1;
+        }
+        if (exponent != 0) {
+            if (exponent < LARGEST_EXPONENT) {
+                exponent -= 1;
+                a = FORMAT_pack(sign + (exponent << FRACTION_BITS), a);
+                return a;
+            }
+        }
+        a = FORMAT_round(sign, (int)exponent, a);
         return a;
     }
     a = FORMAT_div_special(sign, a, b);

@@ -103,7 +103,7 @@ def script(helpers, name, arguments, columns):
     letters = [word for word in arguments if word in columns]
     word = {4: "uint", 8: "ulong"}[columns["a"].itemsize]
     source = texts.text_of(helpers, [name])
-    source += f"__kernel void k(__global {helper.result} *r, " + ", ".join(f"__global {word} *{x}" for x in letters)
+    source += f"__kernel void called(__global {helper.result} *r, " + ", ".join(f"__global {word} *{x}" for x in letters)
     source += ") {\nint i = get_global_id(0);\n" + helper.result + f" x = {name}("
     source += ", ".join(f"{word}[i]" if word in letters else word for word in arguments) + ");\nr[i] = x;\n}\n"
     count = len(columns["a"])
@@ -112,7 +112,7 @@ def script(helpers, name, arguments, columns):
     for letter in letters:
         data = columns[letter].tobytes()
         lines += [f"buffer {letter} {len(data)}", f"write {letter} 0 {data.hex()}"]
-    lines += [f"program q {source.count(chr(10))}", source + "kernel k q k"]
+    lines += [f"program q {source.count(chr(10))}", source + "kernel k q called"]
     lines += [f"arg k {i} buffer {x}" for i, x in enumerate(["r"] + letters)]
     lines += [f"launch k {count} {min(count, 64)}", f"read r 0 {size}"]
     return "\n".join(lines) + "\n"
