@@ -11,7 +11,7 @@ import os
 
 import mpmath as mp
 
-mp.mp.prec = 400
+mp.mp.prec = 250
 HERE = os.path.dirname(os.path.abspath(__file__))
 
 
@@ -22,7 +22,7 @@ def series(term, z):
         more = term(n, z)
         total += more
         n += 1
-        if n > 3 and abs(more) < mp.mpf(2) ** -300:
+        if n > 3 and abs(more) < mp.mpf(2) ** -200:
             return total
 
 
@@ -62,6 +62,22 @@ def asin_part(z):
     return series(term, z)
 
 
+def erf_part(z):
+    return 2 / mp.sqrt(mp.pi) * series(lambda n, x: (-x) ** n / (mp.factorial(n + 1) * (2 * n + 3)), z)
+
+
+def gamma_part(u):
+    return mp.gamma(3 + u) / 8
+
+
+def erfcx_part(exponent):
+    """2^exponent * e^(x^2) * erfc(x) for x = 2^exponent * (1 + u)"""
+    def part(u):
+        x = mp.mpf(2) ** exponent * (1 + u)
+        return mp.mpf(2) ** exponent * mp.exp(x * x) * mp.erfc(x)
+    return part
+
+
 SMALL = (3 - 2 * mp.sqrt(2)) ** 2
 # name, function, its definition, the end of the interval from 0 on
 POLYNOMIALS = [
@@ -73,7 +89,13 @@ POLYNOMIALS = [
     ("cosine_part", cosine_part, "(1 - cos(x)) / z for z = x^2", (mp.pi / 4) ** 2 * mp.mpf("1.001")),
     ("atan_part", atan_part, "(1 - atan(x) / x) / z for z = x^2", (mp.sqrt(2) - 1) ** 2 * mp.mpf("1.01")),
     ("asin_part", asin_part, "(asin(x) / x - 1) / z for z = x^2", mp.mpf("0.2525")),
+    ("erf_part", erf_part, "(2 / sqrt(pi) - erf(x) / x) / z for z = x^2", mp.mpf(1)),
+] + [
+    (f"erfcx_part_{i}", erfcx_part(i), f"{1 << i} * e^(x^2) * erfc(x) for x = {1 << i} * (1 + z)", mp.mpf(1))
+    for i in range(5)
 ]
+# what only words of 64 bits are used of
+POLYNOMIALS_64 = [("gamma_part", gamma_part, "gamma(3 + z) / 8", mp.mpf(1))]
 
 
 def keeps_signs(coefficients, end):
@@ -87,12 +109,32 @@ def keeps_signs(coefficients, end):
     return True
 
 
+def interpolated(function, end, count):
+    """The coefficients, lowest first, of the polynomial through the function at `count` Chebyshev points."""
+    points = [end * (1 + mp.cos(mp.pi * (2 * i + 1) / (2 * count))) / 2 for i in range(count)]
+    differences = [function(point) for point in points]
+    for order in range(1, count):
+        for i in range(count - 1, order - 1, -1):
+            differences[i] = (differences[i] - differences[i - 1]) / (points[i] - points[i - order])
+    coefficients = [differences[-1]]
+    for point, difference in zip(points[-2::-1], differences[-2::-1]):
+        shifted = [mp.mpf(0)] + coefficients
+        for i, coefficient in enumerate(coefficients):
+            shifted[i] -= point * coefficient
+        shifted[0] += difference
+        coefficients = shifted
+    return coefficients
+
+
 def fitted(function, end, width):
-    """The fewest coefficients, lowest first, that err by less than 2^-(width + 1), and the error."""
+    """The fewest coefficients, lowest first, that err by less than 2^-(width + 1) at 80 points, and the largest error."""
+    places = [end * i / 79 for i in range(80)]
+    values = [function(place) for place in places]
     for count in range(3, 40):
-        coefficients, error = mp.chebyfit(function, [0, end], count, error=True)
-        if error < mp.mpf(2) ** -(width + 1) and keeps_signs(coefficients[::-1], end):
-            return coefficients[::-1], error
+        coefficients = interpolated(function, end, count)
+        error = max(abs(mp.polyval(coefficients[::-1], place) - value) for place, value in zip(places, values))
+        if error < mp.mpf(2) ** -(width + 1) and keeps_signs(coefficients, end):
+            return coefficients, error
     raise ValueError(function)
 
 
@@ -107,7 +149,7 @@ def polynomial_text(name, function, definition, end, width):
     word, format_name = ("uint", "float") if width == 32 else ("ulong", "double")
     coefficients, error = fitted(function, end, width)
     bits = int(mp.floor(-mp.log(error, 2)))
-    lines = [f"/* {definition}, up to z = {mp.nstr(end, 6)}; without what is cut off it errs by less than 2^-{bits}. */",
+    lines = [f"/* {definition}, up to z = {mp.nstr(end, 6)}; without what is cut off it errs by some 2^-{bits}. */",
              f"{word} {format_name}_{name}({word} z) {{",
              f"    {word} sum = {literal(coefficients[-1], width)};"]
     positive = coefficients[-1] > 0
@@ -157,7 +199,7 @@ def constants_text(width):
             ("SQRT_2", mp.sqrt(2) * half), ("ONE_LESS_SQRT_HALF", mp.mpf("0.29") * whole),
             ("PI_QUARTER", mp.pi / 4 * whole), ("TWO_OVER_PI", 2 / mp.pi * whole), ("WHOLE_PI", mp.pi / 2 * half),
             ("HALF_PI", mp.pi / 4 * half), ("QUARTER_PI", mp.pi / 8 * half),
-            ("TAN_PI_EIGHTH", (mp.sqrt(2) - 1) * whole)]
+            ("TAN_PI_EIGHTH", (mp.sqrt(2) - 1) * whole), ("ONE_OVER_SQRT_PI", whole / mp.sqrt(mp.pi))]
     lines = ["# Made by polynomials.py."]
     for name, number in rows:
         lines.append(f"s/{name}/{literal(number / whole, width)}/g")
@@ -168,7 +210,8 @@ def main():
     for width in (32, 64):
         with open(os.path.join(HERE, f"constants{width}.sed"), "w") as file:
             file.write(constants_text(width))
-        texts = [polynomial_text(*row, width) for row in POLYNOMIALS]
+        rows = POLYNOMIALS + (POLYNOMIALS_64 if width == 64 else [])
+        texts = [polynomial_text(*row, width) for row in rows]
         texts.append(two_over_pi_text(width))
         with open(os.path.join(HERE, f"polynomials{width}.cl"), "w") as file:
             file.write("/* Made by polynomials.py. */\n\n" + "\n".join(texts) + "\n")

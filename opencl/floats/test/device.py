@@ -1,7 +1,9 @@
 #!/usr/bin/python3
 """Runs helpers on the device, and compares what they leave with numpy, or with exact fractions.
 
-    device.py CLSIM FILE [--items N] [--seed N]
+The elementary functions may differ from numpy's by some units in the last place: of a float by 1, of a double by 4.
+
+    device.py CLSIM FILE [--items N] [--seed N] [--only HELPER]
 
 FILE has the helpers. Each is called once by each of N items, on bits chosen so that corners are frequent.
 The last line is `N passed, M failed`; the status is 0 where M is 0, else 1.
@@ -97,6 +99,35 @@ def rows(real):
         yield "float_from_double", "0a", lambda a: a.astype(FLOAT)
 
 
+def elementary(real):
+    """The same for functions that numpy has; those of a float by its functions on doubles."""
+    name = "float" if real is FLOAT else "double"
+
+    def wide(function):
+        return lambda *columns: function(*[column.astype(DOUBLE) for column in columns]).astype(real)
+    for helper in ("exp", "exp2", "expm1", "log", "log2", "log10", "log1p", "sin", "cos", "tan", "sinh", "cosh", "tanh",
+                   "cbrt"):
+        yield f"{name}_{helper}", "a", wide(getattr(numpy, helper))
+    for helper in ("asin", "acos", "atan", "asinh", "acosh", "atanh"):
+        yield f"{name}_{helper}", "a", wide(getattr(numpy, helper.replace("a", "arc", 1)))
+    yield f"{name}_atan2", "ab", wide(numpy.arctan2)
+    yield f"{name}_pow", "ab", wide(numpy.power)
+    yield f"{name}_hypot", "ab", wide(numpy.hypot)
+    for helper in ("erf", "erfc", "tgamma", "lgamma"):
+        plain = getattr(math, helper.replace("tgamma", "gamma"))
+        yield f"{name}_{helper}", "a", wide(numpy.vectorize(lambda x, plain=plain: by_math(plain, x), otypes=[DOUBLE]))
+
+
+def by_math(function, x):
+    """What a function of the module math gives, where that raises an error as C's does."""
+    try:
+        return function(x)
+    except OverflowError:
+        return math.inf
+    except ValueError:
+        return math.nan if function is not math.gamma or x != 0 else math.copysign(math.inf, x)
+
+
 def script(helpers, name, arguments, columns):
     """A script of one launch of a kernel that calls the helper."""
     helper = helpers[name]
@@ -129,6 +160,20 @@ def left_by(clsim, text):
     return bytes.fromhex(last[5:])
 
 
+def distances(data, wanted):
+    """The places where the bits differ by more than the units allowed."""
+    bits = BITS[wanted.dtype.type]
+    signed = numpy.int32 if bits is numpy.uint32 else numpy.int64
+    came = numpy.frombuffer(data, wanted.dtype)
+    sides = []
+    for numbers in (came, wanted):
+        plain = numbers.view(signed).astype(object)
+        sides.append(numpy.where(plain < 0, -(plain & ((1 << (8 * numbers.itemsize - 1)) - 1)), plain))
+    allowed = 1 if bits is numpy.uint32 else 4
+    far = numpy.array([abs(int(x) - int(y)) > allowed for x, y in zip(*sides)])
+    return numpy.nonzero(far & ~(numpy.isnan(came) & numpy.isnan(wanted)))[0]
+
+
 def differences(name, helper, data, wanted):
     """The places where the bits differ: a NaN is the one quiet NaN; zeros of fmin and fmax may have either sign."""
     if isinstance(wanted, list):
@@ -152,19 +197,23 @@ def main():
     parser.add_argument("file")
     parser.add_argument("--items", type=int, default=256)
     parser.add_argument("--seed", type=int, default=1)
+    parser.add_argument("--only", help="the helper that is tried alone")
     words = parser.parse_args()
     helpers = texts.read_helpers(words.file)
     random = numpy.random.default_rng(words.seed)
     passed = failed = 0
     for real in (FLOAT, DOUBLE):
-        for name, arguments, reference in rows(real):
+        for name, arguments, reference in list(rows(real)) + list(elementary(real)):
+            if words.only and words.only != name:
+                continue
             columns = {letter: chosen(real, random, words.items) for letter in "abc"}
             data = left_by(words.clsim, script(helpers, name, arguments, columns))
             with numpy.errstate(all="ignore"):
                 wanted = reference(*[columns[word].view(real) for word in arguments if word in columns])
                 if isinstance(wanted, list) and isinstance(wanted[0], numpy.floating):
                     wanted = numpy.array(wanted, real)
-            wrong = differences(name, helpers[name], data, wanted)
+            is_exact = name in [row[0] for row in rows(real)]
+            wrong = differences(name, helpers[name], data, wanted) if is_exact else distances(data, wanted)
             passed, failed = passed + (len(wrong) == 0), failed + (len(wrong) != 0)
             for i in wrong[:3]:
                 print(name, "of", " ".join(hex(columns[word][i]) for word in arguments if word in columns), "isn't", wanted[i])

@@ -92,6 +92,11 @@ static int exact_rootn(mpfr_t y, const mpfr_t x, long n, mpfr_rnd_t r) {
     return mpfr_ui_div(y, 1, y, r);
 }
 
+static int exact_lgamma(mpfr_t y, const mpfr_t x, mpfr_rnd_t r) {
+    int sign;
+    return mpfr_lgamma(y, &sign, x, r);
+}
+
 // ---- arguments ----
 
 enum domain { ANY, EXPONENT, POSITIVE, UNIT_INTERVAL, ANGLE, FACTORIAL };
@@ -184,6 +189,10 @@ static const struct one ones[] = {
     ONE(sinh, mpfr_sinh, EXPONENT, 4, 4),       ONE(cosh, mpfr_cosh, EXPONENT, 4, 4),
     ONE(tanh, mpfr_tanh, EXPONENT, 5, 5),       ONE(asinh, mpfr_asinh, ANY, 4, 4),
     ONE(acosh, mpfr_acosh, POSITIVE, 4, 4),     ONE(atanh, mpfr_atanh, UNIT_INTERVAL, 5, 5),
+    ONE(erf, mpfr_erf, EXPONENT, 16, 16),       ONE(erfc, mpfr_erfc, EXPONENT, 16, 16),
+    ONE(tgamma, mpfr_gamma, FACTORIAL, 16, 16),
+    // OpenCL gives no bound for lgamma; below 0, near its zeros, the error of a double is that of 1.
+    ONE(lgamma, exact_lgamma, FACTORIAL, 16, INFINITY),
     ONE(rsqrt, mpfr_rec_sqrt, POSITIVE, 2, 2),  ONE(cbrt, mpfr_cbrt, ANY, 2, 2),
 };
 
