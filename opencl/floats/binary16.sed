@@ -1,0 +1,19 @@
+# binary16 (IEEE 754-2008, table 3.5) in words of 32 bits
+s/FORMAT_/half_/g
+s/SIGNED_WORD/int/g
+s/WORD/uint/g
+s/UNIT/1u/g
+s/WIDTH/32/g
+s/FRACTION_BITS/10/g
+s/FRACTION_MASK/0x03ffu/g
+s/GUARD_BITS/20/g
+s/GUARD_MASK/0xfffffu/g
+s/GUARD_HALF/0x80000u/g
+s/TOP_SHIFT/21/g
+s/TOP_BIT/0x80000000u/g
+s/LARGEST_EXPONENT/31/g
+s/BIAS/15/g
+s/SIGN_BIT/0x8000u/g
+s/MAGNITUDE_MASK/0x7fffu/g
+s/SMALLEST_NORMAL/0x0400u/g
+s/INFINITY_BITS/0x7c00u/g

@@ -1,0 +1,19 @@
+# Made by polynomials.py.
+s/LOG2_E_UPPER/0xb8aa3b29u/g
+s/LOG2_E_LOWER/0x5c17f0bcu/g
+s/LOG2_10_UPPER/0xd49a784bu/g
+s/LOG2_10_LOWER/0xcd1b8afeu/g
+s/LOG2_E/0xb8aa3b29u/g
+s/LOG10_E/0x3796f62au/g
+s/LOG_2/0x58b90bfcu/g
+s/LOG10_2/0x268826a1u/g
+s/SQRT_2_LESS_ONE/0x68f5c28fu/g
+s/SQRT_2/0xb504f334u/g
+s/ONE_LESS_SQRT_HALF/0x4a3d70a4u/g
+s/PI_QUARTER/0xc90fdaa2u/g
+s/TWO_OVER_PI/0xa2f9836eu/g
+s/WHOLE_PI/0xc90fdaa2u/g
+s/HALF_PI/0x6487ed51u/g
+s/QUARTER_PI/0x3243f6a9u/g
+s/TAN_PI_EIGHTH/0x6a09e668u/g
+s/ONE_OVER_SQRT_PI/0x906eba82u/g

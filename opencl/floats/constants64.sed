@@ -1,0 +1,19 @@
+# Made by polynomials.py.
+s/LOG2_E_UPPER/0xb8aa3b295c17f0bbul/g
+s/LOG2_E_LOWER/0xbe87fed0691d3e89ul/g
+s/LOG2_10_UPPER/0xd49a784bcd1b8afeul/g
+s/LOG2_10_LOWER/0x492bf6ff4dafdb4dul/g
+s/LOG2_E/0xb8aa3b295c17f0bcul/g
+s/LOG10_E/0x3796f62a4dca1c65ul/g
+s/LOG_2/0x58b90bfbe8e7bcd6ul/g
+s/LOG10_2/0x268826a13ef3fde6ul/g
+s/SQRT_2_LESS_ONE/0x68f5c28f5c28f5c3ul/g
+s/SQRT_2/0xb504f333f9de6484ul/g
+s/ONE_LESS_SQRT_HALF/0x4a3d70a3d70a3d71ul/g
+s/PI_QUARTER/0xc90fdaa22168c235ul/g
+s/TWO_OVER_PI/0xa2f9836e4e44152aul/g
+s/WHOLE_PI/0xc90fdaa22168c235ul/g
+s/HALF_PI/0x6487ed5110b4611aul/g
+s/QUARTER_PI/0x3243f6a8885a308dul/g
+s/TAN_PI_EIGHTH/0x6a09e667f3bcc909ul/g
+s/ONE_OVER_SQRT_PI/0x906eba8214db688dul/g
