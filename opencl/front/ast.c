@@ -50,7 +50,8 @@ static int end_run(run *r) {
     return status;
 }
 
-static void do_run(run *r, arena *a, char **words, const char *text, size_t length, reader *read, void *to, outcome *o) {
+static void do_run(run *r, arena *a, char **words, const char *text, size_t length, reader *read, void *to,
+                   outcome *o) {
     r->input = file_with(text, length);
     o->fault = r->input < 0 ? errno : 0;
     if (!o->fault) o->fault = start_child(&r->child, a, words, r->input, (child_limits){most_seconds(), memory});
@@ -98,7 +99,9 @@ static int signal_of(const outcome *o) {
 static void explain_outcome(text *log, const char *clang, const outcome *o) {
     int by = signal_of(o), status = o->status != -1 && WIFEXITED(o->status) ? WEXITSTATUS(o->status) : 0;
     if (o->fault) addf(log, "cannot start %s: %s\n", clang, strerror(o->fault));
-    else if (o->is_late) addf(log, "%s takes longer than %u seconds for this source\n", clang, most_seconds());
+    else if (o->is_late)
+        addf(log, "%s takes longer than %u seconds for this source (CLSIM_CLANG_SECONDS sets how long it may take)\n",
+             clang, most_seconds());
     else if (by) addf(log, "%s was ended by signal %d (%s) at this source\n%s", clang, by, strsignal(by), o->told);
     else if (tells_errors(o)) add(log, o->told);
     else if (status) addf(log, "%s ends with status %d\n%s", clang, status, o->told);
@@ -114,16 +117,29 @@ static void explain_outcome(text *log, const char *clang, const outcome *o) {
     "+cl_khr_global_int32_extended_atomics,+cl_khr_local_int32_base_atomics,+cl_khr_local_int32_extended_atomics"
 
 // (clang's dump doesn't tell what `__builtin_offsetof` comes to; it tells the length of an array)
-static const char *const for_all[] = {"-target", "spir64", "-x", "cl", "-cl-std=CL1.2", "-Xclang",
-                                      "-fdeclare-opencl-builtins", "-Xclang", EXTENSIONS, "-fno-color-diagnostics",
-                                      "-fno-crash-diagnostics", NULL};
+static const char *const for_all[] = {"-target",
+                                      "spir64",
+                                      "-x",
+                                      "cl",
+                                      "-cl-std=CL1.2",
+                                      "-Xclang",
+                                      "-fdeclare-opencl-builtins",
+                                      "-Xclang",
+                                      EXTENSIONS,
+                                      "-fno-color-diagnostics",
+                                      "-fno-crash-diagnostics",
+                                      NULL};
 static const char *const for_source[] = {
-    "-Xclang", "-finclude-default-header", "-D__OPENCL_VERSION__=120", "-U__IMAGE_SUPPORT__",
-    "-D__builtin_offsetof(t,...)=(sizeof(char[__builtin_offsetof(t,__VA_ARGS__)+1])-1)", NULL};
+    "-Xclang",
+    "-finclude-default-header",
+    "-D__OPENCL_VERSION__=120",
+    "-U__IMAGE_SUPPORT__",
+    "-D__builtin_offsetof(t,...)=(sizeof(char[__builtin_offsetof(t,__VA_ARGS__)+1])-1)",
+    NULL};
 static const char *const for_preprocessing[] = {"-w", "-E", "-dD", NULL};
 static const char *const for_checking[] = {"-fsyntax-only", NULL};
-static const char *const for_dump[] = {"-w", "-cl-no-stdinc", "-Xclang", "-x", "-Xclang", "cl-cpp-output",
-                                       "-fsyntax-only", "-Xclang", "-ast-dump", NULL};
+static const char *const for_dump[] = {
+    "-w", "-cl-no-stdinc", "-Xclang", "-x", "-Xclang", "cl-cpp-output", "-fsyntax-only", "-Xclang", "-ast-dump", NULL};
 
 typedef struct {
     arena *arena;
@@ -147,11 +163,15 @@ static void add_words(word_list *l, const char *const *words) {
     for (; *words; words++) add_word(l, *words);
 }
 
-// Whether clang gets an option of a build as it is (OpenCL 1.2, 5.6.4): what changes how a source reads. `-cl-std=CL2.0`
-// is what the constructors of the C++ bindings ask for of themselves.
+// Whether clang gets an option of a build as it is (OpenCL 1.2, 5.6.4): what changes how a source reads.
+// `-cl-std=CL2.0` is what the constructors of the C++ bindings ask for of themselves.
 static bool is_for_clang(const char *option) {
-    static const char *const passed[] = {"-cl-single-precision-constant", "-cl-fast-relaxed-math",
-                                         "-cl-finite-math-only", "-cl-std=CL1.0", "-cl-std=CL1.1", NULL};
+    static const char *const passed[] = {"-cl-single-precision-constant",
+                                         "-cl-fast-relaxed-math",
+                                         "-cl-finite-math-only",
+                                         "-cl-std=CL1.0",
+                                         "-cl-std=CL1.1",
+                                         NULL};
     for (const char *const *p = passed; *p; p++)
         if (!strcmp(option, *p)) return true;
     return false;
@@ -166,6 +186,7 @@ typedef struct {
     size_t option_count;
     bool wants_warnings; // as errors
     int fault;           // why clang couldn't be started: an error's number, or 0
+    bool is_late;        // its time ran out
 } request;
 
 static void add_options(word_list *l, const request *q, bool with_values) {
@@ -263,15 +284,17 @@ static void explain_refusal(const request *q, const text *named, const outcome *
     explain_outcome(log, q->clang, o);
 }
 
-static bool read_preprocessed(const request *q, const text *named, const char *source, char *at, size_t length, tree *t,
+static bool read_preprocessed(request *q, const text *named, const char *source, char *at, size_t length, tree *t,
                               text *log) {
     tree_request wanted = {q->arena, read_rows(q->arena, at, length, source), t};
     outcome o = run_clang(q->arena, words_for(q, for_dump), at, length, read_tree, &wanted);
+    q->is_late = o.is_late;
     if (!is_done(&o)) explain_refusal(q, named, &o, log);
     return is_done(&o);
 }
 
-// What clang looks for where it knows a built-in function by an extension: the preprocessed text has no macros any more.
+// What clang looks for where it knows a built-in function by an extension: the preprocessed text has no macros any
+// more.
 static const char in_front[] = "#define __opencl_c_int64 1\n"
                                "#define __opencl_c_named_address_space_builtins 1\n"
                                "#define cl_khr_byte_addressable_store 1\n"
@@ -288,6 +311,7 @@ static bool read_named(request *q, const text *named, const char *source, tree *
     if (q->wants_warnings) o = check_source(q, named);
     if (is_done(&o)) o = run_clang(q->arena, words_for(q, for_preprocessing), named->at, named->length, read_whole, w);
     q->fault = o.fault;
+    q->is_late = o.is_late;
     if (is_done(&o) && !ends_as_source(w)) o.wrong = "its preprocessed text ends too early";
     if (!is_done(&o)) {
         explain_outcome(log, q->clang, &o);
@@ -334,7 +358,7 @@ static bool is_usable(arena *a, const char *clang, text *log) {
     bool is_read = read_by(q, known_source, "", t, &why);
     if (is_read && is_known_tree(a, t)) return true;
     if (q->fault == ENOENT) return false;
-    if (q->fault) add(log, why.at);
+    if (q->fault || q->is_late) add(log, why.at);
     else addf(log, "clang %s (%s) writes a tree that Clsim can't read\n%s", version_of(a, clang), clang, why.at);
     return false;
 }

@@ -17,8 +17,8 @@ typedef enum {
     ENUMERATION_SHAPE,
     ENUMERATOR_SHAPE,
     TYPE_NAME_SHAPE,
-    IDLE_SHAPE,     // a declaration without anything that counts
-    UNKNOWN_SHAPE,  // of a kind that isn't known: a node without parts
+    IDLE_SHAPE,    // a declaration without anything that counts
+    UNKNOWN_SHAPE, // of a kind that isn't known: a node without parts
     ATTRIBUTE_SHAPE,
     SKIPPED_SHAPE // with all below it
 } shape;
@@ -109,7 +109,7 @@ struct builder {
     known_field *fields; // of all records that are open
     unsigned field_count, field_room;
     id_map nodes, fields_by_id, tags, declarations; // of tags their types
-    reference *names, *jumps, *labels; // the last two of the function that is read
+    reference *names, *jumps, *labels;              // the last two of the function that is read
     unsigned function_count;
     unsigned skipped; // lines that are deeper are left out
     bool has_end;
@@ -129,8 +129,8 @@ attribute *read_attribute(builder *b, const dump_line *line);
 
 bool is_at(const char *s, const char *word);
 const char *behind_spaces(const char *s);
-// Reads `'int4':'int __attribute__((ext_vector_type(4)))'` and the spaces behind it. NULL, and nothing is read, where no
-// quote stands there.
+// Reads `'int4':'int __attribute__((ext_vector_type(4)))'` and the spaces behind it. NULL, and nothing is read, where
+// no quote stands there.
 const type *read_type(builder *b, const char **s);
 const type *need_type(builder *b, const char **s);
 // A number cut to the width of its type, with its sign.

@@ -83,7 +83,7 @@ static const node *only_return(translator *t, const node *function) {
 static value simple_body(translator *t, const node *function, const node *last, const type *result, bool is_used) {
     const node *body = function->body;
     value v = {.kind = NO_VALUE};
-    for (unsigned i = 0; i + 1 < body->part_count; i++) translate_statement(t, body->parts[i], false);
+    translate_range(t, body, 0, body->part_count - 1, false);
     t->at = &last->place;
     if (!is_used) evaluate_effects(t, last->parts[0]);
     else v = given_value(t, evaluate_value(t, last->parts[0]), result);

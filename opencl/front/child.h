@@ -12,12 +12,12 @@ typedef struct {
 } child_limits;
 
 typedef struct {
-    pid_t number;        // of the process, and of its group
-    int output, errors;  // ends of pipes, -1 once they are closed
-    long long last;      // the millisecond at which it is ended
-    bool is_late;        // its time has run out
-    bool is_taken;       // the client has taken its end along
-    char *told;          // the first bytes of its standard error, with a zero behind them
+    pid_t number;       // of the process, and of its group
+    int output, errors; // ends of pipes, -1 once they are closed
+    long long last;     // the millisecond at which it is ended
+    bool is_late;       // its time has run out
+    bool is_taken;      // the client has taken its end along
+    char *told;         // the first bytes of its standard error, with a zero behind them
     size_t told_length;
 } child;
 

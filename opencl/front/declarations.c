@@ -15,6 +15,7 @@ void add_local(translator *t, object *o) {
 
 static void declare_local(translator *t, const node *n, bool is_outermost) {
     object *o = variable_object(t, n);
+    if (o->pass == t->pass_number) return; // in front of what may be left by goto
     if (t->call || !is_outermost)
         refuse_at(t, &n->place, "local memory is declared in the outermost block of a kernel");
     if (n->part_count) refuse_at(t, &n->place, "a variable in local memory has no initial value");
@@ -113,7 +114,8 @@ static void give_initial(translator *t, object *o, const node *n) {
 }
 
 void declare_in_front_of(translator *t, const node *n) {
-    if (n->type->space != PRIVATE_SPACE || n->is_static) return;
+    if (n->type->space == LOCAL_SPACE) declare_local(t, n, true);
+    if (n->type->space != PRIVATE_SPACE || n->is_static || variable_object(t, n)->pass == t->pass_number) return;
     t->is_modified[n->number] = true;
     declare(t, variable_object(t, n), n->type, n->name, &n->place);
 }

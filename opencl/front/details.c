@@ -221,9 +221,7 @@ static node *undumped(builder *b, const char *word, const char *name, const type
     static const struct {
         const char *word;
         node_kind kind;
-    } kinds[] = {{"Function", FUNCTION_DECLARATION},
-                 {"ParmVar", PARAMETER_DECLARATION},
-                 {"Var", VARIABLE_DECLARATION}};
+    } kinds[] = {{"Function", FUNCTION_DECLARATION}, {"ParmVar", PARAMETER_DECLARATION}, {"Var", VARIABLE_DECLARATION}};
     node *n = make_node(b, UNKNOWN_DECLARATION, (position){0, 0});
     n->name = word;
     n->type = t;
@@ -264,7 +262,8 @@ static void member_details(builder *b, node *n, const dump_line *line, const cha
     (void)line;
     n->is_arrow = !strncmp(s, "->", 2);
     const char *at = strstr(s, "0x");
-    while (at && strstr(at + 2, " 0x")) at = strstr(at + 2, " 0x") + 1; // (a name may begin so, no number behind it does)
+    while (at && strstr(at + 2, " 0x"))
+        at = strstr(at + 2, " 0x") + 1; // (a name may begin so, no number behind it does)
     if ((!n->is_arrow && *s != '.') || !at || !read_id(&at, &id)) stop_at(b, "a member of nothing: %.100s", s);
     n->field = get_id(&b->fields_by_id, id);
     if (!n->field) stop_at(b, "a member of no record: %.100s", s);
@@ -412,14 +411,35 @@ const rule *rule_of(const char *word, size_t length) {
 // ---- attributes ----
 
 // Those that change nothing of what a program does.
-static const char *const idle[] = {"AlwaysInlineAttr", "AnnotateAttr",      "ColdAttr",        "ConstAttr",
-                                   "ConvergentAttr",   "DeprecatedAttr",    "FallThroughAttr", "FlattenAttr",
-                                   "FormatAttr",       "GNUInlineAttr",     "HotAttr",         "LikelyAttr",
-                                   "LoopHintAttr",     "MinSizeAttr",       "NoDebugAttr",     "NoInlineAttr",
-                                   "NoThrowAttr",      "NonNullAttr",       "OpenCLUnrollHintAttr",
-                                   "OptimizeNoneAttr", "OverloadableAttr",  "PureAttr",        "ReturnsNonNullAttr",
-                                   "UnlikelyAttr",     "UnusedAttr",        "UsedAttr",        "VisibilityAttr",
-                                   "WarnUnusedResultAttr", NULL};
+static const char *const idle[] = {"AlwaysInlineAttr",
+                                   "AnnotateAttr",
+                                   "ColdAttr",
+                                   "ConstAttr",
+                                   "ConvergentAttr",
+                                   "DeprecatedAttr",
+                                   "FallThroughAttr",
+                                   "FlattenAttr",
+                                   "FormatAttr",
+                                   "GNUInlineAttr",
+                                   "HotAttr",
+                                   "LikelyAttr",
+                                   "LoopHintAttr",
+                                   "MinSizeAttr",
+                                   "NoDebugAttr",
+                                   "NoInlineAttr",
+                                   "NoThrowAttr",
+                                   "NonNullAttr",
+                                   "OpenCLUnrollHintAttr",
+                                   "OptimizeNoneAttr",
+                                   "OverloadableAttr",
+                                   "PureAttr",
+                                   "ReturnsNonNullAttr",
+                                   "UnlikelyAttr",
+                                   "UnusedAttr",
+                                   "UsedAttr",
+                                   "VisibilityAttr",
+                                   "WarnUnusedResultAttr",
+                                   NULL};
 
 static attribute_kind attribute_kind_of(const char *name) {
     static const struct {

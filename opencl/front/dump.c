@@ -79,7 +79,9 @@ static bool read_id(const char **s, uint64_t *to) {
     uint64_t n = 0;
     for (;; ++*s) {
         char c = **s;
-        unsigned digit = c >= '0' && c <= '9' ? (unsigned)(c - '0') : c >= 'a' && c <= 'f' ? (unsigned)(c - 'a') + 10 : 16;
+        unsigned digit = c >= '0' && c <= '9'   ? (unsigned)(c - '0')
+                         : c >= 'a' && c <= 'f' ? (unsigned)(c - 'a') + 10
+                                                : 16;
         if (digit == 16) break;
         n = n << 4 | digit;
     }
@@ -94,7 +96,8 @@ static bool read_unsigned(const char **s, unsigned *to) {
     return true;
 }
 
-// `<invalid sloc>`, `col:5`, `line:3:5` or `<stdin>:3:5`: what isn't written is as in the place that was written before.
+// `<invalid sloc>`, `col:5`, `line:3:5` or `<stdin>:3:5`: what isn't written is as in the place that was written
+// before.
 static bool read_position(dump *d, const char **s, position *to) {
     *to = (position){0, 0};
     if (step_over(s, "<invalid sloc>")) return true;

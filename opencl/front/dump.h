@@ -23,10 +23,10 @@ typedef struct {
     const char *word; // clang's word for the kind of node
     size_t length;    // of the word
     uint64_t id;
-    uint64_t previous;  // the declaration that it declares again, 0 where there is none
+    uint64_t previous;   // the declaration that it declares again, 0 where there is none
     position begin, own; // its first byte, and that of a declaration's name
-    bool is_filler;     // of the elements of an array that no value is given for
-    const char *rest;   // what stands behind the places, without spaces in front
+    bool is_filler;      // of the elements of an array that no value is given for
+    const char *rest;    // what stands behind the places, without spaces in front
 } dump_line;
 
 typedef struct {

@@ -125,7 +125,7 @@ typedef struct {
     integer_type variable;
 } leaf;
 
-// A pointer in private memory.
+// A pointer in private memory, or all those of an object together.
 typedef struct {
     uint64_t offset;
     object **bases; // into which it may point
@@ -145,8 +145,10 @@ struct object {
     unsigned leaf_count, leaf_room;
     pointer_leaf *pointers;
     unsigned pointer_count, pointer_room;
-    unsigned types, types_before; // by which it is accessed at places that aren't constant, a bit for each
-    unsigned atomic_types;        // by which atomic functions access it
+    pointer_leaf any_pointer;              // all pointers in it, where
+    bool indexes_pointers, indexed_before; // they are accessed at places that aren't constant
+    unsigned types, types_before;          // by which it is accessed at places that aren't constant, a bit for each
+    unsigned atomic_types;                 // by which atomic functions access it
     bool is_stored, was_stored;
     bool is_array; // it is judged as an array
     // in this pass
@@ -174,6 +176,14 @@ typedef struct call {
     unsigned number;   // another one for each way to it; 0 is the kernel
     const node *function, *site;
 } call;
+
+// A label that statements in front of it go to.
+typedef struct jump {
+    struct jump *up;
+    const node *target;
+    const call *call;
+    label label;
+} jump;
 
 typedef struct function_frame {
     label *label;
@@ -238,6 +248,7 @@ typedef struct translator {
     function_frame *frame;
     label **breaks; // of the loops and switches round a statement, NULL for a loop
     unsigned break_count, break_room;
+    jump *jumps;     // the labels behind a statement that it may go to
     object **hidden; // tables that the kernel uses
     unsigned hidden_count, hidden_room;
     shown_name *shown;
@@ -424,6 +435,8 @@ value vector_literal(translator *t, const node *n);
 // ---- statements.c ----
 value statement_value(translator *t, const node *n, bool is_used);
 void translate_statement(translator *t, const node *n, bool is_outermost);
+// The statements of a block from one to in front of another one.
+void translate_range(translator *t, const node *block, unsigned first, unsigned end, bool is_outermost);
 void enter_breakable(translator *t, label *l);
 
 // ---- switches.c ----
@@ -431,7 +444,7 @@ void translate_switch(translator *t, const node *n);
 
 // ---- declarations.c ----
 void declare_variable(translator *t, const node *n, bool is_outermost);
-// Declares a variable of a switch in front of it, since the sections behind its own know it too.
+// Declares a variable in front of a switch, whose sections behind its own know it too, or of what may be left by goto.
 void declare_in_front_of(translator *t, const node *n);
 // Declares an object with what it is given.
 void declare_given(translator *t, object *o, const type *type, const char *name, value v, const place *at);

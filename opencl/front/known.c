@@ -4,19 +4,56 @@
 
 // ---- a tree as text ----
 
-static const char *const kinds[] = {
-    "function", "parameter", "variable", "enumerator", "idle", "unknown declaration", "compound", "declarations", "null",
-    "if", "while", "do", "for", "switch", "case", "default", "break", "continue", "return", "goto", "label",
-    "unknown statement", "integer", "floating", "string", "name", "subscript", "member", "component", "unary", "binary",
-    "assignment", "conditional", "call", "cast", "list", "zeros", "literal", "size", "offset", "as_type",
-    "statement expression", "unknown expression"};
+static const char *const kinds[] = {"function",
+                                    "parameter",
+                                    "variable",
+                                    "enumerator",
+                                    "idle",
+                                    "unknown declaration",
+                                    "compound",
+                                    "declarations",
+                                    "null",
+                                    "if",
+                                    "while",
+                                    "do",
+                                    "for",
+                                    "switch",
+                                    "case",
+                                    "default",
+                                    "break",
+                                    "continue",
+                                    "return",
+                                    "goto",
+                                    "label",
+                                    "unknown statement",
+                                    "integer",
+                                    "floating",
+                                    "string",
+                                    "name",
+                                    "subscript",
+                                    "member",
+                                    "component",
+                                    "unary",
+                                    "binary",
+                                    "assignment",
+                                    "conditional",
+                                    "call",
+                                    "cast",
+                                    "list",
+                                    "zeros",
+                                    "literal",
+                                    "size",
+                                    "offset",
+                                    "as_type",
+                                    "statement expression",
+                                    "unknown expression"};
 static const char *const spaces[] = {"", "global ", "constant ", "local "};
 
 // A struct stands there by its name and size.
 static void write_base(text *to, const type *t) {
     static const char *const words[] = {"void", "", "", "", "", "", "", "function ", "event", "other "};
-    addf(to, "%s%s%s%s", t->is_const ? "const " : "", t->is_volatile ? "volatile " : "", t->is_restrict ? "restrict " : "",
-         spaces[t->space]);
+    addf(to, "%s%s%s%s", t->is_const ? "const " : "", t->is_volatile ? "volatile " : "",
+         t->is_restrict ? "restrict " : "", spaces[t->space]);
     if (t->kind == INTEGER_TYPE) addf(to, "%s%u", t->is_bool ? "b" : t->is_signed ? "i" : "u", t->width * 8);
     else if (t->kind == FLOATING_TYPE) addf(to, "f%u", t->width * 8);
     else if (t->kind == RECORD_TYPE)
@@ -62,8 +99,9 @@ static void write_details(text *to, const node *n) {
     if (is_integer) addf(to, " %" PRId64, (int64_t)n->value);
     if (n->kind == FLOATING_LITERAL) addf(to, " %s%" PRIx64, n->is_exact ? "" : "about ", n->value);
     if (n->bytes) write_bytes(to, n);
-    if (n->declaration) addf(to, " -> %s at %u:%u", kinds[n->declaration->kind], n->declaration->place.line,
-                             n->declaration->place.column);
+    if (n->declaration)
+        addf(to, " -> %s at %u:%u", kinds[n->declaration->kind], n->declaration->place.line,
+             n->declaration->place.column);
     if (n->target) addf(to, " -> %u:%u", n->target->place.line, n->target->place.column);
     if (n->field) addf(to, " field %" PRIu64 ", %" PRIu64, n->field->offset, n->field->align);
     if (n->argument) {

@@ -74,8 +74,14 @@ static frame *top(builder *b) { return &b->frames[b->frame_count - 1]; }
 static frame *push(builder *b, const rule *r, const dump_line *line, node *n) {
     b->frames = grown(b->arena, b->frames, b->frame_count, &b->frame_room, sizeof *b->frames);
     frame *f = &b->frames[b->frame_count++];
-    *f = (frame){.shape = r->shape, .depth = line->depth, .rule = r, .node = n, .first_part = b->part_count, .id = line->id,
-                 .own = line->own, .first_field = b->field_count};
+    *f = (frame){.shape = r->shape,
+                 .depth = line->depth,
+                 .rule = r,
+                 .node = n,
+                 .first_part = b->part_count,
+                 .id = line->id,
+                 .own = line->own,
+                 .first_field = b->field_count};
     return f;
 }
 
@@ -107,7 +113,7 @@ static part last_word(const char *begin, const char **end) {
 // stands in the source.
 static bool is_name(builder *b, position own, part p) {
     static const char *const keywords[] = {"struct", "union", "enum", NULL};
-    static const char *const added[] = {"implicit",   "used",   "referenced", "invalid",  "constexpr",
+    static const char *const added[] = {"implicit",   "used",   "referenced", "invalid", "constexpr",
                                         "definition", "hidden", "imported",   "nodebug", NULL};
     if (!p.length || is_one_of(keywords, p.at, p.length)) return false;
     if (!is_one_of(added, p.at, p.length)) return true;
@@ -132,8 +138,8 @@ static const char *read_name(builder *b, position own, const char **s, bool *is_
 
 // Steps over what clang says of an expression behind its type.
 static const char *read_value_kind(node *n, const char *s) {
-    static const char *const others[] = {"xvalue",          "bitfield", "vectorcomponent", "matrixcomponent",
-                                         "contains-errors", NULL};
+    static const char *const others[] = {"xvalue",          "bitfield",        "vectorcomponent",
+                                         "matrixcomponent", "contains-errors", NULL};
     n->is_lvalue = is_at(s, "lvalue");
     if (n->is_lvalue) s = behind_spaces(s + strlen("lvalue"));
     for (const char *const *other = others; *other; other++)
@@ -239,11 +245,13 @@ static void close_node(builder *b, const frame *f) {
 }
 
 static void close_wrapper(builder *b, const frame *f) {
-    if (b->part_count != f->first_part + 1 || !b->parts[f->first_part]) stop_at(b, "%s with not one part", f->rule->word);
+    if (b->part_count != f->first_part + 1 || !b->parts[f->first_part])
+        stop_at(b, "%s with not one part", f->rule->word);
     node *part = b->parts[f->first_part];
     if (f->unknown_attribute) {
         node *unknown = take(b->arena, sizeof *unknown);
-        *unknown = (node){.kind = UNKNOWN_STATEMENT, .name = f->unknown_attribute, .place = part->place, .number = part->number};
+        *unknown = (node){
+            .kind = UNKNOWN_STATEMENT, .name = f->unknown_attribute, .place = part->place, .number = part->number};
         b->parts[f->first_part] = unknown;
     }
 }
@@ -375,8 +383,8 @@ static void open_field(builder *b, const rule *r, const dump_line *line) {
     if (top(b)->shape != RECORD_SHAPE) stop_at(b, "a member of no record");
     frame *f = push(b, r, line, NULL);
     const char *name = read_name(b, line->own, &s, &is_complete);
-    f->field.field = (field){.name = name, .type = need_type(b, &s),
-                             .place = client_place(b->rows, line->own.row, line->own.column)};
+    f->field.field = (field){
+        .name = name, .type = need_type(b, &s), .place = client_place(b->rows, line->own.row, line->own.column)};
 }
 
 // (an expression below a member is the width of a bit-field)

@@ -102,6 +102,13 @@ static bool needs_array(const object *o) {
     return false;
 }
 
+static void begin_pass_of_pointer(pointer_leaf *p) {
+    p->count_before = p->count;
+    p->unit_before = p->unit;
+    p->was_known = true;
+    p->name = p->selector = NULL;
+}
+
 void begin_pass_of_objects(translator *t) {
     for (object *o = t->first_object; o; o = o->next_of_kernel) {
         o->is_array = needs_array(o);
@@ -114,13 +121,9 @@ void begin_pass_of_objects(translator *t) {
             l->was_known = true;
             l->name = NULL;
         }
-        for (unsigned i = 0; i < o->pointer_count; i++) {
-            pointer_leaf *p = &o->pointers[i];
-            p->count_before = p->count;
-            p->unit_before = p->unit;
-            p->was_known = true;
-            p->name = p->selector = NULL;
-        }
+        o->indexed_before = o->indexes_pointers;
+        begin_pass_of_pointer(&o->any_pointer);
+        for (unsigned i = 0; i < o->pointer_count; i++) begin_pass_of_pointer(&o->pointers[i]);
     }
 }
 
@@ -179,18 +182,29 @@ static void name_leaves(translator *t, object *o) {
         l->variable = one_type(l->types_before, l->width);
         l->name = name_for(t, o, l->offset, is_alone);
     }
-    for (unsigned i = 0; i < o->pointer_count; i++) {
+}
+
+static void name_selector(translator *t, pointer_leaf *p) {
+    if (p->count_before < 2) return;
+    p->selector = fresh_name(t, format(t, "%s_b", p->name));
+    show_name(t, p->selector, NULL);
+}
+
+static void name_pointers(translator *t, object *o) {
+    if (o->indexed_before) {
+        o->any_pointer.name = name_for(t, o, 0, true);
+        name_selector(t, &o->any_pointer);
+    }
+    for (unsigned i = 0; i < o->pointer_count && !o->indexed_before; i++) {
         pointer_leaf *p = &o->pointers[i];
         if (!p->was_known) continue;
         p->name = name_for(t, o, p->offset, o->type->kind == POINTER_TYPE);
-        p->selector = p->count_before > 1 ? fresh_name(t, format(t, "%s_b", p->name)) : NULL;
-        if (p->selector) show_name(t, p->selector, NULL);
+        name_selector(t, p);
     }
 }
 
-static void name_array(translator *t, object *o, const place *at) {
+static void name_array(translator *t, object *o) {
     unsigned types = o->types_before;
-    if (o->pointer_count) refuse_at(t, at, "Clsim has no pointers in an array or a struct that is indexed");
     for (unsigned i = 0; i < o->leaf_count; i++) types |= o->leaves[i].types_before;
     integer_type element = array_element_of(t, o, types);
     for (unsigned i = 0; i < o->leaf_count; i++)
@@ -205,23 +219,24 @@ object *new_variable(translator *t, object *o, const type *type, const char *nam
     new_object(t, o, IN_PRIVATE, type, name);
     o->size = size_of_type(t, type, at);
     o->has_size = true;
-    if (o->is_array) name_array(t, o, at);
+    if (o->is_array) name_array(t, o);
     else name_leaves(t, o);
+    name_pointers(t, o);
     return o;
 }
 
+static void write_pointer(translator *t, const pointer_leaf *p, const char *length) {
+    if (p->name) emit(t, "long %s%s;", p->name, length);
+    if (p->selector) emit(t, "int %s%s;", p->selector, length);
+}
+
 void write_declarations(translator *t, object *o) {
-    if (o->is_array) {
-        unsigned long long count = o->size / width_of(o->array_element);
-        emit(t, "%s %s[%llu];", name_of(o->array_element), o->judged, count);
-        return;
-    }
+    unsigned long long count = o->is_array ? o->size / width_of(o->array_element) : 0;
+    if (o->is_array) emit(t, "%s %s[%llu];", name_of(o->array_element), o->judged, count);
     for (unsigned i = 0; i < o->leaf_count; i++)
         if (o->leaves[i].name) emit(t, "%s %s;", name_of(o->leaves[i].variable), o->leaves[i].name);
-    for (unsigned i = 0; i < o->pointer_count; i++) {
-        if (o->pointers[i].name) emit(t, "long %s;", o->pointers[i].name);
-        if (o->pointers[i].selector) emit(t, "int %s;", o->pointers[i].selector);
-    }
+    for (unsigned i = 0; i < o->pointer_count; i++) write_pointer(t, &o->pointers[i], "");
+    write_pointer(t, &o->any_pointer, format(t, "[%llu]", (unsigned long long)(o->size / 8)));
 }
 
 object *declare(translator *t, object *o, const type *type, const char *name, const place *at) {

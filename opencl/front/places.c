@@ -28,8 +28,8 @@ struct rows {
     const char *text;
     row *rows;
     unsigned count;
-    unsigned first;     // the first one of the client's text
-    listing *listings;  // of the files that were asked for
+    unsigned first;    // the first one of the client's text
+    listing *listings; // of the files that were asked for
 };
 
 static const char own_name[] = "source";
@@ -58,8 +58,8 @@ static const char *behind_number(const char *s, const char *end) {
 }
 
 static const char *behind_sign(const char *s, const char *end) {
-    static const char *const signs[] = {"<<=", ">>=", "...", "->", "++", "--", "<<", ">>", "<=", ">=", "==", "!=", "&&",
-                                        "||",  "*=",  "/=",  "%=", "+=", "-=", "&=", "^=", "|=", "##", NULL};
+    static const char *const signs[] = {"<<=", ">>=", "...", "->", "++", "--", "<<", ">>", "<=", ">=", "==", "!=",
+                                        "&&",  "||",  "*=",  "/=", "%=", "+=", "-=", "&=", "^=", "|=", "##", NULL};
     for (const char *const *sign = signs; *sign; sign++) {
         size_t n = strlen(*sign);
         if ((size_t)(end - s) >= n && !memcmp(s, *sign, n)) return s + n;
@@ -154,9 +154,7 @@ static const listing *listing_of(rows *r, const char *file) {
 
 // ---- where words come from ----
 
-static bool is_same(const word *a, const word *b) {
-    return a->length == b->length && !memcmp(a->at, b->at, a->length);
-}
+static bool is_same(const word *a, const word *b) { return a->length == b->length && !memcmp(a->at, b->at, a->length); }
 
 // ---- macros with arguments ----
 

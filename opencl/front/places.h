@@ -12,10 +12,10 @@ typedef struct {
 } word;
 
 typedef struct {
-    size_t begin, end;  // its bytes, without the line feed
-    const char *file;   // as a `place` names it; NULL for what clang itself puts in front
-    unsigned line;      // of the client's text
-    word *words;        // NULL until they are asked for
+    size_t begin, end; // its bytes, without the line feed
+    const char *file;  // as a `place` names it; NULL for what clang itself puts in front
+    unsigned line;     // of the client's text
+    word *words;       // NULL until they are asked for
     unsigned word_count;
 } row;
 
@@ -26,7 +26,8 @@ typedef struct rows rows;
 rows *read_rows(arena *a, char *text, size_t length, const char *source);
 // The row of a number, from 1 on. NULL where there is none.
 row *row_at(const rows *r, unsigned number);
-// Where the word that begins at a row and column comes from. Its file is "source" and its line 0 where that isn't known.
+// Where the word that begins at a row and column comes from. Its file is "source" and its line 0 where that isn't
+// known.
 place client_place(rows *r, unsigned number, unsigned column);
 // The word that begins there. NULL where there is none.
 const word *word_at(rows *r, unsigned number, unsigned column);

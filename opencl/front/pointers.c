@@ -4,11 +4,38 @@
 
 // ---- where a pointer is kept ----
 
-// The private object that a pointer lies in, at a constant place.
-static object *home_of(translator *t, pointer at, const place *place) {
-    if (at.count != 1 || at.objects[0]->space != IN_PRIVATE || !is_constant(at.offset))
-        refuse_at(t, place, "Clsim has no pointers that are kept in memory, or behind an index");
-    return at.objects[0];
+// What is known of a pointer in private memory, and the variables, or elements of arrays, that hold it.
+typedef struct {
+    pointer_leaf *leaf;
+    const char *offset, *selector;
+    bool is_element;
+} pointer_home;
+
+// Where a pointer lies. One whose place isn't constant is an element of the arrays of its object, and then all
+// pointers in that object are.
+static pointer_home home_of(translator *t, pointer at, const place *place) {
+    if (at.count != 1 || at.objects[0]->space != IN_PRIVATE)
+        refuse_at(t, place, "Clsim has no pointers that are kept in memory that isn't private");
+    object *o = at.objects[0];
+    bool is_indexed = !is_inside(o, at.offset, 8) || at.offset.constant % 8;
+    if (is_indexed) learn_fact(t, &o->indexes_pointers);
+    pointer_home h = {.leaf = &o->any_pointer, .is_element = true};
+    if (!o->indexed_before && !is_indexed) {
+        h.leaf = learn_pointer(t, o, (uint64_t)at.offset.constant);
+        return (pointer_home){h.leaf, h.leaf->name, h.leaf->selector, false};
+    }
+    if (!h.leaf->name) return h;
+    integer index = kept(t, in_units(t, aligned(t, at.offset, 8), 8));
+    h.offset = format(t, "%s%s[%s]", mark_here(t, place), h.leaf->name, index.text);
+    if (h.leaf->selector) h.selector = format(t, "%s%s[%s]", mark_here(t, place), h.leaf->selector, index.text);
+    return h;
+}
+
+static integer part_of_home(const pointer_home *h, const char *text, integer_type type) {
+    integer v = variable(text, type, false);
+    v.has_effect = h->is_element;
+    v.depth = h->is_element ? 4 : 1;
+    return v;
 }
 
 static void learn_base(translator *t, pointer_leaf *p, object *o) {
@@ -40,24 +67,23 @@ static bool selector_of(translator *t, const pointer_leaf *home, const pointer *
 }
 
 void store_pointer(translator *t, pointer to, pointer p, const place *at) {
-    object *o = home_of(t, to, at);
-    pointer_leaf *home = learn_pointer(t, o, (uint64_t)to.offset.constant);
+    pointer_home h = home_of(t, to, at);
     integer selector;
-    uint64_t unit = greatest_common_divisor(home->unit, common_factor(p.offset));
-    for (unsigned i = 0; i < p.count; i++) learn_base(t, home, p.objects[i]);
-    if (unit != home->unit) t->is_changed = true;
-    home->unit = unit;
-    unit = home->unit_before ? home->unit_before : 1;
-    if (!home->name || !p.count || common_factor(p.offset) % unit || o->is_array) {
+    uint64_t unit = greatest_common_divisor(h.leaf->unit, common_factor(p.offset));
+    for (unsigned i = 0; i < p.count; i++) learn_base(t, h.leaf, p.objects[i]);
+    if (unit != h.leaf->unit) t->is_changed = true;
+    h.leaf->unit = unit;
+    unit = h.leaf->unit_before ? h.leaf->unit_before : 1;
+    if (!h.offset || !p.count || common_factor(p.offset) % unit) {
         t->is_incomplete = true;
         return;
     }
-    if (home->selector) {
+    if (h.selector) {
         p = kept_pointer(t, p);
-        if (selector_of(t, home, &p, &selector)) emit(t, "%s=%s;", home->selector, selector.text);
+        if (selector_of(t, h.leaf, &p, &selector)) emit(t, "%s=%s;", h.selector, selector.text);
         else t->is_incomplete = true;
     }
-    emit(t, "%s=%s;", home->name, assigned(t, in_units(t, p.offset, unit), LONG));
+    emit(t, "%s=%s;", h.offset, assigned(t, in_units(t, p.offset, unit), LONG));
 }
 
 // Objects of an earlier pass that aren't declared yet in this one are left out: then nothing is known.
@@ -70,24 +96,23 @@ static bool are_declared(const translator *t, const pointer_leaf *home) {
 pointer load_pointer(translator *t, pointer from, const place *at) {
     pointer none = {.count = 0};
     if (!from.count) return none;
-    object *o = home_of(t, from, at);
-    if (o->alias && !from.offset.constant) return o->alias->pointer;
-    pointer_leaf *home = learn_pointer(t, o, (uint64_t)from.offset.constant);
-    if (!home->name || o->is_array || !are_declared(t, home)) {
+    const object *o = from.objects[0];
+    if (from.count == 1 && o->alias && is_constant(from.offset) && !from.offset.constant) return o->alias->pointer;
+    pointer_home h = home_of(t, from, at);
+    if (!h.offset || !are_declared(t, h.leaf)) {
         t->is_incomplete = true;
         return none;
     }
-    int64_t unit = home->unit_before ? (int64_t)home->unit_before : 1;
-    integer offset = variable(home->name, LONG, false);
-    pointer p = {.count = home->count_before, .offset = plus_scaled(t, constant_offset(0), offset, unit)};
-    if (!p.count) { // it is never given a value: reading it is the fault unset
-        kept(t, offset);
-        return pointer_to(t, t->null);
-    }
-    p.objects = home->bases;
-    if (home->selector) {
+    int64_t unit = (int64_t)h.leaf->unit_before;
+    integer offset = part_of_home(&h, h.offset, LONG);
+    pointer p = {.count = h.leaf->count_before, .offset = constant_offset(0)};
+    if (unit) p.offset = plus_scaled(t, p.offset, offset, unit);
+    else if (!h.selector) kept(t, offset); // it is always 0, but reading it may be the fault unset
+    if (!p.count) return pointer_to(t, t->null); // it is never given a value
+    p.objects = h.leaf->bases;
+    if (h.selector) {
         integer *selector = take(&t->pass, sizeof *selector);
-        *selector = variable(home->selector, INT, false);
+        *selector = part_of_home(&h, h.selector, INT);
         p.selector = selector;
     }
     return p;

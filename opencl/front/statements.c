@@ -226,9 +226,89 @@ static void translate_break(translator *t, const node *n) {
 
 // ---- the whole ----
 
-static void translate_parts(translator *t, const node *n, bool is_outermost) {
-    for (unsigned i = 0; i < n->part_count; i++)
-        if (n->parts[i]) translate_statement(t, n->parts[i], is_outermost);
+// ---- goto ----
+
+// Whether a part holds a jump to a label.
+static bool has_jump(const node *n, const node *target) {
+    bool has = n->kind == GOTO_STATEMENT && n->target == target;
+    for (unsigned i = 0; !has && i < n->part_count; i++) has = n->parts[i] && has_jump(n->parts[i], target);
+    return has;
+}
+
+// The first statement of a range of a block that holds a jump to a label; its end where there is none.
+static unsigned first_jump(const node *block, unsigned first, unsigned end, const node *target) {
+    while (first < end && !has_jump(block->parts[first], target)) first++;
+    return first;
+}
+
+// The last label of a range of a block that is jumped to from in front of it; its end where there is none.
+static unsigned last_label(const node *block, unsigned first, unsigned end) {
+    for (unsigned i = end; i-- > first;) {
+        const node *n = block->parts[i];
+        if (n->kind == LABEL_STATEMENT && first_jump(block, first, i, n) < i) return i;
+    }
+    return end;
+}
+
+// Where what has to be left for a label begins: at the first jump to it, or at one to a label in front of it that has
+// begun there already.
+static unsigned begin_of_jumps(const node *block, unsigned first, unsigned label) {
+    unsigned begin = first_jump(block, first, label, block->parts[label]);
+    for (unsigned i = label; i-- > first;) {
+        const node *n = block->parts[i];
+        unsigned other = n->kind == LABEL_STATEMENT ? first_jump(block, first, i, n) : i;
+        if (other < begin && begin < i) begin = other;
+    }
+    return begin;
+}
+
+static void declare_of(translator *t, const node *block, unsigned first, unsigned end) {
+    for (unsigned i = first; i < end; i++) {
+        const node *n = block->parts[i];
+        for (unsigned j = 0; n->kind == DECLARATION_STATEMENT && j < n->part_count; j++)
+            if (n->parts[j]->kind == VARIABLE_DECLARATION) declare_in_front_of(t, n->parts[j]);
+    }
+}
+
+// What stands between the first jump to a label and that: it is left by the jump, as a call is by `return`. Its
+// variables are known behind the label.
+static void translate_jumped(translator *t, const node *block, unsigned first, unsigned end) {
+    const char *flag = temporary_name(t);
+    jump *j = take(&t->pass, sizeof *j);
+    *j = (jump){.up = t->jumps, .target = block->parts[end], .call = t->call};
+    j->label = (label){.is_left = flag, .is_not_left = format(t, "!%s", flag)};
+    declare_of(t, block, first, end);
+    list before = begin_list(t);
+    t->jumps = j;
+    translate_range(t, block, first, end, false);
+    t->jumps = j->up;
+    list l = end_list(t, before);
+    take_out_leaving(t, &l, &j->label);
+    t->at = &block->parts[end]->place;
+    if (j->label.is_tested) {
+        emit(t, "int %s=0;", flag);
+        j->label.leave = format(t, "%s=1;", flag);
+    }
+    append_list(&t->out, l);
+}
+
+// The last label is gone to first: what stands in front of it may hold others.
+void translate_range(translator *t, const node *block, unsigned first, unsigned end, bool is_outermost) {
+    unsigned label = last_label(block, first, end), begin = end;
+    go_deeper(t, &block->place);
+    if (label < end) begin = begin_of_jumps(block, first, label);
+    if (label < end && begin > first) translate_range(t, block, first, begin, is_outermost);
+    if (label < end) translate_jumped(t, block, begin, label);
+    for (unsigned i = label < end ? label : first; i < end; i++)
+        if (block->parts[i]) translate_statement(t, block->parts[i], is_outermost);
+    t->depth--;
+}
+
+static void translate_goto(translator *t, const node *n) {
+    jump *j = t->jumps;
+    while (j && (j->target != n->target || j->call != t->call)) j = j->up;
+    if (!j) refuse_at(t, &n->place, "Clsim has no goto backwards, or into a block");
+    leave(t, &j->label, &n->place);
 }
 
 static void translate_declarations(translator *t, const node *n, bool is_outermost) {
@@ -242,7 +322,7 @@ static void translate_declarations(translator *t, const node *n, bool is_outermo
 
 static void statement_of(translator *t, const node *n, bool is_outermost) {
     switch (n->kind) {
-    case COMPOUND_STATEMENT: translate_parts(t, n, is_outermost); break;
+    case COMPOUND_STATEMENT: translate_range(t, n, 0, n->part_count, is_outermost); break;
     case DECLARATION_STATEMENT: translate_declarations(t, n, is_outermost); break;
     case NULL_STATEMENT: break;
     case IF_STATEMENT: translate_branch(t, n); break;
@@ -253,8 +333,8 @@ static void statement_of(translator *t, const node *n, bool is_outermost) {
     case BREAK_STATEMENT: translate_break(t, n); break;
     case CONTINUE_STATEMENT: emit(t, "continue;"); break;
     case RETURN_STATEMENT: translate_return(t, n); break;
-    case LABEL_STATEMENT: translate_parts(t, n, false); break;
-    case GOTO_STATEMENT: refuse_at(t, &n->place, "Clsim has no goto");
+    case LABEL_STATEMENT: translate_statement(t, n->parts[0], false); break;
+    case GOTO_STATEMENT: translate_goto(t, n); break;
     case CASE_STATEMENT:
     case DEFAULT_STATEMENT: refuse_at(t, &n->place, "Clsim has no case inside of another statement");
     case UNKNOWN_STATEMENT: refuse_at(t, &n->place, "Clsim has no such statement (%s)", n->name ? n->name : "");

@@ -23,7 +23,10 @@ typedef struct {
     label label;
 } sections;
 
-enum { MAX_CHAIN = 6 };
+enum {
+    MAX_CHAIN = 6,  // of sections in a chain
+    MOST_TESTS = 16 // in one condition
+};
 
 // ---- reading ----
 
@@ -54,12 +57,30 @@ static void declare_in_front(sections *s, const node *n) {
     translate_statement(t, n, false);
 }
 
+// Whether a block holds a label of its switch, not inside of another statement.
+static bool has_label(const node *n) {
+    bool has = n->kind == CASE_STATEMENT || n->kind == DEFAULT_STATEMENT;
+    for (unsigned i = 0; !has && n->kind == COMPOUND_STATEMENT && i < n->part_count; i++) has = has_label(n->parts[i]);
+    return has;
+}
+
+// The statements of a block with labels are those of the sections.
 static void add_statement(sections *s, const node *n) {
     section *last = s->count ? &s->sections[s->count - 1] : NULL;
+    if (n->kind == COMPOUND_STATEMENT && has_label(n)) {
+        go_deeper(s->t, &n->place);
+        for (unsigned i = 0; i < n->part_count; i++) add_statement(s, n->parts[i]);
+        s->t->depth--;
+        return;
+    }
     while (n->kind == CASE_STATEMENT || n->kind == DEFAULT_STATEMENT) {
         if (!last || last->statement_count) last = new_section(s);
         add_label(s, last, n);
         n = n->parts[n->kind == CASE_STATEMENT];
+    }
+    if (n->kind == COMPOUND_STATEMENT && has_label(n)) {
+        add_statement(s, n);
+        return;
     }
     if (!last) {
         declare_in_front(s, n);
@@ -115,11 +136,11 @@ static bool falls_through(const sections *s) {
     return false;
 }
 
-// Whether the value is one of a section's; NULL where it has none.
-static const char *test_of(const sections *s, const section *one) {
+// Whether the value is one of some of a section's.
+static const char *test_of(const sections *s, const section *one, unsigned first, unsigned end) {
     const char *all = NULL;
     integer_type type = type_of(&s->value);
-    for (unsigned i = 0; i < one->value_count; i++) {
+    for (unsigned i = first; i < end; i++) {
         integer test = binary(s->t, EQUAL, s->value, literal(s->t, one->values[i], type), type);
         all = all ? format(s->t, "%s||%s", all, test.text) : test.text;
     }
@@ -138,11 +159,24 @@ static void write_chain(sections *s) {
     list all = {NULL, NULL};
     if (otherwise < s->count) all = s->sections[otherwise].list;
     for (unsigned i = s->count; i-- > 0;) {
+        const section *one = &s->sections[i];
         if (i == otherwise) continue;
-        statement *b = new_branch(t, test_of(s, &s->sections[i]), s->sections[i].list, all, &s->node->place);
+        statement *b = new_branch(t, test_of(s, one, 0, one->value_count), one->list, all, &s->node->place);
         all = (list){b, b};
     }
     append_list(&t->out, all);
+}
+
+// Sets the number of a section where the value is one of its own.
+static void number_section(sections *s, const char *number, unsigned which) {
+    translator *t = s->t;
+    const section *one = &s->sections[which];
+    const place *at = &s->node->place;
+    for (unsigned i = 0; i < one->value_count; i += MOST_TESTS) {
+        unsigned end = i + MOST_TESTS < one->value_count ? i + MOST_TESTS : one->value_count;
+        list set = one_text(t, format(t, "%s=%u;", number, which), at);
+        append(t, new_branch(t, test_of(s, one, i, end), set, (list){NULL, NULL}, at));
+    }
 }
 
 static void write_numbered(sections *s, const char *number, bool falls) {
@@ -150,12 +184,8 @@ static void write_numbered(sections *s, const char *number, bool falls) {
     const place *at = &s->node->place;
     unsigned otherwise = default_section(s);
     emit(t, "int %s=%u;", number, otherwise);
-    for (unsigned i = 0; i < s->count; i++) {
-        const char *test = test_of(s, &s->sections[i]);
-        if (!test || i == otherwise) continue;
-        list set = one_text(t, format(t, "%s=%u;", number, i), at);
-        append(t, new_branch(t, test, set, (list){NULL, NULL}, at));
-    }
+    for (unsigned i = 0; i < s->count; i++)
+        if (i != otherwise) number_section(s, number, i);
     if (falls || s->label.is_tested) s->label.leave = format(t, "%s=%u;", number, s->count);
     for (unsigned i = 0; i < s->count; i++) {
         const char *enter = format(t, "%s%s%u", number, falls ? "<=" : "==", i);
@@ -198,6 +228,8 @@ void translate_switch(translator *t, const node *n) {
     t->at = &n->place;
     bool falls = falls_through(s);
     if (s->value.is_literal && write_known(s, number, falls)) return;
-    if (!falls && s->count <= MAX_CHAIN && !s->label.is_tested) write_chain(s);
+    bool is_short = s->count <= MAX_CHAIN;
+    for (unsigned i = 0; is_short && i < s->count; i++) is_short = s->sections[i].value_count <= MOST_TESTS;
+    if (!falls && is_short && !s->label.is_tested) write_chain(s);
     else write_numbered(s, number, falls);
 }

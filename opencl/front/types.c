@@ -91,8 +91,8 @@ void settle_types(types *t) {
 }
 
 static type *make_number(types *t, type_kind kind, unsigned width, bool is_signed, const char *name) {
-    return make_type(t, (type){.kind = kind, .width = width, .is_signed = is_signed, .size = width, .align = width,
-                               .name = name});
+    return make_type(
+        t, (type){.kind = kind, .width = width, .is_signed = is_signed, .size = width, .align = width, .name = name});
 }
 
 static char *name_with(types *t, const char *name, const char *behind) {
@@ -103,15 +103,22 @@ static char *name_with(types *t, const char *name, const char *behind) {
 
 static type *make_pointer(types *t, const type *of) {
     enum { POINTER_SIZE = 8 };
-    return make_type(t, (type){.kind = POINTER_TYPE, .of = of, .size = POINTER_SIZE, .align = POINTER_SIZE,
+    return make_type(t, (type){.kind = POINTER_TYPE,
+                               .of = of,
+                               .size = POINTER_SIZE,
+                               .align = POINTER_SIZE,
                                .name = name_with(t, of->name, " *")});
 }
 
 static type *make_array(types *t, const type *of, uint64_t length) {
     char behind[32];
     snprintf(behind, sizeof behind, "[%llu]", (unsigned long long)length);
-    return make_type(t, (type){.kind = ARRAY_TYPE, .of = of, .length = length, .space = of->space,
-                               .is_const = of->is_const, .is_volatile = of->is_volatile,
+    return make_type(t, (type){.kind = ARRAY_TYPE,
+                               .of = of,
+                               .length = length,
+                               .space = of->space,
+                               .is_const = of->is_const,
+                               .is_volatile = of->is_volatile,
                                .name = name_with(t, of->name, behind)});
 }
 
@@ -123,7 +130,11 @@ static type *make_vector(types *t, const type *of, uint64_t length) {
     char behind[32];
     snprintf(behind, sizeof behind, "%u", (unsigned)length);
     uint64_t size = of->width * (length == 3 ? 4 : length);
-    return make_type(t, (type){.kind = VECTOR_TYPE, .of = of, .length = length, .size = size, .align = size,
+    return make_type(t, (type){.kind = VECTOR_TYPE,
+                               .of = of,
+                               .length = length,
+                               .size = size,
+                               .align = size,
                                .name = name_with(t, of->name, behind)});
 }
 
@@ -457,7 +468,8 @@ static const type *read_suffix(reading *r, const type *base) {
     r->at = end + 1;
     skip_spaces(r);
     if (r->at < r->end) return NULL;
-    return make_type(r->types, (type){.kind = FUNCTION_TYPE, .of = base, .name = name_with(r->types, base->name, " ()")});
+    return make_type(r->types,
+                     (type){.kind = FUNCTION_TYPE, .of = base, .name = name_with(r->types, base->name, " ()")});
 }
 
 // `(__private *__private)[3]`: what stands in front of the star there is of what it points to.
@@ -537,9 +549,9 @@ static uint64_t align_of_field(const record_form *form, const field_form *f) {
 }
 
 static bool has_layout(const type *t) {
-    return t->kind == ARRAY_TYPE ? t->align > 0
-                                 : t->kind == RECORD_TYPE ? t->record->is_complete && !t->record->unknown_attribute
-                                                          : t->size > 0;
+    return t->kind == ARRAY_TYPE    ? t->align > 0
+           : t->kind == RECORD_TYPE ? t->record->is_complete && !t->record->unknown_attribute
+                                    : t->size > 0;
 }
 
 void lay_out(types *t, record *r, const record_form *form) {

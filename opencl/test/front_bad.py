@@ -22,12 +22,15 @@ DUMPS = {
     "writes a part": ('printf "%s\\n" "$REAL" | head -n 60', "it ends too early"),
     "writes words": ("echo hello world", "it doesn't begin as a tree"),
     "writes bytes": ("head -c 1000000 /dev/urandom", "a tree of this source that Clsim can't read"),
-    "writes words in between": ('printf "%s\\n" "$REAL" | sed "s/.*FunctionDecl.*misbehave.*/hello world/"', "a line that can't be read"),
+    "writes words in between": ('printf "%s\\n" "$REAL" | sed "s/.*FunctionDecl.*misbehave.*/hello world/"',
+                                "a line that can't be read"),
     "indents too far": ('printf "%s\\n" "$REAL" | sed "/FunctionDecl.*misbehave/s/^/| | | | /"',
                         "indented too far"),
-    "writes one line without end": ("yes abcdefghijklmnopqrstuvwxyz | tr -d '\\n'", ("half of one", "takes longer than")),
+    "writes one line without end": ("yes abcdefghijklmnopqrstuvwxyz | tr -d '\\n'",
+                                    ("half of one", "takes longer than")),
     "writes nodes without end": ('echo "TranslationUnitDecl 0x1 <<invalid sloc>> <invalid sloc>"; '
-                                 'yes "|-NullStmt 0x2 <line:9:9>"', ("it has more than 4000000 nodes", "takes longer than")),
+                                 'yes "|-NullStmt 0x2 <line:9:9>"',
+                                 ("it has more than 4000000 nodes", "takes longer than")),
     "writes a hundred levels without end": ('echo "TranslationUnitDecl 0x1 <<invalid sloc>> <invalid sloc>"; '
                                             'yes "$(printf "| %.0s" $(seq 100))|-NullStmt 0x2 <line:9:9>"',
                                             "indented too far"),

@@ -18,9 +18,12 @@ INTEGERS = {"bool": "b8", "_Bool": "b8", "char": "i8", "signed char": "i8", "uns
             "unsigned short": "u16", "int": "i32", "unsigned int": "u32", "long": "i64", "unsigned long": "u64",
             "long long": "i64", "unsigned long long": "u64"}
 SPACES = {"__private": "", "__global": "global ", "__constant": "constant ", "__local": "local "}
+UNNAMED = r"\b(?:struct |union |enum )?(?:\w+::)*\((?:unnamed|anonymous)[^()]*? at [^()]*?:(\d+):(\d+)\)"
+QUALIFIERS = r"(?:const|volatile|restrict|__restrict|__private|__global|__local|__constant)\b"
 ELIDED = {"ParenExpr", "ConstantExpr", "ExprWithCleanups", "AttributedStmt", "PredefinedExpr"}
-KINDS = {"FunctionDecl": "function", "ParmVarDecl": "parameter", "VarDecl": "variable", "EnumConstantDecl": "enumerator",
-         "RecordDecl": "idle", "TypedefDecl": "idle", "EnumDecl": "idle", "EmptyDecl": "idle",
+KINDS = {"FunctionDecl": "function", "ParmVarDecl": "parameter", "VarDecl": "variable",
+         "EnumConstantDecl": "enumerator", "RecordDecl": "idle", "TypedefDecl": "idle", "EnumDecl": "idle",
+         "EmptyDecl": "idle",
          "StaticAssertDecl": "idle", "CompoundStmt": "compound", "DeclStmt": "declarations", "NullStmt": "null",
          "IfStmt": "if", "WhileStmt": "while", "DoStmt": "do", "ForStmt": "for", "SwitchStmt": "switch",
          "CaseStmt": "case", "DefaultStmt": "default", "BreakStmt": "break", "ContinueStmt": "continue",
@@ -58,8 +61,8 @@ class Type:
 
 
 def run_clang(clang, path, options, dump):
-    return subprocess.run([clang, *WORDS, "-Xclang", f"-ast-dump{dump}", *options, path], capture_output=True, text=True,
-                          errors="replace")
+    words = [clang, *WORDS, "-Xclang", f"-ast-dump{dump}", *options, path]
+    return subprocess.run(words, capture_output=True, text=True, errors="replace")
 
 
 class Reader:
@@ -144,8 +147,7 @@ class Reader:
         mark = re.search(r"__attribute__\(\(ext_vector_type\((\d+)\)\)\)(?![^()]*\))", text)
         if mark:
             text = text[:mark.start()] + " " + text[mark.end():]
-        unnamed = re.search(r"\b(?:struct |union |enum )?(?:\w+::)*\((?:unnamed|anonymous)[^()]*? at [^()]*?:(\d+):(\d+)\)",
-                            text)
+        unnamed = re.search(UNNAMED, text)
         found = None
         if unnamed:
             line, column = int(unnamed.group(1)), int(unnamed.group(2))
@@ -180,8 +182,7 @@ class Reader:
         if not d:
             return t
         if d.startswith("*"):
-            words = re.match(r"\*((?:\s*(?:const|volatile|restrict|__restrict|__private|__global|__local|__constant)\b)*)",
-                             d)
+            words = re.match(rf"\*((?:\s*{QUALIFIERS})*)", d)
             pointer = Type("pointer", t, size=8, align=8)
             qualifiers = words.group(1).split()
             space = "".join(SPACES.get(w, "") for w in qualifiers)
@@ -193,7 +194,7 @@ class Reader:
             count = int(length.group(1) or 0)
             return Type("array", of, length=count, size=count * of.size, align=of.align)
         inner, rest = self.in_brackets(d)
-        words = re.match(r"\s*((?:(?:const|volatile|__private|__global|__local|__constant)\b\s*)*)(\*.*)?$", inner, re.S)
+        words = re.match(rf"\s*((?:{QUALIFIERS}\s*)*)(\*.*)?$", inner, re.S)
         if not words or not words.group(2):
             return Type("function", t)
         qualifiers = words.group(1).split()

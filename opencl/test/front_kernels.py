@@ -1,5 +1,5 @@
-"""Random kernels of what the front end translates: structs, unions, vectors, pointers, casts, tables, functions, control
-flow, local memory, built-in functions.
+"""Random kernels of what the front end translates: structs, unions, vectors, pointers, casts, tables, functions,
+control flow, local memory, built-in functions.
 
 Nothing in them is undefined or left to the compiler: what may overflow is unsigned and no narrower than an int, no
 divisor is 0, no shift of a signed number to the left, no variable is read before it is set. So every compiler has to
@@ -9,6 +9,7 @@ import random
 
 TYPES = ["char", "uchar", "short", "ushort", "int", "uint", "long", "ulong"]
 WIDTH = {"char": 1, "uchar": 1, "short": 2, "ushort": 2, "int": 4, "uint": 4, "long": 8, "ulong": 8}
+OF_TWO = ["min", "max", "hadd", "rhadd", "add_sat", "sub_sat", "mul_hi", "rotate"]
 ITEMS, GROUP, WORDS = 8, 4, 16  # work-items, those of a group, and words of input for each
 
 
@@ -46,8 +47,8 @@ class Kernel:
         r = self.r
         packed = " __attribute__((packed))" if self.chance(25) else ""
         vector = r.choice(["uchar4", "int2", "ushort8", "ulong2"])
-        members = [f"{t} {n};" for n, t in self.fields] + [f"{vector} v;", "uchar b[5];",
-                                                           "union { uint w; uchar q[4]; struct { ushort lo, hi; } h; } u;"]
+        members = [f"{t} {n};" for n, t in self.fields]
+        members += [f"{vector} v;", "uchar b[5];", "union { uint w; uchar q[4]; struct { ushort lo, hi; } h; } u;"]
         r.shuffle(members)
         self.vector = vector
         self.head.append(f"typedef struct{packed} {{ {' '.join(members)} }} S;")
@@ -76,11 +77,12 @@ class Kernel:
                  lambda: f"pairs[{r.choice(list(self.scalars))} & 1].b[{r.randint(0, 1)}]",
                  lambda: f"s.{r.choice(self.fields)[0]}", lambda: f"s.b[{r.choice(list(self.scalars))} & 3]",
                  lambda: r.choice(["s.u.w", "s.u.q[1]", "s.u.h.hi", "s.v.s0", "s.v.y", "ps->u.w", "(*ps).b[2]"]),
-                 lambda: f"AT(a, {r.choice(list(self.scalars))})", lambda: f"grid[1][{r.choice(list(self.scalars))} & 1]",
+                 lambda: f"AT(a, {r.choice(list(self.scalars))})",
+                 lambda: f"grid[1][{r.choice(list(self.scalars))} & 1]",
                  lambda: "*pa", lambda: f"pa[{r.randint(0, 1)}]", lambda: f"bytes[{r.choice(list(self.scalars))} & 7]",
                  lambda: "(ulong)sizeof(S)", lambda: f"in[g * {WORDS} + {r.randint(0, 7)}]"]
         if self.vectors:
-            forms.append(lambda: f"{r.choice(list(self.vectors))}.{r.choice(['x', 'y', 's0', 's1', 'lo.x' if 0 else 'x'])}")
+            forms.append(lambda: f"{r.choice(list(self.vectors))}.{r.choice(['x', 'y', 's0', 's1'])}")
         return f"({t})({r.choice(forms)()})"
 
     def number(self, t, depth):
@@ -116,7 +118,7 @@ class Kernel:
         narrow = r.choice([k for k in TYPES if WIDTH[k] < 8])
         wide = {"char": "short", "uchar": "ushort", "short": "int", "ushort": "uint", "int": "long", "uint": "ulong"}
         return r.choice([
-            lambda: f"{r.choice(['min', 'max', 'hadd', 'rhadd', 'add_sat', 'sub_sat', 'mul_hi', 'rotate'])}({a}, {b})",
+            lambda: f"{r.choice(OF_TWO)}({a}, {b})",
             lambda: f"clamp({a}, ({t})3, ({t})100)", lambda: f"mad_sat({a}, {b}, {c})",
             lambda: f"bitselect({a}, {b}, {c})", lambda: f"({t}){r.choice(['clz', 'popcount'])}({a})",
             lambda: f"({t})abs({a})", lambda: f"({t})abs_diff({a}, {b})",
@@ -152,14 +154,15 @@ class Kernel:
             lambda: f"({one()} >> ({name})({r.randint(0, 7)}))",
             lambda: f"as_{name}({one()} {r.choice(['<', '>', '<=', '==', '!='])} {two()})",
             lambda: f"({r.choice(same) if same else one()}).{pick}",
-            lambda: f"{r.choice(['min', 'max', 'hadd', 'rhadd', 'add_sat', 'sub_sat', 'mul_hi', 'rotate'])}({one()}, {two()})",
+            lambda: f"{r.choice(OF_TWO)}({one()}, {two()})",
             lambda: f"convert_{name}{r.choice(['', '_sat'])}({self.vector_of(r.choice(TYPES), n, depth - 1)})",
             lambda: f"select({one()}, {two()}, as_{u}({one()}))", lambda: f"bitselect({one()}, {two()}, {one()})",
             lambda: f"({name})({', '.join(self.leaf(t) for _ in range(n))})",
             lambda: f"({one()} {r.choice(['<', '=='])} {two()} ? {one()} : {two()})",
         ]
         if n in (4, 8, 16):
-            forms.append(lambda: f"({name})({self.vector_of(t, n // 2, depth - 1)}, {self.vector_of(t, n // 2, depth - 1)})")
+            half = lambda: self.vector_of(t, n // 2, depth - 1)  # noqa: E731
+            forms.append(lambda: f"({name})({half()}, {half()})")
         if n == 4 or n == 8:
             forms.append(lambda: f"vload{n}(0, (__global const {t} *)(in + g * {WORDS}))")
         return r.choice(forms)()
@@ -198,7 +201,7 @@ class Kernel:
             lambda: f"a[2] = (uint)step({self.number('uint', 2)}, &{r.choice(['x0', 'x1', 'a[3]'])});",
             lambda: f"a[1] = (uint)step({self.number('uint', 2)}, pa == a ? &x1 : &x0);",
             lambda: "swap(&a[g & 3], &x1);", lambda: f"pa = &a[{r.choice(list(self.scalars))} & 1];",
-            lambda: f"ps = {r.choice(['&s', '&other', f'({self.leaf(chr(105) + chr(110) + chr(116))} ? &s : &other)'])};",
+            lambda: f"ps = {r.choice(['&s', '&other', '(' + self.leaf('int') + ' ? &s : &other)'])};",
             lambda: f"other = {r.choice(['s', '*ps', 'change(s, x0)'])};",
             lambda: f"*(int *)&a[{r.randint(0, 3)}] = {self.number('int', 1)};",
             lambda: f"((uchar *)a)[{r.choice(list(self.scalars))} & 15] ^= {self.number('uchar', 1)};",
@@ -219,8 +222,8 @@ class Kernel:
             lambda: f"for (int {i} = 0; {i} < {r.randint(1, 3)}; {i}++) {{ {body()} if ({test}) continue; {body()} }}",
             lambda: f"{{ int {i} = 3; while ({i}-- > 0) {{ {body()} if ({test}) break; {body()} }} }}",
             lambda: f"{{ int {i} = 2; do {{ {body()} }} while (--{i} > 0 && {test}); }}",
-            lambda: f"switch ({test} & 7) {{ case 0: {body()} case 1: {body()} break; case 2: case 3: {{ {body()} break; }} "
-                    f"default: {body()} case 5: {body()} }}",
+            lambda: f"switch ({test} & 7) {{ case 0: {body()} case 1: {body()} break; "
+                    f"case 2: case 3: {{ {body()} break; }} default: {body()} case 5: {body()} }}",
         ]
         if self.has_jumps:
             forms += [lambda: f"{{ if ({test}) goto {label}; {body()} {body()} {label}: {body()} }}"] * 3

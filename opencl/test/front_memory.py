@@ -2,8 +2,8 @@
 
     front_memory.py FRONT_TREE [CLANG]
 
-FRONT_TREE is front_tree.c, built without sanitizers, which have an allocator of their own. What clang writes is kept and
-played back. The last line is `N requests are refused`, else the first run that ends otherwise is told.
+FRONT_TREE is front_tree.c, built without sanitizers, which have an allocator of their own. What clang writes is kept
+and played back. The last line is `N requests are refused`, else the first run that ends otherwise is told.
 """
 import os
 import re

@@ -1,5 +1,5 @@
-"""Compares what the front end reads of random sources with what clang tells in JSON, node by node: kinds, places, types,
-values, and the layouts of structs and unions with clang's own.
+"""Compares what the front end reads of random sources with what clang tells in JSON, node by node: kinds, places,
+types, values, and the layouts of structs and unions with clang's own.
 
     front_reader.py FRONT_TREE [CLANG] [--seed N] [--count N]
 

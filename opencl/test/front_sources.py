@@ -222,7 +222,8 @@ class Source:
             if form == 0:
                 return f"{n} {self.pick(['=', '+=', '^='])} {self.vector(t, scope)};"
             if form == 1:
-                return f"{n}.{self.pick(['xy', 'yx', 's01', 'lo' if t[-1] == '4' else 'xy'])} = {self.pick(same)[0]}.xy;"
+                part = self.pick(["xy", "yx", "s01", "lo" if t[-1] == "4" else "xy"])
+                return f"{n}.{part} = {self.pick(same)[0]}.xy;"
             return f"{n}.x {self.pick(ASSIGN)} {self.number(scope, 2)};"
         if not numbers:
             return ";"
@@ -248,8 +249,9 @@ class Source:
         if what < 9:
             return f"do {self.block(inner, depth + 1, True)} while ({self.number(scope)});"
         if what < 10:
-            cases = " ".join(f"case {self.random.randrange(9) + 10 * i}: {self.statement(list(scope), depth + 1, in_loop)}"
-                             f" {self.pick(['break;', ''])}" for i in range(self.random.randrange(1, 4)))
+            cases = " ".join(f"case {self.random.randrange(9) + 10 * i}: "
+                             f"{self.statement(list(scope), depth + 1, in_loop)} {self.pick(['break;', ''])}"
+                             for i in range(self.random.randrange(1, 4)))
             return f"switch ({self.number(scope)}) {{ {cases} default: ; }}"
         if what < 11 and in_loop:
             return self.pick(["break;", "continue;"])
