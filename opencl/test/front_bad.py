@@ -27,7 +27,7 @@ DUMPS = {
     "indents too far": ('printf "%s\\n" "$REAL" | sed "/FunctionDecl.*misbehave/s/^/| | | | /"',
                         "indented too far"),
     "writes one line without end": ("yes abcdefghijklmnopqrstuvwxyz | tr -d '\\n'",
-                                    ("half of one", "takes longer than")),
+                                    ("it doesn't begin as a tree", "half of one", "takes longer than")),
     "writes nodes without end": ('echo "TranslationUnitDecl 0x1 <<invalid sloc>> <invalid sloc>"; '
                                  'yes "|-NullStmt 0x2 <line:9:9>"',
                                  ("it has more than 4000000 nodes", "takes longer than")),
