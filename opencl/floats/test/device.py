@@ -63,8 +63,9 @@ def rounded(real, exact):
     step = Fraction(2) ** (max(exponent, int(info.minexp)) - info.nmant)
     count = round(size / step)
     if count * step >= Fraction(2) ** int(info.maxexp):
-        return real(math.copysign(math.inf, exact))
-    return real(math.copysign(math.ldexp(count, int(math.log2(step))) if step >= Fraction(1, 1 << 1074) else 0, exact))
+        return real(math.inf if exact > 0 else -math.inf)
+    size = math.ldexp(count, int(math.log2(step))) if step >= Fraction(1, 1 << 1074) else 0
+    return real(size if exact > 0 else -size)
 
 
 def whole(limit, real):
