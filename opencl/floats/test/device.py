@@ -9,6 +9,7 @@ FILE has the helpers. Each is called once by each of N items, on bits chosen so 
 The last line is `N passed, M failed`; the status is 0 where M is 0, else 1.
 """
 import argparse
+import ctypes
 import math
 import os
 import subprocess
@@ -23,6 +24,9 @@ import helpers as texts  # noqa: E402
 
 FLOAT, DOUBLE = numpy.float32, numpy.float64
 BITS = {FLOAT: numpy.uint32, DOUBLE: numpy.uint64}
+# Python's own lgamma raises an error where C's is infinite, and is less exact near 1 and 2.
+C_LIBRARY = ctypes.CDLL("libm.so.6")
+C_LIBRARY.lgamma.argtypes, C_LIBRARY.lgamma.restype = [ctypes.c_double], ctypes.c_double
 CORNERS = [0.0, -0.0, math.inf, -math.inf, math.nan, 1.0, -1.0, 0.5, 1.5, 2.5, -2.5, 3.0]
 
 
@@ -114,7 +118,8 @@ def elementary(real):
     yield f"{name}_atan2", "ab", wide(numpy.arctan2)
     yield f"{name}_pow", "ab", wide(numpy.power)
     yield f"{name}_hypot", "ab", wide(numpy.hypot)
-    for helper in ("erf", "erfc", "tgamma", "lgamma"):
+    yield f"{name}_lgamma", "a", wide(numpy.vectorize(C_LIBRARY.lgamma, otypes=[DOUBLE]))
+    for helper in ("erf", "erfc", "tgamma"):
         plain = getattr(math, helper.replace("tgamma", "gamma"))
         yield f"{name}_{helper}", "a", wide(numpy.vectorize(lambda x, plain=plain: by_math(plain, x), otypes=[DOUBLE]))
 
