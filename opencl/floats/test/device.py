@@ -2,6 +2,7 @@
 """Runs helpers on the device, and compares what they leave with numpy, or with exact fractions.
 
 The elementary functions may differ from numpy's by some units in the last place: of a float by 1, of a double by 4.
+lgamma of a double may by 8, since the C library's own may be wrong by 4, and no bound is set to it.
 
     device.py CLSIM FILE [--items N] [--seed N] [--only HELPER]
 
@@ -166,7 +167,7 @@ def left_by(clsim, text):
     return bytes.fromhex(last[5:])
 
 
-def distances(data, wanted):
+def distances(name, data, wanted):
     """The places where the bits differ by more than the units allowed."""
     bits = BITS[wanted.dtype.type]
     signed = numpy.int32 if bits is numpy.uint32 else numpy.int64
@@ -175,7 +176,7 @@ def distances(data, wanted):
     for numbers in (came, wanted):
         plain = numbers.view(signed).astype(object)
         sides.append(numpy.where(plain < 0, -(plain & ((1 << (8 * numbers.itemsize - 1)) - 1)), plain))
-    allowed = 1 if bits is numpy.uint32 else 4
+    allowed = 1 if bits is numpy.uint32 else 8 if name.endswith("lgamma") else 4
     far = numpy.array([abs(int(x) - int(y)) > allowed for x, y in zip(*sides)])
     return numpy.nonzero(far & ~(numpy.isnan(came) & numpy.isnan(wanted)))[0]
 
@@ -219,7 +220,7 @@ def main():
                 if isinstance(wanted, list) and isinstance(wanted[0], numpy.floating):
                     wanted = numpy.array(wanted, real)
             is_exact = name in [row[0] for row in rows(real)]
-            wrong = differences(name, helpers[name], data, wanted) if is_exact else distances(data, wanted)
+            wrong = differences(name, helpers[name], data, wanted) if is_exact else distances(name, data, wanted)
             passed, failed = passed + (len(wrong) == 0), failed + (len(wrong) != 0)
             for i in wrong[:3]:
                 print(name, "of", " ".join(hex(columns[word][i]) for word in arguments if word in columns), "isn't", wanted[i])
