@@ -86,7 +86,7 @@ struct _cl_program {
 };
 
 typedef struct {
-    char *command; // those that gave it, NULL before
+    char *command; // that gave it, NULL before
     cl_mem memory;
     size_t local; // how many bytes of local memory it was given
 } argument;
@@ -228,7 +228,7 @@ cl_int ask_read(cl_context c, unsigned buffer, size_t offset, void *to, size_t n
 
 // ---- kernels ----
 // The bytes of an object of a kernel in local memory. Of an argument those that it was given, 0 before.
-cl_ulong local_bytes(cl_kernel k, const local_object *l);
+cl_ulong local_bytes(cl_kernel k, const symbol *y);
 
 // ---- faults ----
 typedef struct {
