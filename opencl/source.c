@@ -102,7 +102,7 @@ bool is_of_turn_before(const prepared *p, size_t offset, size_t loop) {
 }
 
 bool place_of(const prepared *p, size_t offset, char *room, size_t n) {
-    const token *t = token_at(p, offset);
+    const token *t = offset < p->length ? token_at(p, offset) : NULL;
     if (!t) return false;
     unsigned column = t->column;
     const char *line = t->file ? NULL : start_of_line(p->source, t->line);
