@@ -24,7 +24,7 @@ static const char *read_place(const char *at, unsigned long *line, unsigned long
 
 // Where a place of the script is in the judged text. NULL where it isn't in it.
 static const char *judged_at(const script_form *s, unsigned long line, unsigned long column) {
-    const char *at = s->source->text;
+    const char *at = s->source->text + s->kernel->begin;
     if (line < s->first_line || !column) return NULL;
     for (unsigned long n = line - s->first_line; n; n--) {
         at = strchr(at, '\n');
