@@ -9,7 +9,12 @@ static call *find_call(translator *t, const node *function, const node *site) {
     call *c = take(&t->kernel, sizeof *c);
     call_site *told = take(t->result, sizeof *told);
     *told = (call_site){calls_here(t), &site->place};
-    *c = (call){.up = t->call, .next = t->calls[bucket], .number = ++t->call_count, .function = function, .site = site};
+    *c = (call){.up = t->call,
+                .next = t->calls[bucket],
+                .number = ++t->call_count,
+                .function = function,
+                .site = site,
+                .told = told};
     t->calls[bucket] = c;
     return c;
 }
