@@ -261,9 +261,10 @@ static bool add_script(text *t, cl_kernel k, const launch_sizes *s) {
     for (unsigned i = 0; i < source->table_count; i++)
         if (uses_table(form, i) && !add_buffer(t, k->context, k->program->tables[i], source->tables[i].size))
             return false;
-    addf(t, "program p%u %u\n", k->program->number, source->lines);
-    add_bytes(t, source->text, source->length);
-    addf(t, "kernel k%u p%u %s\n", k->number, k->program->number, form->name);
+    unsigned program = program_number(k->program, form);
+    addf(t, "program p%u %u\n", program, form->lines);
+    add_bytes(t, source->text + form->begin, form->length);
+    addf(t, "kernel k%u p%u %s\n", k->number, program, form->name);
     for (unsigned i = 0; i < form->count; i++) add(t, k->arguments[i].command);
     for (unsigned i = 0; i < form->judged_count; i++)
         if (form->judged[i].kind == TABLE_PARAMETER)
@@ -274,13 +275,24 @@ static bool add_script(text *t, cl_kernel k, const launch_sizes *s) {
 }
 
 // Tells where something stands that an explanation has, behind words about it. False where that isn't known.
-static bool tell_at(const prepared *source, const char *words, json site) {
+static bool tell_at(cl_kernel k, const char *words, json site) {
     char place[512];
     unsigned long offset;
-    if (!json_number(json_member(site, "offset"), &offset) || !place_of(source, offset, place, sizeof place))
-        return false;
-    tell("%s at %s", words, place);
-    return true;
+    bool known = json_number(json_member(site, "offset"), &offset) &&
+                 place_of(&k->program->form, k->form->begin + offset, place, sizeof place);
+    if (known) tell("%s at %s", words, place);
+    return known;
+}
+
+// Tells the calls of the source that are judged in their places, the innermost first.
+static void tell_calls_in_place(cl_kernel k, json site) {
+    char place[512];
+    unsigned long offset;
+    if (!json_number(json_member(site, "offset"), &offset)) return;
+    for (const call_site *c = calls_round(&k->program->form, k->form->begin + offset); c; c = c->up) {
+        put_place(place, sizeof place, c->at);
+        tell("    called at %s", place);
+    }
 }
 
 // The elements of a list, the last one first; how many goes into `n`. The caller frees them. NULL where memory is
@@ -296,46 +308,50 @@ static json *turned_round(json list, size_t *n) {
 }
 
 // Tells the calls of helpers round a place, the innermost first. The explanation has the outermost first.
-static void tell_calls(const prepared *source, json calls) {
+static void tell_calls(cl_kernel k, json calls) {
     size_t n;
     json *all = turned_round(calls, &n);
-    for (size_t i = 0; i < n; i++) tell_at(source, "    called", all[i]);
+    for (size_t i = 0; i < n; i++) tell_at(k, "    called", all[i]);
     free(all);
 }
 
 // Whether a place, or a call of a helper round it, is a part of the turn before in the client's source. (A function is
 // called once at most round a place, so that it is the call in the function of the loop.)
-static bool is_before(const prepared *source, json spot, json loop) {
+static bool is_before(cl_kernel k, json spot, json loop) {
+    const prepared *source = &k->program->form;
     json calls = json_member(spot, "calls");
     unsigned long begin, at;
+    size_t start = k->form->begin;
     if (!json_number(json_member(loop, "offset"), &begin)) return false;
-    if (json_number(json_member(spot, "offset"), &at) && is_of_turn_before(source, at, begin)) return true;
+    if (json_number(json_member(spot, "offset"), &at) && is_of_turn_before(source, start + at, start + begin))
+        return true;
     for (json c = json_first(calls); c.at; c = json_next(calls, c))
-        if (json_number(json_member(c, "offset"), &at) && is_of_turn_before(source, at, begin)) return true;
+        if (json_number(json_member(c, "offset"), &at) && is_of_turn_before(source, start + at, start + begin))
+            return true;
     return false;
 }
 
 // Tells a loop round a place with the turn that it has in the client's source.
-static void tell_loop(const prepared *source, json spot, json loop) {
+static void tell_loop(cl_kernel k, json spot, json loop) {
     char words[64] = "    in the loop";
     unsigned long turn;
     bool known = json_number(json_member(loop, "turn"), &turn);
-    if (known && turn && is_before(source, spot, loop)) turn--;
+    if (known && turn && is_before(k, spot, loop)) turn--;
     if (known && turn) snprintf(words, sizeof words, "    in turn %lu of the loop", turn);
     else if (known) snprintf(words, sizeof words, "    before the first turn of the loop");
-    tell_at(source, words, loop);
+    tell_at(k, words, loop);
 }
 
 // Tells the loops round a place, the innermost first. The explanation has the outermost first.
-static void tell_loops(const prepared *source, json spot) {
+static void tell_loops(cl_kernel k, json spot) {
     size_t n;
     json *all = turned_round(json_member(spot, "loops"), &n);
-    for (size_t i = 0; i < n; i++) tell_loop(source, spot, all[i]);
+    for (size_t i = 0; i < n; i++) tell_loop(k, spot, all[i]);
     free(all);
 }
 
 // Tells what an item of an explanation does, and where. One that has ended is told with its last access.
-static void tell_spot(const prepared *source, json item) {
+static void tell_spot(cl_kernel k, json item) {
     unsigned long number;
     char does[32], words[96];
     if (!json_number(json_member(item, "item"), &number) || !json_word(json_member(item, "does"), does, sizeof does))
@@ -344,23 +360,23 @@ static void tell_spot(const prepared *source, json item) {
     json spot = json_member(item, ended ? "last_access" : "spot");
     if (ended) {
         tell("  item %lu: has ended", number);
-        tell_at(source, "    its last access is", spot);
+        tell_at(k, "    its last access is", spot);
     } else {
         snprintf(words, sizeof words, "  item %lu: %s", number, strcmp(does, "waits") ? does : "waits at the barrier");
-        if (!tell_at(source, words, spot)) tell("%s, its place isn't known", words);
+        if (!tell_at(k, words, spot)) tell("%s, its place isn't known", words);
     }
-    tell_calls(source, json_member(spot, "calls"));
-    tell_loops(source, spot);
+    tell_calls_in_place(k, spot);
+    tell_calls(k, json_member(spot, "calls"));
+    tell_loops(k, spot);
 }
 
 // Tells the items of an explanation, whose members docs/use/explain.md has, and why it is a fault.
 static void tell_spots(cl_kernel k, const char *explanation) {
-    const prepared *source = &k->program->form;
     json whole = json_text(explanation, strlen(explanation)), items = json_member(whole, "items");
     unsigned long version;
     if (json_number(json_member(whole, "version"), &version) && version != 2) return;
-    for (json i = json_first(items); i.at; i = json_next(items, i)) tell_spot(source, i);
-    tell_reasons(source, k->form, json_member(whole, "why"));
+    for (json i = json_first(items); i.at; i = json_next(items, i)) tell_spot(k, i);
+    tell_reasons(&k->program->form, k->form, json_member(whole, "why"));
 }
 
 static void explain(cl_kernel k, const launch_sizes *s) {

@@ -183,7 +183,7 @@ void list_own_kernels(prepared *p) {
             k = &p->kernels[p->kernel_count++];
             next_word(&w); // void
             next_word(&w);
-            *k = (kernel_form){.name = kept_word(&w), .attributes = ""};
+            *k = (kernel_form){.name = kept_word(&w), .length = p->length, .lines = p->lines, .attributes = ""};
             next_word(&w); // the bracket
             read_parameters(&w, k);
         }

@@ -12,12 +12,14 @@ void drop_program(cl_program p);
 // Releases what a built program has in the device.
 static void release_built(cl_program p) {
     session *s = p->context->session;
-    if (p->number) session_askf(s, "release p%u\n", p->number);
+    for (unsigned i = 0; i < p->count; i++) session_askf(s, "release p%u\n", p->numbers[i]);
     for (unsigned i = 0; p->tables && i < p->form.table_count; i++) session_askf(s, "release b%u\n", p->tables[i]);
     free(p->tables);
+    free(p->numbers);
     free_prepared(&p->form);
     free(p->options);
-    p->number = 0;
+    p->numbers = NULL;
+    p->count = 0;
     p->tables = NULL;
     p->options = NULL;
 }
@@ -139,23 +141,38 @@ static cl_int make_tables(cl_program p) {
     return CL_SUCCESS;
 }
 
-// Sends a prepared program to the device.
-static cl_int build_prepared(cl_program p) {
+// Sends a part of the judged text as a program.
+static cl_int send_program(cl_program p, size_t begin, size_t length, unsigned lines) {
     unsigned number = ++p->context->names;
-    char *command = malloc(p->form.length + 64);
+    char *command = malloc(length + 64);
     if (!command) return CL_OUT_OF_HOST_MEMORY;
-    size_t at = (size_t)snprintf(command, 64, "program p%u %u\n", number, p->form.lines);
-    memcpy(command + at, p->form.text, p->form.length);
+    size_t at = (size_t)snprintf(command, 64, "program p%u %u\n", number, lines);
+    memcpy(command + at, p->form.text + begin, length);
     // more lines than a script can say are more bytes than a source can have
-    const char *reply = p->form.lines > MAX_LINES ? "refused 10 BuildFailed syntax 5 TooLong at 65536"
-                                                  : session_ask(p->context->session, command, at + p->form.length);
+    const char *reply = lines > MAX_LINES ? "refused 10 BuildFailed syntax 5 TooLong at 65536"
+                                          : session_ask(p->context->session, command, at + length);
     free(command);
-    if (is_ok(reply)) {
-        p->number = number;
-        return make_tables(p);
-    }
-    if (error_of(reply) == CL_BUILD_PROGRAM_FAILURE) build_log(&p->form, reply);
-    return error_of(reply);
+    if (is_ok(reply)) p->numbers[p->count++] = number;
+    else if (error_of(reply) == CL_BUILD_PROGRAM_FAILURE) build_log(&p->form, begin, reply);
+    return is_ok(reply) ? CL_SUCCESS : error_of(reply);
+}
+
+// Sends a prepared program to the device: each kernel as a program of its own, so that many or long ones are within its
+// limits. What is judged as it is goes as one.
+static cl_int build_prepared(cl_program p) {
+    const prepared *form = &p->form;
+    bool is_one = form->is_own || !form->kernel_count;
+    cl_int fault = CL_SUCCESS;
+    p->numbers = calloc(form->kernel_count + 1, sizeof *p->numbers);
+    if (!p->numbers) return CL_OUT_OF_HOST_MEMORY;
+    if (is_one) fault = send_program(p, 0, form->length, form->lines);
+    for (unsigned i = 0; !is_one && !fault && i < form->kernel_count; i++)
+        fault = send_program(p, form->kernels[i].begin, form->kernels[i].length, form->kernels[i].lines);
+    return fault ? fault : make_tables(p);
+}
+
+unsigned program_number(cl_program p, const kernel_form *k) {
+    return p->numbers[p->form.is_own ? 0 : k - p->form.kernels];
 }
 
 // Refuses options that OpenCL 1.2 hasn't, with a fault. What is said of it goes into a log, where there is one for it.
@@ -333,7 +350,7 @@ static cl_kernel new_kernel(cl_program p, const kernel_form *form, cl_int *errco
         return fail(errcode, CL_OUT_OF_HOST_MEMORY);
     }
     k->number = ++p->context->names;
-    cl_int fault = error_of(session_askf(s, "kernel k%u p%u %s\n", k->number, p->number, form->name));
+    cl_int fault = error_of(session_askf(s, "kernel k%u p%u %s\n", k->number, program_number(p, form), form->name));
     bool made = !fault;
     for (unsigned i = 0; !fault && i < form->judged_count; i++)
         if (form->judged[i].kind == TABLE_PARAMETER)

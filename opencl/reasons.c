@@ -31,7 +31,8 @@ static char *take_string(arena *a, json string) {
 static void add_place(text *t, const client_form *form, const char *word, json place) {
     char room[512];
     unsigned long offset;
-    if (json_number(json_member(place, "offset"), &offset) && place_of(form->source, offset, room, sizeof room))
+    if (json_number(json_member(place, "offset"), &offset) &&
+        place_of(form->source, form->kernel->begin + offset, room, sizeof room))
         addf(t, "%s at %s", word, room);
 }
 

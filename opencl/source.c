@@ -81,8 +81,15 @@ bool is_of_turn_before(const prepared *p, size_t offset, size_t loop) {
 bool place_of(const prepared *p, size_t offset, char *room, size_t n) {
     place at;
     if (!find_place(p, offset, &at)) return false;
-    snprintf(room, n, "%s:%u:%u", at.file, at.line, at.column);
+    put_place(room, n, &at);
     return true;
+}
+
+void put_place(char *room, size_t n, const place *at) { snprintf(room, n, "%s:%u:%u", at->file, at->line, at->column); }
+
+const call_site *calls_round(const prepared *p, size_t offset) {
+    const judged_place *at = p->is_own ? NULL : place_at(p, offset);
+    return at ? at->calls : NULL;
 }
 
 const char *shown_as(const kernel_form *k, const char *name, size_t length) {
@@ -135,19 +142,20 @@ static const char *meaning(const char *name) {
     return name;
 }
 
-const char *build_log(prepared *p, const char *reply) {
+const char *build_log(prepared *p, size_t begin, const char *reply) {
     text log = {.arena = &p->arena};
     char name[64] = "";
     unsigned long offset = 0;
     place at;
     if (setjmp(p->arena.failed)) return NULL;
     bool known = sscanf(reply, "refused 10 BuildFailed %*s %*u %63s at %lu", name, &offset) == 2;
+    offset += begin;
     if (known && find_place(p, offset, &at)) add_message(p, &log, &at, meaning(name));
     if (known && offset <= p->length) {
-        size_t begin = offset;
-        while (begin && p->text[begin - 1] != '\n') begin--;
-        addf(&log, "as it is judged:\n%.*s\n%*s^\n", (int)strcspn(p->text + begin, "\n"), p->text + begin,
-             (int)(offset - begin), "");
+        size_t line = offset;
+        while (line && p->text[line - 1] != '\n') line--;
+        addf(&log, "as it is judged:\n%.*s\n%*s^\n", (int)strcspn(p->text + line, "\n"), p->text + line,
+             (int)(offset - line), "");
     }
     addf(&log, "%s\n", reply);
     return p->log = log.at;
@@ -179,6 +187,12 @@ static void add_attribute(text *words, const attribute *t) {
     else if (t->kind == TYPE_HINT_ATTRIBUTE) addf(words, "%svec_type_hint(%s)", blank, t->text ? t->text : "");
 }
 
+static unsigned lines_in(const char *text, size_t length) {
+    unsigned n = 0;
+    for (size_t i = 0; i < length; i++) n += text[i] == '\n';
+    return n;
+}
+
 static void list_kernel(prepared *p, kernel_form *k, const judged_kernel *judged) {
     const node *f = judged->function;
     text words = {.arena = &p->arena};
@@ -191,7 +205,10 @@ static void list_kernel(prepared *p, kernel_form *k, const judged_kernel *judged
                        .names = judged->names,
                        .name_count = judged->name_count,
                        .locals = judged->locals,
-                       .local_count = judged->local_count};
+                       .local_count = judged->local_count,
+                       .begin = judged->begin,
+                       .length = judged->length,
+                       .lines = lines_in(p->text + judged->begin, judged->length)};
     for (unsigned i = 0; i < f->part_count; i++) {
         const node *q = f->parts[i];
         k->parameters[i] = (parameter){q->name ? q->name : "", q->type, told_type(&p->arena, q->type)};
@@ -241,12 +258,6 @@ static bool translate_source(prepared *p, const char *options) {
     return true;
 }
 
-static unsigned lines_in(const char *text) {
-    unsigned n = 0;
-    for (; *text; text++) n += *text == '\n';
-    return n;
-}
-
 // Options with macros may change each word of a source.
 static bool has_macros(const char *options) { return options && strstr(options, "-D"); }
 
@@ -261,7 +272,7 @@ static bool is_judged_as_it_is(prepared *p, const char *options, session *device
     p->text = whole.at;
     p->length = whole.length;
     p->is_own = rewriting && !strcmp(rewriting, "0");
-    p->lines = lines_in(p->text);
+    p->lines = lines_in(p->text, p->length);
     if (!p->is_own) p->is_own = is_own_program(p, device);
     return p->is_own;
 }
@@ -275,7 +286,7 @@ preparation prepare_source(prepared *p, const char *source, const char *options,
     p->source = copy_text(&p->arena, source, strlen(source));
     if (is_judged_as_it_is(p, options, device)) list_own_kernels(p);
     else if (!translate_source(p, options)) return NOT_PREPARED;
-    p->lines = lines_in(p->text);
+    p->lines = lines_in(p->text, p->length);
     return PREPARED;
 }
 

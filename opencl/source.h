@@ -22,6 +22,8 @@ typedef struct {
     unsigned name_count;
     local_object *locals;
     unsigned local_count;
+    size_t begin, length; // the program that it is sent in: a part of the judged text
+    unsigned lines;
     size_t group[3];        // reqd_work_group_size, or zeros
     const char *attributes; // those of its function, with a space between each two
 } kernel_form;
@@ -31,7 +33,7 @@ typedef struct {
     char *source, *text; // the client's, and as it is judged
     size_t length;
     unsigned lines;
-    bool is_own; // it is in Clsim's language, and judged byte for byte
+    bool is_own; // it is in Clsim's language, and judged byte for byte, all of it as one program
     judged_place *places;
     size_t place_count;
     kernel_form *kernels;
@@ -47,10 +49,14 @@ typedef enum { PREPARED, NOT_PREPARED, NO_MEMORY } preparation;
 // and the log live until it is freed.
 preparation prepare_source(prepared *p, const char *source, const char *options, session *device);
 void free_prepared(prepared *p);
-// The log of a build that the device refused, from its reply. NULL where memory is refused.
-const char *build_log(prepared *p, const char *reply);
+// The log of a build that the device refused, from its reply to the program that begins at an offset of the judged
+// text. NULL where memory is refused.
+const char *build_log(prepared *p, size_t begin, const char *reply);
 // Where a byte of the text that is judged comes from, as FILE:LINE:COLUMN; false where that isn't known.
 bool place_of(const prepared *p, size_t offset, char *room, size_t n);
+// The calls of the source round a byte, which are judged in their places; NULL for none.
+const call_site *calls_round(const prepared *p, size_t offset);
+void put_place(char *room, size_t n, const place *at);
 // Whether what stands at a byte of that text is a part of the turn before in the client's source, of the loop that
 // begins at another byte.
 bool is_of_turn_before(const prepared *p, size_t offset, size_t loop);

@@ -7,7 +7,14 @@ static call *find_call(translator *t, const node *function, const node *site) {
     for (call *c = t->calls[bucket]; c; c = c->next)
         if (c->up == t->call && c->site == site) return c;
     call *c = take(&t->kernel, sizeof *c);
-    *c = (call){.up = t->call, .next = t->calls[bucket], .number = ++t->call_count, .function = function, .site = site};
+    call_site *told = take(t->result, sizeof *told);
+    *told = (call_site){calls_here(t), &site->place};
+    *c = (call){.up = t->call,
+                .next = t->calls[bucket],
+                .number = ++t->call_count,
+                .function = function,
+                .site = site,
+                .told = told};
     t->calls[bucket] = c;
     return c;
 }

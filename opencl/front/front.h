@@ -102,7 +102,8 @@ struct statement {
     list first, second;
     label *label;
     const place *at;
-    unsigned loop, before; // as in `judged_place`
+    const call_site *calls; // as in `judged_place`
+    unsigned loop, before;
 };
 
 // ---- objects ----
@@ -175,6 +176,7 @@ typedef struct call {
     struct call *next; // in its bucket
     unsigned number;   // another one for each way to it; 0 is the kernel
     const node *function, *site;
+    const call_site *told;
 } call;
 
 // A label that statements in front of it go to.
@@ -206,6 +208,7 @@ typedef struct note {
 
 typedef struct {
     const place *at;
+    const call_site *calls;
     unsigned before;
 } mark;
 
@@ -275,6 +278,8 @@ void take_name(translator *t, const char *text);
 bool is_taken(const translator *t, const char *text);
 // Remembers what a name stands for in the client's source.
 void show_name(translator *t, const char *judged, const char *shown);
+// The calls round what is being translated.
+const call_site *calls_here(const translator *t);
 // In front of what is written for an access: its place.
 const char *mark_here(translator *t, const place *at);
 
@@ -474,6 +479,6 @@ void translate_kernel(translator *t, const node *function, judged_kernel *k, tex
 
 // ---- writer.c ----
 // Notes the place of what is written next.
-void add_place(translator *t, size_t offset, const place *at, unsigned loop, unsigned before);
+void add_place(translator *t, judged_place p);
 void write_list(translator *t, text *to, list l);
 #endif

@@ -140,7 +140,7 @@ static void write_views(translator *t, judged_kernel *k, unsigned *room, text *t
 
 static void write_head(translator *t, judged_kernel *k, const written_parameters *all, text *to) {
     unsigned room = 0;
-    add_place(t, to->length, &k->function->place, 0, 0);
+    add_place(t, (judged_place){.offset = to->length, .at = &k->function->place});
     addf(to, "__kernel void %s(", k->function->name);
     for (unsigned i = 0; i < all->count; i++) {
         const written_parameter *w = &all->at[i];
@@ -272,12 +272,14 @@ void translate_kernel(translator *t, const node *function, judged_kernel *k, tex
         translate_body(t, function, &all);
     } while (t->is_changed);
     if (t->is_incomplete) refuse_at(t, at, "Clsim can't follow the pointers of this kernel");
+    k->begin = to->length;
     write_head(t, k, &all, to);
     list begin = t->uses_null ? one_text(t, "uchar clsim_null[1];", at) : (list){NULL, NULL};
     if (t->uses_copies) append_list(&begin, begin_of_copies(t, at));
     append_list(&begin, t->out);
     write_list(t, to, begin);
     add(to, "}\n");
+    k->length = to->length - k->begin;
     keep_names(t, k);
     keep_locals(t, k);
 }

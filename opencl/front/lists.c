@@ -3,7 +3,7 @@
 
 statement *new_statement(translator *t, statement_kind kind, const char *text, const place *at) {
     statement *s = take(&t->pass, sizeof *s);
-    *s = (statement){.kind = kind, .text = text, .at = at, .before = t->before};
+    *s = (statement){.kind = kind, .text = text, .at = at, .calls = calls_here(t), .before = t->before};
     return s;
 }
 

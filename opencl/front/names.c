@@ -53,8 +53,10 @@ void show_name(translator *t, const char *judged, const char *shown) {
     t->shown[t->shown_count++] = (shown_name){judged, shown};
 }
 
+const call_site *calls_here(const translator *t) { return t->call ? t->call->told : NULL; }
+
 const char *mark_here(translator *t, const place *at) {
     t->marks = grown(&t->pass, t->marks, t->mark_count, &t->mark_room, sizeof *t->marks);
-    t->marks[t->mark_count] = (mark){at, t->before};
+    t->marks[t->mark_count] = (mark){at, calls_here(t), t->before};
     return format(t, "\1%u\2", t->mark_count++);
 }

@@ -28,8 +28,9 @@ struct rows {
     const char *text;
     row *rows;
     unsigned count;
-    unsigned first;    // the first one of the client's text
-    listing *listings; // of the files that were asked for
+    unsigned first;     // the first one of the client's text
+    listing *listings;  // of the files that were asked for
+    bool is_renumbered; // the client's text names lines itself, so that its lines aren't found by their numbers
 };
 
 static const char own_name[] = "source";
@@ -260,10 +261,26 @@ static void find_columns(const pair *p) {
     for (; i < p->count; i++) p->of[i].client_column = p->client_count ? p->client[p->client_count - 1].column : 1;
 }
 
+// Whether a line is `#line ..` or `# 5 ..`.
+static bool names_line(const char *s) {
+    s += strspn(s, " \t");
+    if (*s != '#') return false;
+    s += 1 + strspn(s + 1, " \t");
+    return is_digit(*s) || !strncmp(s, "line", 4);
+}
+
+static bool has_named_lines(const char *text) {
+    for (const char *line = text; line; line = strchr(line, '\n')) {
+        if (*line == '\n') line++;
+        if (names_line(line)) return true;
+    }
+    return false;
+}
+
 static void find_words(rows *r, row *w) {
     w->words = words_of(r->arena, r->text + w->begin, r->text + w->end, &w->word_count);
     for (unsigned i = 0; i < w->word_count; i++) w->words[i].client_column = w->words[i].column;
-    const listing *l = w->file && w->line ? listing_of(r, w->file) : NULL;
+    const listing *l = w->file && w->line && !r->is_renumbered ? listing_of(r, w->file) : NULL;
     if (!l || w->line > l->count) return;
     pair p = {.rows = r, .of = w->words, .count = w->word_count};
     p.client = words_of(r->arena, l->lines[w->line - 1], l->lines[w->line] - 1, &p.client_count);
@@ -319,6 +336,7 @@ rows *read_rows(arena *a, char *text, size_t length, const char *source) {
     r->count = n;
     if (!r->first) r->first = n + 1;
     add_listing(r, own_name, source);
+    r->is_renumbered = has_named_lines(source);
     return r;
 }
 

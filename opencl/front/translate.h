@@ -32,6 +32,7 @@ typedef struct {
 
 typedef struct {
     const node *function;
+    size_t begin, length; // its text, which is a program of its own
     judged_parameter *parameters;
     unsigned parameter_count;
     shown_name *names;
@@ -48,11 +49,18 @@ typedef struct {
     unsigned width; // of an element
 } constant_table;
 
+// A call of a function of the source, which is judged in its place.
+typedef struct call_site {
+    const struct call_site *up; // the call round it, NULL for none
+    const place *at;
+} call_site;
+
 // What begins at a byte of the judged text.
 typedef struct {
     size_t offset;
     const place *at;
-    unsigned loop;   // the number of the loop that begins here, else 0
+    const call_site *calls; // in which it is, the innermost one
+    unsigned loop;          // the number of the loop that begins here, else 0
     unsigned before; // where it is a part of the turn before in the client's source: the number of that loop, else 0
 } judged_place;
 
