@@ -8,22 +8,29 @@ use Rattle.device.specs.Machine.{IsReported}
 use Rattle.clmodel.specs.Outcome.{Concludes, events_of, IsMerged}
 use Rattle.clmodel.specs.Setup.{Setup, item_count, group_items}
 use Rattle.launches.specs.Groups.{HasGroups}
+use Rattle.limits.specs.declared.Configuration.{Configuration}
 use Rattle.clmodel.specs.declared.outcome.Outcome.{Outcome}
 use Rattle.clmodel.specs.declared.outcome.Outcome.TheVariants.{Clean, Faulted}
 
--- a launch of at most 65,536 items in whole groups of at most 256, within the greatest budget
-pub has_groups : (setup other : Setup) (size : ℕ) → setup ≡ other → size ≡ group_items other.range → size ≤ 256 → item_count other.range % size ≡ 0
-    → item_count other.range ≤ 65536 → other.budget ≤ 1000000 → HasGroups setup
-has_groups setup other size same grouped few whole few_items limited =
+-- a launch in whole groups, within the limits and the budget of a device
+pub has_groups : (configuration : Configuration) (setup other : Setup) (size : ℕ) → setup ≡ other → size ≡ group_items other.range → size ≤ configuration.limits.group_items
+    → item_count other.range % size ≡ 0 → item_count other.range ≤ configuration.limits.items → other.budget ≡ configuration.budget → HasGroups setup
+has_groups configuration setup other size same grouped few whole few_items limited =
     subst (λ (s : Setup). HasGroups s) (sym same)
     (record {
       whole = subst (λ n. item_count other.range % n ≡ 0) grouped whole;
-      numbered = omega (arith, few_items);
-      short = subst (λ n. n * other.budget < 2 ^ 32) grouped (short size other.budget few limited);
+      numbered = few_numbers (item_count other.range) configuration.limits.items few_items configuration.limits.few_items;
+      short = subst (λ n. n * other.budget < 2 ^ 32) grouped (short size other.budget configuration.limits.group_items configuration.limits.ticks few configuration.limits.small_groups (subst (λ n. n ≤ configuration.limits.ticks) (sym limited) configuration.limited) configuration.limits.few_ticks);
     })
   where
-    short : (n b : ℕ) → n ≤ 256 → b ≤ 1000000 → n * b < 2 ^ 32
-    short n b few limited = omega (arith, mul-le-mul_right b few, mul-le-mul_left 256 limited)
+    few_numbers : (n m : ℕ) → n ≤ m → m ≤ 2 ^ 26 → n < 2 ^ 32
+    few_numbers n m few limited = omega (arith, few, limited)
+
+    short : (n b m k : ℕ) → n ≤ m → m ≤ 1024 → b ≤ k → k ≤ 4194303 → n * b < 2 ^ 32
+    short n b m k few small limited brief =
+        let group : n ≤ 1024 = omega (arith, few, small) in
+        let budget : b ≤ 4194303 = omega (arith, limited, brief) in
+        omega (arith, mul-le-mul_right b group, mul-le-mul_left 1024 budget)
 
 clean_with : Determinacy → CleanIsComplete → (launch : Launch) (events : Events) (end : State) → RunsClean launch events end → CleanWith launch (left launch end)
 clean_with determined complete launch events end run =

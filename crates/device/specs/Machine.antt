@@ -27,12 +27,13 @@ use Rattle.host_commands.specs.declared.command.Refusal.{Refusal}
 use Rattle.host_commands.specs.declared.command.Refusal.TheVariants.{NameInUse, NoSuchName, BadSize, OutOfRange, TooManyBuffers, BadDimension, BadGroupSize, TooManyItems, Overlap, BuildFailed, NoSuchKernel, BadArgument, ArgumentsMissing, LocalTooLarge, InUse, OutOfMemory}
 use Rattle.host_commands.specs.declared.command.Reply.{Reply}
 use Rattle.host_commands.specs.declared.command.Reply.TheVariants as reply
+use Rattle.limits.specs.declared.Configuration.{Configuration}
 use Rattle.device.specs.declared.Device.{Device}
 
--- what is known between two commands: the ticks that an item of a launch may make, and the buffers with their bytes,
--- the programs and the kernels by their names
+-- what is known between two commands: what the device was made with, its limits (table 4.3) and the ticks that an item of
+-- a launch may make, and the buffers with their bytes, the programs and the kernels by their names
 pub record Machine : Type 0 where
-  pub budget : ℕ
+  pub configuration : Configuration
   pub buffers : Table (List ℕ)
   pub programs : Table Program
   pub kernels : Table KernelState
@@ -40,14 +41,14 @@ pub record Machine : Type 0 where
 abbrev pub machine_of : Device → Machine
 machine_of device =
     record {
-      budget = device.budget;
+      configuration = device.configuration;
       buffers = device.buffers;
       programs = map (λ e. (e.0, program e.1.tree)) device.programs;
       kernels = map (λ e. (e.0, e.1.kernel)) device.kernels;
     }
 
-abbrev pub opening : ℕ → Machine
-opening budget = record { budget = budget; buffers = []; programs = []; kernels = [] }
+abbrev pub opening : Configuration → Machine
+opening configuration = record { configuration = configuration; buffers = []; programs = []; kernels = [] }
 
 -- something has the name
 abbrev pub is_used : Machine → List ℕ → Bool
@@ -101,7 +102,7 @@ do_overlap first second count = nat_lt first (second + count) && nat_lt second (
 -- what a launch of a kernel runs
 abbrev pub setup_of : Machine → KernelState → Range → Setup
 setup_of m kernel range =
-    record { program = program_of m kernel.program; kernel = kernel.function; range = range; arguments = kernel.arguments; budget = m.budget }
+    record { program = program_of m kernel.program; kernel = kernel.function; range = range; arguments = kernel.arguments; budget = m.configuration.budget }
 
 -- conditions with the refusals that they call for, in their order
 abbrev pub Row : Type 0
@@ -116,8 +117,8 @@ first (x ∷ row) = if x.0 then Some x.1 else first row
 abbrev pub row : Machine → Command → Row
 row m (command.Buffer name size) =
     (is_used m name, NameInUse)
-    ∷ ((size == 0) || nat_lt 1048576 size, BadSize)
-    ∷ (nat_le 64 (length m.buffers), TooManyBuffers)
+    ∷ ((size == 0) || nat_lt m.configuration.limits.buffer_bytes size, BadSize)
+    ∷ (nat_le m.configuration.limits.buffers (length m.buffers), TooManyBuffers)
     ∷ []
 row m (command.Write name at bytes) =
     (not (is_some (find m.buffers name)), NoSuchName)
@@ -155,8 +156,8 @@ row m (command.Arg kernel index argument) =
 row m (command.Launch kernel range) =
     (not (has_kernel m kernel), NoSuchName)
     ∷ (is_bad_dimension range, BadDimension)
-    ∷ (is_bad_group range, BadGroupSize)
-    ∷ (is_too_many range, TooManyItems)
+    ∷ (is_bad_group m.configuration.limits range, BadGroupSize)
+    ∷ (is_too_many m.configuration.limits range, TooManyItems)
     ∷ (list_any (λ a. not (is_some a)) (kernel_of m kernel).arguments, ArgumentsMissing)
     ∷ (nat_lt local_limit (sum_by (λ o. o.size) (local_objects (setup_of m (kernel_of m kernel) range))), LocalTooLarge)
     ∷ []

@@ -18,7 +18,7 @@ use Rattle.device.specs.declared.prepared.Started.{Started}
 -- what it runs over a range
 abbrev pub prepared_setup : Prepared → Range → Setup
 prepared_setup p range =
-    record { program = program p.checked.now.tree; kernel = p.kernel.now.function; range = range; arguments = p.kernel.now.arguments; budget = p.budget }
+    record { program = program p.checked.now.tree; kernel = p.kernel.now.function; range = range; arguments = p.kernel.now.arguments; budget = p.configuration.budget }
 
 -- the names of its buffers, and what its run on these bytes concludes
 pub record Came (setup : Setup) (bytes : List ℕ → List ℕ) (launched : Launched) : Type 0 where

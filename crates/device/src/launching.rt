@@ -30,7 +30,7 @@ impl Device {
     /// A kernel that may be launched over a range, or the launch's refusal.
     fn admitted(&self, name: &Name, range: &Range) -> Result<Prepared<'_>, Refusal>
         ensures admitted { IfOk result (λ _. first (row (machine_of self.now) (Command.Launch name.now range.now)) ≡ None) }
-        ensures launchable { IfOk result (λ _. IsLaunchable range.now) }
+        ensures launchable { IfOk result (λ p. IsLaunchable p.configuration.limits range.now) }
         ensures setup { IfOk result (λ p. prepared_setup p range.now ≡ setup_of (machine_of self.now) (kernel_of (machine_of self.now) name.now) range.now) }
         ensures refused { IfErr result (λ refusal. first (row (machine_of self.now) (Command.Launch name.now range.now)) ≡ Some refusal) }
     {
@@ -41,10 +41,10 @@ impl Device {
         if is_bad_dimension(range) {
             return Err(Refusal::BadDimension);
         }
-        if is_bad_group(range) {
+        if is_bad_group(&self.configuration.limits, range) {
             return Err(Refusal::BadGroupSize);
         }
-        if is_too_many(range) {
+        if is_too_many(&self.configuration.limits, range) {
             return Err(Refusal::TooManyItems);
         }
         if kernel.lacks_argument() {
@@ -57,7 +57,7 @@ impl Device {
             checked,
             kernel,
             code: &compiled.code,
-            budget: self.budget,
+            configuration: self.configuration,
         })
     }
 
@@ -72,8 +72,8 @@ impl Device {
         Ok(prepared.launch(self.alloc, range)?)
     }
 
-    /// The launch of a kernel over a range, with the names of its buffers. A launch copies these names, at most 64,
-    /// here and in `Launch::new`. What the buffers hold isn't copied here: whoever runs the launch makes one copy of
+    /// The launch of a kernel over a range, with the names of its buffers. A launch copies these names here
+    /// and in `Launch::new`. What the buffers hold isn't copied here: whoever runs the launch makes one copy of
     /// each, in which the groups are joined, and a clean outcome hands it on.
     fn start<'a>(&'a self, name: &Name, range: &'a Range) -> Result<Started<'a>, Refusal>
         ensures started { IfOk result (IsStarted (machine_of self.now) name.now range.now) }

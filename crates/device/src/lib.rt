@@ -19,7 +19,6 @@ ghost use Rattle.clmodel.specs.Next.{launch_of};
 ghost use Rattle.clmodel.specs.Outcome.{Concludes};
 ghost use Rattle.spaces.specs.Buffers.{bytes_in};
 ghost use Rattle.device.specs.Kept.{ActsAs, AllCompiled, IsCodeOf};
-ghost use Rattle.device.specs.declared.TheConstants.{MAX_BUDGET};
 
 mod compiled;
 mod launching;
@@ -37,6 +36,7 @@ pub use host_commands::command::{BuildFault, Command, Refusal, Reply};
 use host_commands::fills::is_bad_fill;
 use host_commands::kernel::{Kernel, parameters_of, suits};
 pub use item_step::Launch;
+pub use limits::{Configuration, Limits};
 pub use spaces::Buffers;
 use spaces::Table;
 use std::alloc::{AllocError, Global};
@@ -46,15 +46,6 @@ use std::thread::Threads;
 pub use tickets::{Driver, close, open};
 use workers::run_parallel;
 pub use workers::{Gate, OpenGate};
-
-/// The most buffers that a device has.
-const MAX_BUFFERS: usize = 64;
-
-/// The most bytes that a buffer has.
-const MAX_SIZE: u64 = 1048576;
-
-/// The largest budget: so many ticks an item of a launch may make (own).
-pub const MAX_BUDGET: u32 = 1000000;
 
 /// Whether some of the `count` bytes from an offset on aren't a buffer's.
 fn is_outside(buffer: &Bytes, offset: u64, count: u64) -> bool
@@ -69,25 +60,23 @@ fn is_outside(buffer: &Bytes, offset: u64, count: u64) -> bool
 #[derive(Drop)]
 pub struct Device {
     alloc: Global,
-    budget: u32,
+    configuration: Configuration,
     buffers: Buffers,
     programs: Table<Checked>,
     kernels: Table<CompiledKernel>,
     ghost kept: { AllCompiled programs kernels },
-    ghost limited: { budget ≤ MAX_BUDGET },
 }
 
 impl Device {
     ghost use Rattle.device.specs.Machine.{Step, Answers, machine_of, opening, is_used, is_argument, has_kernels, is_in_use, is_there, has_kernel, kernel_of, program_of};
 
-    /// A device without buffers, programs and kernels, on which an item of a launch may make `budget` ticks.
-    pub fn new(alloc: Global, budget: u32) -> Self
-        requires { budget ≤ MAX_BUDGET }
-        ensures { machine_of result ≡ opening budget }
+    /// A device without buffers, programs and kernels, with these limits and this budget.
+    pub fn new(alloc: Global, configuration: Configuration) -> Self
+        ensures { machine_of result ≡ opening configuration }
     {
         Device {
             alloc,
-            budget,
+            configuration,
             buffers: Buffers::new(alloc),
             programs: Table::new(alloc),
             kernels: Table::new(alloc),
@@ -147,8 +136,8 @@ impl Device {
         }
     }
 
-    /// Makes a buffer of 1 to 1,048,576 zero bytes. It is refused where something has the name, with any other size,
-    /// where 64 buffers are there, and where memory runs out.
+    /// Makes a buffer of zero bytes, at least one. It is refused where something has the name, with a size that the
+    /// limits don't allow, where as many buffers are there as they allow, and where memory runs out.
     fn make_buffer(&mut self, name: Name, size: u64) -> Result<Reply, Refusal>
         ensures ok { IfOk result (λ reply. Answers (machine_of self.old) (Command.Buffer name size) reply (machine_of self.new)) }
         ensures err { IfErr result (λ refusal. Step (machine_of self.old) (Command.Buffer name size) (Reply.Refused refusal) (machine_of self.new)) }
@@ -156,10 +145,10 @@ impl Device {
         if self.is_used(&name) {
             return Err(Refusal::NameInUse);
         }
-        if size == 0 || size > MAX_SIZE {
+        if size == 0 || size > self.configuration.limits.buffer_bytes {
             return Err(Refusal::BadSize);
         }
-        if self.buffers.len() >= MAX_BUFFERS {
+        if self.buffers.len() >= self.configuration.limits.buffers {
             return Err(Refusal::TooManyBuffers);
         }
         let bytes = Bytes::zeros(self.alloc, size as usize)?;

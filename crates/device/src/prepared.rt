@@ -9,7 +9,6 @@ ghost use Rattle.clmodel.specs.Tree.{program};
 ghost use Rattle.clmodel.specs.Typing.Sizes.{parameter_limit};
 ghost use Rattle.host_commands.specs.Ranges.{IsLaunchable};
 ghost use Rattle.device.specs.Kept.{ActsAs, IsCodeOf};
-ghost use Rattle.device.specs.declared.TheConstants.{MAX_BUDGET};
 
 use clmodel::outcome::Outcome;
 use clmodel::setup::Range;
@@ -18,6 +17,7 @@ use cltypes::Checked;
 use host_commands::kernel::Kernel;
 use host_commands::ranges::group_items;
 use item_step::{Launch, Setup};
+use limits::Configuration;
 use regcode::Code;
 use std::alloc::{AllocError, Global};
 
@@ -27,10 +27,9 @@ pub(crate) struct Prepared<'a> {
     pub(crate) checked: &'a Checked,
     pub(crate) kernel: &'a Kernel,
     pub(crate) code: &'a Code,
-    pub(crate) budget: u32,
+    pub(crate) configuration: Configuration,
     pub(crate) ghost faithful: { ActsAs (program checked.now.tree) kernel.now.function code.now },
     pub(crate) ghost listed: { IsCodeOf (program checked.now.tree) kernel.now.function code.now },
-    pub(crate) ghost limited: { budget ≤ MAX_BUDGET },
     pub(crate) ghost few: { length kernel.now.arguments ≤ parameter_limit },
     pub(crate) ghost fits: { are_too_large (objects_of (kernel_in (program checked.now.tree).functions kernel.now.function) kernel.now.arguments) ≡ false },
 }
@@ -63,18 +62,18 @@ impl<'a> Prepared<'a> {
             kernel: self.kernel.function(),
             range,
             arguments: self.kernel.arguments(),
-            budget: self.budget,
+            budget: self.configuration.budget,
         }
     }
 
     /// Its launch over a range.
     pub(crate) fn launch(&self, alloc: Global, range: &'a Range) -> Result<Launch<'a>, AllocError>
-        requires { IsLaunchable range.now }
+        requires { IsLaunchable self.now.configuration.limits range.now }
         ensures setup { IfOk result (λ launch. setup_of launch ≡ prepared_setup self.now range.now) }
         ensures groups { IfOk result (λ launch. HasGroups (setup_of launch)) }
         ensures code { IfOk result (λ launch. IsCodeOf (setup_of launch).program (setup_of launch).kernel (code_of launch)) }
     {
-        let group_size = group_items(range);
+        let group_size = group_items(&self.configuration.limits, range);
         Launch::new(alloc, self.setup(range), group_size, self.code)
     }
 }

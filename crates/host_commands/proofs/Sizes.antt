@@ -8,6 +8,7 @@ use Rattle.std.proofs.lemmas.Bool.Decides.{nat_tests}
 use Rattle.clmodel.specs.Setup.{product, item_count, group_items}
 use Rattle.clmodel.specs.declared.setup.Range.{Range}
 use Rattle.host_commands.specs.Ranges.{is_bad_dimension, IsLaunchable}
+use Rattle.limits.specs.declared.Limits.{Limits}
 
 so : (a : Bool) → not a ≡ false → a ≡ true
 so true h = refl
@@ -22,6 +23,9 @@ positive_times (suc y) p a b = grind arith
 
 at_most : (n m : ℕ) → nat_lt n m ≡ false → m ≤ n
 at_most n m h = grind (arith, nat_tests)
+
+within : (n m : ℕ) → n ≤ m → m ≤ 1024 → n ≤ 1024
+within n m few small = omega (arith, few, small)
 
 whole_times : (x y p q : ℕ) → 0 < y → 0 < q → x % y ≡ 0 → p % q ≡ 0 → (x * p) % (y * q) ≡ 0
 whole_times x y p q some others even rest =
@@ -79,22 +83,25 @@ whole_product (x ∷ xs) (y ∷ ys) l h =
     whole_times x y (product xs) (product ys) (positive y second.1) (positive_product xs ys l' both.1) (eqb-true (x % y) 0 (so (x % y == 0) first.1))
     (whole_product xs ys l' both.1)
 
--- what a launch may have: 1 to 256 items in each group, and at most 65,536 in whole groups
-pub record Sizes (range : Range) : Type 0 where
-  pub few : item_count range ≤ 65536
+-- what a launch may have on a device of these limits: at least one item in each group, as many as its limits allow, and
+-- whole groups
+pub record Sizes (limits : Limits) (range : Range) : Type 0 where
+  pub few : item_count range ≤ limits.items
   pub positive : 0 < group_items range
-  pub small : group_items range ≤ 256
+  pub small : group_items range ≤ limits.group_items
+  pub fits : group_items range ≤ 1024
   pub whole : item_count range % group_items range ≡ 0
   pub sized : All (λ size. 0 < size) range.local
 
-pub sizes : (range : Range) → IsLaunchable range → Sizes range
-sizes range h =
+pub sizes : (limits : Limits) (range : Range) → IsLaunchable limits range → Sizes limits range
+sizes limits range h =
     let l = of_length range h.dimensioned in
-    let g = or_parts (list_any (λ p. (p.0 == 0) || (p.1 == 0) || not (p.0 % p.1 == 0)) (zip range.global range.local)) (nat_lt 256 (group_items range)) h.grouped in
+    let g = or_parts (list_any (λ p. (p.0 == 0) || (p.1 == 0) || not (p.0 % p.1 == 0)) (zip range.global range.local)) (nat_lt limits.group_items (group_items range)) h.grouped in
     record {
-      few = at_most 65536 (item_count range) h.few;
+      few = at_most limits.items (item_count range) h.few;
       positive = positive_product range.global range.local l g.0;
-      small = at_most 256 (group_items range) g.1;
+      small = at_most limits.group_items (group_items range) g.1;
+      fits = within (group_items range) limits.group_items (at_most limits.group_items (group_items range) g.1) limits.small_groups;
       whole = whole_product range.global range.local l g.0;
       sized = all_positive range.global range.local l g.0;
     }

@@ -93,17 +93,18 @@ pub enum Refusal {
     NameInUse,
     /// 2: nothing of the wanted kind has the name
     NoSuchName,
-    /// 3: a size of 0 bytes, a buffer of more than 1,048,576, or a bad pattern
+    /// 3: a size of 0 bytes, a buffer of more bytes than the device allows, or a bad pattern
     BadSize,
     /// 4: bytes behind the end of a buffer
     OutOfRange,
-    /// 5: there are 64 buffers
+    /// 5: there are as many buffers as the device allows
     TooManyBuffers,
     /// 6: not 1 to 3 sizes, lists of unequal length, or an offset and a size that pass 2^64 - 1 together
     BadDimension,
-    /// 7: a size 0, a global size not divisible by its local size, or more than 256 items a group
+    /// 7: a size 0, a global size not divisible by its local size, or more items a group than the
+    /// device allows
     BadGroupSize,
-    /// 8: more than 65,536 items
+    /// 8: more items than the device allows
     TooManyItems,
     /// 9: a copy within a buffer whose two ranges share a byte
     Overlap,

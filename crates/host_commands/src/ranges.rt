@@ -7,12 +7,7 @@ ghost use Rattle.clmodel.specs.Setup.{item_count, group_items};
 ghost use Rattle.host_commands.specs.Ranges.{is_bad_dimension, is_bad_group, is_too_many, IsLaunchable};
 
 use clmodel::setup::Range;
-
-/// The most items that a group may have.
-const MAX_GROUP: u64 = 256;
-
-/// The most items that a launch may have.
-const MAX_ITEMS: u64 = 65_536;
+use limits::Limits;
 
 /// Whether in a dimension the offset and the global size pass 2^64 - 1 together (OpenCL 1.2, section 5.8).
 fn any_passes(offset: &[u64], global: &[u64]) -> bool
@@ -45,32 +40,33 @@ pub fn is_bad_dimension(range: &Range) -> bool
         || any_passes(offset, global)
 }
 
-/// Whether a size is 0, a global size isn't divisible by its local size, or a group has more than 256 items.
-pub fn is_bad_group(range: &Range) -> bool
-    ensures { result ≡ is_bad_group range.now }
+/// Whether a size is 0, a global size isn't divisible by its local size, or a group has more items than a device of
+/// these limits allows.
+pub fn is_bad_group(limits: &Limits, range: &Range) -> bool
+    ensures { result ≡ is_bad_group limits.now range.now }
 {
     let global = range.global.as_slice();
     let local = range.local.as_slice();
-    any_uneven(global, local) || range.local.product() > MAX_GROUP
+    any_uneven(global, local) || range.local.product() > limits.group_items
 }
 
-/// Whether there are more than 65,536 items in all groups together, the product of the global sizes.
-pub fn is_too_many(range: &Range) -> bool
-    ensures { result ≡ is_too_many range.now }
+/// Whether there are more items in all groups together, the product of the global sizes, than a device of these limits
+/// allows.
+pub fn is_too_many(limits: &Limits, range: &Range) -> bool
+    ensures { result ≡ is_too_many limits.now range.now }
 {
-    range.global.product() > MAX_ITEMS
+    range.global.product() > limits.items
 }
 
-/// How many items a group has, 1 to 256: the product of the local sizes. The launch's items, at most 65,536, are a
-/// multiple of it.
+/// How many items a group has, at least 1: the product of the local sizes. The launch's items are a multiple of it.
 #[tactic(auto, using(crate::proofs::Sizes::sizes))]
-pub fn group_items(range: &Range) -> u32
-    requires { IsLaunchable range.now }
+pub fn group_items(limits: &Limits, range: &Range) -> u32
+    requires { IsLaunchable limits.now range.now }
     ensures count { result ≡ group_items range.now }
     ensures positive { 0 < result }
-    ensures few { result ≤ 256 }
+    ensures few { result ≤ limits.now.group_items }
     ensures whole { item_count range.now % result ≡ 0 }
-    ensures few_items { item_count range.now ≤ 65536 }
+    ensures few_items { item_count range.now ≤ limits.now.items }
     ensures sized { All (λ size. 0 < size) range.now.local }
 {
     range.local.product() as u32

@@ -1,4 +1,4 @@
-use Rattle.std.proofs.Common.{◌≡◌, ◌∙◌}
+use Rattle.std.proofs.Common.{◌≡◌, ◌∙◌, refl}
 use Rattle.std.proofs.lemmas.Result.{IfOk-weaker}
 use Rattle.item_step.specs.Launches.{setup_of}
 use Rattle.item_step.specs.Setups.{plain}
@@ -17,8 +17,8 @@ returns-clause-groups c =
     let size = c.group_items-group_size in
     IfOk-weaker c.new.result (λ launch. setup_of launch ≡ plain c.setup.result) (λ launch. HasGroups (setup_of launch))
     (λ launch same.
-    has_groups (setup_of launch) (prepared_setup c.args.self.now c.args.range.now) size.result (same ∙ c.setup.ensures) size.ensures.count size.ensures.few size.ensures.whole
-    size.ensures.few_items c.args.self.now.limited)
+    has_groups c.args.self.now.configuration (setup_of launch) (prepared_setup c.args.self.now c.args.range.now) size.result (same ∙ c.setup.ensures) size.ensures.count size.ensures.few size.ensures.whole
+    size.ensures.few_items refl)
     c.new.ensures.setup
 
 pub returns-clause-code : goal.returns-clause-code
