@@ -31,6 +31,7 @@ use Rattle.simfile.specs.declared.lines.Version.TheVariants as version
 use Rattle.simfile.specs.Lines.{line, lines}
 use Rattle.simfile.specs.Script.{IsText, Begins, head, line_feeds}
 use Rattle.simfile.proofs.LineLaws.{feeds_append}
+use Rattle.limits.specs.declared.Configuration.{Configuration}
 
 pub is_none : {A : Type 0} (o : Option A) → ((a : A) → o ≡ Some a → ⊥) → o ≡ None
 is_none None h = refl
@@ -100,7 +101,7 @@ turn_events first turns e es t =
 said_as : {a b : Conversation} {es fs : List Event} → es ≡ fs → Said a b es → Said a b fs
 said_as {a} {b} e h = subst (λ (l : List Event). Said a b l) e h
 
-abbrev begun_by : {old now new : Conversation} {budget : ℕ} {server : Server} {machine : Machine} {end : RunEnd} (pieces : List (List ℕ)) → Serves old now budget server machine end → Said now new (hearing pieces) → Begun old new budget
+abbrev begun_by : {old now new : Conversation} {configuration : Configuration} {server : Server} {machine : Machine} {end : RunEnd} (pieces : List (List ℕ)) → Serves old now configuration server machine end → Said now new (hearing pieces) → Begun old new configuration
 begun_by {server = server} {machine = machine} pieces h k = record {
   version = server.version;
   commands = h.commands;
@@ -114,12 +115,12 @@ begun_by {server = server} {machine = machine} pieces h k = record {
 }
 
 -- a command was answered, and its reply told
-record Turned (old new : Conversation) (budget : ℕ) (v : Version) (machine : Machine) (end : RunEnd) (count : ℕ) : Type 0 where
+record Turned (old new : Conversation) (configuration : Configuration) (v : Version) (machine : Machine) (end : RunEnd) (count : ℕ) : Type 0 where
   commands : List Command
   replies : List Reply
   turns : List Event
   are : AreTurns v commands replies turns
-  plays : Plays (opening budget) commands replies machine
+  plays : Plays (opening configuration) commands replies machine
   said : Said old new (greeting v ++ turns)
   failures : new.failures ≡ old.failures
   lines : count ≡ up_to_most (line_feeds (heard (greeting v ++ turns)))
@@ -134,14 +135,14 @@ lines_of_turn first turns text pieces told before count h k =
     ∙ ap (λ n. feeds (first ++ turns) + n) (ap line_feeds (ap (λ l. text ++ l) (heard-append (hearing pieces) (Told told ∷ []) ∙ (append-nil (heard (hearing pieces)) ∙ heard-hearing pieces))))) in
     ap up_to_most (k ∙ ap (λ n. n + line_feeds (text ++ joined pieces)) h) ∙ (most_most (feeds (first ++ turns)) (line_feeds (text ++ joined pieces)) ∙ ap up_to_most (sym all))
 
-turned : {old now mid new : Conversation} {budget : ℕ} {server server' server'' : Server} {machine after : Machine} {end : RunEnd} (c : Command) (r : Reply) → Serves old now budget server machine end → HeardCommand now mid server server' c → Step machine c r after → ToldReply mid new server' server'' r
-    → Turned old new budget server.version after (one_end r end) (up_to_most (server''.lines + line_feeds server''.text.items))
-turned {budget = budget} {server = server} {server' = server'} {server'' = server''} {machine = machine} {after = after} {end = end} c r h k s t = record {
+turned : {old now mid new : Conversation} {configuration : Configuration} {server server' server'' : Server} {machine after : Machine} {end : RunEnd} (c : Command) (r : Reply) → Serves old now configuration server machine end → HeardCommand now mid server server' c → Step machine c r after → ToldReply mid new server' server'' r
+    → Turned old new configuration server.version after (one_end r end) (up_to_most (server''.lines + line_feeds server''.text.items))
+turned {configuration = configuration} {server = server} {server' = server'} {server'' = server''} {machine = machine} {after = after} {end = end} c r h k s t = record {
   commands = h.commands ++ c ∷ [];
   replies = h.replies ++ r ∷ [];
   turns = h.turns ++ (Heard server.text.items ∷ hearing k.pieces ++ Told (line r) ∷ []);
   are = turns_more server.version h.commands h.replies h.turns c r (server.text.items ∷ k.pieces) h.are k.tells;
-  plays = plays_more (opening budget) machine after h.commands h.replies c r h.plays s;
+  plays = plays_more (opening configuration) machine after h.commands h.replies c r h.plays s;
   said = said_as (turn_events (greeting server.version) h.turns (Heard server.text.items) (hearing k.pieces) (Told (line r))) (said_then (said_then h.said k.said) t.said);
   failures = t.failures ∙ (k.failures ∙ h.failures);
   lines = lines_of_turn (greeting server.version) h.turns server.text.items k.pieces (line r) server.lines (server''.lines + line_feeds server''.text.items) h.lines
@@ -151,8 +152,8 @@ turned {budget = budget} {server = server} {server' = server'} {server'' = serve
 
 -- between two turns
 
-pub serves_first : {old new : Conversation} (budget : ℕ) {server : Server} → Opened old new server → Serves old new budget server (opening budget) (end_of [])
-serves_first {old} {new} budget {server} h = record {
+pub serves_first : {old new : Conversation} (configuration : Configuration) {server : Server} → Opened old new server → Serves old new configuration server (opening configuration) (end_of [])
+serves_first {old} {new} configuration {server} h = record {
   commands = [];
   replies = [];
   turns = [];
@@ -169,15 +170,15 @@ serves_first {old} {new} budget {server} h = record {
   first_lines version.Two = refl
 
 -- the same, on the machine of a new device
-pub serves_new : {old new : Conversation} (budget : ℕ) {server : Server} {machine : Machine} → machine ≡ opening budget → Opened old new server → Serves old new budget server machine (end_of [])
-serves_new {old} {new} budget {server} {machine} e h = subst (λ (m : Machine). Serves old new budget server m (end_of [])) (sym e) (serves_first budget h)
+pub serves_new : {old new : Conversation} (configuration : Configuration) {server : Server} {machine : Machine} → machine ≡ opening configuration → Opened old new server → Serves old new configuration server machine (end_of [])
+serves_new {old} {new} configuration {server} {machine} e h = subst (λ (m : Machine). Serves old new configuration server m (end_of [])) (sym e) (serves_first configuration h)
 
-pub serves_more : {old now mid told_at new : Conversation} {budget : ℕ} {server server' server'' last : Server} {machine after : Machine} {end : RunEnd} (c : Command) (r : Reply) → Serves old now budget server machine end → HeardCommand now mid server server' c → Step machine c r after
-    → ToldReply mid told_at server' server'' r → HeardNext told_at new server'' last → Serves old new budget last after (one_end r end)
-serves_more {old} {now} {mid} {told_at} {new} {budget} {server} {server'} {server''} {last} {machine} {after} {end} c r h k s t n =
+pub serves_more : {old now mid told_at new : Conversation} {configuration : Configuration} {server server' server'' last : Server} {machine after : Machine} {end : RunEnd} (c : Command) (r : Reply) → Serves old now configuration server machine end → HeardCommand now mid server server' c → Step machine c r after
+    → ToldReply mid told_at server' server'' r → HeardNext told_at new server'' last → Serves old new configuration last after (one_end r end)
+serves_more {old} {now} {mid} {told_at} {new} {configuration} {server} {server'} {server''} {last} {machine} {after} {end} c r h k s t n =
     let u = turned c r h k s t in
     let same : last.version ≡ server.version = n.version ∙ (t.version ∙ k.version) in
-    subst (λ (v : Version). (last.version ≡ v) → Serves old new budget last after (one_end r end)) same (λ is. record {
+    subst (λ (v : Version). (last.version ≡ v) → Serves old new configuration last after (one_end r end)) same (λ is. record {
       commands = u.commands;
       replies = u.replies;
       turns = u.turns;
@@ -192,8 +193,8 @@ serves_more {old} {now} {mid} {told_at} {new} {budget} {server} {server'} {serve
 
 -- how a talk ends
 
-pub served_all : {old now new : Conversation} {budget : ℕ} {server : Server} {machine : Machine} {end : RunEnd} → Serves old now budget server machine end → HeardNone now new server → Served old new budget end
-served_all {old} {now} {new} {budget} {server} {machine} {end} h k = subst (λ (c : Conversation). Served old c budget end) (sym k.same) (record {
+pub served_all : {old now new : Conversation} {configuration : Configuration} {server : Server} {machine : Machine} {end : RunEnd} → Serves old now configuration server machine end → HeardNone now new server → Served old new configuration end
+served_all {old} {now} {new} {configuration} {server} {machine} {end} h k = subst (λ (c : Conversation). Served old c configuration end) (sym k.same) (record {
   version = server.version;
   commands = h.commands;
   replies = h.replies;
@@ -208,18 +209,18 @@ served_all {old} {now} {new} {budget} {server} {machine} {end} h k = subst (λ (
 })
 
 -- a failure to hear, behind what was heard so far
-fails_hearing : (old now new : Conversation) (budget : ℕ) (why : ServeFault) → now.failures ≡ old.failures → Begun old new budget → HearFails now.failures new.failures why → ServeFailed old new budget (serve_fault why)
-fails_hearing old now new budget serve.Hear e h k = (h, fails_then new.failures serve.Hear e k)
-fails_hearing old now new budget serve.OutOfMemory e h k = (h, fails_then new.failures serve.OutOfMemory e k)
-fails_hearing old now new budget serve.Tell e h k = absurd k
-fails_hearing old now new budget (serve.BadLine n) e h k = absurd k
+fails_hearing : (old now new : Conversation) (configuration : Configuration) (why : ServeFault) → now.failures ≡ old.failures → Begun old new configuration → HearFails now.failures new.failures why → ServeFailed old new configuration (serve_fault why)
+fails_hearing old now new configuration serve.Hear e h k = (h, fails_then new.failures serve.Hear e k)
+fails_hearing old now new configuration serve.OutOfMemory e h k = (h, fails_then new.failures serve.OutOfMemory e k)
+fails_hearing old now new configuration serve.Tell e h k = absurd k
+fails_hearing old now new configuration (serve.BadLine n) e h k = absurd k
 
-pub not_opened : {old new : Conversation} (budget : ℕ) (why : ServeFault) → NotOpened old new why → ServeFailed old new budget (serve_fault why)
-not_opened {old} {new} budget why h = fails_hearing old old new budget why refl (record {
+pub not_opened : {old new : Conversation} (configuration : Configuration) (why : ServeFault) → NotOpened old new why → ServeFailed old new configuration (serve_fault why)
+not_opened {old} {new} configuration why h = fails_hearing old old new configuration why refl (record {
   version = h.version;
   commands = [];
   replies = [];
-  last = opening budget;
+  last = opening configuration;
   turns = [];
   pieces = h.bytes ∷ [];
   are = refl;
@@ -227,9 +228,9 @@ not_opened {old} {new} budget why h = fails_hearing old old new budget why refl 
   said = said_as (ap (λ l. l ++ Heard h.bytes ∷ []) (sym (append-nil (greeting h.version)))) h.said;
 }) h.fails
 
-pub no_command : {old now : Conversation} (new : Conversation) {budget : ℕ} {server : Server} {machine : Machine} {end : RunEnd} (why : ServeFault) → Serves old now budget server machine end → NoCommand now new server why → ServeFailed old new budget (serve_fault why)
-no_command {old} {now} new {budget} serve.Hear h k = fails_hearing old now new budget serve.Hear h.failures (begun_by k.pieces h k.said) k.fails
-no_command {old} {now} new {budget} serve.OutOfMemory h k = fails_hearing old now new budget serve.OutOfMemory h.failures (begun_by k.pieces h k.said) k.fails
+pub no_command : {old now : Conversation} (new : Conversation) {configuration : Configuration} {server : Server} {machine : Machine} {end : RunEnd} (why : ServeFault) → Serves old now configuration server machine end → NoCommand now new server why → ServeFailed old new configuration (serve_fault why)
+no_command {old} {now} new {configuration} serve.Hear h k = fails_hearing old now new configuration serve.Hear h.failures (begun_by k.pieces h k.said) k.fails
+no_command {old} {now} new {configuration} serve.OutOfMemory h k = fails_hearing old now new configuration serve.OutOfMemory h.failures (begun_by k.pieces h k.said) k.fails
 no_command new {server = server} (serve.BadLine n) h k = record {
   begun = begun_by k.pieces h k.said;
   bad = k.bad;
@@ -238,9 +239,9 @@ no_command new {server = server} (serve.BadLine n) h k = record {
 }
 no_command new serve.Tell h k = absurd k
 
-pub not_told : {old now mid : Conversation} (new : Conversation) {budget : ℕ} {server server' : Server} {machine after : Machine} {end : RunEnd} (c : Command) (r : Reply) (why : ServeFault) → Serves old now budget server machine end → HeardCommand now mid server server' c → Step machine c r after → NotTold mid new r why
-    → ServeFailed old new budget (serve_fault why)
-not_told {old} {now} {mid} new {budget} {server} {server'} {machine} {after} {end} c r serve.Tell h k s t =
+pub not_told : {old now mid : Conversation} (new : Conversation) {configuration : Configuration} {server server' : Server} {machine after : Machine} {end : RunEnd} (c : Command) (r : Reply) (why : ServeFault) → Serves old now configuration server machine end → HeardCommand now mid server server' c → Step machine c r after → NotTold mid new r why
+    → ServeFailed old new configuration (serve_fault why)
+not_told {old} {now} {mid} new {configuration} {server} {server'} {machine} {after} {end} c r serve.Tell h k s t =
     let b = begun_by k.pieces h k.said in
     let pieces : List (List ℕ) = server.text.items ∷ k.pieces in
     let so_far : told (greeting server.version ++ h.turns ++ hearing pieces) ≡ lines h.replies = told_so_far server.version h.commands h.replies h.turns h.are (hearing pieces) (told-hearing pieces) in
@@ -264,16 +265,16 @@ not_told {old} {now} {mid} new {budget} {server} {server'} {machine} {after} {en
       stopped = rw (lines-more h.replies r) (stopped_then wrote t.stopped);
       failures = t.failures ∙ (k.failures ∙ h.failures);
     }
-not_told {old} {now} {mid} new {budget} c r serve.OutOfMemory h k s t =
-    subst (λ (m : Conversation). Begun old m budget × (m.failures ≡ old.failures)) (sym t) (begun_by k.pieces h k.said, k.failures ∙ h.failures)
+not_told {old} {now} {mid} new {configuration} c r serve.OutOfMemory h k s t =
+    subst (λ (m : Conversation). Begun old m configuration × (m.failures ≡ old.failures)) (sym t) (begun_by k.pieces h k.said, k.failures ∙ h.failures)
 not_told new c r serve.Hear h k s t = absurd t
 not_told new c r (serve.BadLine n) h k s t = absurd t
 
-pub not_heard : {old now mid told_at new : Conversation} {budget : ℕ} {server server' server'' : Server} {machine after : Machine} {end : RunEnd} (c : Command) (r : Reply) (why : ServeFault) → Serves old now budget server machine end → HeardCommand now mid server server' c → Step machine c r after
-    → ToldReply mid told_at server' server'' r → NotHeard told_at new why → ServeFailed old new budget (serve_fault why)
-not_heard {old = old} {told_at = told_at} {new = new} {budget = budget} {server = server} {after = after} c r why h k s t n =
+pub not_heard : {old now mid told_at new : Conversation} {configuration : Configuration} {server server' server'' : Server} {machine after : Machine} {end : RunEnd} (c : Command) (r : Reply) (why : ServeFault) → Serves old now configuration server machine end → HeardCommand now mid server server' c → Step machine c r after
+    → ToldReply mid told_at server' server'' r → NotHeard told_at new why → ServeFailed old new configuration (serve_fault why)
+not_heard {old = old} {told_at = told_at} {new = new} {configuration = configuration} {server = server} {after = after} c r why h k s t n =
     let u = turned c r h k s t in
-    fails_hearing old told_at new budget why u.failures (record {
+    fails_hearing old told_at new configuration why u.failures (record {
       version = server.version;
       commands = u.commands;
       replies = u.replies;
@@ -292,8 +293,8 @@ all_read None b bytes h k = tt
 all_read (Some xs) None bytes h k = absurd h
 all_read (Some xs) (Some ys) bytes h k = sym (h ∙ (ap (λ l. bytes ++ l) k ∙ append-nil bytes))
 
-pub is_ran : (old new : Conversation) (budget : ℕ) (outcome : RunEnd) → (s : Served old new budget outcome) → length s.commands ≤ 4096 → old.sink.held ≡ [] → Ran old.rest budget old.sink new.sink outcome
-is_ran old new budget outcome s few held =
+pub is_ran : (old new : Conversation) (configuration : Configuration) (outcome : RunEnd) → (s : Served old new configuration outcome) → length s.commands ≤ 4096 → old.sink.held ≡ [] → Ran old.rest configuration old.sink new.sink outcome
+is_ran old new configuration outcome s few held =
     let events : List Event = greeting s.version ++ s.turns ++ Heard [] ∷ [] in
     let bytes : heard events ≡ head s.version ++ heard s.turns =
     heard-append (greeting s.version ++ s.turns) (Heard [] ∷ []) ∙ (append-nil (heard (greeting s.version ++ s.turns))

@@ -11,6 +11,7 @@ use Rattle.byte_io.specs.Sink.{Sink, Wrote, Stopped}
 use Rattle.simfile.specs.Lines.{line, lines}
 use Rattle.cli.specs.Session.{Plays, one_end, end_of, Answered, Broken}
 use Rattle.byte_io.proofs.Puts.{wrote_none, wrote_then, stopped_then}
+use Rattle.limits.specs.declared.Configuration.{Configuration}
 
 -- a command was answered: the machine made a step, and the reply's line was written
 pub record AnswersOne (old : Machine) (command : Command) (new : Machine) (before after : Sink) (end next : RunEnd) : Type 0 where
@@ -27,14 +28,14 @@ pub record BreaksOne (old : Machine) (command : Command) (before after : Sink) :
   pub stopped : Stopped before after (line answer)
 
 -- the commands so far were answered
-pub record HasAnswered (budget : ℕ) (done : List Command) (now : Machine) (old new : Sink) (end : RunEnd) : Type 0 where
+pub record HasAnswered (configuration : Configuration) (done : List Command) (now : Machine) (old new : Sink) (end : RunEnd) : Type 0 where
   pub replies : List Reply
-  pub plays : Plays (opening budget) done replies now
+  pub plays : Plays (opening configuration) done replies now
   pub wrote : Wrote old new (lines replies)
   pub counts : end ≡ end_of replies
 
-pub answered_none : (budget : ℕ) (now : Machine) (s : Sink) → now ≡ opening budget → HasAnswered budget [] now s s (end_of [])
-answered_none budget now s e = record { replies = []; plays = e; wrote = wrote_none s; counts = refl }
+pub answered_none : (configuration : Configuration) (now : Machine) (s : Sink) → now ≡ opening configuration → HasAnswered configuration [] now s s (end_of [])
+answered_none configuration now s e = record { replies = []; plays = e; wrote = wrote_none s; counts = refl }
 
 pub plays_more : (old mid new : Machine) (cs : List Command) (rs : List Reply) (c : Command) (r : Reply) → Plays old cs rs mid → Step mid c r new → Plays old (cs ++ c ∷ []) (rs ++ r ∷ []) new
 plays_more old mid new [] [] c r h s = let P : Machine → Type 0 = λ m. Step m c r new in (new, subst P h s, refl)
@@ -49,27 +50,27 @@ pub fold-more : (rs : List Reply) (r : Reply) (e : RunEnd) → fold (λ end x. o
 fold-more [] r e = refl
 fold-more (x ∷ rs) r e = fold-more rs r (one_end x e)
 
-pub answered_more : {budget : ℕ} {done : List Command} {now new : Machine} {old mid after : Sink} {end next : RunEnd} (c : Command) → HasAnswered budget done now old mid end → AnswersOne now c new mid after end next → HasAnswered budget (done ++ c ∷ []) new old after next
-answered_more {budget} {done} {now} {new} {old} {mid} {after} {end} {next} c h a = record {
+pub answered_more : {configuration : Configuration} {done : List Command} {now new : Machine} {old mid after : Sink} {end next : RunEnd} (c : Command) → HasAnswered configuration done now old mid end → AnswersOne now c new mid after end next → HasAnswered configuration (done ++ c ∷ []) new old after next
+answered_more {configuration} {done} {now} {new} {old} {mid} {after} {end} {next} c h a = record {
   replies = h.replies ++ a.answer ∷ [];
-  plays = plays_more (opening budget) now new done h.replies c a.answer h.plays a.step;
+  plays = plays_more (opening configuration) now new done h.replies c a.answer h.plays a.step;
   wrote = rw (lines-more h.replies a.answer) (wrote_then h.wrote a.wrote);
   counts = a.counts ∙ (ap (one_end a.answer) h.counts ∙ sym (fold-more h.replies a.answer (end_of [])));
 }
 
-pub broken_at : {budget : ℕ} {done : List Command} {now : Machine} {old mid after : Sink} {end : RunEnd} (all left : List Command) (c : Command) → all ≡ done ++ c ∷ left → HasAnswered budget done now old mid end → BreaksOne now c mid after → Broken budget all old after
-broken_at {budget} {done} {now} {old} {mid} {after} {end} all left c e h b = record {
+pub broken_at : {configuration : Configuration} {done : List Command} {now : Machine} {old mid after : Sink} {end : RunEnd} (all left : List Command) (c : Command) → all ≡ done ++ c ∷ left → HasAnswered configuration done now old mid end → BreaksOne now c mid after → Broken configuration all old after
+broken_at {configuration} {done} {now} {old} {mid} {after} {end} all left c e h b = record {
   done = done ++ c ∷ [];
   left = left;
   replies = h.replies ++ b.answer ∷ [];
   last = b.last;
   split = e ∙ sym (append_assoc done (c ∷ []) left);
-  plays = plays_more (opening budget) now b.last done h.replies c b.answer h.plays b.step;
+  plays = plays_more (opening configuration) now b.last done h.replies c b.answer h.plays b.step;
   stopped = rw (lines-more h.replies b.answer) (stopped_then h.wrote b.stopped);
 }
 
-pub answered_all : {budget : ℕ} {done : List Command} {now : Machine} {old mid after : Sink} {end : RunEnd} (all : List Command) → all ≡ done → HasAnswered budget done now old mid end → Wrote mid after [] → after.held ≡ [] → Answered budget all old after end
-answered_all {budget} {done} {now} {old} {mid} {after} {end} all e h w r = record {
+pub answered_all : {configuration : Configuration} {done : List Command} {now : Machine} {old mid after : Sink} {end : RunEnd} (all : List Command) → all ≡ done → HasAnswered configuration done now old mid end → Wrote mid after [] → after.held ≡ [] → Answered configuration all old after end
+answered_all {configuration} {done} {now} {old} {mid} {after} {end} all e h w r = record {
   replies = h.replies;
   last = now;
   plays = rw e h.plays;
@@ -78,8 +79,8 @@ answered_all {budget} {done} {now} {old} {mid} {after} {end} all e h w r = recor
   end = h.counts;
 }
 
-pub broken_last : {budget : ℕ} {done : List Command} {now : Machine} {old mid after : Sink} {end : RunEnd} (all : List Command) → all ≡ done → HasAnswered budget done now old mid end → Stopped mid after [] → Broken budget all old after
-broken_last {budget} {done} {now} {old} {mid} {after} {end} all e h w = record {
+pub broken_last : {configuration : Configuration} {done : List Command} {now : Machine} {old mid after : Sink} {end : RunEnd} (all : List Command) → all ≡ done → HasAnswered configuration done now old mid end → Stopped mid after [] → Broken configuration all old after
+broken_last {configuration} {done} {now} {old} {mid} {after} {end} all e h w = record {
   done = done;
   left = [];
   replies = h.replies;

@@ -11,6 +11,9 @@ use Rattle.clap.specs.declared.error.Error.{Error}
 use Rattle.clap.specs.declared.error.kind.ErrorKind.TheVariants as kind
 use Rattle.cli.specs.declared.command_line.Invocation.{Invocation}
 use Rattle.cli.specs.declared.command_line.Invocation.TheVariants as invocation
+use Rattle.limits.specs.Limits.{profile, large}
+use Rattle.limits.specs.declared.Configuration.{Configuration}
+use Rattle.limits.specs.declared.Limits.{Limits}
 
 -- `FILE`
 abbrev pub file : Rule
@@ -32,8 +35,12 @@ budget = record (new_rule (codes "budget")) {
   parser = Some (parser.Unsigned 1 1000000);
 }
 
+-- `--limits LIMITS`
+abbrev pub limits : Rule
+limits = record (new_rule (codes "limits")) { long = Some (codes "limits"); value_names = 1 }
+
 abbrev pub run_form : App
-run_form = with_rule (with_rule (with_rule (new_app (codes "run")) file) workers) budget
+run_form = with_rule (with_rule (with_rule (with_rule (new_app (codes "run")) file) workers) budget) limits
 
 abbrev pub check_form : App
 check_form = with_rule (new_app (codes "check")) file
@@ -54,10 +61,10 @@ abbrev pub schedule : Rule
 schedule = record (new_rule (codes "SCHEDULE")) { required = true }
 
 abbrev pub replay_form : App
-replay_form = with_rule (with_rule (new_app (codes "replay")) script) schedule
+replay_form = with_rule (with_rule (with_rule (new_app (codes "replay")) script) schedule) limits
 
 abbrev pub serve_form : App
-serve_form = with_rule (with_rule (new_app (codes "serve")) workers) budget
+serve_form = with_rule (with_rule (with_rule (new_app (codes "serve")) workers) budget) limits
 
 -- `SCHEDULE`, which may be left out
 abbrev pub some_schedule : Rule
@@ -72,15 +79,15 @@ abbrev pub as_given : Rule
 as_given = record (new_rule (codes "as-given")) { long = Some (codes "as-given"); action = Some action.SetTrue }
 
 abbrev pub explain_form : App
-explain_form = with_rule (with_rule (with_rule (with_rule (with_rule (new_app (codes "explain")) script) some_schedule) format) budget) as_given
+explain_form = with_rule (with_rule (with_rule (with_rule (with_rule (with_rule (new_app (codes "explain")) script) some_schedule) format) budget) limits) as_given
 
--- `clsim run FILE [--workers N] [--budget N]`
+-- `clsim run FILE [--workers N] [--budget N] [--limits LIMITS]`
 abbrev pub runs : App
 runs = with_subcommand (on_top (λ top. record top { subcommand_required = true }) (new_app (codes "clsim"))) run_form.top
 
--- `clsim run FILE [--workers N] [--budget N]`, `clsim check FILE`, `clsim dump FILE KERNEL`,
--- `clsim replay SCRIPT SCHEDULE`, `clsim serve [--workers N] [--budget N]` or
--- `clsim explain SCRIPT [SCHEDULE] [--format text|json] [--budget N] [--as-given]`
+-- `clsim run FILE [--workers N] [--budget N] [--limits LIMITS]`, `clsim check FILE`, `clsim dump FILE KERNEL`,
+-- `clsim replay SCRIPT SCHEDULE [--limits LIMITS]`, `clsim serve [--workers N] [--budget N] [--limits LIMITS]` or
+-- `clsim explain SCRIPT [SCHEDULE] [--format text|json] [--budget N] [--limits LIMITS] [--as-given]`
 abbrev pub program : App
 program = with_subcommand (with_subcommand (with_subcommand (with_subcommand (with_subcommand runs check_form.top) dump_form.top) replay_form.top) serve_form.top) explain_form.top
 
@@ -98,9 +105,25 @@ IsNumber absent most (Some text) n = IsNumeral 10 (without_leading_plus text)
 abbrev pub GivesWorkers : List Row → ℕ → Type 0
 GivesWorkers rows n = IsNumber 1 16 (one_of (codes "workers") rows) n
 
--- the number of `--budget`, or 100,000 where it isn't there
-abbrev pub GivesBudget : List Row → ℕ → Type 0
-GivesBudget rows n = IsNumber 100000 1000000 (one_of (codes "budget") rows) n
+-- which limits are named: the profile's where none are
+abbrev pub AreLimits : Option Text → Limits → Type 0
+AreLimits None limits = limits ≡ profile
+AreLimits (Some text) limits = (text ≡ codes "profile") × (limits ≡ profile) ⊎ (text ≡ codes "large") × (limits ≡ large)
+
+abbrev pub GivesLimits : List Row → Limits → Type 0
+GivesLimits rows limits = AreLimits (first_of (codes "limits") rows) limits
+
+-- the number of `--budget`, up to what the limits allow, or what they give where it isn't there
+abbrev pub GivesBudget : List Row → Limits → ℕ → Type 0
+GivesBudget rows limits n = IsNumber limits.default_ticks limits.ticks (one_of (codes "budget") rows) n
+
+-- the limits and the budget
+abbrev pub GivesConfiguration : List Row → Configuration → Type 0
+GivesConfiguration rows configuration = GivesLimits rows configuration.limits × GivesBudget rows configuration.limits configuration.budget
+
+-- the limits, with the budget that they give
+abbrev pub GivesDefault : List Row → Configuration → Type 0
+GivesDefault rows configuration = GivesLimits rows configuration.limits × (configuration.budget ≡ configuration.limits.default_ticks)
 
 -- whether the format is JSON: it is text where the option isn't there
 abbrev pub IsFormat : Option Text → Bool → Type 0
@@ -119,13 +142,13 @@ pub record IsFlag (found : Option Text) (given : Bool) : Type 0 where
 abbrev pub GivesFlag : List Row → Bool → Type 0
 GivesFlag rows given = IsFlag (one_of (codes "as-given") rows) given
 
--- a run of the file of these matches, by their workers and under their budget
+-- a run of the file of these matches, by their workers and under their limits and budget
 abbrev pub IsRun : List Row → Invocation → Type 0
 IsRun rows (invocation.Run path options) =
-    (first_of (codes "FILE") rows ≡ Some path.now) × GivesWorkers rows options.workers × GivesBudget rows options.budget
+    (first_of (codes "FILE") rows ≡ Some path.now) × GivesWorkers rows options.workers × GivesConfiguration rows options.configuration
 IsRun rows (invocation.Check path) = ⊥
 IsRun rows (invocation.Dump path name) = ⊥
-IsRun rows (invocation.Replay script schedule) = ⊥
+IsRun rows (invocation.Replay script schedule configuration) = ⊥
 IsRun rows (invocation.Serve options) = ⊥
 IsRun rows (invocation.Explain script schedule wish) = ⊥
 
@@ -134,7 +157,7 @@ abbrev pub IsCheck : List Row → Invocation → Type 0
 IsCheck rows (invocation.Run path options) = ⊥
 IsCheck rows (invocation.Check path) = first_of (codes "FILE") rows ≡ Some path.now
 IsCheck rows (invocation.Dump path name) = ⊥
-IsCheck rows (invocation.Replay script schedule) = ⊥
+IsCheck rows (invocation.Replay script schedule configuration) = ⊥
 IsCheck rows (invocation.Serve options) = ⊥
 IsCheck rows (invocation.Explain script schedule wish) = ⊥
 
@@ -143,27 +166,27 @@ abbrev pub IsDump : List Row → Invocation → Type 0
 IsDump rows (invocation.Run path options) = ⊥
 IsDump rows (invocation.Check path) = ⊥
 IsDump rows (invocation.Dump path name) = (first_of (codes "FILE") rows ≡ Some path.now) × (first_of (codes "KERNEL") rows ≡ Some name.now)
-IsDump rows (invocation.Replay script schedule) = ⊥
+IsDump rows (invocation.Replay script schedule configuration) = ⊥
 IsDump rows (invocation.Serve options) = ⊥
 IsDump rows (invocation.Explain script schedule wish) = ⊥
 
--- a replay of the schedule file on the script of these matches
+-- a replay of the schedule file on the script of these matches, under their limits
 abbrev pub IsReplay : List Row → Invocation → Type 0
 IsReplay rows (invocation.Run path options) = ⊥
 IsReplay rows (invocation.Check path) = ⊥
 IsReplay rows (invocation.Dump path name) = ⊥
-IsReplay rows (invocation.Replay script schedule) =
-    (first_of (codes "SCRIPT") rows ≡ Some script.now) × (first_of (codes "SCHEDULE") rows ≡ Some schedule.now)
+IsReplay rows (invocation.Replay script schedule configuration) =
+    (first_of (codes "SCRIPT") rows ≡ Some script.now) × (first_of (codes "SCHEDULE") rows ≡ Some schedule.now) × GivesDefault rows configuration
 IsReplay rows (invocation.Serve options) = ⊥
 IsReplay rows (invocation.Explain script schedule wish) = ⊥
 
--- serving, by these matches' workers and under their budget
+-- serving, by these matches' workers and under their limits and budget
 abbrev pub IsServe : List Row → Invocation → Type 0
 IsServe rows (invocation.Run path options) = ⊥
 IsServe rows (invocation.Check path) = ⊥
 IsServe rows (invocation.Dump path name) = ⊥
-IsServe rows (invocation.Replay script schedule) = ⊥
-IsServe rows (invocation.Serve options) = GivesWorkers rows options.workers × GivesBudget rows options.budget
+IsServe rows (invocation.Replay script schedule configuration) = ⊥
+IsServe rows (invocation.Serve options) = GivesWorkers rows options.workers × GivesConfiguration rows options.configuration
 IsServe rows (invocation.Explain script schedule wish) = ⊥
 
 -- an explanation of the script and of the schedule file of these matches, if one is named
@@ -171,11 +194,11 @@ abbrev pub IsExplain : List Row → Invocation → Type 0
 IsExplain rows (invocation.Run path options) = ⊥
 IsExplain rows (invocation.Check path) = ⊥
 IsExplain rows (invocation.Dump path name) = ⊥
-IsExplain rows (invocation.Replay script schedule) = ⊥
+IsExplain rows (invocation.Replay script schedule configuration) = ⊥
 IsExplain rows (invocation.Serve options) = ⊥
 IsExplain rows (invocation.Explain script schedule wish) =
     (first_of (codes "SCRIPT") rows ≡ Some script.now) × (first_of (codes "SCHEDULE") rows ≡ option_map (λ s. s.now) schedule)
-    × GivesBudget rows wish.budget × GivesFormat rows wish.json × GivesFlag rows wish.as_given
+    × GivesConfiguration rows wish.configuration × GivesFormat rows wish.json × GivesFlag rows wish.as_given
 
 -- the subcommand that was met, with its matches, is the form that is asked for
 abbrev pub Holds : Option (Text × List Row) → Invocation → Type 0

@@ -22,6 +22,7 @@ use Rattle.cli.specs.Session.{Plays}
 use Rattle.cli.specs.declared.session.Reader.TheVariants as reader
 use Rattle.cli.specs.declared.session.RunFault.{RunFault}
 use Rattle.cli.specs.declared.session.RunFault.TheVariants as fault
+use Rattle.limits.specs.declared.Configuration.{Configuration}
 
 -- a reply other than the refusal for want of memory
 abbrev pub HadMemory : Reply → Type 0
@@ -34,10 +35,10 @@ pub record Leads (old : Machine) (commands : List Command) (new : Machine) : Typ
   pub had_memory : All HadMemory replies
 
 -- the command of a ticket, counted from 0, launches a kernel over a range, and the commands before it lead a new device
--- there
-pub record ComesTo (commands : List Command) (ticket : ℕ) (kernel : List ℕ) (range : Range) (m : Machine) : Type 0 where
+-- of this configuration there
+pub record ComesTo (configuration : Configuration) (commands : List Command) (ticket : ℕ) (kernel : List ℕ) (range : Range) (m : Machine) : Type 0 where
   pub launch : slice_get commands ticket ≡ Some (command.Launch kernel range)
-  pub leads : Leads (opening 100000) (take ticket commands) m
+  pub leads : Leads (opening configuration) (take ticket commands) m
 
 -- a launch that its row doesn't refuse: yes exactly where the schedule leads it to a state that shows the fault
 pub record Replays (m : Machine) (kernel : List ℕ) (range : Range) (fault : Fault) (runs : List EventRun) (yes : Bool) : Type 0 where
@@ -51,37 +52,37 @@ pub record ReadsFile (rest : Option (List ℕ)) (ticket : ℕ) (fault : Fault) (
   pub file : IsScheduleFile bytes ticket fault runs
 
 -- what the command of the ticket comes to: yes or no
-pub record Judges (commands : List Command) (ticket : ℕ) (fault : Fault) (runs : List EventRun) (yes : Bool) : Type 0 where
+pub record Judges (configuration : Configuration) (commands : List Command) (ticket : ℕ) (fault : Fault) (runs : List EventRun) (yes : Bool) : Type 0 where
   pub kernel : List ℕ
   pub range : Range
   pub machine : Machine
-  pub comes : ComesTo commands ticket kernel range machine
+  pub comes : ComesTo configuration commands ticket kernel range machine
   pub replays : Replays machine kernel range fault runs yes
 
 -- the answer to a script and a schedule file
-pub record Judged (rest rest' : Option (List ℕ)) (yes : Bool) : Type 0 where
+pub record Judged (configuration : Configuration) (rest rest' : Option (List ℕ)) (yes : Bool) : Type 0 where
   pub commands : List Command
   pub ticket : ℕ
   pub fault : Fault
   pub runs : List EventRun
   pub script : ReadsScript rest commands
   pub file : ReadsFile rest' ticket fault runs
-  pub judges : Judges commands ticket fault runs yes
+  pub judges : Judges configuration commands ticket fault runs yes
 
 abbrev pub answer_line : Bool → List ℕ
 answer_line true = codes "yes\n"
 answer_line false = codes "no\n"
 
 -- the answer was written as a line, of which nothing is held back
-pub record Replayed (rest rest' : Option (List ℕ)) (old new : Sink) (yes : Bool) : Type 0 where
-  pub judged : Judged rest rest' yes
+pub record Replayed (configuration : Configuration) (rest rest' : Option (List ℕ)) (old new : Sink) (yes : Bool) : Type 0 where
+  pub judged : Judged configuration rest rest' yes
   pub wrote : Wrote old new (answer_line yes)
   pub released : new.held ≡ []
 
 -- a write failed at the line of the answer
-pub record Cut (rest rest' : Option (List ℕ)) (old new : Sink) : Type 0 where
+pub record Cut (configuration : Configuration) (rest rest' : Option (List ℕ)) (old new : Sink) : Type 0 where
   pub yes : Bool
-  pub judged : Judged rest rest' yes
+  pub judged : Judged configuration rest rest' yes
   pub stopped : Stopped old new (answer_line yes)
 
 -- there is a script, and a reader of the schedule file that failed
@@ -116,34 +117,34 @@ pub record Missed (rest rest' : Option (List ℕ)) (ticket : ℕ) : Type 0 where
   pub missed : NoLaunch commands ticket
 
 -- the launch of the ticket is refused by its row
-pub record Refuses (commands : List Command) (ticket : ℕ) : Type 0 where
+pub record Refuses (configuration : Configuration) (commands : List Command) (ticket : ℕ) : Type 0 where
   pub kernel : List ℕ
   pub range : Range
   pub machine : Machine
   pub refusal : Refusal
-  pub comes : ComesTo commands ticket kernel range machine
+  pub comes : ComesTo configuration commands ticket kernel range machine
   pub refused : first (row machine (command.Launch kernel range)) ≡ Some refusal
 
 -- there are a script and a schedule file, and the launch of its ticket is refused
-pub record Refused (rest rest' : Option (List ℕ)) (ticket : ℕ) : Type 0 where
+pub record Refused (configuration : Configuration) (rest rest' : Option (List ℕ)) (ticket : ℕ) : Type 0 where
   pub commands : List Command
   pub fault : Fault
   pub runs : List EventRun
   pub script : ReadsScript rest commands
   pub file : ReadsFile rest' ticket fault runs
-  pub refuses : Refuses commands ticket
+  pub refuses : Refuses configuration commands ticket
 
 -- why a replay came to no answer, and what it left; the script's reader and its failures come first
-abbrev pub Unreplayed : Option (List ℕ) → Option (List ℕ) → ℕ → ℕ → ℕ → ℕ → Sink → Sink → RunFault → Type 0
-Unreplayed rest rest' a a' b b' old new (fault.Read reader.First) = CountsUp a a' × (new ≡ old)
-Unreplayed rest rest' a a' b b' old new (fault.Read reader.Second) = Unread rest b b' × (new ≡ old)
-Unreplayed rest rest' a a' b b' old new (fault.BadLine n) = Misread rest n × (new ≡ old)
-Unreplayed rest rest' a a' b b' old new fault.OutOfMemory = new ≡ old
-Unreplayed rest rest' a a' b b' old new fault.Write = Cut rest rest' old new
-Unreplayed rest rest' a a' b b' old new fault.NoSuchKernel = ⊥
-Unreplayed rest rest' a a' b b' old new fault.BadSchedule = Unscheduled rest rest' × (new ≡ old)
-Unreplayed rest rest' a a' b b' old new (fault.NotALaunch ticket) = Missed rest rest' ticket × (new ≡ old)
-Unreplayed rest rest' a a' b b' old new (fault.CommandRefused ticket) = Refused rest rest' ticket × (new ≡ old)
+abbrev pub Unreplayed : Configuration → Option (List ℕ) → Option (List ℕ) → ℕ → ℕ → ℕ → ℕ → Sink → Sink → RunFault → Type 0
+Unreplayed configuration rest rest' a a' b b' old new (fault.Read reader.First) = CountsUp a a' × (new ≡ old)
+Unreplayed configuration rest rest' a a' b b' old new (fault.Read reader.Second) = Unread rest b b' × (new ≡ old)
+Unreplayed configuration rest rest' a a' b b' old new (fault.BadLine n) = Misread rest n × (new ≡ old)
+Unreplayed configuration rest rest' a a' b b' old new fault.OutOfMemory = new ≡ old
+Unreplayed configuration rest rest' a a' b b' old new fault.Write = Cut configuration rest rest' old new
+Unreplayed configuration rest rest' a a' b b' old new fault.NoSuchKernel = ⊥
+Unreplayed configuration rest rest' a a' b b' old new fault.BadSchedule = Unscheduled rest rest' × (new ≡ old)
+Unreplayed configuration rest rest' a a' b b' old new (fault.NotALaunch ticket) = Missed rest rest' ticket × (new ≡ old)
+Unreplayed configuration rest rest' a a' b b' old new (fault.CommandRefused ticket) = Refused configuration rest rest' ticket × (new ≡ old)
 
 -- 0 after yes, 1 after no, else 2 (own)
 abbrev pub replay_status_of : Result Bool RunFault → ℕ
@@ -164,15 +165,15 @@ FileFails rest failures failures' (fault.NotALaunch ticket) = ⊥
 FileFails rest failures failures' (fault.CommandRefused ticket) = ⊥
 
 -- why the command of a ticket came to no answer
-abbrev pub Unjudged : List Command → ℕ → RunFault → Type 0
-Unjudged commands ticket (fault.Read by) = ⊥
-Unjudged commands ticket (fault.BadLine n) = ⊥
-Unjudged commands ticket fault.OutOfMemory = ⊤
-Unjudged commands ticket fault.Write = ⊥
-Unjudged commands ticket fault.NoSuchKernel = ⊥
-Unjudged commands ticket fault.BadSchedule = ⊥
-Unjudged commands ticket (fault.NotALaunch named) = (named ≡ ticket) × NoLaunch commands ticket
-Unjudged commands ticket (fault.CommandRefused named) = (named ≡ ticket) × Refuses commands ticket
+abbrev pub Unjudged : Configuration → List Command → ℕ → RunFault → Type 0
+Unjudged configuration commands ticket (fault.Read by) = ⊥
+Unjudged configuration commands ticket (fault.BadLine n) = ⊥
+Unjudged configuration commands ticket fault.OutOfMemory = ⊤
+Unjudged configuration commands ticket fault.Write = ⊥
+Unjudged configuration commands ticket fault.NoSuchKernel = ⊥
+Unjudged configuration commands ticket fault.BadSchedule = ⊥
+Unjudged configuration commands ticket (fault.NotALaunch named) = (named ≡ ticket) × NoLaunch commands ticket
+Unjudged configuration commands ticket (fault.CommandRefused named) = (named ≡ ticket) × Refuses configuration commands ticket
 
 -- a command is performed, and isn't refused for want of memory
 pub record Performs (old : Machine) (command : Command) (new : Machine) : Type 0 where

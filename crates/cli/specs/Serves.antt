@@ -11,14 +11,15 @@ use Rattle.serving.specs.Hearing.{EndsWith}
 use Rattle.serving.specs.Turns.{greeting, AreTurns}
 use Rattle.serving.specs.Serving.{up_to_most}
 use Rattle.simfile.specs.Script.{line_feeds}
+use Rattle.limits.specs.declared.Configuration.{Configuration}
 
 -- the commands so far were answered, and a first line of the next one was heard
-pub record Serves (old now : Conversation) (budget : ℕ) (server : Server) (machine : Machine) (end : RunEnd) : Type 0 where
+pub record Serves (old now : Conversation) (configuration : Configuration) (server : Server) (machine : Machine) (end : RunEnd) : Type 0 where
   pub commands : List Command
   pub replies : List Reply
   pub turns : List Event
   pub are : AreTurns server.version commands replies turns
-  pub plays : Plays (opening budget) commands replies machine
+  pub plays : Plays (opening configuration) commands replies machine
   pub said : Said old now (greeting server.version ++ turns ++ Heard server.text.items ∷ [])
   pub ended : line_feeds server.text.items ≡ 0 → EndsWith old now
   pub failures : now.failures ≡ old.failures

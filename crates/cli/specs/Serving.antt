@@ -18,24 +18,25 @@ use Rattle.serving.specs.Serving.{up_to_most}
 use Rattle.simfile.specs.declared.lines.Version.{Version}
 use Rattle.simfile.specs.Script.{IsText, line_feeds}
 use Rattle.simfile.specs.Lines.{lines}
+use Rattle.limits.specs.declared.Configuration.{Configuration}
 
 -- The whole talk: behind the line of the version a turn for each command, in which its text is heard and then the line
 -- of its reply told; and at the end of the input nothing more. The replies are those of the machine's steps.
-pub record Served (old new : Conversation) (budget : ℕ) (outcome : RunEnd) : Type 0 where
+pub record Served (old new : Conversation) (configuration : Configuration) (outcome : RunEnd) : Type 0 where
   pub version : Version
   pub commands : List Command
   pub replies : List Reply
   pub last : Machine
   pub turns : List Event
   pub are : AreTurns version commands replies turns
-  pub plays : Plays (opening budget) commands replies last
+  pub plays : Plays (opening configuration) commands replies last
   pub said : Said old new (greeting version ++ turns ++ Heard [] ∷ [])
   pub ended : EndsWith old new
   pub failures : new.failures ≡ old.failures
   pub end : outcome ≡ end_of replies
 
 -- the commands so far were answered, and then pieces of the next one's text were heard, and nothing was told for them
-pub record Begun (old new : Conversation) (budget : ℕ) : Type 0 where
+pub record Begun (old new : Conversation) (configuration : Configuration) : Type 0 where
   pub version : Version
   pub commands : List Command
   pub replies : List Reply
@@ -43,18 +44,18 @@ pub record Begun (old new : Conversation) (budget : ℕ) : Type 0 where
   pub turns : List Event
   pub pieces : List (List ℕ)
   pub are : AreTurns version commands replies turns
-  pub plays : Plays (opening budget) commands replies last
+  pub plays : Plays (opening configuration) commands replies last
   pub said : Said old new (greeting version ++ turns ++ hearing pieces)
 
 -- what was heard last is a bad line, and its number is one more than that of the lines before it
-pub record Misheard (old new : Conversation) (budget n : ℕ) : Type 0 where
-  pub begun : Begun old new budget
+pub record Misheard (old new : Conversation) (configuration : Configuration) (n : ℕ) : Type 0 where
+  pub begun : Begun old new configuration
   pub bad : IsBad begun.version begun.pieces
   pub number : n ≡ up_to_most (line_feeds (heard (greeting begun.version ++ begun.turns)) + 1)
   pub failures : new.failures ≡ old.failures
 
 -- the last command's reply wasn't told, or only a beginning of its line
-pub record ReplyUnwritten (old new : Conversation) (budget : ℕ) : Type 0 where
+pub record ReplyUnwritten (old new : Conversation) (configuration : Configuration) : Type 0 where
   pub version : Version
   pub commands : List Command
   pub replies : List Reply
@@ -65,7 +66,7 @@ pub record ReplyUnwritten (old new : Conversation) (budget : ℕ) : Type 0 where
   pub reply : Reply
   pub after : Machine
   pub are : AreTurns version commands replies turns
-  pub plays : Plays (opening budget) commands replies last
+  pub plays : Plays (opening configuration) commands replies last
   pub tells : IsText version (joined pieces) command
   pub step : Step last command reply after
   pub talk : new.talk ≡ old.talk ++ (greeting version ++ turns ++ hearing pieces)
@@ -74,13 +75,13 @@ pub record ReplyUnwritten (old new : Conversation) (budget : ℕ) : Type 0 where
   pub failures : new.failures ≡ old.failures
 
 -- why a talk came to no good end, and what was heard and told until then
-abbrev pub ServeFailed : Conversation → Conversation → ℕ → RunFault → Type 0
-ServeFailed old new budget (fault.Read reader.First) = Begun old new budget × CountsUp old.failures new.failures
-ServeFailed old new budget (fault.Read reader.Second) = ⊥
-ServeFailed old new budget (fault.BadLine n) = Misheard old new budget n
-ServeFailed old new budget fault.OutOfMemory = Begun old new budget × (new.failures ≡ old.failures)
-ServeFailed old new budget fault.Write = ReplyUnwritten old new budget
-ServeFailed old new budget fault.NoSuchKernel = ⊥
-ServeFailed old new budget fault.BadSchedule = ⊥
-ServeFailed old new budget (fault.NotALaunch ticket) = ⊥
-ServeFailed old new budget (fault.CommandRefused ticket) = ⊥
+abbrev pub ServeFailed : Conversation → Conversation → Configuration → RunFault → Type 0
+ServeFailed old new configuration (fault.Read reader.First) = Begun old new configuration × CountsUp old.failures new.failures
+ServeFailed old new configuration (fault.Read reader.Second) = ⊥
+ServeFailed old new configuration (fault.BadLine n) = Misheard old new configuration n
+ServeFailed old new configuration fault.OutOfMemory = Begun old new configuration × (new.failures ≡ old.failures)
+ServeFailed old new configuration fault.Write = ReplyUnwritten old new configuration
+ServeFailed old new configuration fault.NoSuchKernel = ⊥
+ServeFailed old new configuration fault.BadSchedule = ⊥
+ServeFailed old new configuration (fault.NotALaunch ticket) = ⊥
+ServeFailed old new configuration (fault.CommandRefused ticket) = ⊥

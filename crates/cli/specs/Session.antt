@@ -13,6 +13,7 @@ use Rattle.byte_io.specs.Sink.{Sink, Wrote, Stopped, CountsUp}
 use Rattle.byte_io.specs.Source.{Are}
 use Rattle.simfile.specs.Script.{IsScript, IsBadLine}
 use Rattle.simfile.specs.Lines.{lines}
+use Rattle.limits.specs.declared.Configuration.{Configuration}
 
 -- the machine may give these replies to these commands, one step after another
 abbrev pub Plays : Machine → List Command → List Reply → Machine → Type 0
@@ -34,42 +35,42 @@ abbrev pub end_of : List Reply → RunEnd
 end_of replies = fold (λ end r. one_end r end) (record { faulted = false; refused = false }) replies
 
 -- the replies to all the commands were written, and none of their text is held back
-pub record Answered (budget : ℕ) (commands : List Command) (old new : Sink) (outcome : RunEnd) : Type 0 where
+pub record Answered (configuration : Configuration) (commands : List Command) (old new : Sink) (outcome : RunEnd) : Type 0 where
   pub replies : List Reply
   pub last : Machine
-  pub plays : Plays (opening budget) commands replies last
+  pub plays : Plays (opening configuration) commands replies last
   pub wrote : Wrote old new (lines replies)
   pub released : new.held ≡ []
   pub end : outcome ≡ end_of replies
 
 -- a write failed at a reply to one of the commands, and a beginning of the replies' text was written
-pub record Broken (budget : ℕ) (commands : List Command) (old new : Sink) : Type 0 where
+pub record Broken (configuration : Configuration) (commands : List Command) (old new : Sink) : Type 0 where
   pub done : List Command
   pub left : List Command
   pub replies : List Reply
   pub last : Machine
   pub split : commands ≡ done ++ left
-  pub plays : Plays (opening budget) done replies last
+  pub plays : Plays (opening configuration) done replies last
   pub stopped : Stopped old new (lines replies)
 
 -- why the commands weren't answered, and what was written
-abbrev pub Unanswered : ℕ → List Command → Sink → Sink → RunFault → Type 0
-Unanswered budget commands old new (fault.Read by) = ⊥
-Unanswered budget commands old new (fault.BadLine n) = ⊥
-Unanswered budget commands old new fault.OutOfMemory = new ≡ old
-Unanswered budget commands old new fault.Write = Broken budget commands old new
-Unanswered budget commands old new fault.NoSuchKernel = ⊥
-Unanswered budget commands old new fault.BadSchedule = ⊥
-Unanswered budget commands old new (fault.NotALaunch ticket) = ⊥
-Unanswered budget commands old new (fault.CommandRefused ticket) = ⊥
+abbrev pub Unanswered : Configuration → List Command → Sink → Sink → RunFault → Type 0
+Unanswered configuration commands old new (fault.Read by) = ⊥
+Unanswered configuration commands old new (fault.BadLine n) = ⊥
+Unanswered configuration commands old new fault.OutOfMemory = new ≡ old
+Unanswered configuration commands old new fault.Write = Broken configuration commands old new
+Unanswered configuration commands old new fault.NoSuchKernel = ⊥
+Unanswered configuration commands old new fault.BadSchedule = ⊥
+Unanswered configuration commands old new (fault.NotALaunch ticket) = ⊥
+Unanswered configuration commands old new (fault.CommandRefused ticket) = ⊥
 
 -- the bytes are a script, and each command was answered
-pub record Ran (rest : Option (List ℕ)) (budget : ℕ) (old new : Sink) (end : RunEnd) : Type 0 where
+pub record Ran (rest : Option (List ℕ)) (configuration : Configuration) (old new : Sink) (end : RunEnd) : Type 0 where
   pub bytes : List ℕ
   pub commands : List Command
   pub read : Are rest bytes
   pub script : IsScript bytes commands
-  pub answered : Answered budget commands old new end
+  pub answered : Answered configuration commands old new end
 
 -- the bytes have a bad line, and nothing was written
 pub record Misread (rest : Option (List ℕ)) (n : ℕ) (old new : Sink) : Type 0 where
@@ -79,24 +80,24 @@ pub record Misread (rest : Option (List ℕ)) (n : ℕ) (old new : Sink) : Type 
   pub same : new ≡ old
 
 -- the bytes are a script, and a write failed
-pub record Cut (rest : Option (List ℕ)) (budget : ℕ) (old new : Sink) : Type 0 where
+pub record Cut (rest : Option (List ℕ)) (configuration : Configuration) (old new : Sink) : Type 0 where
   pub bytes : List ℕ
   pub commands : List Command
   pub read : Are rest bytes
   pub script : IsScript bytes commands
-  pub broken : Broken budget commands old new
+  pub broken : Broken configuration commands old new
 
 -- why a run came to no end, and what it left
-abbrev pub Failed : Option (List ℕ) → ℕ → ℕ → ℕ → Sink → Sink → RunFault → Type 0
-Failed rest failures failures' budget old new (fault.Read reader.First) = CountsUp failures failures' × (new ≡ old)
-Failed rest failures failures' budget old new (fault.Read reader.Second) = ⊥
-Failed rest failures failures' budget old new (fault.BadLine n) = Misread rest n old new
-Failed rest failures failures' budget old new fault.OutOfMemory = new ≡ old
-Failed rest failures failures' budget old new fault.Write = Cut rest budget old new
-Failed rest failures failures' budget old new fault.NoSuchKernel = ⊥
-Failed rest failures failures' budget old new fault.BadSchedule = ⊥
-Failed rest failures failures' budget old new (fault.NotALaunch ticket) = ⊥
-Failed rest failures failures' budget old new (fault.CommandRefused ticket) = ⊥
+abbrev pub Failed : Option (List ℕ) → ℕ → ℕ → Configuration → Sink → Sink → RunFault → Type 0
+Failed rest failures failures' configuration old new (fault.Read reader.First) = CountsUp failures failures' × (new ≡ old)
+Failed rest failures failures' configuration old new (fault.Read reader.Second) = ⊥
+Failed rest failures failures' configuration old new (fault.BadLine n) = Misread rest n old new
+Failed rest failures failures' configuration old new fault.OutOfMemory = new ≡ old
+Failed rest failures failures' configuration old new fault.Write = Cut rest configuration old new
+Failed rest failures failures' configuration old new fault.NoSuchKernel = ⊥
+Failed rest failures failures' configuration old new fault.BadSchedule = ⊥
+Failed rest failures failures' configuration old new (fault.NotALaunch ticket) = ⊥
+Failed rest failures failures' configuration old new (fault.CommandRefused ticket) = ⊥
 
 -- 2 where a command was refused or the run failed, else 1 where a launch faulted, else 0
 abbrev pub status_of : Result RunEnd RunFault → ℕ

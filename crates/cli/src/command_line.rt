@@ -5,13 +5,14 @@ ghost use Rattle.std.specs.Prelude.{◌≡◌, ◌≤◌, false, map, Ok, IfOk, 
 ghost use Rattle.clap.specs.Words.{AddsSubcommand, app_of, new_app, rule_of, found_of, rows_of, subcommand_rows_of};
 ghost use Rattle.clap.specs.declared.builder.command.Command.{Command};
 ghost use Rattle.clap.specs.declared.builder.command.Command.TheViews.{out-Command};
-ghost use Rattle.cli.specs.CommandLine.{file, workers, budget, kernel, script, schedule, some_schedule, format, as_given, run_form, check_form, dump_form, replay_form, serve_form, explain_form, runs, program, GivesWorkers, GivesBudget, GivesFormat, GivesFlag, IsRun, IsCheck, IsDump, IsReplay, IsServe, IsExplain, Reads, Holds, AsksFor, IsRefused};
+ghost use Rattle.cli.specs.CommandLine.{file, workers, budget, limits, kernel, script, schedule, some_schedule, format, as_given, run_form, check_form, dump_form, replay_form, serve_form, explain_form, runs, program, GivesWorkers, GivesLimits, GivesBudget, GivesConfiguration, GivesFormat, GivesFlag, IsRun, IsCheck, IsDump, IsReplay, IsServe, IsExplain, Reads, Holds, AsksFor, IsRefused};
 
 use crate::session::Options;
 use crate::wish::ExplainWish;
 use clap::builder::ValueParser;
 use clap::error::ErrorKind;
 use clap::{Arg, ArgAction, ArgMatches, Command, Error};
+use limits::{Configuration, Limits};
 use std::alloc::{AllocError, Global};
 
 /// What a command line asks for.
@@ -35,6 +36,7 @@ pub enum Invocation<'a> {
     Replay {
         script: &'a str,
         schedule: &'a str,
+        configuration: Configuration,
     },
     /// Answers the commands of standard input one by one
     Serve {
@@ -84,6 +86,17 @@ fn budget<'a>(alloc: Global) -> Arg<'a>
         .value_name("N")
         .value_parser(ValueParser::unsigned(1, MAX_BUDGET as u64))
         .help("The most ticks of a work-item: accesses, barriers and turns of loops")
+}
+
+/// The option `--limits LIMITS`.
+fn limits<'a>(alloc: Global) -> Arg<'a>
+    ensures rule { rule_of result ≡ limits }
+    ensures local { result.global ≡ false }
+{
+    Arg::new(alloc, "limits")
+        .long("limits")
+        .value_name("LIMITS")
+        .help("What the device allows: profile (the default) or large")
 }
 
 /// The argument `KERNEL`.
@@ -154,7 +167,7 @@ fn named<'a>(alloc: Global, name: &'a str, about: &'a str) -> Command<'a>
     Command::new(alloc, name).about(about)
 }
 
-/// The form `run FILE [--workers N] [--budget N]`.
+/// The form `run FILE [--workers N] [--budget N] [--limits LIMITS]`.
 fn run_form<'a>(alloc: Global) -> Result<Command<'a>, AllocError>
     ensures form { IfOk result (λ form. app_of form ≡ run_form) }
     ensures local { IfOk result (λ form. (out-Command form).has_globals ≡ false) }
@@ -164,7 +177,8 @@ fn run_form<'a>(alloc: Global) -> Result<Command<'a>, AllocError>
         "The script",
     ))?;
     let with_workers = form.arg(workers(alloc))?;
-    with_workers.arg(budget(alloc))
+    let with_budget = with_workers.arg(budget(alloc))?;
+    with_budget.arg(limits(alloc))
 }
 
 /// The form `check FILE`.
@@ -192,7 +206,7 @@ fn dump_form<'a>(alloc: Global) -> Result<Command<'a>, AllocError>
     form.arg(kernel(alloc))
 }
 
-/// The form `replay SCRIPT SCHEDULE`.
+/// The form `replay SCRIPT SCHEDULE [--limits LIMITS]`.
 fn replay_form<'a>(alloc: Global) -> Result<Command<'a>, AllocError>
     ensures form { IfOk result (λ form. app_of form ≡ replay_form) }
     ensures local { IfOk result (λ form. (out-Command form).has_globals ≡ false) }
@@ -203,10 +217,11 @@ fn replay_form<'a>(alloc: Global) -> Result<Command<'a>, AllocError>
         "Replays a schedule and prints whether it leads to its fault",
     )
     .arg(script(alloc))?;
-    form.arg(schedule(alloc))
+    let with_files = form.arg(schedule(alloc))?;
+    with_files.arg(limits(alloc))
 }
 
-/// The form `serve [--workers N] [--budget N]`.
+/// The form `serve [--workers N] [--budget N] [--limits LIMITS]`.
 fn serve_form<'a>(alloc: Global) -> Result<Command<'a>, AllocError>
     ensures form { IfOk result (λ form. app_of form ≡ serve_form) }
     ensures local { IfOk result (λ form. (out-Command form).has_globals ≡ false) }
@@ -217,10 +232,11 @@ fn serve_form<'a>(alloc: Global) -> Result<Command<'a>, AllocError>
         "Reads commands from standard input and answers each at once",
     )
     .arg(workers(alloc))?;
-    form.arg(budget(alloc))
+    let with_budget = form.arg(budget(alloc))?;
+    with_budget.arg(limits(alloc))
 }
 
-/// The form `explain SCRIPT [SCHEDULE] [--format text|json] [--budget N] [--as-given]`.
+/// The form `explain SCRIPT [SCHEDULE] [--format text|json] [--budget N] [--limits LIMITS] [--as-given]`.
 fn explain_form<'a>(alloc: Global) -> Result<Command<'a>, AllocError>
     ensures form { IfOk result (λ form. app_of form ≡ explain_form) }
     ensures local { IfOk result (λ form. (out-Command form).has_globals ≡ false) }
@@ -234,20 +250,46 @@ fn explain_form<'a>(alloc: Global) -> Result<Command<'a>, AllocError>
     let with_files = form.arg(some_schedule(alloc))?;
     let with_format = with_files.arg(format(alloc))?;
     let with_budget = with_format.arg(budget(alloc))?;
-    with_budget.arg(as_given(alloc))
+    let with_limits = with_budget.arg(limits(alloc))?;
+    with_limits.arg(as_given(alloc))
 }
 
-/// The budget of a run, the default where the option isn't there, and `None` where it is no budget.
-fn budget_of(run: &ArgMatches<'_>) -> Option<u32>
-    ensures given { Reads (GivesBudget (rows_of (found_of run.now))) result }
-    ensures limited { IfSome result (λ number. number ≤ 1000000) }
+/// The limits of a device, the profile's where the option isn't there, and `None` where it names none.
+fn limits_of(matches: &ArgMatches<'_>) -> Option<Limits>
+    ensures { Reads (GivesLimits (rows_of (found_of matches.now))) result }
 {
-    match run.try_get_one::<u32>("budget") {
-        Ok(None) => Some(Options::DEFAULT_BUDGET),
-        Ok(Some(budget)) if budget >= 1 && budget <= MAX_BUDGET => Some(budget),
+    let Some(limits) = matches.get_str("limits") else {
+        return Some(Limits::profile());
+    };
+    if limits == "profile" {
+        return Some(Limits::profile());
+    }
+    if limits == "large" {
+        return Some(Limits::large());
+    }
+    None
+}
+
+/// The budget of a device of these limits, theirs where the option isn't there, and `None` where it is no budget.
+fn budget_of(matches: &ArgMatches<'_>, limits: Limits) -> Option<u32>
+    ensures given { Reads (GivesBudget (rows_of (found_of matches.now)) limits) result }
+    ensures limited { IfSome result (λ number. number ≤ limits.ticks) }
+{
+    match matches.try_get_one::<u32>("budget") {
+        Ok(None) => Some(limits.default_ticks),
+        Ok(Some(budget)) if budget >= 1 && budget <= limits.ticks => Some(budget),
         Ok(Some(_)) => None,
         Err(_) => None,
     }
+}
+
+/// What a device is made with, and `None` where the limits or the budget are none.
+fn configuration_of(matches: &ArgMatches<'_>) -> Option<Configuration>
+    ensures { Reads (GivesConfiguration (rows_of (found_of matches.now))) result }
+{
+    let limits = limits_of(matches)?;
+    let budget = budget_of(matches, limits)?;
+    Some(Configuration { limits, budget })
 }
 
 /// The number of workers of a run, the default where the option isn't there, and `None` where it is none.
@@ -269,10 +311,13 @@ fn run_of<'a>(run: &ArgMatches<'a>) -> Option<Invocation<'a>>
 {
     let file = run.get_str("FILE")?;
     let workers = workers_of(run)?;
-    let budget = budget_of(run)?;
+    let configuration = configuration_of(run)?;
     Some(Invocation::Run {
         file,
-        options: Options { budget, workers },
+        options: Options {
+            configuration,
+            workers,
+        },
     })
 }
 
@@ -299,7 +344,12 @@ fn replay_of<'a>(replay: &ArgMatches<'a>) -> Option<Invocation<'a>>
 {
     let script = replay.get_str("SCRIPT")?;
     let schedule = replay.get_str("SCHEDULE")?;
-    Some(Invocation::Replay { script, schedule })
+    let limits = limits_of(replay)?;
+    Some(Invocation::Replay {
+        script,
+        schedule,
+        configuration: Configuration::of(limits),
+    })
 }
 
 /// What the matches of `serve` ask for.
@@ -307,9 +357,12 @@ fn serve_of<'a>(serve: &ArgMatches<'a>) -> Option<Invocation<'a>>
     ensures { Reads (IsServe (rows_of (found_of serve.now))) result }
 {
     let workers = workers_of(serve)?;
-    let budget = budget_of(serve)?;
+    let configuration = configuration_of(serve)?;
     Some(Invocation::Serve {
-        options: Options { budget, workers },
+        options: Options {
+            configuration,
+            workers,
+        },
     })
 }
 
@@ -335,14 +388,14 @@ fn explain_of<'a>(explain: &ArgMatches<'a>) -> Option<Invocation<'a>>
 {
     let script = explain.get_str("SCRIPT")?;
     let schedule = explain.get_str("SCHEDULE");
-    let budget = budget_of(explain)?;
+    let configuration = configuration_of(explain)?;
     let json = format_of(explain)?;
     let as_given = explain.get_flag("as-given");
     Some(Invocation::Explain {
         script,
         schedule,
         wish: ExplainWish {
-            budget,
+            configuration,
             json,
             as_given,
         },
@@ -412,14 +465,17 @@ fn command_by<'a>(forms: &mut Command<'a>, words: &'a [&'a str]) -> Result<Invoc
     let matches = forms.try_get_matches_from_mut(words)?;
     match asked(&matches) {
         Some(asked) => Ok(asked),
-        None => Err(forms.error(ErrorKind::InvalidValue, "the format is text or json")?),
+        None => Err(forms.error(
+            ErrorKind::InvalidValue,
+            "the format is text or json, and the limits are profile or large",
+        )?),
     }
 }
 
 /// Reads the words of a command line, the program's name first. The forms are
-/// `clsim run FILE [--workers N] [--budget N]`, `clsim check FILE`, `clsim dump FILE KERNEL`,
-/// `clsim replay SCRIPT SCHEDULE`, `clsim serve [--workers N] [--budget N]` and
-/// `clsim explain SCRIPT [SCHEDULE] [--format text|json] [--budget N] [--as-given]`.
+/// `clsim run FILE [--workers N] [--budget N] [--limits LIMITS]`, `clsim check FILE`, `clsim dump FILE KERNEL`,
+/// `clsim replay SCRIPT SCHEDULE [--limits LIMITS]`, `clsim serve [--workers N] [--budget N] [--limits LIMITS]` and
+/// `clsim explain SCRIPT [SCHEDULE] [--format text|json] [--budget N] [--limits LIMITS] [--as-given]`.
 pub fn command<'a>(alloc: Global, words: &'a [&'a str]) -> Result<Invocation<'a>, Error>
     ensures asked { IfOk result (AsksFor (map (λ word. word.now) words.entry.now)) }
     ensures refused { IfErr result (IsRefused (map (λ word. word.now) words.entry.now)) }

@@ -9,6 +9,7 @@ ghost use Rattle.serving.specs.Serving.{HasLine};
 ghost use Rattle.cli.specs.Session.{Ran, end_of};
 ghost use Rattle.cli.specs.Serving.{Served, ServeFailed};
 ghost use Rattle.cli.specs.Serves.{Serves};
+ghost use Rattle.limits.specs.declared.Configuration.{Configuration};
 
 use crate::session::{Options, RunEnd, RunFault, one_end};
 use byte_io::Peer;
@@ -31,10 +32,10 @@ fn turn<T: Threads + Wait + Sync, P: Peer>(
 ) -> Result<Option<RunEnd>, RunFault>
     requires { HasLine server.old }
     ensures line { IfOk result (λ next. IfSome next (λ _. HasLine server.new)) }
-    ensures turned { (start : Conversation) (budget : ℕ) → Serves start (P.view peer.old) budget server.old (machine_of device.old) end →
-        IfOk result (λ next. MatchOption next (Served start (P.view peer.new) budget end) (Serves start (P.view peer.new) budget server.new (machine_of device.new))) }
-    ensures failed { (start : Conversation) (budget : ℕ) → Serves start (P.view peer.old) budget server.old (machine_of device.old) end →
-        IfErr result (ServeFailed start (P.view peer.new) budget) }
+    ensures turned { (start : Conversation) (configuration : Configuration) → Serves start (P.view peer.old) configuration server.old (machine_of device.old) end →
+        IfOk result (λ next. MatchOption next (Served start (P.view peer.new) configuration end) (Serves start (P.view peer.new) configuration server.new (machine_of device.new))) }
+    ensures failed { (start : Conversation) (configuration : Configuration) → Serves start (P.view peer.old) configuration server.old (machine_of device.old) end →
+        IfErr result (ServeFailed start (P.view peer.new) configuration) }
 {
     let Some(command) = server.command(peer)? else {
         return Ok(None);
@@ -54,10 +55,10 @@ fn take_turns<T: Threads + Wait + Sync, P: Peer>(
     options: Options,
 ) -> Result<RunEnd, RunFault>
     requires { HasLine server.old }
-    ensures served { (start : Conversation) (budget : ℕ) → Serves start (P.view peer.old) budget server.old (machine_of device.old) (end_of []) →
-        IfOk result (Served start (P.view peer.new) budget) }
-    ensures failed { (start : Conversation) (budget : ℕ) → Serves start (P.view peer.old) budget server.old (machine_of device.old) (end_of []) →
-        IfErr result (ServeFailed start (P.view peer.new) budget) }
+    ensures served { (start : Conversation) (configuration : Configuration) → Serves start (P.view peer.old) configuration server.old (machine_of device.old) (end_of []) →
+        IfOk result (Served start (P.view peer.new) configuration) }
+    ensures failed { (start : Conversation) (configuration : Configuration) → Serves start (P.view peer.old) configuration server.old (machine_of device.old) (end_of []) →
+        IfErr result (ServeFailed start (P.view peer.new) configuration) }
 {
     let mut end = RunEnd {
         faulted: false,
@@ -82,17 +83,17 @@ pub fn serve<T: Threads + Wait + Sync, P: Peer>(
     peer: &mut P,
     options: Options,
 ) -> Result<RunEnd, RunFault>
-    ensures served { IfOk result (Served (P.view peer.old) (P.view peer.new) options.budget) }
-    ensures failed { IfErr result (ServeFailed (P.view peer.old) (P.view peer.new) options.budget) }
+    ensures served { IfOk result (Served (P.view peer.old) (P.view peer.new) options.configuration) }
+    ensures failed { IfErr result (ServeFailed (P.view peer.old) (P.view peer.new) options.configuration) }
 {
     let mut server = Server::open(alloc, peer)?;
-    let mut device = Device::new(alloc, options.budget);
+    let mut device = Device::new(alloc, options.configuration);
     take_turns(rt, &mut server, &mut device, peer, options)
 }
 
 /// The law of serving and running: what was told of at most 4,096 commands are the lines that `run` writes for the same
 /// bytes, and both come to the same end.
 pub fn served_is_ran()
-    ensures { (old new : Conversation) (budget : ℕ) (outcome : RunEnd) → (served : Served old new budget outcome) → length served.commands ≤ 4096 →
-        old.sink.held ≡ [] → Ran old.rest budget old.sink new.sink outcome }
+    ensures { (old new : Conversation) (configuration : Configuration) (outcome : RunEnd) → (served : Served old new configuration outcome) → length served.commands ≤ 4096 →
+        old.sink.held ≡ [] → Ran old.rest configuration old.sink new.sink outcome }
 {}

@@ -31,9 +31,9 @@ pub(crate) struct OnlyClient {
 impl OnlyClient {
     /// The only client of a queue over a new device, before the first command.
     pub(crate) fn open(alloc: Global, options: Options) -> Result<Self, AllocError>
-        ensures new { IfOk result (λ opened. (machine_of opened.driver.driver.machine ≡ opening options.budget) × (answered_count opened.driver.driver.seat ≡ 0)) }
+        ensures new { IfOk result (λ opened. (machine_of opened.driver.driver.machine ≡ opening options.configuration) × (answered_count opened.driver.driver.seat ≡ 0)) }
     {
-        let device = Device::new(alloc, options.budget);
+        let device = Device::new(alloc, options.configuration);
         let (queue, mut clients, driver) = open(alloc, device, options.workers, 1)?;
         let client = clients.pop().unwrap();
         Ok(OnlyClient {

@@ -8,7 +8,7 @@ ghost use Rattle.byte_io.specs.Sink.{Puts};
 ghost use Rattle.cli.specs.Replaying.{ReadsFile, FileFails, NoLaunch, Performs, Leads, Replays, Judges, Unjudged, answer_line, Replayed, Unreplayed, replay_status_of};
 
 use crate::reading::{bytes_of, commands_of};
-use crate::session::{Options, Reader, RunFault};
+use crate::session::{Reader, RunFault};
 use byte_io::{Read, Write, WriteFailed};
 use clmodel::fault::Fault;
 use clmodel::schedule::Schedule;
@@ -16,6 +16,7 @@ use clmodel::setup::Range;
 use clmodel::text::Name;
 use device::{Command, Device, Refusal, Reply};
 use fault_lines::read;
+use limits::Configuration;
 use replay::replay;
 use std::alloc::{AllocError, Global};
 
@@ -101,11 +102,15 @@ fn perform_all(device: &mut Device, commands: Vec<Command>) -> Result<(), AllocE
     Ok(())
 }
 
-/// A new device after these commands, with the default budget.
-fn device_after(alloc: Global, commands: Vec<Command>) -> Result<Device, AllocError>
-    ensures { IfOk result (λ device. Leads (opening 100000) commands.items (machine_of device)) }
+/// A new device of this configuration after these commands.
+fn device_after(
+    alloc: Global,
+    configuration: Configuration,
+    commands: Vec<Command>,
+) -> Result<Device, AllocError>
+    ensures { IfOk result (λ device. Leads (opening configuration) commands.items (machine_of device)) }
 {
-    let mut device = Device::new(alloc, Options::DEFAULT_BUDGET);
+    let mut device = Device::new(alloc, configuration);
     perform_all(&mut device, commands)?;
     Ok(device)
 }
@@ -131,14 +136,19 @@ fn decide(
 }
 
 /// Whether the events of a task lead its launch, of these commands, to its fault.
-fn judge(alloc: Global, mut commands: Vec<Command>, task: &Task) -> Result<bool, RunFault>
-    ensures judged { IfOk result (Judges commands.items task.now.ticket task.now.fault task.now.schedule) }
-    ensures failed { IfErr result (Unjudged commands.items task.now.ticket) }
+fn judge(
+    alloc: Global,
+    configuration: Configuration,
+    mut commands: Vec<Command>,
+    task: &Task,
+) -> Result<bool, RunFault>
+    ensures judged { IfOk result (Judges configuration commands.items task.now.ticket task.now.fault task.now.schedule) }
+    ensures failed { IfErr result (Unjudged configuration commands.items task.now.ticket) }
 {
     let Some(launched) = take_launch(&mut commands, task.ticket) else {
         return Err(RunFault::NotALaunch(task.ticket));
     };
-    let device = device_after(alloc, commands)?;
+    let device = device_after(alloc, configuration, commands)?;
     // A refusal's fault names the ticket, so no `From` can make it.
     match decide(alloc, &device, &launched, task) {
         Ok(yes) => Ok(yes),
@@ -148,11 +158,16 @@ fn judge(alloc: Global, mut commands: Vec<Command>, task: &Task) -> Result<bool,
 }
 
 /// The same, and lets go of the task, so that no exit of `replay_files` has to.
-fn judge_and_drop(alloc: Global, commands: Vec<Command>, task: Task) -> Result<bool, RunFault>
-    ensures judged { IfOk result (Judges commands.items task.ticket task.fault task.schedule) }
-    ensures failed { IfErr result (Unjudged commands.items task.ticket) }
+fn judge_and_drop(
+    alloc: Global,
+    configuration: Configuration,
+    commands: Vec<Command>,
+    task: Task,
+) -> Result<bool, RunFault>
+    ensures judged { IfOk result (Judges configuration commands.items task.ticket task.fault task.schedule) }
+    ensures failed { IfErr result (Unjudged configuration commands.items task.ticket) }
 {
-    judge(alloc, commands, &task)
+    judge(alloc, configuration, commands, &task)
 }
 
 /// The line of an answer, with its line feed.
@@ -172,7 +187,7 @@ fn tell<W: Write>(yes: bool, writer: &mut W) -> Result<(), WriteFailed>
 }
 
 /// Reads a script, then a schedule file, and replays that file: the commands before its ticket are performed on a new
-/// device with the default budget, the launch of the ticket is prepared, and its schedule is played, event by event.
+/// device of this configuration, the launch of the ticket is prepared, and its schedule is played, event by event.
 /// Writes the line `yes` where it leads to a state that shows the file's fault, else `no`, and answers which.
 ///
 /// No fault is a `NoSuchKernel`; after `Write` a beginning of the line was written, after the others nothing.
@@ -180,18 +195,19 @@ fn tell<W: Write>(yes: bool, writer: &mut W) -> Result<(), WriteFailed>
 /// replayed then.
 pub fn replay_files<R: Read, S: Read, W: Write>(
     alloc: Global,
+    configuration: Configuration,
     script: &mut R,
     schedule: &mut S,
     writer: &mut W,
 ) -> Result<bool, RunFault>
-    ensures replayed { IfOk result (Replayed (R.rest script.old) (S.rest schedule.old) (W.sink writer.old) (W.sink writer.new)) }
+    ensures replayed { IfOk result (Replayed configuration (R.rest script.old) (S.rest schedule.old) (W.sink writer.old) (W.sink writer.new)) }
     ensures failed { IfErr result
-        (Unreplayed (R.rest script.old) (S.rest schedule.old) (R.failures script.old) (R.failures script.new) (S.failures schedule.old) (S.failures schedule.new)
+        (Unreplayed configuration (R.rest script.old) (S.rest schedule.old) (R.failures script.old) (R.failures script.new) (S.failures schedule.old) (S.failures schedule.new)
         (W.sink writer.old) (W.sink writer.new)) }
 {
     let commands = commands_of(alloc, script)?;
     let task = task_of(alloc, schedule)?;
-    let yes = judge_and_drop(alloc, commands, task)?;
+    let yes = judge_and_drop(alloc, configuration, commands, task)?;
     tell(yes, writer)?;
     Ok(yes)
 }

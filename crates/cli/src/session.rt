@@ -9,6 +9,7 @@ ghost use Rattle.byte_io.specs.Sink.{Wrote, Stopped};
 ghost use Rattle.simfile.specs.Lines.{line};
 ghost use Rattle.cli.specs.Session.{one_end, Answered, Broken, Unanswered, Ran, Failed, status_of};
 ghost use Rattle.host_queue.specs.Seats.{answered_count};
+ghost use Rattle.limits.specs.declared.Configuration.{Configuration as ConfigurationOf};
 
 use crate::only_client::OnlyClient;
 use crate::reading::commands_of;
@@ -17,6 +18,7 @@ use code_text::DumpFault;
 use fault_lines::ReadFault as FileFault;
 use host_commands::command::{Command, Reply};
 use host_queue::Request;
+use limits::{Configuration, Limits};
 use lower::LowerFault;
 use serving::ServeFault;
 use simfile::replies::write_reply;
@@ -30,28 +32,26 @@ use thiserror::Error;
 /// What is given to a run beside its script.
 #[derive(Clone, Copy, Debug, PartialEq, Eq)]
 pub struct Options {
-    /// The most ticks of a work-item of a launch, from 1 to 1,000,000
-    pub budget: u32,
+    /// What the device is made with
+    pub configuration: Configuration,
     /// How many workers run a launch, from 1 to 16. No reply depends on it
     pub workers: u32,
-    pub ghost limited: { budget ≤ 1000000 },
     pub ghost counted: { (1 ≤ workers) × (workers ≤ 16) },
 }
 
 impl Options {
-    /// The budget where none is given.
-    pub const DEFAULT_BUDGET: u32 = 100_000;
-
     /// The number of workers where none is given.
     pub const DEFAULT_WORKERS: u32 = 1;
 }
 
 impl Default for Options {
-    ghost is_default = { λ options. (options.budget ≡ 100000) × (options.workers ≡ 1) };
+    ghost use Rattle.limits.specs.Limits.{profile};
+
+    ghost is_default = { λ options. (options.configuration.limits ≡ profile) × (options.configuration.budget ≡ 100000) × (options.workers ≡ 1) };
 
     fn default() -> Self {
         Options {
-            budget: Self::DEFAULT_BUDGET,
+            configuration: Configuration::of(Limits::profile()),
             workers: Self::DEFAULT_WORKERS,
         }
     }
@@ -260,8 +260,8 @@ fn answer_all<T: Threads + Wait + Sync, W: Write>(
 ) -> Result<RunEnd, WriteFailed>
     requires new { answered_count client.old.driver.driver.seat ≡ 0 }
     requires few { length commands.items ≤ 4096 }
-    ensures ok { IfOk result (λ end. (budget : ℕ) → machine_of client.old.driver.driver.machine ≡ opening budget → Answered budget commands.items (W.sink writer.old) (W.sink writer.new) end) }
-    ensures err { OnErr result ((budget : ℕ) → machine_of client.old.driver.driver.machine ≡ opening budget → Broken budget commands.items (W.sink writer.old) (W.sink writer.new)) }
+    ensures ok { IfOk result (λ end. (configuration : ConfigurationOf) → machine_of client.old.driver.driver.machine ≡ opening configuration → Answered configuration commands.items (W.sink writer.old) (W.sink writer.new) end) }
+    ensures err { OnErr result ((configuration : ConfigurationOf) → machine_of client.old.driver.driver.machine ≡ opening configuration → Broken configuration commands.items (W.sink writer.old) (W.sink writer.new)) }
 {
     let mut end = RunEnd {
         faulted: false,
@@ -285,8 +285,8 @@ fn perform<T: Threads + Wait + Sync, W: Write>(
     writer: &mut W,
 ) -> Result<RunEnd, RunFault>
     requires few { length commands.items ≤ 4096 }
-    ensures ok { IfOk result (λ end. Answered options.budget commands.items (W.sink writer.old) (W.sink writer.new) end) }
-    ensures err { IfErr result (Unanswered options.budget commands.items (W.sink writer.old) (W.sink writer.new)) }
+    ensures ok { IfOk result (λ end. Answered options.configuration commands.items (W.sink writer.old) (W.sink writer.new) end) }
+    ensures err { IfErr result (Unanswered options.configuration commands.items (W.sink writer.old) (W.sink writer.new)) }
 {
     let mut client = OnlyClient::open(alloc, options)?;
     let request = Box::new(alloc, Request::Answered(Reply::Done))?;
@@ -302,9 +302,9 @@ pub fn run<T: Threads + Wait + Sync, R: Read, W: Write>(
     writer: &mut W,
     options: Options,
 ) -> Result<RunEnd, RunFault>
-    ensures ran { IfOk result (Ran (R.rest reader.old) options.budget (W.sink writer.old) (W.sink writer.new)) }
+    ensures ran { IfOk result (Ran (R.rest reader.old) options.configuration (W.sink writer.old) (W.sink writer.new)) }
     ensures failed { IfErr result
-        (Failed (R.rest reader.old) (R.failures reader.old) (R.failures reader.new) options.budget (W.sink writer.old) (W.sink writer.new)) }
+        (Failed (R.rest reader.old) (R.failures reader.old) (R.failures reader.new) options.configuration (W.sink writer.old) (W.sink writer.new)) }
 {
     let commands = commands_of(alloc, reader)?;
     perform(rt, alloc, options, commands, writer)

@@ -25,6 +25,7 @@ use cli::session::{Options, Reader, RunEnd, RunFault};
 use cli::wish::ExplainWish;
 use cli::{run, status};
 use explaining::{ExplainOptions, Format};
+use limits::Configuration;
 use std::env::Env;
 use std::io::{BufReader, BufWriter, Printer};
 use std::marker::Sync;
@@ -98,10 +99,17 @@ fn replay_schedule<R: Files + Print + AllocGlobal>(
     rt: &R,
     script: &str,
     schedule: &str,
+    configuration: Configuration,
 ) -> Result<bool, RunFault> {
     let (mut reader, mut writer) = open(rt, script)?;
     let mut file = NamedFile::new(rt, schedule);
-    replay_files(rt.alloc(), &mut reader, &mut file, &mut writer)
+    replay_files(
+        rt.alloc(),
+        configuration,
+        &mut reader,
+        &mut file,
+        &mut writer,
+    )
 }
 
 /// How an explanation is made, as it is wished.
@@ -112,7 +120,7 @@ fn options_of(wish: ExplainWish) -> ExplainOptions {
         } else {
             Format::Text
         },
-        budget: wish.budget,
+        configuration: wish.configuration,
         as_given: wish.as_given,
     }
 }
@@ -194,8 +202,14 @@ fn perform<R: Files + io::Input + Print + Eprint + AllocGlobal + Threads + Wait 
         Ok(Invocation::Dump { file, kernel }) => {
             end_source(rt, dump_kernel(rt, file, kernel), file)
         }
-        Ok(Invocation::Replay { script, schedule }) => {
-            let outcome = replay_schedule(rt, script, schedule);
+        Ok(
+            Invocation::Replay {
+                script,
+                schedule,
+                configuration,
+            },
+        ) => {
+            let outcome = replay_schedule(rt, script, schedule, configuration);
             end_replay(rt, outcome, script, schedule)
         }
         Ok(Invocation::Serve { options }) => {

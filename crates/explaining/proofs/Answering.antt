@@ -7,6 +7,7 @@ use Rattle.explaining.specs.Explaining.{Unanswered, Unexplained, Unread, Unwritt
 use Rattle.explaining.specs.declared.facts.Given.{Given}
 use Rattle.explaining.specs.declared.faults.ExplainFault.{ExplainFault}
 use Rattle.explaining.specs.declared.faults.ExplainFault.TheVariants as fault
+use Rattle.limits.specs.declared.Configuration.{Configuration}
 
 at_true : (b : Bool) (P Q : Type 0) → b ≡ true → P → MatchBool b P Q
 at_true true P Q e h = h
@@ -31,16 +32,16 @@ not_option None P Q p q h = p h
 not_option (Some x) P Q p q h = q x h
 
 -- a writer that fails is no reason for having no answer
-not_write : (budget : ℕ) (given : Given) → Unanswered budget given fault.Write → ⊥
-not_write budget given h =
-    not_bool (is_source given.name.now) (fault.Write ≡ fault.OutOfMemory) (MatchOption given.schedule (Unread given.script.now fault.Write) (λ s. Unexplained budget given.script.now s.now fault.Write))
-    (λ e. cc) (λ h. not_option given.schedule (Unread given.script.now fault.Write) (λ s. Unexplained budget given.script.now s.now fault.Write) (λ u. u) (λ s u. u) h) h
+not_write : (configuration : Configuration) (given : Given) → Unanswered configuration given fault.Write → ⊥
+not_write configuration given h =
+    not_bool (is_source given.name.now) (fault.Write ≡ fault.OutOfMemory) (MatchOption given.schedule (Unread given.script.now fault.Write) (λ s. Unexplained configuration given.script.now s.now fault.Write))
+    (λ e. cc) (λ h. not_option given.schedule (Unread given.script.now fault.Write) (λ s. Unexplained configuration given.script.now s.now fault.Write) (λ u. u) (λ s u. u) h) h
 
 -- nothing was written, and why
-pub unwritten : (budget : ℕ) (given : Given) (s : Sink) (why : ExplainFault) → Unanswered budget given why → Unwritten budget given s s why
-unwritten budget given s fault.Write h = absurd (not_write budget given h)
-unwritten budget given s (fault.BadLine n) h = (h, refl)
-unwritten budget given s fault.OutOfMemory h = refl
-unwritten budget given s fault.BadSchedule h = (h, refl)
-unwritten budget given s (fault.NotALaunch ticket) h = (h, refl)
-unwritten budget given s (fault.CommandRefused ticket) h = (h, refl)
+pub unwritten : (configuration : Configuration) (given : Given) (s : Sink) (why : ExplainFault) → Unanswered configuration given why → Unwritten configuration given s s why
+unwritten configuration given s fault.Write h = absurd (not_write configuration given h)
+unwritten configuration given s (fault.BadLine n) h = (h, refl)
+unwritten configuration given s fault.OutOfMemory h = refl
+unwritten configuration given s fault.BadSchedule h = (h, refl)
+unwritten configuration given s (fault.NotALaunch ticket) h = (h, refl)
+unwritten configuration given s (fault.CommandRefused ticket) h = (h, refl)

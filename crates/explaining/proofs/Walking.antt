@@ -14,6 +14,7 @@ use Rattle.explaining.specs.declared.walks.Case.{Case}
 use Rattle.explaining.specs.declared.walks.Unbuilt.{Unbuilt}
 use Rattle.explaining.specs.declared.walks.Walked.{Walked}
 use Rattle.explaining.specs.declared.walks.Walked.TheVariants as walked
+use Rattle.limits.specs.declared.Configuration.{Configuration}
 
 -- commands that are read twice are the same
 pub walked_same : (old new : Machine) (same commands : List Command) (w : Walked) → same ≡ commands → WalkedTo old same new w → WalkedTo old commands new w
@@ -21,31 +22,31 @@ walked_same old new same commands w e h = subst (λ (l : List Command). WalkedTo
 
 -- a build that is refused is explained
 pub unbuilt :
-    (budget : ℕ) (script : List ℕ) (commands : List Command) (m : Machine) (w : Walked) (u : Unbuilt) (answer : Bool) → IsScript script commands → WalkedTo (opening budget) commands m w
-    → w ≡ walked.Unbuilt u → answer ≡ true → Found budget script answer
-unbuilt budget script commands m w u answer is h e same =
-    subst (Found budget script) (sym same)
-    (record { commands = commands; ticket = u.ticket; machine = m; is = is; found = inr (u.fault, subst (λ (v : Walked). WalkedTo (opening budget) commands m v) e h) })
+    (configuration : Configuration) (script : List ℕ) (commands : List Command) (m : Machine) (w : Walked) (u : Unbuilt) (answer : Bool) → IsScript script commands → WalkedTo (opening configuration) commands m w
+    → w ≡ walked.Unbuilt u → answer ≡ true → Found configuration script answer
+unbuilt configuration script commands m w u answer is h e same =
+    subst (Found configuration script) (sym same)
+    (record { commands = commands; ticket = u.ticket; machine = m; is = is; found = inr (u.fault, subst (λ (v : Walked). WalkedTo (opening configuration) commands m v) e h) })
 
 -- a launch with a fault is explained
 faulted :
-    (budget : ℕ) (script : List ℕ) (commands : List Command) (m : Machine) (ticket : ℕ) (f : Fault) (runs : List EventRun) (answer : Bool) → IsScript script commands
-    → IsFirst (opening budget) commands m ticket (reply.Fault f runs) → Tells m commands ticket f runs answer → Found budget script answer
-faulted budget script commands m ticket f runs answer is at tells =
-    subst (Found budget script) (sym (told_yes m commands ticket at.command f runs answer at.at (faults at.before m at.command f runs at.replied) tells))
+    (configuration : Configuration) (script : List ℕ) (commands : List Command) (m : Machine) (ticket : ℕ) (f : Fault) (runs : List EventRun) (answer : Bool) → IsScript script commands
+    → IsFirst (opening configuration) commands m ticket (reply.Fault f runs) → Tells m commands ticket f runs answer → Found configuration script answer
+faulted configuration script commands m ticket f runs answer is at tells =
+    subst (Found configuration script) (sym (told_yes m commands ticket at.command f runs answer at.at (faults at.before m at.command f runs at.replied) tells))
     (record { commands = commands; ticket = ticket; machine = m; is = is; found = inl (f, runs, at) })
 
 pub faulted_case :
-    (budget : ℕ) (script : List ℕ) (commands : List Command) (m : Machine) (w : Walked) (case : Case) (told answer : Bool) → IsScript script commands
-    → WalkedTo (opening budget) commands m w → w ≡ walked.Faulted case → Tells m commands case.ticket case.fault case.schedule told → answer ≡ told → Found budget script answer
-faulted_case budget script commands m w case told answer is h e tells same =
-    subst (Found budget script) (sym same)
-    (faulted budget script commands m case.ticket case.fault case.schedule told is (subst (λ (v : Walked). WalkedTo (opening budget) commands m v) e h) tells)
+    (configuration : Configuration) (script : List ℕ) (commands : List Command) (m : Machine) (w : Walked) (case : Case) (told answer : Bool) → IsScript script commands
+    → WalkedTo (opening configuration) commands m w → w ≡ walked.Faulted case → Tells m commands case.ticket case.fault case.schedule told → answer ≡ told → Found configuration script answer
+faulted_case configuration script commands m w case told answer is h e tells same =
+    subst (Found configuration script) (sym same)
+    (faulted configuration script commands m case.ticket case.fault case.schedule told is (subst (λ (v : Walked). WalkedTo (opening configuration) commands m v) e h) tells)
 
 -- and only want of memory stands in its way
 pub unexplained :
-    (budget : ℕ) (script : List ℕ) (commands : List Command) (m : Machine) (w : Walked) (case : Case) (why : ExplainFault) → WalkedTo (opening budget) commands m w → w ≡ walked.Faulted case
+    (configuration : Configuration) (script : List ℕ) (commands : List Command) (m : Machine) (w : Walked) (case : Case) (why : ExplainFault) → WalkedTo (opening configuration) commands m w → w ≡ walked.Faulted case
     → Untold m commands case.ticket why → Unread script why
-unexplained budget script commands m w case why h e untold =
-    let at : IsFirst (opening budget) commands m case.ticket (reply.Fault case.fault case.schedule) = subst (λ (v : Walked). WalkedTo (opening budget) commands m v) e h in
+unexplained configuration script commands m w case why h e untold =
+    let at : IsFirst (opening configuration) commands m case.ticket (reply.Fault case.fault case.schedule) = subst (λ (v : Walked). WalkedTo (opening configuration) commands m v) e h in
     told_unless script m commands case.ticket at.command case.fault case.schedule why at.at (faults at.before m at.command case.fault case.schedule at.replied) untold

@@ -43,6 +43,7 @@ use Rattle.explaining.specs.declared.walks.Case.{Case}
 use Rattle.explaining.specs.declared.walks.Unbuilt.{Unbuilt}
 use Rattle.explaining.specs.declared.walks.Walked.{Walked}
 use Rattle.explaining.specs.declared.walks.Walked.TheVariants as walked
+use Rattle.limits.specs.declared.Configuration.{Configuration}
 
 -- an explanation of what was played
 pub explained :
@@ -102,42 +103,42 @@ some_all (Some x) P Q R S T p q r s h = h x p q r s
 some_all None P Q R S T p q r s h = tt
 
 pub whole_there :
-    (budget : ℕ) (as_given : Bool) (commands : List Command) (ticket : ℕ) (f : Fault) (runs : List EventRun) (m : Machine) (r : Result (Option ExplainedCase) ExplainFault) → Leads (opening budget) (take ticket commands) m
-    → IfOk r (λ found. IfSome found (λ told. HasWhole m as_given commands ticket f runs told.schedule told.whole)) → IfOk r (λ found. IfSome found (IsToldThere budget as_given commands ticket f runs))
-whole_there budget as_given commands ticket f runs m (Ok (Some told)) led h = record { machine = m; led = led; whole = h }
-whole_there budget as_given commands ticket f runs m (Ok None) led h = tt
-whole_there budget as_given commands ticket f runs m (Err why) led h = tt
+    (configuration : Configuration) (as_given : Bool) (commands : List Command) (ticket : ℕ) (f : Fault) (runs : List EventRun) (m : Machine) (r : Result (Option ExplainedCase) ExplainFault) → Leads (opening configuration) (take ticket commands) m
+    → IfOk r (λ found. IfSome found (λ told. HasWhole m as_given commands ticket f runs told.schedule told.whole)) → IfOk r (λ found. IfSome found (IsToldThere configuration as_given commands ticket f runs))
+whole_there configuration as_given commands ticket f runs m (Ok (Some told)) led h = record { machine = m; led = led; whole = h }
+whole_there configuration as_given commands ticket f runs m (Ok None) led h = tt
+whole_there configuration as_given commands ticket f runs m (Err why) led h = tt
 
 pub whole_of :
-    (budget : ℕ) (as_given : Bool) (script schedule : List ℕ) (commands : List Command) (ticket : ℕ) (f : Fault) (runs : List EventRun) (r : Result (Option ExplainedCase) ExplainFault) → IsScript script commands
-    → IsScheduleFile schedule ticket f runs → IfOk r (λ found. IfSome found (IsToldThere budget as_given commands ticket f runs)) → IfOk r (λ found. IfSome found (IsToldOf budget as_given script schedule))
-whole_of budget as_given script schedule commands ticket f runs (Ok (Some told)) is file h =
+    (configuration : Configuration) (as_given : Bool) (script schedule : List ℕ) (commands : List Command) (ticket : ℕ) (f : Fault) (runs : List EventRun) (r : Result (Option ExplainedCase) ExplainFault) → IsScript script commands
+    → IsScheduleFile schedule ticket f runs → IfOk r (λ found. IfSome found (IsToldThere configuration as_given commands ticket f runs)) → IfOk r (λ found. IfSome found (IsToldOf configuration as_given script schedule))
+whole_of configuration as_given script schedule commands ticket f runs (Ok (Some told)) is file h =
     record { commands = commands; ticket = ticket; f = f; runs = runs; is = is; file = file; there = h }
-whole_of budget as_given script schedule commands ticket f runs (Ok None) is file h = tt
-whole_of budget as_given script schedule commands ticket f runs (Err why) is file h = tt
+whole_of configuration as_given script schedule commands ticket f runs (Ok None) is file h = tt
+whole_of configuration as_given script schedule commands ticket f runs (Err why) is file h = tt
 
 pub says_of :
-    (budget : ℕ) (as_given : Bool) (f : Format) (script schedule : List ℕ) (o : Option ExplainedCase) (answer : Answer) → IfSome o (IsToldOf budget as_given script schedule) → answer.yes ≡ is_some o
-    → AnswersTo f (codes "no\n") o answer → SaysOf budget as_given f script schedule answer.yes (string_bytes answer.text)
-says_of budget as_given f script schedule (Some told) answer is agrees h = subst (λ y. SaysOf budget as_given f script schedule y (string_bytes answer.text)) (sym agrees) (told, is, h)
-says_of budget as_given f script schedule None answer is agrees h = subst (λ y. SaysOf budget as_given f script schedule y (string_bytes answer.text)) (sym agrees) h
+    (configuration : Configuration) (as_given : Bool) (f : Format) (script schedule : List ℕ) (o : Option ExplainedCase) (answer : Answer) → IfSome o (IsToldOf configuration as_given script schedule) → answer.yes ≡ is_some o
+    → AnswersTo f (codes "no\n") o answer → SaysOf configuration as_given f script schedule answer.yes (string_bytes answer.text)
+says_of configuration as_given f script schedule (Some told) answer is agrees h = subst (λ y. SaysOf configuration as_given f script schedule y (string_bytes answer.text)) (sym agrees) (told, is, h)
+says_of configuration as_given f script schedule None answer is agrees h = subst (λ y. SaysOf configuration as_given f script schedule y (string_bytes answer.text)) (sym agrees) h
 
 pub says_unbuilt :
-    (budget : ℕ) (as_given : Bool) (f : Format) (script : List ℕ) (commands : List Command) (m : Machine) (w : Walked) (u : Unbuilt) (answer : Answer) → IsScript script commands
-    → WalkedTo (opening budget) commands m w → w ≡ walked.Unbuilt u → answer.yes ≡ true → SaysScript budget as_given f script answer.yes (string_bytes answer.text)
-says_unbuilt budget as_given f script commands m w u answer is h e agrees =
-    let first : IsFirst (opening budget) commands m u.ticket (reply.Refused (refusal.BuildFailed u.fault)) = subst (λ (v : Walked). WalkedTo (opening budget) commands m v) e h in
-    subst (λ y. SaysScript budget as_given f script y (string_bytes answer.text)) (sym agrees)
+    (configuration : Configuration) (as_given : Bool) (f : Format) (script : List ℕ) (commands : List Command) (m : Machine) (w : Walked) (u : Unbuilt) (answer : Answer) → IsScript script commands
+    → WalkedTo (opening configuration) commands m w → w ≡ walked.Unbuilt u → answer.yes ≡ true → SaysScript configuration as_given f script answer.yes (string_bytes answer.text)
+says_unbuilt configuration as_given f script commands m w u answer is h e agrees =
+    let first : IsFirst (opening configuration) commands m u.ticket (reply.Refused (refusal.BuildFailed u.fault)) = subst (λ (v : Walked). WalkedTo (opening configuration) commands m v) e h in
+    subst (λ y. SaysScript configuration as_given f script y (string_bytes answer.text)) (sym agrees)
     (record { commands = commands; ticket = u.ticket; machine = m; is = is; found = inr (u.fault, first) })
 
 told_first :
-    (budget : ℕ) (as_given : Bool) (f : Format) (script : List ℕ) (commands : List Command) (m : Machine) (ticket : ℕ) (fault : Fault) (runs : List EventRun) (o : Option ExplainedCase) (answer : Answer)
-    → IsScript script commands → IsFirst (opening budget) commands m ticket (reply.Fault fault runs) → is_some o ≡ true
+    (configuration : Configuration) (as_given : Bool) (f : Format) (script : List ℕ) (commands : List Command) (m : Machine) (ticket : ℕ) (fault : Fault) (runs : List EventRun) (o : Option ExplainedCase) (answer : Answer)
+    → IsScript script commands → IsFirst (opening configuration) commands m ticket (reply.Fault fault runs) → is_some o ≡ true
     → IfSome o (λ told. HasWhole m as_given commands ticket fault runs told.schedule told.whole) → answer.yes ≡ is_some o → AnswersTo f (codes "no\n") o answer
-    → SaysScript budget as_given f script answer.yes (string_bytes answer.text)
-told_first budget as_given f script commands m ticket fault runs None answer is first agrees has same text = absurd (false≢true agrees)
-told_first budget as_given f script commands m ticket fault runs (Some told) answer is first agrees has same text =
-    subst (λ y. SaysScript budget as_given f script y (string_bytes answer.text)) (sym same)
+    → SaysScript configuration as_given f script answer.yes (string_bytes answer.text)
+told_first configuration as_given f script commands m ticket fault runs None answer is first agrees has same text = absurd (false≢true agrees)
+told_first configuration as_given f script commands m ticket fault runs (Some told) answer is first agrees has same text =
+    subst (λ y. SaysScript configuration as_given f script y (string_bytes answer.text)) (sym same)
     (record {
       commands = commands;
       ticket = ticket;
@@ -147,11 +148,11 @@ told_first budget as_given f script commands m ticket fault runs (Some told) ans
     })
 
 pub says_faulted :
-    (budget : ℕ) (as_given : Bool) (f : Format) (script : List ℕ) (commands : List Command) (m : Machine) (w : Walked) (case : Case) (o : Option ExplainedCase) (answer : Answer) → IsScript script commands
-    → WalkedTo (opening budget) commands m w → w ≡ walked.Faulted case → Tells m commands case.ticket case.fault case.schedule (is_some o)
+    (configuration : Configuration) (as_given : Bool) (f : Format) (script : List ℕ) (commands : List Command) (m : Machine) (w : Walked) (case : Case) (o : Option ExplainedCase) (answer : Answer) → IsScript script commands
+    → WalkedTo (opening configuration) commands m w → w ≡ walked.Faulted case → Tells m commands case.ticket case.fault case.schedule (is_some o)
     → IfSome o (λ told. HasWhole m as_given commands case.ticket case.fault case.schedule told.schedule told.whole) → answer.yes ≡ is_some o → AnswersTo f (codes "no\n") o answer
-    → SaysScript budget as_given f script answer.yes (string_bytes answer.text)
-says_faulted budget as_given f script commands m w case o answer is h e tells has same text =
-    let first : IsFirst (opening budget) commands m case.ticket (reply.Fault case.fault case.schedule) = subst (λ (v : Walked). WalkedTo (opening budget) commands m v) e h in
+    → SaysScript configuration as_given f script answer.yes (string_bytes answer.text)
+says_faulted configuration as_given f script commands m w case o answer is h e tells has same text =
+    let first : IsFirst (opening configuration) commands m case.ticket (reply.Fault case.fault case.schedule) = subst (λ (v : Walked). WalkedTo (opening configuration) commands m v) e h in
     let agrees = told_yes m commands case.ticket first.command case.fault case.schedule (is_some o) first.at (faults first.before m first.command case.fault case.schedule first.replied) tells in
-    told_first budget as_given f script commands m case.ticket case.fault case.schedule o answer is first agrees has same text
+    told_first configuration as_given f script commands m case.ticket case.fault case.schedule o answer is first agrees has same text

@@ -24,6 +24,7 @@ use Rattle.explaining.specs.Leading.{IsFirst, Leads, LeadsCleanly}
 use Rattle.explaining.specs.declared.facts.Given.{Given}
 use Rattle.explaining.specs.declared.faults.ExplainFault.{ExplainFault}
 use Rattle.explaining.specs.declared.faults.ExplainFault.TheVariants as fault
+use Rattle.limits.specs.declared.Configuration.{Configuration}
 
 -- the command of a ticket launches nothing, or there is none
 abbrev pub NoLaunch : List Command → ℕ → Type 0
@@ -71,73 +72,73 @@ Untold m commands ticket (fault.NotALaunch named) = (named ≡ ticket) × NoLaun
 Untold m commands ticket (fault.CommandRefused named) = (named ≡ ticket) × Refuses m commands ticket
 
 -- a case that is judged on a new device, to which the commands before its ticket led
-pub record IsTold (budget : ℕ) (commands : List Command) (ticket : ℕ) (f : Fault) (runs : List EventRun) (answer : Bool) : Type 0 where
+pub record IsTold (configuration : Configuration) (commands : List Command) (ticket : ℕ) (f : Fault) (runs : List EventRun) (answer : Bool) : Type 0 where
   pub machine : Machine
-  pub led : Leads (opening budget) (take ticket commands) machine
+  pub led : Leads (opening configuration) (take ticket commands) machine
   pub tells : Tells machine commands ticket f runs answer
 
 -- the launch of a ticket is refused on a new device, to which the commands before it led
-pub record IsRefusedThere (budget : ℕ) (commands : List Command) (ticket : ℕ) : Type 0 where
+pub record IsRefusedThere (configuration : Configuration) (commands : List Command) (ticket : ℕ) : Type 0 where
   pub machine : Machine
-  pub led : Leads (opening budget) (take ticket commands) machine
+  pub led : Leads (opening configuration) (take ticket commands) machine
   pub refuses : Refuses machine commands ticket
 
 -- why it wasn't
-abbrev pub Unled : ℕ → List ℕ → List Command → ℕ → ExplainFault → Type 0
-Unled budget script commands ticket fault.Write = ⊥
-Unled budget script commands ticket (fault.BadLine n) = IsBadLine script n
-Unled budget script commands ticket fault.OutOfMemory = ⊤
-Unled budget script commands ticket fault.BadSchedule = ⊥
-Unled budget script commands ticket (fault.NotALaunch named) = (named ≡ ticket) × NoLaunch commands ticket
-Unled budget script commands ticket (fault.CommandRefused named) = (named ≡ ticket) × IsRefusedThere budget commands ticket
+abbrev pub Unled : Configuration → List ℕ → List Command → ℕ → ExplainFault → Type 0
+Unled configuration script commands ticket fault.Write = ⊥
+Unled configuration script commands ticket (fault.BadLine n) = IsBadLine script n
+Unled configuration script commands ticket fault.OutOfMemory = ⊤
+Unled configuration script commands ticket fault.BadSchedule = ⊥
+Unled configuration script commands ticket (fault.NotALaunch named) = (named ≡ ticket) × NoLaunch commands ticket
+Unled configuration script commands ticket (fault.CommandRefused named) = (named ≡ ticket) × IsRefusedThere configuration commands ticket
 
 -- the answer to a script and a schedule file
-pub record Explained (budget : ℕ) (script schedule : List ℕ) (answer : Bool) : Type 0 where
+pub record Explained (configuration : Configuration) (script schedule : List ℕ) (answer : Bool) : Type 0 where
   pub commands : List Command
   pub ticket : ℕ
   pub f : Fault
   pub runs : List EventRun
   pub is : IsScript script commands
   pub file : IsScheduleFile schedule ticket f runs
-  pub told : IsTold budget commands ticket f runs answer
+  pub told : IsTold configuration commands ticket f runs answer
 
 -- why a script and a schedule file have no answer
-pub record IsUntold (budget : ℕ) (script schedule : List ℕ) (why : ExplainFault) : Type 0 where
+pub record IsUntold (configuration : Configuration) (script schedule : List ℕ) (why : ExplainFault) : Type 0 where
   pub commands : List Command
   pub ticket : ℕ
   pub f : Fault
   pub runs : List EventRun
   pub is : IsScript script commands
   pub file : IsScheduleFile schedule ticket f runs
-  pub untold : (NoLaunch commands ticket × (why ≡ fault.NotALaunch ticket)) ⊎ (IsRefusedThere budget commands ticket × (why ≡ fault.CommandRefused ticket))
+  pub untold : (NoLaunch commands ticket × (why ≡ fault.NotALaunch ticket)) ⊎ (IsRefusedThere configuration commands ticket × (why ≡ fault.CommandRefused ticket))
 
-abbrev pub Unexplained : ℕ → List ℕ → List ℕ → ExplainFault → Type 0
-Unexplained budget script schedule fault.Write = ⊥
-Unexplained budget script schedule (fault.BadLine n) = IsBadLine script n
-Unexplained budget script schedule fault.OutOfMemory = ⊤
-Unexplained budget script schedule fault.BadSchedule = NoScheduleFile schedule
-Unexplained budget script schedule (fault.NotALaunch ticket) = IsUntold budget script schedule (fault.NotALaunch ticket)
-Unexplained budget script schedule (fault.CommandRefused ticket) = IsUntold budget script schedule (fault.CommandRefused ticket)
+abbrev pub Unexplained : Configuration → List ℕ → List ℕ → ExplainFault → Type 0
+Unexplained configuration script schedule fault.Write = ⊥
+Unexplained configuration script schedule (fault.BadLine n) = IsBadLine script n
+Unexplained configuration script schedule fault.OutOfMemory = ⊤
+Unexplained configuration script schedule fault.BadSchedule = NoScheduleFile schedule
+Unexplained configuration script schedule (fault.NotALaunch ticket) = IsUntold configuration script schedule (fault.NotALaunch ticket)
+Unexplained configuration script schedule (fault.CommandRefused ticket) = IsUntold configuration script schedule (fault.CommandRefused ticket)
 
 -- a launch of a script has a fault, and it is the first; or a build is refused, and it is the first
-pub record HasFirst (budget : ℕ) (script : List ℕ) : Type 0 where
+pub record HasFirst (configuration : Configuration) (script : List ℕ) : Type 0 where
   pub commands : List Command
   pub ticket : ℕ
   pub machine : Machine
   pub is : IsScript script commands
-  pub found : ((f : Fault) × (runs : List EventRun) × IsFirst (opening budget) commands machine ticket (reply.Fault f runs))
-      ⊎ ((f : BuildFault) × IsFirst (opening budget) commands machine ticket (reply.Refused (refusal.BuildFailed f)))
+  pub found : ((f : Fault) × (runs : List EventRun) × IsFirst (opening configuration) commands machine ticket (reply.Fault f runs))
+      ⊎ ((f : BuildFault) × IsFirst (opening configuration) commands machine ticket (reply.Refused (refusal.BuildFailed f)))
 
 -- no reply to a script's commands is a fault or the refusal of a build
-pub record IsClean (budget : ℕ) (script : List ℕ) : Type 0 where
+pub record IsClean (configuration : Configuration) (script : List ℕ) : Type 0 where
   pub commands : List Command
   pub machine : Machine
   pub is : IsScript script commands
-  pub led : LeadsCleanly (opening budget) commands machine
+  pub led : LeadsCleanly (opening configuration) commands machine
 
-abbrev pub Found : ℕ → List ℕ → Bool → Type 0
-Found budget script true = HasFirst budget script
-Found budget script false = IsClean budget script
+abbrev pub Found : Configuration → List ℕ → Bool → Type 0
+Found configuration script true = HasFirst configuration script
+Found configuration script false = IsClean configuration script
 
 -- why a script wasn't performed
 abbrev pub Unread : List ℕ → ExplainFault → Type 0
@@ -158,22 +159,22 @@ abbrev pub is_source : List ℕ → Bool
 is_source name = ends_with nat_eq name (codes ".cl")
 
 -- the answer to what is given
-abbrev pub Explains : ℕ → Given → Bool → Type 0
-Explains budget given answer =
+abbrev pub Explains : Configuration → Given → Bool → Type 0
+Explains configuration given answer =
     MatchBool (is_source given.name.now) (IsRefused given.script.now answer)
-    (MatchOption given.schedule (Found budget given.script.now answer) (λ schedule. Explained budget given.script.now schedule.now answer))
+    (MatchOption given.schedule (Found configuration given.script.now answer) (λ schedule. Explained configuration given.script.now schedule.now answer))
 
 -- why there is none
-abbrev pub Unanswered : ℕ → Given → ExplainFault → Type 0
-Unanswered budget given why =
+abbrev pub Unanswered : Configuration → Given → ExplainFault → Type 0
+Unanswered configuration given why =
     MatchBool (is_source given.name.now) (why ≡ fault.OutOfMemory)
-    (MatchOption given.schedule (Unread given.script.now why) (λ schedule. Unexplained budget given.script.now schedule.now why))
+    (MatchOption given.schedule (Unread given.script.now why) (λ schedule. Unexplained configuration given.script.now schedule.now why))
 
 -- why there is none, and what was written: a beginning of a text where the writer failed, else nothing
-abbrev pub Unwritten : ℕ → Given → Sink → Sink → ExplainFault → Type 0
-Unwritten budget given old new fault.Write = (text : List ℕ) × Stopped old new text
-Unwritten budget given old new (fault.BadLine n) = Unanswered budget given (fault.BadLine n) × (new ≡ old)
-Unwritten budget given old new fault.OutOfMemory = new ≡ old
-Unwritten budget given old new fault.BadSchedule = Unanswered budget given fault.BadSchedule × (new ≡ old)
-Unwritten budget given old new (fault.NotALaunch ticket) = Unanswered budget given (fault.NotALaunch ticket) × (new ≡ old)
-Unwritten budget given old new (fault.CommandRefused ticket) = Unanswered budget given (fault.CommandRefused ticket) × (new ≡ old)
+abbrev pub Unwritten : Configuration → Given → Sink → Sink → ExplainFault → Type 0
+Unwritten configuration given old new fault.Write = (text : List ℕ) × Stopped old new text
+Unwritten configuration given old new (fault.BadLine n) = Unanswered configuration given (fault.BadLine n) × (new ≡ old)
+Unwritten configuration given old new fault.OutOfMemory = new ≡ old
+Unwritten configuration given old new fault.BadSchedule = Unanswered configuration given fault.BadSchedule × (new ≡ old)
+Unwritten configuration given old new (fault.NotALaunch ticket) = Unanswered configuration given (fault.NotALaunch ticket) × (new ≡ old)
+Unwritten configuration given old new (fault.CommandRefused ticket) = Unanswered configuration given (fault.CommandRefused ticket) × (new ≡ old)

@@ -39,6 +39,7 @@ use Rattle.explaining.specs.declared.facts.Format.{Format}
 use Rattle.explaining.specs.declared.facts.Format.TheVariants as format
 use Rattle.explaining.specs.declared.facts.Given.{Given}
 use Rattle.explaining.specs.declared.told.ExplainedCase.{ExplainedCase}
+use Rattle.limits.specs.declared.Configuration.{Configuration}
 
 -- a schedule as a schedule file has it
 abbrev pub schedule_words : List EventRun → List ℕ
@@ -116,47 +117,47 @@ AnswersTo f word None answer = string_bytes answer.text ≡ word
 AnswersTo f word (Some told) answer = IsTextOf f told.whole (string_bytes answer.text)
 
 -- what is told of a case on a new device, to which the commands before its ticket led
-pub record IsToldThere (budget : ℕ) (as_given : Bool) (commands : List Command) (ticket : ℕ) (f : Fault) (given : List EventRun) (told : ExplainedCase) : Type 0 where
+pub record IsToldThere (configuration : Configuration) (as_given : Bool) (commands : List Command) (ticket : ℕ) (f : Fault) (given : List EventRun) (told : ExplainedCase) : Type 0 where
   pub machine : Machine
-  pub led : Leads (opening budget) (take ticket commands) machine
+  pub led : Leads (opening configuration) (take ticket commands) machine
   pub whole : HasWhole machine as_given commands ticket f given told.schedule told.whole
 
 -- what is told of the case of a schedule file
-pub record IsToldOf (budget : ℕ) (as_given : Bool) (script schedule : List ℕ) (told : ExplainedCase) : Type 0 where
+pub record IsToldOf (configuration : Configuration) (as_given : Bool) (script schedule : List ℕ) (told : ExplainedCase) : Type 0 where
   pub commands : List Command
   pub ticket : ℕ
   pub f : Fault
   pub runs : List EventRun
   pub is : IsScript script commands
   pub file : IsScheduleFile schedule ticket f runs
-  pub there : IsToldThere budget as_given commands ticket f runs told
+  pub there : IsToldThere configuration as_given commands ticket f runs told
 
 -- the text for a schedule file
-abbrev pub SaysOf : ℕ → Bool → Format → List ℕ → List ℕ → Bool → List ℕ → Type 0
-SaysOf budget as_given f script schedule true text = (told : ExplainedCase) × IsToldOf budget as_given script schedule told × IsTextOf f told.whole text
-SaysOf budget as_given f script schedule false text = text ≡ codes "no\n"
+abbrev pub SaysOf : Configuration → Bool → Format → List ℕ → List ℕ → Bool → List ℕ → Type 0
+SaysOf configuration as_given f script schedule true text = (told : ExplainedCase) × IsToldOf configuration as_given script schedule told × IsTextOf f told.whole text
+SaysOf configuration as_given f script schedule false text = text ≡ codes "no\n"
 
 -- what is told of the first fault of a script, and its text
-pub record TellsFirst (budget : ℕ) (as_given : Bool) (f : Format) (commands : List Command) (machine : Machine) (ticket : ℕ) (text : List ℕ) : Type 0 where
+pub record TellsFirst (configuration : Configuration) (as_given : Bool) (f : Format) (commands : List Command) (machine : Machine) (ticket : ℕ) (text : List ℕ) : Type 0 where
   pub fault : Fault
   pub runs : List EventRun
-  pub first : IsFirst (opening budget) commands machine ticket (reply.Fault fault runs)
+  pub first : IsFirst (opening configuration) commands machine ticket (reply.Fault fault runs)
   pub told : ExplainedCase
   pub whole : HasWhole machine as_given commands ticket fault runs told.schedule told.whole
   pub written : IsTextOf f told.whole text
 
 -- the text for a script: an explanation of its first fault, or any text where its first such reply is a refused build
-pub record SaysFirst (budget : ℕ) (as_given : Bool) (f : Format) (script text : List ℕ) : Type 0 where
+pub record SaysFirst (configuration : Configuration) (as_given : Bool) (f : Format) (script text : List ℕ) : Type 0 where
   pub commands : List Command
   pub ticket : ℕ
   pub machine : Machine
   pub is : IsScript script commands
-  pub found : TellsFirst budget as_given f commands machine ticket text
-      ⊎ ((why : BuildFault) × IsFirst (opening budget) commands machine ticket (reply.Refused (refusal.BuildFailed why)))
+  pub found : TellsFirst configuration as_given f commands machine ticket text
+      ⊎ ((why : BuildFault) × IsFirst (opening configuration) commands machine ticket (reply.Refused (refusal.BuildFailed why)))
 
-abbrev pub SaysScript : ℕ → Bool → Format → List ℕ → Bool → List ℕ → Type 0
-SaysScript budget as_given f script true text = SaysFirst budget as_given f script text
-SaysScript budget as_given f script false text = text ≡ codes "clean\n"
+abbrev pub SaysScript : Configuration → Bool → Format → List ℕ → Bool → List ℕ → Type 0
+SaysScript configuration as_given f script true text = SaysFirst configuration as_given f script text
+SaysScript configuration as_given f script false text = text ≡ codes "clean\n"
 
 -- the text for a source: any text where it isn't built
 abbrev pub SaysSource : Bool → List ℕ → Type 0
@@ -164,7 +165,7 @@ SaysSource true text = ⊤
 SaysSource false text = text ≡ codes "ok\n"
 
 -- the text for what is given, by the answer
-abbrev pub Says : ℕ → Bool → Format → Given → Bool → List ℕ → Type 0
-Says budget as_given f given answer text =
+abbrev pub Says : Configuration → Bool → Format → Given → Bool → List ℕ → Type 0
+Says configuration as_given f given answer text =
     MatchBool (is_source given.name.now) (SaysSource answer text)
-    (MatchOption given.schedule (SaysScript budget as_given f given.script.now answer text) (λ schedule. SaysOf budget as_given f given.script.now schedule.now answer text))
+    (MatchOption given.schedule (SaysScript configuration as_given f given.script.now answer text) (λ schedule. SaysOf configuration as_given f given.script.now schedule.now answer text))

@@ -46,12 +46,12 @@ fn told_at(
     schedule: Schedule,
 ) -> Result<Option<ExplainedCase>, ExplainFault>
     requires { IsScript given.script.now commands.now }
-    ensures told { IfOk result (λ found. IsTold options.budget commands.now ticket fault.now schedule (is_some found)) }
-    ensures whole { IfOk result (λ found. IfSome found (IsToldThere options.budget options.as_given commands.now ticket fault.now schedule)) }
-    ensures failed { IfErr result (Unled options.budget given.entry.script.now commands.now ticket) }
+    ensures told { IfOk result (λ found. IsTold options.configuration commands.now ticket fault.now schedule (is_some found)) }
+    ensures whole { IfOk result (λ found. IfSome found (IsToldThere options.configuration options.as_given commands.now ticket fault.now schedule)) }
+    ensures failed { IfErr result (Unled options.configuration given.entry.script.now commands.now ticket) }
 {
     let before = read_first(alloc, given.script, ticket)?;
-    let mut device = Device::new(alloc, options.budget);
+    let mut device = Device::new(alloc, options.configuration);
     let done = perform_all(alloc, &mut device, before)?;
     let performed = PerformedScript {
         given,
@@ -71,9 +71,9 @@ fn told_in(
     schedule: &[u8],
 ) -> Result<Option<ExplainedCase>, ExplainFault>
     requires { IsScript given.script.now commands.now }
-    ensures explained { IfOk result (λ found. Explained options.budget given.entry.script.now schedule.now (is_some found)) }
-    ensures whole { IfOk result (λ found. IfSome found (IsToldOf options.budget options.as_given given.entry.script.now schedule.now)) }
-    ensures failed { IfErr result (Unexplained options.budget given.entry.script.now schedule.now) }
+    ensures explained { IfOk result (λ found. Explained options.configuration given.entry.script.now schedule.now (is_some found)) }
+    ensures whole { IfOk result (λ found. IfSome found (IsToldOf options.configuration options.as_given given.entry.script.now schedule.now)) }
+    ensures failed { IfErr result (Unexplained options.configuration given.entry.script.now schedule.now) }
 {
     let (number, fault, runs) = read(alloc, schedule)?;
     if number >= commands.len() as u64 {
@@ -97,9 +97,9 @@ fn explain_schedule(
     schedule: &[u8],
     options: ExplainOptions,
 ) -> Result<Answer, ExplainFault>
-    ensures explained { IfOk result (λ answer. Explained options.budget given.entry.script.now schedule.now answer.yes) }
-    ensures says { IfOk result (λ answer. SaysOf options.budget options.as_given options.format given.entry.script.now schedule.now answer.yes (string_bytes answer.text)) }
-    ensures failed { IfErr result (Unexplained options.budget given.entry.script.now schedule.now) }
+    ensures explained { IfOk result (λ answer. Explained options.configuration given.entry.script.now schedule.now answer.yes) }
+    ensures says { IfOk result (λ answer. SaysOf options.configuration options.as_given options.format given.entry.script.now schedule.now answer.yes (string_bytes answer.text)) }
+    ensures failed { IfErr result (Unexplained options.configuration given.entry.script.now schedule.now) }
 {
     let commands = read_script(alloc, given.script)?;
     let told = told_in(alloc, given, options, commands.as_slice(), schedule)?;
@@ -129,9 +129,9 @@ fn answer_at(
     end: Walked,
 ) -> Result<Answer, ExplainFault>
     requires script { IsScript performed.now.given.script.now performed.now.commands.now }
-    requires walked { WalkedTo (opening performed.now.options.budget) performed.now.commands.now (machine_of device.now) end }
-    ensures found { IfOk result (λ answer. Found performed.now.options.budget performed.now.given.script.now answer.yes) }
-    ensures says { IfOk result (λ answer. SaysScript performed.now.options.budget performed.now.options.as_given performed.now.options.format performed.now.given.script.now answer.yes (string_bytes answer.text)) }
+    requires walked { WalkedTo (opening performed.now.options.configuration) performed.now.commands.now (machine_of device.now) end }
+    ensures found { IfOk result (λ answer. Found performed.now.options.configuration performed.now.given.script.now answer.yes) }
+    ensures says { IfOk result (λ answer. SaysScript performed.now.options.configuration performed.now.options.as_given performed.now.options.format performed.now.given.script.now answer.yes (string_bytes answer.text)) }
     ensures failed { IfErr result (Unread performed.now.given.script.now) }
 {
     match end {
@@ -161,8 +161,8 @@ fn explain_commands(
     commands: &[Command],
 ) -> Result<Answer, ExplainFault>
     requires { IsScript given.script.now commands.now }
-    ensures found { IfOk result (λ answer. Found options.budget given.entry.script.now answer.yes) }
-    ensures says { IfOk result (λ answer. SaysScript options.budget options.as_given options.format given.entry.script.now answer.yes (string_bytes answer.text)) }
+    ensures found { IfOk result (λ answer. Found options.configuration given.entry.script.now answer.yes) }
+    ensures says { IfOk result (λ answer. SaysScript options.configuration options.as_given options.format given.entry.script.now answer.yes (string_bytes answer.text)) }
     ensures failed { IfErr result (Unread given.entry.script.now) }
 {
     let same = read_script(alloc, given.script)?;
@@ -182,8 +182,8 @@ fn explain_script(
     given: Given<'_>,
     options: ExplainOptions,
 ) -> Result<Answer, ExplainFault>
-    ensures found { IfOk result (λ answer. Found options.budget given.entry.script.now answer.yes) }
-    ensures says { IfOk result (λ answer. SaysScript options.budget options.as_given options.format given.entry.script.now answer.yes (string_bytes answer.text)) }
+    ensures found { IfOk result (λ answer. Found options.configuration given.entry.script.now answer.yes) }
+    ensures says { IfOk result (λ answer. SaysScript options.configuration options.as_given options.format given.entry.script.now answer.yes (string_bytes answer.text)) }
     ensures failed { IfErr result (Unread given.entry.script.now) }
 {
     let commands = read_script(alloc, given.script)?;
@@ -196,9 +196,9 @@ fn answer_to(
     given: Given<'_>,
     options: ExplainOptions,
 ) -> Result<Answer, ExplainFault>
-    ensures explains { IfOk result (λ answer. Explains options.budget given.entry answer.yes) }
-    ensures says { IfOk result (λ answer. Says options.budget options.as_given options.format given.entry answer.yes (string_bytes answer.text)) }
-    ensures failed { IfErr result (Unanswered options.budget given.entry) }
+    ensures explains { IfOk result (λ answer. Explains options.configuration given.entry answer.yes) }
+    ensures says { IfOk result (λ answer. Says options.configuration options.as_given options.format given.entry answer.yes (string_bytes answer.text)) }
+    ensures failed { IfErr result (Unanswered options.configuration given.entry) }
 {
     if given.name.ends_with(b".cl") {
         return explain_source(alloc, options.format, given.name, given.script);
@@ -222,11 +222,11 @@ pub fn explain<W: Write>(
     options: ExplainOptions,
     writer: &mut W,
 ) -> Result<bool, ExplainFault>
-    ensures explains { IfOk result (Explains options.budget given.entry) }
+    ensures explains { IfOk result (Explains options.configuration given.entry) }
     ensures wrote { OnOk result ((text : List ℕ) × Wrote (W.sink writer.old) (W.sink writer.new) text) }
-    ensures says { IfOk result (λ answer. (text : List ℕ) × Wrote (W.sink writer.old) (W.sink writer.new) text × Says options.budget options.as_given options.format given.entry answer text) }
+    ensures says { IfOk result (λ answer. (text : List ℕ) × Wrote (W.sink writer.old) (W.sink writer.new) text × Says options.configuration options.as_given options.format given.entry answer text) }
     ensures released { OnOk result ((W.sink writer.new).held ≡ []) }
-    ensures failed { IfErr result (Unwritten options.budget given.entry (W.sink writer.old) (W.sink writer.new)) }
+    ensures failed { IfErr result (Unwritten options.configuration given.entry (W.sink writer.old) (W.sink writer.new)) }
 {
     let answer = answer_to(alloc, given, options)?;
     tell(answer.text.as_bytes(), writer)?;

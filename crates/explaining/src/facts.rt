@@ -20,6 +20,7 @@ use item_step::Launch;
 use launch_facts::{
     fault_line, fault_name, fault_number, line_of, memory_of, parameters_given, parameters_named,
 };
+use limits::Configuration;
 use shortening::{Named, Shortened, event_count};
 use spaces::Buffers;
 use std::alloc::{AllocError, Global};
@@ -36,11 +37,10 @@ pub enum Format {
 #[derive(Clone, Copy)]
 pub struct ExplainOptions {
     pub format: Format,
-    /// The most ticks of a work-item of a launch, from 1 to 1,000,000
-    pub budget: u32,
+    /// What the script's device is made with
+    pub configuration: Configuration,
     /// Whether the schedule is told as it was given, and not made shorter
     pub as_given: bool,
-    pub ghost limited: { budget ≤ 1000000 },
 }
 
 /// The texts that are given: the name of the script as on the command line and its bytes, and those of a schedule file,

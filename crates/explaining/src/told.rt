@@ -288,7 +288,7 @@ pub(crate) fn explain_case(
         given: performed.given,
         ticket,
         range,
-        budget: performed.options.budget,
+        budget: performed.options.configuration.budget,
     };
     let as_given = performed.options.as_given;
     Ok(explain_launch(

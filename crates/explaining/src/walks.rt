@@ -131,15 +131,15 @@ fn walk_commands(
     })
 }
 
-/// The same on a new device with the budget that is wanted.
+/// The same on a new device, made with the configuration that is wanted.
 pub(crate) fn walk_anew(
     alloc: Global,
     options: ExplainOptions,
     commands: Vec<Command>,
 ) -> Result<Performed, AllocError>
-    ensures { IfOk result (λ performed. WalkedTo (opening options.budget) commands.items (machine_of performed.device) performed.end) }
+    ensures { IfOk result (λ performed. WalkedTo (opening options.configuration) commands.items (machine_of performed.device) performed.end) }
 {
-    let mut device = Device::new(alloc, options.budget);
+    let mut device = Device::new(alloc, options.configuration);
     let Walk { end, done } = walk_commands(alloc, &mut device, commands)?;
     Ok(Performed { device, end, done })
 }

@@ -22,9 +22,12 @@ pub struct Limits {
     pub buffer_bytes: u64,
     /// The most ticks that a device may give a work-item, up to 4,194,303
     pub ticks: u32,
+    /// The ticks of a work-item where none are asked for
+    pub default_ticks: u32,
     pub ghost few_items: { items ≤ 2 ^ 26 },
     pub ghost small_groups: { group_items ≤ 1024 },
     pub ghost few_ticks: { ticks ≤ 4194303 },
+    pub ghost enough_ticks: { default_ticks ≤ ticks },
 }
 
 impl Limits {
@@ -40,6 +43,7 @@ impl Limits {
             buffers: 64,
             buffer_bytes: 1_048_576,
             ticks: 1_000_000,
+            default_ticks: 100_000,
         }
     }
 
@@ -53,6 +57,7 @@ impl Limits {
             buffers: 4096,
             buffer_bytes: 1_073_741_824,
             ticks: 1_000_000,
+            default_ticks: 1_000_000,
         }
     }
 }
@@ -64,4 +69,17 @@ pub struct Configuration {
     /// The most ticks of a work-item of a launch: its accesses, barriers and turns of loops
     pub budget: u32,
     pub ghost limited: { budget ≤ limits.ticks },
+}
+
+impl Configuration {
+    /// These limits, with the ticks that they give where none are asked for.
+    pub fn of(limits: Limits) -> Configuration
+        ensures limits { result.limits ≡ limits }
+        ensures budget { result.budget ≡ limits.default_ticks }
+    {
+        Configuration {
+            limits,
+            budget: limits.default_ticks,
+        }
+    }
 }

@@ -5,9 +5,10 @@ use Rattle.serving.specs.Serving.{HasLine}
 use Rattle.cli.specs.Session.{end_of}
 use Rattle.cli.specs.Serves.{Serves}
 use Rattle.cli.proofs.dialogue.take_turns.Given as goal
+use Rattle.limits.specs.declared.Configuration.{Configuration}
 
 abbrev pub invariant-loop : goal.invariant-loop
 invariant-loop g l = record {
   line : HasLine l.server;
-  serves : (start : Conversation) (budget : ℕ) → Serves start (g.P.Peer.view l.fn.peer) budget l.fn.server (machine_of l.fn.device) (end_of []) → Serves start (g.P.Peer.view l.peer) budget l.server (machine_of l.device) l.end;
+  serves : (start : Conversation) (configuration : Configuration) → Serves start (g.P.Peer.view l.fn.peer) configuration l.fn.server (machine_of l.fn.device) (end_of []) → Serves start (g.P.Peer.view l.peer) configuration l.server (machine_of l.device) l.end;
 }

@@ -23,7 +23,7 @@ returns c = record {
       refusal = c.in-Err.field-0;
       comes = record {
         launch = c.in-Some.ensures.launch;
-        leads = subst (λ (done : List Command). Leads (opening 100000) done (machine_of c.in_ok-device.device)) c.in-Some.ensures.before c.in_ok-device.ensures;
+        leads = subst (λ (done : List Command). Leads (opening c.args.configuration) done (machine_of c.in_ok-device.device)) c.in-Some.ensures.before c.in_ok-device.ensures;
       };
       refused = by_row (machine_of c.in_ok-device.device) (command.Launch c.in-Some.launched.kernel c.in-Some.launched.range) c.in-Err.field-0 c.in-Err.ensures.refused (λ e. search rules);
     },

@@ -3,25 +3,26 @@ use Rattle.device.specs.Machine.{machine_of}
 use Rattle.explaining.proofs.Walking.{faulted_case, unbuilt}
 use Rattle.explaining.proofs.Writing.{says_faulted, says_unbuilt}
 use Rattle.explaining.proofs.explained.answer_at.Goals as goal
+use Rattle.limits.specs.declared.Configuration.{Configuration}
 
 pub returns-in_ok-unbuilt_answer-in-Unbuilt-clause-found : goal.returns-in_ok-unbuilt_answer-in-Unbuilt-clause-found
 returns-in_ok-unbuilt_answer-in-Unbuilt-clause-found c =
-    unbuilt c.args.performed.now.options.budget c.args.performed.now.given.script.now c.args.performed.now.commands.now (machine_of c.args.device.now) c.args.end c.in-Unbuilt.unbuilt
+    unbuilt c.args.performed.now.options.configuration c.args.performed.now.given.script.now c.args.performed.now.commands.now (machine_of c.args.device.now) c.args.end c.in-Unbuilt.unbuilt
     c.in_ok-unbuilt_answer-in-Unbuilt.field-0.yes c.requires.script c.requires.walked c.in-Unbuilt.is c.in_ok-unbuilt_answer-in-Unbuilt.ensures
 
 pub returns-in_ok-answer_of-in-Faulted-clause-found : goal.returns-in_ok-answer_of-in-Faulted-clause-found
 returns-in_ok-answer_of-in-Faulted-clause-found c =
-    faulted_case c.args.performed.now.options.budget c.args.performed.now.given.script.now c.args.performed.now.commands.now (machine_of c.args.device.now) c.args.end c.in-Faulted.case
+    faulted_case c.args.performed.now.options.configuration c.args.performed.now.given.script.now c.args.performed.now.commands.now (machine_of c.args.device.now) c.args.end c.in-Faulted.case
     (is_some c.in_ok-told-in-Faulted.told) c.in_ok-answer_of-in-Faulted.field-0.yes c.requires.script c.requires.walked c.in-Faulted.is c.in_ok-told-in-Faulted.ensures.told
     c.in_ok-answer_of-in-Faulted.ensures.yes
 
 pub returns-in_ok-unbuilt_answer-in-Unbuilt-clause-says : goal.returns-in_ok-unbuilt_answer-in-Unbuilt-clause-says
 returns-in_ok-unbuilt_answer-in-Unbuilt-clause-says c =
-    says_unbuilt c.args.performed.now.options.budget c.args.performed.now.options.as_given c.args.performed.now.options.format c.args.performed.now.given.script.now c.args.performed.now.commands.now (machine_of c.args.device.now) c.args.end
+    says_unbuilt c.args.performed.now.options.configuration c.args.performed.now.options.as_given c.args.performed.now.options.format c.args.performed.now.given.script.now c.args.performed.now.commands.now (machine_of c.args.device.now) c.args.end
     c.in-Unbuilt.unbuilt c.in_ok-unbuilt_answer-in-Unbuilt.field-0 c.requires.script c.requires.walked c.in-Unbuilt.is c.in_ok-unbuilt_answer-in-Unbuilt.ensures
 
 pub returns-in_ok-answer_of-in-Faulted-clause-says : goal.returns-in_ok-answer_of-in-Faulted-clause-says
 returns-in_ok-answer_of-in-Faulted-clause-says c =
-    says_faulted c.args.performed.now.options.budget c.args.performed.now.options.as_given c.args.performed.now.options.format c.args.performed.now.given.script.now c.args.performed.now.commands.now (machine_of c.args.device.now) c.args.end
+    says_faulted c.args.performed.now.options.configuration c.args.performed.now.options.as_given c.args.performed.now.options.format c.args.performed.now.given.script.now c.args.performed.now.commands.now (machine_of c.args.device.now) c.args.end
     c.in-Faulted.case c.in_ok-told-in-Faulted.told c.in_ok-answer_of-in-Faulted.field-0 c.requires.script c.requires.walked c.in-Faulted.is c.in_ok-told-in-Faulted.ensures.told
     c.in_ok-told-in-Faulted.ensures.whole c.in_ok-answer_of-in-Faulted.ensures.yes c.in_ok-answer_of-in-Faulted.ensures.text

@@ -1,18 +1,19 @@
 use Rattle.explaining.proofs.Schedules.{explained, unexplained}
 use Rattle.explaining.proofs.Writing.{whole_of}
 use Rattle.explaining.proofs.explained.told_in.Goals as goal
+use Rattle.limits.specs.declared.Configuration.{Configuration}
 
 pub returns-clause-explained : goal.returns-clause-explained
 returns-clause-explained c =
-    explained c.args.options.budget c.args.given.script.now c.args.schedule.now c.args.commands.now c.in_ok-number.number c.in_ok-number.fault c.in_ok-number.runs c.told_at.result
+    explained c.args.options.configuration c.args.given.script.now c.args.schedule.now c.args.commands.now c.in_ok-number.number c.in_ok-number.fault c.in_ok-number.runs c.told_at.result
     c.requires c.in_ok-number.ensures.found c.told_at.ensures.told
 
 pub returns-clause-failed : goal.returns-clause-failed
 returns-clause-failed c =
-    unexplained c.args.options.budget c.args.given.script.now c.args.schedule.now c.args.commands.now c.in_ok-number.number c.in_ok-number.fault c.in_ok-number.runs c.told_at.result
+    unexplained c.args.options.configuration c.args.given.script.now c.args.schedule.now c.args.commands.now c.in_ok-number.number c.in_ok-number.fault c.in_ok-number.runs c.told_at.result
     c.requires c.in_ok-number.ensures.found c.told_at.ensures.failed
 
 pub returns-clause-whole : goal.returns-clause-whole
 returns-clause-whole c =
-    whole_of c.args.options.budget c.args.options.as_given c.args.given.script.now c.args.schedule.now c.args.commands.now c.in_ok-number.number c.in_ok-number.fault c.in_ok-number.runs c.told_at.result
+    whole_of c.args.options.configuration c.args.options.as_given c.args.given.script.now c.args.schedule.now c.args.commands.now c.in_ok-number.number c.in_ok-number.fault c.in_ok-number.runs c.told_at.result
     c.requires c.in_ok-number.ensures.found c.told_at.ensures.whole
