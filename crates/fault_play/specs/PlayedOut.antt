@@ -61,10 +61,10 @@ IsLastEvent p n None = (k : ℕ) → k < n → p k ≡ false
 IsLastEvent p n (Some last) = (last < n) × (p last ≡ true) × ((k : ℕ) → last < k → k < n → p k ≡ false)
 
 -- The events were played from the start to a state, each with where its item stands that acts by it, and with the
--- numbers that its access finds and leaves. The first accesses of the log there are told. Where the fault is a conflict,
--- two accesses are found exactly where the state shows it; they are in the log, and are those of the fault. Each of the
--- two named items acts from where it is told to stand, and the first has the left operand that is told, if it stands at
--- a division (own).
+-- numbers that its access finds and leaves. The first accesses of the log there are told. Where the fault is a
+-- conflict, two accesses are found exactly where the state shows it; they are in the log, and are those of the fault.
+-- Each of the two named items acts from where it is told to stand, and the first has the left operand that is told, if
+-- it stands at a division (own).
 pub record IsPlayedOut (launch : Launch) (started : ℕ → Running) (size : ℕ) (events : Events) (f : Fault) (first second most : ℕ) (played : Played) : Type 0 where
   pub end : State
   pub marked : events_in played.marks.items ≡ events

@@ -59,14 +59,14 @@ pub record IsSpot (item : ℕ) (kind : AccessKind) (place : Location) (byte : �
   pub numbered : number_in place x.region ≡ Some spot.number
   pub in_interval : (if one_group then x.interval else 0) ≡ spot.interval
 
--- the access at this place is such an access among the first of a log, and left another byte than this, if the rule asks
--- for bytes
+-- the access at this place is such an access among the first of a log, and left another byte than this, if the rule
+-- asks for bytes
 abbrev pub IsOther : ℕ → AccessKind → Location → ℕ → Rule → List Access → ℕ → ObjectInterval → ℕ → ℕ → Type 0
 IsOther item kind place byte rule log count spot left k =
     (x : Access) × (k < count) × (slice_get log k ≡ Some x) × IsSpot item kind place byte rule.one_group x spot × (rule.uniform ≡ true → left_at x byte ≡ left → ⊥)
 
--- an access is such an access at the told location, and conflicts with the access at this place, which `among` gives for
--- its spot and the byte that it left
+-- an access is such an access at the told location, and conflicts with the access at this place, which `among` gives
+-- for its spot and the byte that it left
 abbrev pub Meets : Launch → ℕ → AccessKind → Location → ℕ → Rule → (ObjectInterval → ℕ → Option ℕ) → Access → ℕ → Type 0
 Meets launch item kind place byte rule among x k =
     (spot : ObjectInterval) × (among spot (left_at x byte) ≡ Some k) × IsSpot item kind place byte rule.one_group x spot × (location_of launch x.region ≡ place)

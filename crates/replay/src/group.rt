@@ -231,8 +231,8 @@ impl Group {
         }
     }
 
-    /// The number that the bytes of an operation of one of its items hold, from `first` on, which the object has, if they
-    /// are all set. A local object that isn't made yet is unset.
+    /// The number that the bytes of an operation of one of its items hold, from `first` on, which the object has, if
+    /// they are all set. A local object that isn't made yet is unset.
     pub fn number_at(
         &self,
         buffers: &[Plain],

@@ -187,9 +187,9 @@ impl<'a, D: Runnable> Player<'a, D> {
         group.unset_byte(self.buffers.as_slice(), object, first, operation)
     }
 
-    /// The number that the bytes of an item's operation on an object hold, from `first` on, which the object has, if they
-    /// are all set (C99 6.2.6.1, 6.7.8): what a load of them gives. Local objects are unset until the first access of one
-    /// of their group's items (OpenCL 1.2, section 6.5.2).
+    /// The number that the bytes of an item's operation on an object hold, from `first` on, which the object has, if
+    /// they are all set (C99 6.2.6.1, 6.7.8): what a load of them gives. Local objects are unset until the first access
+    /// of one of their group's items (OpenCL 1.2, section 6.5.2).
     pub fn number_at(
         &self,
         item: u32,
