@@ -10,7 +10,7 @@ use Rattle.fault_play.specs.PlayedOut.{IsEventOf, IsLastEvent, MadeAccess, acts_
 use Rattle.fault_play.specs.declared.played.Played.{Played}
 use Rattle.explanation.specs.declared.told.NamedItem.{NamedItem}
 use Rattle.fault_play.specs.declared.marks.Mark.{Mark}
-use Rattle.fault_play.specs.declared.pairs.Pair.{Pair}
+use Rattle.replay.specs.declared.conflicts.Pair.{Pair}
 use Rattle.replay.specs.declared.slot.Stand.{Stand}
 use Rattle.explain_items.specs.Spotted.{IsNamed, IsNamedInside}
 use Rattle.explain_items.specs.declared.context.Context.{Context}

@@ -32,7 +32,7 @@ use Rattle.item_step.specs.declared.launch.Launch as item
 use Rattle.fault_play.proofs.Marking.{lead_after}
 use Rattle.fault_play.specs.Marks.{ActsFrom, Lead, item_of}
 use Rattle.fault_play.specs.declared.marks.Mark.{Mark}
-use Rattle.fault_play.specs.declared.pairs.Pair.{Pair}
+use Rattle.replay.specs.declared.conflicts.Pair.{Pair}
 use Rattle.regcode.specs.Listing.{Listing}
 use Rattle.regcode.specs.Machine.{act}
 use Rattle.regcode.specs.declared.instruction.Instruction.{Instruction}

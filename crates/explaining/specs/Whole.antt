@@ -1,5 +1,5 @@
 -- What an explanation tells of a launch and its fault, and the text that is written of it (own).
-use Rattle.std.specs.Prelude.{◌≡◌, ◌⊎◌, ℕ, Bool, true, false, ⊤, Option, None, Some, List, [], ◌∷◌, ◌++◌, codes, drop, string_bytes, take, slice_get, MatchBool, MatchOption}
+use Rattle.std.specs.Prelude.{◌≡◌, ◌⊎◌, ℕ, Bool, true, false, ⊤, Option, None, Some, List, [], ◌∷◌, ◌++◌, codes, string_bytes, take, slice_get, MatchBool, MatchOption}
 use Rattle.std.specs.Str.Lossy.{utf8_lossy}
 use Rattle.serde_json.specs.Read.{read}
 use Rattle.clmodel.specs.Launch.{Launch}
@@ -43,7 +43,7 @@ use Rattle.limits.specs.declared.Configuration.{Configuration}
 
 -- a schedule as a schedule file has it
 abbrev pub schedule_words : List EventRun → List ℕ
-schedule_words runs = utf8_lossy (drop 1 (schedule_text runs))
+schedule_words runs = utf8_lossy (schedule_text runs)
 
 -- the launch of a ticket over this index space
 pub record TellsLaunch (ticket : ℕ) (range : Range) (facts : LaunchFacts) : Type 0 where

@@ -6,7 +6,6 @@ ghost use Rattle.explain_items.specs.Named.{AreToldInside, told_items};
 ghost use Rattle.explaining.specs.Whole.{AreNamed, TellsFault, TellsLaunch, schedule_words};
 
 use clmodel::fault::{Fault, Location};
-use clmodel::schedule::Schedule;
 use clmodel::setup::Range;
 use clmodel::text::Name;
 use explain_items::{Context, named_items};
@@ -18,7 +17,8 @@ use fault_play::{Mark, Played, Stand, event_of};
 use host_commands::kernel::parameters_of;
 use item_step::Launch;
 use launch_facts::{
-    fault_line, fault_name, fault_number, line_of, memory_of, parameters_given, parameters_named,
+    fault_name, fault_number, fault_words, line_of, memory_of, parameters_given, parameters_named,
+    schedule_words,
 };
 use limits::Configuration;
 use shortening::{Named, Shortened, event_count};
@@ -298,19 +298,14 @@ fn fault_facts_of(alloc: Global, fault: &Fault) -> Result<FaultFacts, AllocError
 {
     let number = fault_number(fault);
     let name = String::from_str(alloc, fault_name(number))?;
-    let line = fault_line(alloc, fault, &Schedule::new(Vec::new(alloc)))?;
-    Ok(FaultFacts {
-        number,
-        name,
-        line: line.fault,
-    })
+    let line = fault_words(alloc, fault)?;
+    Ok(FaultFacts { number, name, line })
 }
 
 /// What is told of the given schedule, with the number of its events, and of the short one, with the items
 /// in it. An error is out of memory.
 pub(crate) fn schedule_facts(
     alloc: Global,
-    fault: &Fault,
     given: String,
     given_events: u64,
     short: &Shortened,
@@ -319,10 +314,9 @@ pub(crate) fn schedule_facts(
     ensures given { IfOk result (λ facts. facts.given ≡ given) }
     ensures short { IfOk result (λ facts. string_bytes facts.short ≡ schedule_words short.now.schedule) }
 {
-    let line = fault_line(alloc, fault, &short.schedule)?;
     Ok(ScheduleFacts {
         given,
-        short: line.schedule,
+        short: schedule_words(alloc, &short.schedule)?,
         given_events,
         events: event_count(short.schedule.as_slice()),
         items: items_in(alloc, marks)?,

@@ -28,7 +28,7 @@ use explain_items::Context;
 use explain_reasons::MOST_STEPS;
 use explanation::Explanation;
 use fault_play::{play, shorter};
-use launch_facts::{ProgramSource, fault_line, source_of};
+use launch_facts::{ProgramSource, schedule_words, source_of};
 use origins::code_is_marked;
 use replay::replay;
 use shortening::{Named, Shortened, event_count};
@@ -90,16 +90,11 @@ struct GivenSchedule {
 }
 
 /// Writes a schedule as a text, and counts its events. An error is out of memory.
-fn given_schedule(
-    alloc: Global,
-    fault: &Fault,
-    schedule: &Schedule,
-) -> Result<GivenSchedule, AllocError>
+fn given_schedule(alloc: Global, schedule: &Schedule) -> Result<GivenSchedule, AllocError>
     ensures { IfOk result (λ given. string_bytes given.text ≡ schedule_words schedule.now) }
 {
-    let line = fault_line(alloc, fault, schedule)?;
     Ok(GivenSchedule {
-        text: line.schedule,
+        text: schedule_words(alloc, schedule)?,
         events: event_count(schedule.as_slice()),
     })
 }
@@ -143,7 +138,7 @@ fn whole_of(
         return Ok(None);
     };
     let marks = played.marks.as_slice();
-    let facts = schedule_facts(alloc, fault, given.text, given.events, short, marks)?;
+    let facts = schedule_facts(alloc, given.text, given.events, short, marks)?;
     let whole = explanation_of(context, buffers, place, fault, &played, facts)?;
     Ok(Some(whole))
 }
@@ -166,7 +161,7 @@ fn told_of(
     ensures whole { IfOk result (λ found. IfSome found (λ told. IsExplained (launch_of (setup_of context.now.launch.now) (bytes_in buffers.now)) context.now
         place.now.ticket place.now.range.now fault.now told.schedule told.whole)) }
 {
-    let given = given_schedule(context.alloc, fault, &schedule)?;
+    let given = given_schedule(context.alloc, &schedule)?;
     let short = chosen(context, buffers, fault, schedule, as_given)?;
     let Some(whole) = whole_of(context, buffers, place, fault, given, &short)? else {
         return Ok(None);

@@ -15,7 +15,7 @@ use lib.Pointwise.{bytes_decides}
 use Rattle.clmodel.specs.declared.fault.Fault.{Fault}
 use Rattle.clmodel.specs.declared.schedule.EventRun.{EventRun}
 use Rattle.clmodel.specs.declared.schedule.EventRun.TheVariants as run
-use Rattle.fault_lines.specs.Text.{run_text, schedule_text, fault_text, fault_line}
+use Rattle.fault_lines.specs.Text.{run_text, later_run_text, schedule_text, fault_text, fault_line}
 use Rattle.fault_lines.specs.ScheduleFile.{IsRun, AreRuns, ticket_line, IsScheduleFile}
 use Rattle.text_lines.specs.Fronts.{front_length}
 use Rattle.fault_lines.specs.Reading.{same, is_inner, line_of, item_run_at, release_at, run_at, run_of, run_named, is_run, words_of, is_schedule, schedule_of, schedule_at, fault_at, file_of}
@@ -25,25 +25,20 @@ use Rattle.fault_lines.proofs.ReaderSteps.{read_is, by_word}
 use Rattle.fault_lines.proofs.Grammar.{fault_takes}
 use Rattle.fault_lines.proofs.Again.{fault_again}
 
--- the text of a run without the space in front
+-- the text of a run, its pieces put together
 abbrev run_word : EventRun → List ℕ
 run_word (run.Item item count) = decimal item ++ 42 ∷ decimal count
 run_word (run.Release group) = 114 ∷ decimal group
 
-run_text_is : (r : EventRun) → run_text r ≡ 32 ∷ run_word r
-run_text_is (run.Item item count) = ap (λ l. 32 ∷ (decimal item ++ 42 ∷ l)) (append-nil (decimal count))
-run_text_is (run.Release group) = ap (λ l. 32 ∷ 114 ∷ l) (append-nil (decimal group))
+run_text_is : (r : EventRun) → run_text r ≡ run_word r
+run_text_is (run.Item item count) = ap (λ l. decimal item ++ 42 ∷ l) (append-nil (decimal count))
+run_text_is (run.Release group) = ap (λ l. 114 ∷ l) (append-nil (decimal group))
 
-runs_join : (r : EventRun) (rs : List EventRun) → flat_map run_text (r ∷ rs) ≡ 32 ∷ join_with_byte 32 (map run_word (r ∷ rs))
-runs_join r [] = append-nil (run_text r) ∙ run_text_is r
-runs_join r (s ∷ rs) = ap (λ l. l ++ flat_map run_text (s ∷ rs)) (run_text_is r) ∙ ap (λ l. 32 ∷ (run_word r ++ l)) (runs_join s rs)
+some_text : (r : EventRun) (rs : List EventRun) → schedule_text (r ∷ rs) ≡ join_with_byte 32 (map run_word (r ∷ rs))
+some_text r [] = append-nil (run_text r) ∙ run_text_is r
+some_text r (s ∷ rs) = ap (λ l. l ++ flat_map later_run_text (s ∷ rs)) (run_text_is r) ∙ ap (λ l. run_word r ++ 32 ∷ l) (some_text s rs)
 
-some_text : (r : EventRun) (rs : List EventRun) → schedule_text (r ∷ rs) ≡ 32 ∷ join_with_byte 32 (map run_word (r ∷ rs))
-some_text r rs =
-    let other : (length (r ∷ rs) == 0) ≡ false = ne_eqb (length (r ∷ rs)) 0 (λ e. absurd (omega (arith, e))) in
-    rw other (runs_join r rs)
-
-runs_text : (runs : List EventRun) → 0 < length runs → schedule_text runs ≡ 32 ∷ join_with_byte 32 (map run_word runs)
+runs_text : (runs : List EventRun) → 0 < length runs → schedule_text runs ≡ join_with_byte 32 (map run_word runs)
 runs_text [] h = absurd (omega (arith, h))
 runs_text (r ∷ rs) h = some_text r rs
 
@@ -121,12 +116,12 @@ words_some [] = refl
 words_some (word ∷ words) = ap Rattle.std.proofs.Common.suc (words_some words)
 
 schedule_by : (text : List ℕ) (v : Bool) → same text (codes "-") ≡ v → (v || list_all is_run (words_of text)) ≡ true
-    → (32 ∷ text ≡ schedule_text (if v then [] else map run_named (words_of text))) × AreRuns (if v then [] else map run_named (words_of text))
-schedule_by text true is h = (ap (λ l. 32 ∷ l) ((bytes_decides text (codes "-")).0 is), tt)
+    → (text ≡ schedule_text (if v then [] else map run_named (words_of text))) × AreRuns (if v then [] else map run_named (words_of text))
+schedule_by text true is h = ((bytes_decides text (codes "-")).0 is, tt)
 schedule_by text false is h =
     let w = words_text (words_of text) h in
     let some : 0 < length (map run_named (words_of text)) = omega (arith, length-slice_split (λ b. b == 32) text, words_some (words_of text)) in
-    (sym (runs_text (map run_named (words_of text)) some ∙ ap (λ l. 32 ∷ l) (ap (join_with_byte 32) w.0 ∙ join_with_byte-slice_split 32 text)), w.1)
+    (sym (runs_text (map run_named (words_of text)) some ∙ ap (join_with_byte 32) w.0 ∙ join_with_byte-slice_split 32 text), w.1)
 
 line_takes : (bytes text : List ℕ) → line_of bytes ≡ Some text → bytes ≡ text ++ 10 ∷ []
 unfolding line_of
@@ -143,15 +138,15 @@ line_again text h =
     let n = front_of is_inner text 10 [] h refl in
     rw (n, take-append_seam text (10 ∷ []), drop-append_seam text (10 ∷ [])) refl
 
-schedule_takes : (bytes text : List ℕ) → schedule_at bytes ≡ Some text → (bytes ≡ codes "schedule" ++ (schedule_text (schedule_of text) ++ 10 ∷ [])) × AreRuns (schedule_of text)
+schedule_takes : (bytes text : List ℕ) → schedule_at bytes ≡ Some text → (bytes ≡ codes "schedule " ++ (schedule_text (schedule_of text) ++ 10 ∷ [])) × AreRuns (schedule_of text)
 unfolding schedule_at
 schedule_takes bytes text e =
     let s1 = read_then _ (after_takes (codes "schedule ") bytes) e in
     let s2 = read_then _ (line_takes s1.0) s1.2 in
     let p = if_some (is_schedule s2.0) s2.0 text s2.2 in
     let by = schedule_by s2.0 (same s2.0 (codes "-")) refl p.0 in
-    let split : bytes ≡ codes "schedule" ++ (schedule_text (schedule_of s2.0) ++ 10 ∷ []) = s1.1 ∙ ap (λ l. codes "schedule " ++ l) s2.1 ∙ ap (λ l. codes "schedule" ++ (l ++ 10 ∷ [])) by.0 in
-    let P : List ℕ → Type 0 = λ l. (bytes ≡ codes "schedule" ++ (schedule_text (schedule_of l) ++ 10 ∷ [])) × AreRuns (schedule_of l) in
+    let split : bytes ≡ codes "schedule " ++ (schedule_text (schedule_of s2.0) ++ 10 ∷ []) = s1.1 ∙ ap (λ l. codes "schedule " ++ l) s2.1 ∙ ap (λ l. codes "schedule " ++ (l ++ 10 ∷ [])) by.0 in
+    let P : List ℕ → Type 0 = λ l. (bytes ≡ codes "schedule " ++ (schedule_text (schedule_of l) ++ 10 ∷ [])) × AreRuns (schedule_of l) in
     subst P p.1 (split, by.1)
 
 -- the bytes of a run's word are neither a space nor a line feed
@@ -232,7 +227,7 @@ joined_no_dash r (s ∷ rs) h = word_no_dash r h.0 (32 ∷ words_joined (s ∷ r
 -- what is read of a schedule
 record ScheduleRead (runs : List EventRun) : Type 0 where
   text : List ℕ
-  read : schedule_at (codes "schedule" ++ (schedule_text runs ++ 10 ∷ [])) ≡ Some text
+  read : schedule_at (codes "schedule " ++ (schedule_text runs ++ 10 ∷ [])) ≡ Some text
   back : schedule_of text ≡ runs
 
 read_line : (text : List ℕ) → list_all is_inner text ≡ true → is_schedule text ≡ true → schedule_at (codes "schedule " ++ (text ++ 10 ∷ [])) ≡ Some text
@@ -244,7 +239,7 @@ schedule_again [] h = record { text = codes "-"; read = read_line (codes "-") re
 schedule_again (r ∷ rs) h =
     let t = runs_made r rs h in
     let dash = joined_no_dash r rs h in
-    let text : schedule_text (r ∷ rs) ≡ 32 ∷ words_joined (r ∷ rs) = some_text r rs in
+    let text : schedule_text (r ∷ rs) ≡ words_joined (r ∷ rs) = some_text r rs in
     let is : is_schedule (words_joined (r ∷ rs)) ≡ true = rw (dash, t.words) t.are in
     record {
       text = words_joined (r ∷ rs);
@@ -255,7 +250,7 @@ schedule_again (r ∷ rs) h =
 -- the file
 
 -- its text, with the line of the fault taken apart
-file_text : (ticket : ℕ) (f : Fault) (runs : List EventRun) → ticket_line ticket ++ fault_line f runs ≡ codes "ticket " ++ (decimal ticket ++ 10 ∷ (fault_text f ++ 32 ∷ (codes "schedule" ++ (schedule_text runs ++ 10 ∷ []))))
+file_text : (ticket : ℕ) (f : Fault) (runs : List EventRun) → ticket_line ticket ++ fault_line f runs ≡ codes "ticket " ++ (decimal ticket ++ 10 ∷ (fault_text f ++ 32 ∷ (codes "schedule " ++ (schedule_text runs ++ 10 ∷ []))))
 file_text ticket f runs = ap (λ l. codes "ticket " ++ l) (append_assoc (decimal ticket) (10 ∷ []) (fault_line f runs))
 
 pub file_takes : (bytes : List ℕ) (ticket : ℕ) (f : Fault) (text : List ℕ) → file_of bytes ≡ Some (ticket, f, text) → IsScheduleFile bytes ticket f (schedule_of text)
@@ -274,11 +269,6 @@ pub record FileRead (bytes : List ℕ) (ticket : ℕ) (f : Fault) (runs : List E
   pub read : file_of bytes ≡ Some (ticket, f, text)
   pub back : schedule_of text ≡ runs
 
--- a schedule's text begins with a space
-spaced : (runs : List EventRun) → (more : List ℕ) × (schedule_text runs ++ 10 ∷ [] ≡ 32 ∷ more)
-spaced [] = (_, refl)
-spaced (r ∷ rs) = let text = some_text r rs in (words_joined (r ∷ rs) ++ 10 ∷ [], ap (λ l. l ++ 10 ∷ []) text)
-
 file_by : (ticket : ℕ) (f : Fault) (text more : List ℕ) → ticket < 2 ^ 64 → fault_at (fault_text f ++ 32 ∷ (codes "schedule " ++ more)) ≡ Some (f, codes "schedule " ++ more) → schedule_at (codes "schedule " ++ more) ≡ Some text
     → file_of (codes "ticket " ++ (decimal ticket ++ 10 ∷ (fault_text f ++ 32 ∷ (codes "schedule " ++ more)))) ≡ Some (ticket, f, text)
 unfolding file_of
@@ -289,12 +279,9 @@ file_by ticket f text more h e g =
 pub file_again : (bytes : List ℕ) (ticket : ℕ) (f : Fault) (runs : List EventRun) → IsScheduleFile bytes ticket f runs → FileRead bytes ticket f runs
 file_again bytes ticket f runs h =
     let t = schedule_again runs h.2 in
-    let b = spaced runs in
-    let read : schedule_at (codes "schedule " ++ b.0) ≡ Some t.text = ap (λ l. schedule_at (codes "schedule" ++ l)) (sym b.1) ∙ t.read in
-    let whole = file_by ticket f t.text b.0 h.0 (fault_again f h.1 b.0) read in
-    let is : bytes ≡ codes "ticket " ++ (decimal ticket ++ 10 ∷ (fault_text f ++ 32 ∷ (codes "schedule " ++ b.0))) =
-    h.3 ∙ (file_text ticket f runs ∙ ap (λ l. codes "ticket " ++ (decimal ticket ++ 10 ∷ (fault_text f ++ 32 ∷ (codes "schedule" ++ l)))) b.1) in
-    record { text = t.text; read = ap file_of is ∙ whole; back = t.back }
+    let more = schedule_text runs ++ 10 ∷ [] in
+    let whole = file_by ticket f t.text more h.0 (fault_again f h.1 more) t.read in
+    record { text = t.text; read = ap file_of (h.3 ∙ file_text ticket f runs) ∙ whole; back = t.back }
 
 -- what is read of a file is what the file tells
 pub file_is : (bytes : List ℕ) (ticket other : ℕ) (f g : Fault) (text : List ℕ) (runs : List EventRun) → file_of bytes ≡ Some (ticket, f, text) → IsScheduleFile bytes other g runs → (ticket ≡ other) × (f ≡ g) × (schedule_of text ≡ runs)

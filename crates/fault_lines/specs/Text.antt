@@ -1,5 +1,5 @@
 -- The text of a fault and its schedule.
-use Rattle.std.specs.Prelude.{ℕ, ℤ, ◌==◌, length, List, [], ◌∷◌, ◌++◌, codes, if◌then◌else◌, decimal}
+use Rattle.std.specs.Prelude.{ℕ, ℤ, List, [], ◌∷◌, ◌++◌, codes, decimal}
 use Rattle.std.specs.Fmt.{signed_decimal}
 use Rattle.std.specs.List.{flat_map}
 use Rattle.clmodel.specs.declared.access.AccessKind.{AccessKind}
@@ -36,14 +36,19 @@ abbrev pub stop_text : Stop → List ℕ
 stop_text (stop.At instance) = joined (codes "barrier " ∷ decimal instance.site ∷ []) ++ turns_text instance.turns
 stop_text stop.Ended = codes "end"
 
--- a run of a schedule, after a space
+-- a run of a schedule
 abbrev pub run_text : EventRun → List ℕ
-run_text (run.Item item count) = joined (codes " " ∷ decimal item ∷ codes "*" ∷ decimal count ∷ [])
-run_text (run.Release group) = joined (codes " r" ∷ decimal group ∷ [])
+run_text (run.Item item count) = joined (decimal item ∷ codes "*" ∷ decimal count ∷ [])
+run_text (run.Release group) = joined (codes "r" ∷ decimal group ∷ [])
 
--- a schedule, after a space
+-- a run that isn't the first one of its schedule, behind a space
+abbrev pub later_run_text : EventRun → List ℕ
+later_run_text run = codes " " ++ run_text run
+
+-- the runs of a schedule, or that there is none
 abbrev pub schedule_text : List EventRun → List ℕ
-schedule_text runs = if length runs == 0 then codes " -" else flat_map run_text runs
+schedule_text [] = codes "-"
+schedule_text (run ∷ runs) = run_text run ++ flat_map later_run_text runs
 
 -- the words in front of a fault's item
 abbrev pub fault_words : Fault → List ℕ
@@ -114,4 +119,4 @@ fault_text fault = joined (fault_words fault ∷ decimal (fault_item fault) ∷ 
 
 -- a fault and its schedule, as a line with its line feed
 abbrev pub fault_line : Fault → List EventRun → List ℕ
-fault_line fault schedule = fault_text fault ++ joined (codes " schedule" ∷ schedule_text schedule ∷ codes "\n" ∷ [])
+fault_line fault schedule = fault_text fault ++ joined (codes " schedule " ∷ schedule_text schedule ∷ codes "\n" ∷ [])

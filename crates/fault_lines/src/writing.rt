@@ -5,7 +5,7 @@ ghost use Rattle.std.specs.Prelude.{◌≡◌};
 ghost use Rattle.std.specs.List.{flat_map};
 ghost use Rattle.byte_io.specs.Pieces.{joined};
 ghost use Rattle.byte_io.specs.Sink.{Puts};
-ghost use Rattle.fault_lines.specs.Text.{clash_text, location_text, later_turn_text, turns_text, stop_text, run_text, schedule_text, fault_words, fault_item, byte_texts, element_texts, private_texts, variable_texts, conflict_texts, divergence_texts, fault_details, fault_text, fault_line};
+ghost use Rattle.fault_lines.specs.Text.{clash_text, location_text, later_turn_text, turns_text, stop_text, run_text, later_run_text, schedule_text, fault_words, fault_item, byte_texts, element_texts, private_texts, variable_texts, conflict_texts, divergence_texts, fault_details, fault_text, fault_line};
 ghost use Rattle.fault_lines.specs.Parts.{part_text};
 
 use crate::kind_word;
@@ -105,14 +105,13 @@ fn write_stop<W: Write>(stop: &Stop, writer: &mut W) -> Result<(), WriteFailed>
     write_turns(instance.turns.as_slice(), writer)
 }
 
-/// Writes a run of events behind a space.
+/// Writes a run of events.
 fn write_run<W: Write>(run: EventRun, writer: &mut W) -> Result<(), WriteFailed>
     ensures { Puts (W.sink writer.old) result (W.sink writer.new) (run_text run) }
 {
     match run {
         EventRun::Item { item, count } => write_pieces(
             &[
-                Piece::Text(" "),
                 Piece::Number32(item),
                 Piece::Text("*"),
                 Piece::Number(count),
@@ -120,30 +119,40 @@ fn write_run<W: Write>(run: EventRun, writer: &mut W) -> Result<(), WriteFailed>
             writer,
         ),
         EventRun::Release { group } => write_pieces(
-            &[Piece::Text(" r"), Piece::Number32(group)],
+            &[Piece::Text("r"), Piece::Number32(group)],
             writer,
         ),
     }
 }
 
-/// Writes runs of events, each behind a space.
-fn write_runs<W: Write>(runs: &[EventRun], writer: &mut W) -> Result<(), WriteFailed>
-    ensures { Puts (W.sink writer.old) result (W.sink writer.new) (flat_map run_text runs.now) }
+/// Writes a space and a run of events, which isn't the first one of its schedule.
+fn write_later_run<W: Write>(run: EventRun, writer: &mut W) -> Result<(), WriteFailed>
+    ensures { Puts (W.sink writer.old) result (W.sink writer.new) (later_run_text run) }
+{
+    writer.write(b" ")?;
+    write_run(run, writer)
+}
+
+/// Writes the runs of a schedule behind its first one.
+fn write_later_runs<W: Write>(runs: &[EventRun], writer: &mut W) -> Result<(), WriteFailed>
+    ensures { Puts (W.sink writer.old) result (W.sink writer.new) (flat_map later_run_text runs.now) }
 {
     for run in runs {
-        write_run(*run, writer)?;
+        write_later_run(*run, writer)?;
     }
     Ok(())
 }
 
-/// Writes the runs of a schedule behind a space, or `-` where there are none.
-fn write_schedule<W: Write>(runs: &[EventRun], writer: &mut W) -> Result<(), WriteFailed>
+/// Writes the runs of a schedule with a space between two, or `-` where there are none. Where it fails a beginning of
+/// them is written.
+pub fn write_schedule<W: Write>(runs: &[EventRun], writer: &mut W) -> Result<(), WriteFailed>
     ensures { Puts (W.sink writer.old) result (W.sink writer.new) (schedule_text runs.now) }
 {
-    if runs.is_empty() {
-        return writer.write(b" -");
-    }
-    write_runs(runs, writer)
+    let Some((first, others)) = runs.split_first() else {
+        return writer.write(b"-");
+    };
+    write_run(*first, writer)?;
+    write_later_runs(others, writer)
 }
 
 /// Writes a part of a line, with its numbers in decimal.
@@ -372,8 +381,8 @@ fn write_details<W: Write>(fault: &Fault, writer: &mut W) -> Result<(), WriteFai
     }
 }
 
-/// Writes a fault without its schedule.
-fn write_fault<W: Write>(fault: &Fault, writer: &mut W) -> Result<(), WriteFailed>
+/// Writes a fault without its schedule. Where it fails a beginning of it is written.
+pub fn write_fault<W: Write>(fault: &Fault, writer: &mut W) -> Result<(), WriteFailed>
     ensures { Puts (W.sink writer.old) result (W.sink writer.new) (fault_text fault.now) }
 {
     write_parts(
@@ -398,7 +407,7 @@ pub fn write<W: Write>(
     write_fault(fault, writer)?;
     write_parts(
         &[
-            LinePart::Text(" schedule"),
+            LinePart::Text(" schedule "),
             LinePart::Schedule(schedule.as_slice()),
             LinePart::Text("\n"),
         ],

@@ -1,3 +1,4 @@
 mod Lasts
-pub mod Following
+pub mod Counted
 pub mod Marking
+mod Pairing

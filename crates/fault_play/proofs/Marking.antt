@@ -144,6 +144,11 @@ one_never l r z s e old at at' true ended played = absurd (false≢true (sym end
 one_never l r z s e old at at' false ended (never, h) =
     ([], sym (append-nil old), record { end = s; next = e; rest = []; split = refl; led = refl; never = never })
 
+-- where an event led is a state that is kept
+pub played_state : (l : Launch) (s : State) (e : Event) (at : State → Type 0) (answer : Bool) → answer ≡ true → IsPlayed l s e at answer → (t : State) × at t
+played_state l s e at true all (t, goes, h) = (t, h)
+played_state l s e at false all played = absurd (false≢true all)
+
 -- events behind those that were marked
 pub more_marked :
     (l : Launch) (r : ℕ → Running) (z : ℕ) (s : State) (xs ys : Events) (m0 m1 m2 : List Mark) (at at' : State → Type 0) (answer : Bool) → AreMarked l r z s xs m0 m1 at true

@@ -1,4 +1,3 @@
 pub mod PlayedOut
 pub mod Marks
-pub mod Pairs
-pub mod Replicas
+pub mod Accesses

@@ -13,17 +13,8 @@ use Rattle.clmodel.specs.declared.schedule.Event.{Event}
 use Rattle.clmodel.specs.declared.schedule.Event.TheVariants as event
 use Rattle.item_step.specs.Dividing.{dividend_of}
 use Rattle.item_step.specs.Running.{Running, Arrives, Makes, action_of}
-use Rattle.replay.specs.States.{IsAt}
-use Rattle.replay.specs.declared.player.Player.{Player}
 use Rattle.replay.specs.declared.slot.Stand.{Stand}
-use Rattle.fault_play.specs.Replicas.{Mirrors}
 use Rattle.fault_play.specs.declared.marks.Mark.{Mark}
-use Rattle.fault_play.specs.declared.replica.Replica.{Replica}
-
--- a player and a replica of the memory are at a state
-abbrev pub Follows : {D : Type 0} → (D → Launch) → (D → ℕ → Running) → Launch → (ℕ → Running) → Player D → Replica → State → Type 0
-Follows launch_of started_of launch started player replica state =
-    IsAt launch_of started_of launch started player state × Mirrors launch replica state.memory
 
 -- the item of which an event tells where it stands: of a release, the first of the group (own)
 abbrev pub item_of : ℕ → Event → ℕ

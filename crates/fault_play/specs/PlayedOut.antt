@@ -1,30 +1,21 @@
 -- What a schedule came to that was played (own).
-use Rattle.std.specs.Prelude.{◌≡◌, ◌<◌, ◌==◌, ◌&&◌, ℕ, Bool, true, false, Option, None, Some, List, count_by, map, reverse, slice_get, take}
-use Rattle.std.specs.Option.{IfSome, option_map_or}
+use Rattle.std.specs.Prelude.{◌≡◌, ◌<◌, ◌==◌, ℕ, Bool, true, false, Option, None, Some, List, count_by, map, reverse, slice_get, take}
+use Rattle.std.specs.Bool.{Decides}
+use Rattle.std.specs.Option.{is_some, option_map_or}
 use Rattle.clmodel.specs.Cells.{byte_count}
-use Rattle.clmodel.specs.Launch.{Launch, both_store, group_of, location_of}
+use Rattle.clmodel.specs.Launch.{Launch, location_of}
+use Rattle.clmodel.specs.Law.{Shows}
 use Rattle.clmodel.specs.Run.{State, Events, start}
 use Rattle.clmodel.specs.declared.access.Access.{Access}
-use Rattle.clmodel.specs.declared.access.Clash.{Clash}
 use Rattle.clmodel.specs.declared.fault.Fault.{Fault}
-use Rattle.clmodel.specs.declared.fault.Fault.TheVariants as fault
 use Rattle.clmodel.specs.declared.schedule.Event.{Event}
 use Rattle.clmodel.specs.declared.schedule.Event.TheVariants as event
 use Rattle.item_step.specs.Running.{Running}
 use Rattle.fault_play.specs.Marks.{ActsFrom, Divides, Lead, events_in}
-use Rattle.fault_play.specs.Pairs.{IsFoundPair}
+use Rattle.replay.specs.Spots.{Finds, IsPairOf, is_conflict}
 use Rattle.fault_play.specs.declared.marks.Mark.{Mark}
-use Rattle.fault_play.specs.declared.pairs.WantedPair.{WantedPair}
 use Rattle.fault_play.specs.declared.played.Played.{Played}
 use Rattle.fault_play.specs.declared.played.Touch.{Touch}
-
--- a fault is a conflict of these two partners, at this location and byte; barriers can order the two where they are of
--- one group, and they have to leave different bytes where both store in a uniform launch (own)
-pub record Tells (launch : Launch) (f : Fault) (told : WantedPair) : Type 0 where
-  pub clash : Clash
-  pub is : f ≡ fault.Conflict clash told.first.item told.first.kind told.second.item told.second.kind told.location.now told.byte
-  pub grouped : told.one_group ≡ (group_of launch told.first.item == group_of launch told.second.item)
-  pub stores : told.by_byte ≡ (both_store told.first.kind told.second.kind && launch.uniform)
 
 -- an access as it is told (own)
 abbrev pub touch_of : Launch → Access → Touch
@@ -70,15 +61,17 @@ IsLastEvent p n None = (k : ℕ) → k < n → p k ≡ false
 IsLastEvent p n (Some last) = (last < n) × (p last ≡ true) × ((k : ℕ) → last < k → k < n → p k ≡ false)
 
 -- The events were played from the start to a state, each with where its item stands that acts by it, and with the
--- numbers that its access finds and leaves. The first accesses of the log there are told. If two accesses are found,
--- they are in the log, and are those of the fault; each of the two named items acts from where it is told to stand, and
--- the first has the left operand that is told, if it stands at a division (own).
+-- numbers that its access finds and leaves. The first accesses of the log there are told. Where the fault is a
+-- conflict, two accesses are found exactly where the state shows it; they are in the log, and are those of the fault.
+-- Each of the two named items acts from where it is told to stand, and the first has the left operand that is told, if
+-- it stands at a division (own).
 pub record IsPlayedOut (launch : Launch) (started : ℕ → Running) (size : ℕ) (events : Events) (f : Fault) (first second most : ℕ) (played : Played) : Type 0 where
   pub end : State
   pub marked : events_in played.marks.items ≡ events
   pub led : Lead launch started size (start launch) played.marks.items end
   pub touched : played.touches.items ≡ map (touch_of launch) (take most (reverse end.log))
-  pub paired : IfSome played.pair (λ pair. (told : WantedPair) × Tells launch f told × IsFoundPair launch told (reverse end.log) pair)
+  pub paired : Finds played.pair (IsPairOf launch f (reverse end.log))
+  pub shown : is_conflict f ≡ true → Decides (is_some played.pair) (Shows launch end f)
   pub first_named : played.first.item ≡ first
   pub second_named : played.second.item ≡ second
   pub first_acts : ActsFrom launch started end first played.first.stand

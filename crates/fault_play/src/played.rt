@@ -1,29 +1,25 @@
 //! A schedule played with where its items stand.
 #![tactic(auto)]
 
-ghost use Rattle.std.specs.Prelude.{◌≡◌, ◌≤◌, ℕ, map, count_by, length, take, Some, IfOk, IfNone, IfSome, if◌then◌else◌};
+ghost use Rattle.std.specs.Prelude.{◌≡◌, ◌≤◌, ℕ, true, map, count_by, length, take, reverse, is_some, Some, IfOk, IfNone, IfSome, if◌then◌else◌};
+ghost use Rattle.std.specs.Bool.{Decides};
 ghost use Rattle.clmodel.specs.Launch.{Launch as TheLaunch};
-ghost use Rattle.clmodel.specs.Law.{Reaches};
+ghost use Rattle.clmodel.specs.Law.{Reaches, Shows};
 ghost use Rattle.clmodel.specs.Next.{launch_of};
 ghost use Rattle.clmodel.specs.Outcome.{events_of};
-ghost use Rattle.clmodel.specs.Run.{State, initial};
+ghost use Rattle.clmodel.specs.Run.{State};
 ghost use Rattle.clmodel.specs.Setup.{group_items};
 ghost use Rattle.clmodel.specs.declared.fault.Fault.{Fault};
 ghost use Rattle.item_step.specs.Launches.{setup_of, started};
 ghost use Rattle.item_step.specs.Running.{Running};
 ghost use Rattle.launches.specs.Groups.{HasGroups};
 ghost use Rattle.fault_play.specs.Marks.{ActsFrom, Divides};
-ghost use Rattle.fault_play.specs.Pairs.{IsFoundPair};
-ghost use Rattle.fault_play.specs.Replicas.{Mirrors};
-ghost use Rattle.fault_play.specs.declared.pairs.WantedPair.{WantedPair};
+ghost use Rattle.replay.specs.Spots.{Finds, IsPairOf, is_conflict};
 ghost use Rattle.replay.specs.States.{IsAt};
 ghost use Rattle.spaces.specs.Buffers.{bytes_in};
-ghost use Rattle.fault_play.specs.PlayedOut.{IsEventOf, IsLastEvent, IsPlayedOut, MadeAccess, Tells, acts_at, is_access, touch_of};
+ghost use Rattle.fault_play.specs.PlayedOut.{IsEventOf, IsLastEvent, IsPlayedOut, MadeAccess, acts_at, is_access, touch_of};
 
-use crate::{
-    Mark, Pair, Replica, Stand, WantedPair, dividend_of, find_pair, mark_schedule, stand_of,
-};
-use access_list::both_store;
+use crate::{Mark, Pair, Stand, dividend_of, mark_schedule, stand_of};
 use clmodel::access::{Access, AccessKind};
 use clmodel::action::Action;
 use clmodel::fault::{Fault, Location};
@@ -32,7 +28,7 @@ use clnum::Value;
 use item_step::Launch;
 use launches::laws::setups_are_runnable;
 use launches::{Described, LoadedLaunch, Runnable, group_count};
-use replay::{Player, copies, told_conflict};
+use replay::{Player, copies, find_conflict, told_conflict};
 use spaces::Buffers;
 use std::alloc::{AllocError, Global};
 
@@ -67,37 +63,18 @@ pub struct Played {
     pub second: Standing,
 }
 
-/// The conflict that a fault tells, if it tells one.
-fn told_of<'a, D: Runnable>(launch: &D, fault: &'a Fault) -> Option<WantedPair<'a>>
-    ensures { IfSome result (Tells (D.launch launch.now) fault.now) }
-{
-    match told_conflict(fault) {
-        Some(told) => {
-            let size = launch.group_size();
-            Some(WantedPair {
-                first: told.first,
-                second: told.second,
-                location: told.place.location,
-                byte: told.place.byte,
-                one_group: told.first.item / size == told.second.item / size,
-                by_byte: both_store(told.first.kind, told.second.kind) && launch.uniform(),
-            })
-        }
-        None => None,
-    }
-}
-
-/// The two accesses of a log that a fault tells as a conflict, if it tells one and they are found.
+/// The places of the two accesses of a log that a fault tells as a conflict, if it tells one and the log has them.
 fn pair_of<D: Runnable>(
     alloc: Global,
     launch: &D,
     fault: &Fault,
     log: &[Access],
 ) -> Result<Option<Pair>, AllocError>
-    ensures { IfOk result (λ found. IfSome found (λ pair. (told : WantedPair) × Tells (D.launch launch.now) fault.now told × IsFoundPair (D.launch launch.now) told log.now pair)) }
+    ensures pair { IfOk result (λ found. Finds found (IsPairOf (D.launch launch.now) fault.now log.now)) }
+    ensures shown { IfOk result (λ found. (state : State) → is_conflict fault.now ≡ true → log.now ≡ reverse state.log → Decides (is_some found) (Shows (D.launch launch.now) state fault.now)) }
 {
-    match told_of(launch, fault) {
-        Some(told) => find_pair(alloc, launch, &told, log),
+    match told_conflict(fault) {
+        Some(told) => find_conflict(alloc, launch, log, &told),
         None => Ok(None),
     }
 }
@@ -152,20 +129,6 @@ fn standing_of<D: Runnable>(player: &mut Player<'_, D>, item: u32) -> Result<Sta
     })
 }
 
-/// A replica of the memory of a launch of so many groups, before its first event. An error is out of memory.
-fn replica_of(
-    alloc: Global,
-    launch: &Launch<'_>,
-    groups: u32,
-    buffers: &Buffers,
-) -> Result<Replica, AllocError>
-    ensures { IfOk result (λ replica. let told = launch_of (setup_of launch.now) (bytes_in buffers.now) in Mirrors told replica (initial told)) }
-{
-    let memory = copies(alloc, launch.buffer_names(), buffers)?;
-    let (size, sizes) = (launch.group_size(), launch.local_sizes());
-    Replica::new(alloc, size, groups, sizes, memory)
-}
-
 /// Plays a schedule on copies of the buffers. None where an event isn't possible, so that it leads to no fault. Of the
 /// accesses at most so many are told. An error is out of memory.
 pub fn play(
@@ -187,11 +150,10 @@ pub fn play(
     let groups = group_count(launch);
     let memory = copies(alloc, launch.buffer_names(), buffers)?;
     let mut player = Player::new(alloc, &loaded, groups, memory)?;
-    let mut replica = replica_of(alloc, launch, groups, buffers)?;
     let mut marks = Vec::new(alloc);
     let size = launch.group_size();
     let runs = schedule.as_slice();
-    if !mark_schedule(&mut player, &mut replica, size, runs, &mut marks)? {
+    if !mark_schedule(&mut player, size, runs, &mut marks)? {
         return Ok(None);
     }
     let pair = pair_of(alloc, &loaded, fault, player.log())?;

@@ -1,6 +1,6 @@
 //! What is told of a fault and of its launch without playing it.
 //!
-//! Of a fault: its number and name, its line, the items that it names, and its place in memory. Of its launch, by the
+//! Of a fault: its number and name, its words, the items that it names, and its place in memory. Of its launch, by the
 //! commands before it: the source of its program with its line in the script, and the parameters that are given a
 //! buffer. The crate knows commands as data, with whether each was done, the text of a fault's line by `fault_lines`,
 //! and no device.
@@ -14,6 +14,6 @@ mod parameters;
 
 pub use commands::{ProgramSource, line_of, source_of};
 pub use gathered::Gathered;
-pub use lines::{FaultLine, fault_line, line_bytes};
+pub use lines::{fault_words, schedule_words};
 pub use numbers::{fault_name, fault_number, memory_of, named_items};
 pub use parameters::{parameters_given, parameters_named, type_text};

@@ -1,8 +1,8 @@
 -- The bytes of an object that are unset.
-use Rattle.std.proofs.Common.{◌≡◌, ℕ, ◌+◌, ◌<◌, ◌≤◌, inl, inr, Option, None, Some, List, [], length, refl, sym, ap, ◌∙◌, subst, arith}
+use Rattle.std.proofs.Common.{◌≡◌, ℕ, zero, suc, ◌+◌, ◌<◌, ◌≤◌, inl, inr, Option, None, Some, List, [], length, refl, sym, ap, ◌∙◌, subst, arith}
 use Rattle.std.specs.Prelude.{slice_get}
 use Rattle.std.proofs.lemmas.Option.{slice_get_within}
-use Rattle.clmodel.specs.Cells.{Cells, cells_of, byte_count, number, lowest_unset, size_of}
+use Rattle.clmodel.specs.Cells.{Cells, cells_of, byte_count, joined, number, lowest_unset, size_of}
 use Rattle.clmodel.specs.Launch.{Launch, bytes_of, region_of}
 use Rattle.clmodel.specs.Run.{Memory}
 use Rattle.clmodel.specs.declared.access.Object.{Object}
@@ -78,3 +78,30 @@ unmade_unset l g m locals o n first op is e (inl h) inside =
     absurd (omega (arith, inside, ap (λ z. bytes_of l (region_of g z)) is, h.none n e, size_some op))
 unmade_unset l g m locals o n first op is e (inr h) inside =
     sym (unset_here (m (region_of g o)) first (size_of op) (size_some op) (ap (λ z. m (region_of g z) first) is ∙ h.1 n first))
+
+-- ---- the number of bytes
+
+pub buffer_number :
+    (l : Launch) (g : ℕ) (m : Memory) (bs : List (List (Option ℕ))) (x : List (Option ℕ)) (o : Object) (n first : ℕ) (op : Operation) → o ≡ object.Buffer n → slice_get bs n ≡ Some x
+    → SpacesHold (λ b. b) l (length l.buffers) region.Buffer bs m → number (cells_of x) first (size_of op) ≡ number (m (region_of g o)) first (size_of op)
+buffer_number l g m bs x o n first op is e h = ap (λ c. number c first (size_of op)) (h.cells n x e ∙ ap (λ z. m (region_of g z)) (sym is))
+
+pub local_number :
+    (l : Launch) (g : ℕ) (m : Memory) (locals : List (List (Option ℕ))) (x : List (Option ℕ)) (o : Object) (n first : ℕ) (op : Operation) → o ≡ object.Local n → slice_get locals n ≡ Some x
+    → LocalsHold l g locals m → number (cells_of x) first (size_of op) ≡ number (m (region_of g o)) first (size_of op)
+local_number l g m locals x o n first op is e (inl h) = ap (λ c. number c first (size_of op)) (h.cells n x e ∙ ap (λ z. m (region_of g z)) (sym is))
+local_number l g m locals x o n first op is e (inr h) = absurd (not_there locals n x h.0 e)
+
+-- bytes of which one is unset make no number
+unset_number : (c : Cells) (first count : ℕ) → 0 < count → c first ≡ None → None ≡ number c first count
+unset_number c first zero some e = absurd (omega (arith, some))
+unset_number c first (suc count) some e = sym (ap (λ o. joined o (number c (suc first) count)) e)
+
+-- those of a local object that isn't made
+pub unmade_number :
+    (l : Launch) (g : ℕ) (m : Memory) (locals : List (List (Option ℕ))) (o : Object) (n first : ℕ) (op : Operation) → o ≡ object.Local n → ◌≡◌ {A = Option (List (Option ℕ))} (slice_get locals n) None
+    → LocalsHold l g locals m → first + size_of op ≤ bytes_of l (region_of g o) → None ≡ number (m (region_of g o)) first (size_of op)
+unmade_number l g m locals o n first op is e (inl h) inside =
+    absurd (omega (arith, inside, ap (λ z. bytes_of l (region_of g z)) is, h.none n e, size_some op))
+unmade_number l g m locals o n first op is e (inr h) inside =
+    unset_number (m (region_of g o)) first (size_of op) (size_some op) (ap (λ z. m (region_of g z) first) is ∙ h.1 n first)

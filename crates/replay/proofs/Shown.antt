@@ -1,6 +1,6 @@
--- A conflict that a fault tells, and the spots of the log.
+-- The two accesses of a log that a fault tells as a conflict, and the spots of the log.
 use Rattle.std.proofs.Common.{◌≡◌, ℕ, zero, suc, ◌<◌, ◌⊎◌, ◌==◌, ◌&&◌, Bool, true, false, if◌then◌else◌, Option, None, Some, List, [], ◌∷◌, ◌++◌, length, refl, sym, ap, ap₂, ◌∙◌, subst, inl, inr, arith, eqb-true, eq-eqb}
-use Rattle.std.specs.Prelude.{slice_get, reverse}
+use Rattle.std.specs.Prelude.{slice_get, reverse, is_some}
 use Rattle.std.specs.Bool.{Decides}
 use Rattle.std.proofs.lemmas.Bool.{and_parts, and_from, cases_eq, false≢true}
 use Rattle.std.proofs.lemmas.List.{reverse-reverse, reverse-append}
@@ -14,6 +14,7 @@ use Rattle.clmodel.specs.declared.access.Clash.{Clash}
 use Rattle.clmodel.specs.declared.access.Region.{Region}
 use Rattle.clmodel.specs.declared.access.Region.TheVariants as region
 use Rattle.clmodel.specs.declared.access.Rule.{Rule}
+use Rattle.clmodel.specs.declared.fault.Fault.{Fault}
 use Rattle.clmodel.specs.declared.fault.Fault.TheVariants as fault
 use Rattle.clmodel.specs.declared.fault.Location.{Location}
 use Rattle.clmodel.specs.declared.fault.Location.TheVariants as location
@@ -21,8 +22,9 @@ use Rattle.clmodel.proofs.Conflicts.{Meet, no_clash, no_conflict}
 use Rattle.clmodel.proofs.Steps.{none_some, some_inj, if_some, if_true}
 use Rattle.clmodel.proofs.Swaps.{cases_region}
 use Rattle.clmodel.proofs.Logs.{logged_front, logged_back}
-use Rattle.replay.specs.Spots.{number_in, HasOther, AnyMeets}
+use Rattle.replay.specs.Spots.{Finds, IsOther, IsPairOf, MeetAt, number_in}
 use Rattle.replay.specs.declared.conflicts.ObjectInterval.{ObjectInterval}
+use Rattle.replay.specs.declared.conflicts.Pair.{Pair}
 
 -- ---- a log by places
 
@@ -120,13 +122,6 @@ other_stores l x y byte u is apart e q =
     false≢true (sym apart
     ∙ and_from (both_store x.kind y.kind && l.uniform) (left_at x byte == left_at y byte) (sym is ∙ e) (eq-eqb (left_at x byte) (left_at y byte) q))
 
--- what two accesses that are shown have alike
-pub shown_needs :
-    (l : Launch) (s : State) (c : Clash) (item : ℕ) (kind : AccessKind) (other : ℕ) (other_kind : AccessKind) (place : Location) (byte : ℕ)
-    → Shows l s (fault.Conflict c item kind other other_kind place byte) → (item ≡ other → ⊥) × (clash kind other_kind ≡ Some c)
-shown_needs l s c item kind other other_kind place byte (x, y, in_x, in_y, item_x, kind_x, item_y, kind_y, at, conflicts) =
-    let r = conflict_is l x y byte c conflicts in (λ e. r.0.items (item_x ∙ e ∙ sym item_y), ap₂ clash (sym kind_x) (sym kind_y) ∙ r.1)
-
 -- ---- the number of an object
 
 abbrev number_of : Region → ℕ
@@ -161,30 +156,37 @@ at_both : (b : Bool) (n m : ℕ) → (b ≡ true → n ≡ m) → (if b then m e
 at_both true n m h = sym (h refl)
 at_both false n m h = refl
 
--- the spots of the one partner, and an access of the other at one of them, say whether the conflict is shown
-pub shown :
-    (l : Launch) (log : List Access) (s : State) (c : Clash) (item : ℕ) (kind : AccessKind) (other : ℕ) (other_kind : AccessKind) (place : Location) (byte : ℕ) (rule : Rule)
-    (among : ObjectInterval → ℕ → Bool) (answer : Bool) → rule.one_group ≡ (group_of l item == group_of l other) → rule.uniform ≡ (both_store kind other_kind && l.uniform) → log ≡ reverse s.log → (item ≡ other → ⊥) → clash kind other_kind ≡ Some c
-    → ((q : ObjectInterval) (w : ℕ) → Decides (among q w) (HasOther item kind place byte rule log (length log) q w)) → Decides answer (AnyMeets l other other_kind place byte rule among log)
-    → Decides answer (Shows l s (fault.Conflict c item kind other other_kind place byte))
-shown l log s c item kind other other_kind place byte rule among answer groups stores order apart clashes spots meets = (λ e. forth (meets.0 e), λ h. meets.1 (back h))
+-- what is found where there is one is such a one
+found_by : {A : Type 0} {Such : A → Type 0} (o : Option A) → Finds o Such → (a : A) → Such a → (b : A) × (o ≡ Some b) × Such b
+found_by None none a h = absurd (none a h)
+found_by (Some b) is a h = (b, refl, is)
+
+at_length : (xs : List Access) (k : ℕ) (x : Access) → slice_get xs k ≡ Some x → k < length xs
+at_length [] k x e = absurd (none_some x e)
+at_length (y ∷ xs) zero x e = omega arith
+at_length (y ∷ xs) (suc k) x e = let h = at_length xs k x e in omega (arith, h)
+
+-- the spots of the one partner, and an access of the other at one of them, tell the two accesses that conflict
+pub paired :
+    (l : Launch) (log : List Access) (c : Clash) (item : ℕ) (kind : AccessKind) (other : ℕ) (other_kind : AccessKind) (place : Location) (byte : ℕ) (rule : Rule)
+    (among : ObjectInterval → ℕ → Option ℕ) (found : Option Pair) → rule.one_group ≡ (group_of l item == group_of l other) → rule.uniform ≡ (both_store kind other_kind && l.uniform) → (item ≡ other → ⊥) → clash kind other_kind ≡ Some c
+    → ((q : ObjectInterval) (w : ℕ) → Finds (among q w) (IsOther item kind place byte rule log (length log) q w)) → Finds found (MeetAt l other other_kind place byte rule among log)
+    → Finds found (IsPairOf l (fault.Conflict c item kind other other_kind place byte) log)
+paired l log c item kind other other_kind place byte rule among found groups stores apart clashes spots meets = go found meets
   where
-    in_log : (k : ℕ) (x : Access) → slice_get log k ≡ Some x → Logged s.log x
-    in_log k x e = subst (λ z. Logged z x) (ap reverse order ∙ reverse-reverse s.log) (logged_reverse log x (logged_at log k x e))
+    f : Fault
+    f = fault.Conflict c item kind other other_kind place byte
 
-    place_in : (x : Access) → Logged s.log x → (k : ℕ) × (slice_get log k ≡ Some x)
-    place_in x h = logged_in log x (subst (λ z. Logged z x) (sym order) (logged_reverse s.log x h))
-
-    forth : AnyMeets l other other_kind place byte rule among log → Shows l s (fault.Conflict c item kind other other_kind place byte)
-    forth (k, (y, at_y, (q, found, is_y, lies))) = pair ((spots q (left_at y byte)).0 found)
+    forth : (pair : Pair) → MeetAt l other other_kind place byte rule among log pair → IsPairOf l f log pair
+    forth pair (y, at_y, (q, is, is_y, lies)) = made (subst (λ o. Finds o (IsOther item kind place byte rule log (length log) q (left_at y byte))) is (spots q (left_at y byte)))
       where
-        pair : HasOther item kind place byte rule log (length log) q (left_at y byte) → Shows l s (fault.Conflict c item kind other other_kind place byte)
-        pair (j, (x, below, at_x, is_x, left)) =
+        made : IsOther item kind place byte rule log (length log) q (left_at y byte) pair.first → IsPairOf l f log pair
+        made (x, below, at_x, is_x, left) =
             let regions : x.region ≡ y.region = one_region place x.region y.region q.number is_x.numbered is_y.numbered in (
               x,
               y,
-              in_log j x at_x,
-              in_log k y at_y,
+              at_x,
+              at_y,
               is_x.of_item,
               is_x.of_kind,
               is_y.of_item,
@@ -202,29 +204,26 @@ shown l log s c item kind other other_kind place byte rule among answer groups s
                   (apart_stores l x y byte rule.uniform (stores ∙ ap₂ (λ a b. both_store a b && l.uniform) (sym is_x.of_kind) (sym is_y.of_kind)) left),
             )
 
-    back : Shows l s (fault.Conflict c item kind other other_kind place byte) → AnyMeets l other other_kind place byte rule among log
-    back (x, y, in_x, in_y, item_x, kind_x, item_y, kind_y, at, conflicts) =
+    back : (pair : Pair) → IsPairOf l f log pair → (one : Pair) × MeetAt l other other_kind place byte rule among log one
+    back pair (x, y, at_x, at_y, item_x, kind_x, item_y, kind_y, at, conflicts) =
         let r = conflict_is l x y byte c conflicts in
         let q : ObjectInterval = record { number = number_of x.region; interval = if rule.one_group then x.interval else 0 } in
         let number : number_in place x.region ≡ Some (number_of x.region) = ap (λ z. number_in z x.region) (sym at) ∙ numbered l x.region in
-        let px = place_in x in_x in
-        let py = place_in y in_y in (
-          py.0,
+        let met =
+        found_by (among q (left_at y byte)) (spots q (left_at y byte)) pair.first (
+          x,
+          at_length log pair.first x at_x,
+          at_x,
+          record { of_item = item_x; of_kind = kind_x; on_byte = r.0.first_covers; numbered = number; in_interval = refl },
+          other_stores l x y byte rule.uniform (stores ∙ ap₂ (λ a b. both_store a b && l.uniform) (sym kind_x) (sym kind_y)) r.2,
+        ) in (
+          record { first = met.0; second = pair.second },
           (
             y,
-            py.1,
+            at_y,
             (
               q,
-              (spots q (left_at y byte)).1 (
-                px.0,
-                (
-                  x,
-                  at_length log px.0 x px.1,
-                  px.1,
-                  record { of_item = item_x; of_kind = kind_x; on_byte = r.0.first_covers; numbered = number; in_interval = refl },
-                  other_stores l x y byte rule.uniform (stores ∙ ap₂ (λ a b. both_store a b && l.uniform) (sym kind_x) (sym kind_y)) r.2,
-                ),
-              ),
+              met.1,
               record {
                 of_item = item_y;
                 of_kind = kind_y;
@@ -236,8 +235,41 @@ shown l log s c item kind other other_kind place byte rule among answer groups s
             ),
           ),
         )
-      where
-        at_length : (xs : List Access) (k : ℕ) (x : Access) → slice_get xs k ≡ Some x → k < length xs
-        at_length [] k x e = absurd (none_some x e)
-        at_length (y ∷ xs) zero x e = omega arith
-        at_length (y ∷ xs) (suc k) x e = let h = at_length xs k x e in omega (arith, h)
+
+    go : (o : Option Pair) → Finds o (MeetAt l other other_kind place byte rule among log) → Finds o (IsPairOf l f log)
+    go None none = λ pair h. let met = back pair h in none met.0 met.1
+    go (Some pair) h = forth pair h
+
+-- what the two accesses of a pair have alike
+pub pair_needs :
+    (l : Launch) (log : List Access) (c : Clash) (item : ℕ) (kind : AccessKind) (other : ℕ) (other_kind : AccessKind) (place : Location) (byte : ℕ) (pair : Pair)
+    → IsPairOf l (fault.Conflict c item kind other other_kind place byte) log pair → (item ≡ other → ⊥) × (clash kind other_kind ≡ Some c)
+pair_needs l log c item kind other other_kind place byte pair (x, y, at_x, at_y, item_x, kind_x, item_y, kind_y, at, conflicts) =
+    let r = conflict_is l x y byte c conflicts in (λ e. r.0.items (item_x ∙ e ∙ sym item_y), ap₂ clash (sym kind_x) (sym kind_y) ∙ r.1)
+
+-- a log has such a pair exactly where the state shows the conflict
+pub shown :
+    (l : Launch) (log : List Access) (s : State) (c : Clash) (item : ℕ) (kind : AccessKind) (other : ℕ) (other_kind : AccessKind) (place : Location) (byte : ℕ) (found : Option Pair)
+    → log ≡ reverse s.log → Finds found (IsPairOf l (fault.Conflict c item kind other other_kind place byte) log)
+    → Decides (is_some found) (Shows l s (fault.Conflict c item kind other other_kind place byte))
+shown l log s c item kind other other_kind place byte found order finds = (λ e. forth found finds e, λ h. back found finds h)
+  where
+    f : Fault
+    f = fault.Conflict c item kind other other_kind place byte
+
+    in_log : (k : ℕ) (x : Access) → slice_get log k ≡ Some x → Logged s.log x
+    in_log k x e = subst (λ z. Logged z x) (ap reverse order ∙ reverse-reverse s.log) (logged_reverse log x (logged_at log k x e))
+
+    place_in : (x : Access) → Logged s.log x → (k : ℕ) × (slice_get log k ≡ Some x)
+    place_in x h = logged_in log x (subst (λ z. Logged z x) (sym order) (logged_reverse s.log x h))
+
+    forth : (o : Option Pair) → Finds o (IsPairOf l f log) → is_some o ≡ true → Shows l s f
+    forth None h e = absurd (false≢true e)
+    forth (Some pair) (x, y, at_x, at_y, item_x, kind_x, item_y, kind_y, at, conflicts) e =
+        (x, y, in_log pair.first x at_x, in_log pair.second y at_y, item_x, kind_x, item_y, kind_y, at, conflicts)
+
+    back : (o : Option Pair) → Finds o (IsPairOf l f log) → Shows l s f → is_some o ≡ true
+    back None none (x, y, in_x, in_y, item_x, kind_x, item_y, kind_y, at, conflicts) =
+        let px = place_in x in_x in
+        let py = place_in y in_y in absurd (none (record { first = px.0; second = py.0 }) (x, y, px.1, py.1, item_x, kind_x, item_y, kind_y, at, conflicts))
+    back (Some pair) finds h = refl

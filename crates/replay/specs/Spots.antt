@@ -1,7 +1,7 @@
 -- Where the accesses lie that a fault tells of (own).
-use Rattle.std.specs.Prelude.{◌≡◌, ℕ, ◌<◌, ◌==◌, ◌&&◌, not, Bool, true, false, Option, None, Some, List, if◌then◌else◌, slice_get}
+use Rattle.std.specs.Prelude.{◌≡◌, ℕ, ◌<◌, ◌==◌, ◌&&◌, ◌||◌, not, Bool, true, false, Option, None, Some, List, MatchOption, if◌then◌else◌, slice_get}
 use Rattle.clmodel.specs.Cells.{byte_count, covers}
-use Rattle.clmodel.specs.Launch.{Launch, location_of, left_at}
+use Rattle.clmodel.specs.Launch.{Launch, conflict, location_of, left_at}
 use Rattle.clmodel.specs.declared.access.Access.{Access}
 use Rattle.clmodel.specs.declared.access.AccessKind.{AccessKind}
 use Rattle.clmodel.specs.declared.access.Region.{Region}
@@ -11,9 +11,10 @@ use Rattle.clmodel.specs.declared.fault.Fault.{Fault}
 use Rattle.clmodel.specs.declared.fault.Fault.TheVariants as fault
 use Rattle.clmodel.specs.declared.fault.Location.{Location}
 use Rattle.clmodel.specs.declared.fault.Location.TheVariants as location
+use Rattle.replay.specs.declared.conflicts.Firsts.{Firsts}
 use Rattle.replay.specs.declared.conflicts.ObjectInterval.{ObjectInterval}
-use Rattle.replay.specs.declared.conflicts.Left.{Left}
-use Rattle.replay.specs.declared.conflicts.Left.TheVariants as left
+use Rattle.replay.specs.declared.conflicts.Pair.{Pair}
+use Rattle.replay.specs.declared.conflicts.ToldConflict.{ToldConflict}
 
 -- a fault tells of two accesses that conflict
 abbrev pub is_conflict : Fault → Bool
@@ -24,11 +25,23 @@ is_conflict _ = false
 abbrev pub same_spot : ObjectInterval → ObjectInterval → Bool
 same_spot a b = (a.number == b.number) && (a.interval == b.interval)
 
--- whether an access left another byte than this at a spot, of which this is known
-abbrev pub differs : Option Left → ℕ → Bool
-differs None byte = false
-differs (Some (left.One one)) byte = not (one == byte)
-differs (Some left.Any) byte = true
+-- the fault of a conflict that is told
+abbrev pub fault_told : ToldConflict → Fault
+fault_told told =
+    fault.Conflict told.clash told.first.item told.first.kind told.second.item told.second.kind told.place.location.now told.place.byte
+
+-- a byte that an access left is another than this, if bytes matter
+abbrev pub is_other : Bool → ℕ → ℕ → Bool
+is_other by_byte byte left = not by_byte || not (byte == left)
+
+-- the place of the first access of a spot that left another byte than this, if bytes matter, where this is known of it
+abbrev pub partner_at : Bool → Option Firsts → ℕ → Option ℕ
+partner_at by_byte None left = None
+partner_at by_byte (Some firsts) left = if is_other by_byte firsts.byte left then Some firsts.place else firsts.other
+
+-- such a one was found, or there is none
+abbrev pub Finds : {A : Type 0} → Option A → (A → Type 0) → Type 0
+Finds {A} found IsSuch = MatchOption found ((a : A) → IsSuch a → ⊥) IsSuch
 
 -- the number of a region's object, where a location of its kind and group is told
 abbrev pub number_in : Location → Region → Option ℕ
@@ -46,17 +59,26 @@ pub record IsSpot (item : ℕ) (kind : AccessKind) (place : Location) (byte : �
   pub numbered : number_in place x.region ≡ Some spot.number
   pub in_interval : (if one_group then x.interval else 0) ≡ spot.interval
 
--- such an access is among the first of a log, and left another byte than this, if the rule asks for bytes
-abbrev pub HasOther : ℕ → AccessKind → Location → ℕ → Rule → List Access → ℕ → ObjectInterval → ℕ → Type 0
-HasOther item kind place byte rule log count spot left =
-    (k : ℕ) × ((x : Access) × (k < count) × (slice_get log k ≡ Some x) × IsSpot item kind place byte rule.one_group x spot × (rule.uniform ≡ true → left_at x byte ≡ left → ⊥))
+-- the access at this place is such an access among the first of a log, and left another byte than this, if the rule
+-- asks for bytes
+abbrev pub IsOther : ℕ → AccessKind → Location → ℕ → Rule → List Access → ℕ → ObjectInterval → ℕ → ℕ → Type 0
+IsOther item kind place byte rule log count spot left k =
+    (x : Access) × (k < count) × (slice_get log k ≡ Some x) × IsSpot item kind place byte rule.one_group x spot × (rule.uniform ≡ true → left_at x byte ≡ left → ⊥)
 
--- an access is such an access at the told location, and what it left passes a test of its spot
-abbrev pub Meets : Launch → ℕ → AccessKind → Location → ℕ → Rule → (ObjectInterval → ℕ → Bool) → Access → Type 0
-Meets launch item kind place byte rule among x =
-    (spot : ObjectInterval) × (among spot (left_at x byte) ≡ true) × IsSpot item kind place byte rule.one_group x spot × (location_of launch x.region ≡ place)
+-- an access is such an access at the told location, and conflicts with the access at this place, which `among` gives
+-- for its spot and the byte that it left
+abbrev pub Meets : Launch → ℕ → AccessKind → Location → ℕ → Rule → (ObjectInterval → ℕ → Option ℕ) → Access → ℕ → Type 0
+Meets launch item kind place byte rule among x k =
+    (spot : ObjectInterval) × (among spot (left_at x byte) ≡ Some k) × IsSpot item kind place byte rule.one_group x spot × (location_of launch x.region ≡ place)
 
--- a log has such an access
-abbrev pub AnyMeets : Launch → ℕ → AccessKind → Location → ℕ → Rule → (ObjectInterval → ℕ → Bool) → List Access → Type 0
-AnyMeets launch item kind place byte rule among log =
-    (k : ℕ) × ((x : Access) × (slice_get log k ≡ Some x) × Meets launch item kind place byte rule among x)
+-- the second access of a pair of places is such an access, and conflicts with the first
+abbrev pub MeetAt : Launch → ℕ → AccessKind → Location → ℕ → Rule → (ObjectInterval → ℕ → Option ℕ) → List Access → Pair → Type 0
+MeetAt launch item kind place byte rule among log pair =
+    (x : Access) × (slice_get log pair.second ≡ Some x) × Meets launch item kind place byte rule among x pair.first
+
+-- the accesses at two places of a log are those of which a fault tells that they conflict (3.3.1, 6.12.8)
+abbrev pub IsPairOf : Launch → Fault → List Access → Pair → Type 0
+IsPairOf launch (fault.Conflict clash item kind other other_kind place byte) log pair =
+    (x y : Access) × (slice_get log pair.first ≡ Some x) × (slice_get log pair.second ≡ Some y) × (x.item ≡ item) × (x.kind ≡ kind) × (y.item ≡ other)
+    × (y.kind ≡ other_kind) × (location_of launch x.region ≡ place) × (conflict launch x y byte ≡ Some clash)
+IsPairOf launch _ log pair = ⊥

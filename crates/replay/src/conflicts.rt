@@ -1,14 +1,13 @@
-//! Whether a log has a conflict that a fault tells.
+//! The two accesses of a log that a fault tells as a conflict.
 
-ghost use Rattle.std.specs.Prelude.{◌≡◌, ◌==◌, ◌&&◌, ◌||◌, not, false, Some, ℕ, length, IfOk, MatchOption, reverse};
+ghost use Rattle.std.specs.Prelude.{◌≡◌, ◌==◌, ◌&&◌, false, Bool, Some, None, ℕ, length, is_some, IfOk, MatchOption, reverse, if◌then◌else◌};
 ghost use Rattle.std.specs.Bool.{Decides};
 ghost use Rattle.std.specs.HashMap.{get};
 ghost use Rattle.clmodel.specs.Cells.{byte_count, covers};
 ghost use Rattle.clmodel.specs.Launch.{both_store, clash, group_of};
 ghost use Rattle.clmodel.specs.Law.{Shows};
-ghost use Rattle.clmodel.specs.Run.{State};
-ghost use Rattle.clmodel.specs.declared.fault.Fault.TheVariants as faults;
-ghost use Rattle.replay.specs.Spots.{is_conflict, number_in, same_spot, differs, IsSpot, HasOther, Meets, AnyMeets};
+ghost use Rattle.clmodel.specs.Run.{State, or_else};
+ghost use Rattle.replay.specs.Spots.{Finds, IsOther, IsPairOf, IsSpot, MeetAt, Meets, fault_told, is_conflict, is_other, number_in, partner_at, same_spot};
 
 use crate::places::is_at;
 use access_list::{both_store, clash, left_at};
@@ -40,38 +39,53 @@ pub struct ObjectInterval {
     pub interval: u32,
 }
 
-/// What the accesses of a spot left at the told byte.
+/// What is known of the accesses of a spot: the first one with the byte that it left, and the first one that left
+/// another byte, by their places in the log.
 #[derive(Clone, Copy)]
-pub enum Left {
-    /// This byte alone
-    One(u8),
-    /// Several bytes, or it doesn't matter which
-    Any,
+pub struct Firsts {
+    pub place: usize,
+    pub byte: u8,
+    pub other: Option<usize>,
 }
 
-/// What is left at a spot with an access more that left this byte there, where bytes matter.
-fn with(known: Option<Left>, by_byte: bool, byte: u8) -> Left
-    ensures { (other : ℕ) → differs (Some result) other ≡ (differs known other || (not by_byte || not (byte == other))) }
+/// The places in a log of two accesses that conflict.
+#[derive(Clone, Copy)]
+pub struct Pair {
+    pub first: usize,
+    pub second: usize,
+}
+
+/// What is known of a spot with an access more, which left this byte.
+fn with_more(known: Option<Firsts>, place: usize, byte: u8) -> Firsts
+    ensures { (by_byte : Bool) (left : ℕ) → partner_at by_byte (Some result) left ≡ or_else (partner_at by_byte known left) (if is_other by_byte byte left then Some place else None) }
 {
-    if !by_byte {
-        return Left::Any;
+    let Some(firsts) = known else {
+        return Firsts {
+            place,
+            byte,
+            other: None,
+        };
+    };
+    if firsts.other.is_some() || firsts.byte == byte {
+        return firsts;
     }
-    match known {
-        None => Left::One(byte),
-        Some(Left::One(one)) if one == byte => Left::One(one),
-        Some(_) => Left::Any,
+    Firsts {
+        place: firsts.place,
+        byte: firsts.byte,
+        other: Some(place),
     }
 }
 
-/// Whether an access left another byte than this at a spot.
-fn differs(known: Option<Left>, byte: u8) -> bool
-    ensures { result ≡ differs known byte }
+/// The place of the first access of a spot that left another byte than this, or of its first access where bytes don't
+/// matter.
+fn partner_at(known: Option<Firsts>, by_byte: bool, byte: u8) -> Option<usize>
+    ensures { result ≡ partner_at by_byte known byte }
 {
-    match known {
-        None => false,
-        Some(Left::One(one)) => one != byte,
-        Some(Left::Any) => true,
+    let firsts = known?;
+    if !by_byte || firsts.byte != byte {
+        return Some(firsts.place);
     }
+    firsts.other
 }
 
 /// The number of a region's object, where a location of this kind and group is told.
@@ -92,7 +106,7 @@ fn number_in(location: &Location, region: Region) -> Option<u32>
 }
 
 /// Whether an access is at this byte.
-pub fn is_on(access: &Access, byte: u64) -> bool
+fn is_on(access: &Access, byte: u64) -> bool
     ensures { result ≡ covers access.now.first (byte_count access.now.width) byte }
 {
     access.first <= byte && byte - access.first < access.width.bytes()
@@ -115,66 +129,69 @@ fn spot_of(
     Some(ObjectInterval { number, interval })
 }
 
-/// Where the accesses of a log lie that are a partner's at the told byte, and what they left there. An error is out of
-/// memory.
-fn spots_of(
+/// What is known of the spots of a log where accesses of a partner lie at the told byte. An error is out of memory.
+fn firsts_of(
     alloc: Global,
     partner: Partner,
     place: &ToldByte<'_>,
     rule: Rule,
     log: &[Access],
-) -> Result<HashMap<ObjectInterval, Left>, AllocError>
-    ensures { IfOk result (λ spots. (spot : ObjectInterval) (byte : ℕ) → Decides (differs (get same_spot spots spot) byte) (HasOther partner.item partner.kind place.now.location.now place.now.byte rule log.now (length log.now) spot byte)) }
+) -> Result<HashMap<ObjectInterval, Firsts>, AllocError>
+    ensures { IfOk result (λ firsts. (spot : ObjectInterval) (left : ℕ) → Finds (partner_at rule.uniform (get same_spot firsts spot) left) (IsOther partner.item partner.kind place.now.location.now place.now.byte rule log.now (length log.now) spot left)) }
 {
-    let mut spots = HashMap::new(alloc);
-    for access in log {
+    let mut firsts = HashMap::new(alloc);
+    for (number, access) in log.iter().enumerate() {
         if let Some(spot) = spot_of(partner, place, rule.one_group, access) {
-            let known = spots.get(&spot).copied();
-            let left = with(known, rule.uniform, left_at(access, place.byte));
-            spots.insert(spot, left)?;
+            let known = firsts.get(&spot).copied();
+            let more = with_more(known, number, left_at(access, place.byte));
+            firsts.insert(spot, more)?;
         }
     }
-    Ok(spots)
+    Ok(firsts)
 }
 
-/// Whether an access is a partner's at the told location and byte, and lies at one of these spots, where another byte
-/// was left. An error is out of memory.
-fn meets<D: Described>(
+/// The place of the access that this one conflicts with, where it is a partner's at the told location and byte. What is
+/// known of the other partner's spots tells it. An error is out of memory.
+fn met_by<D: Described>(
     launch: &D,
     partner: Partner,
     place: &ToldByte<'_>,
     rule: Rule,
-    spots: &HashMap<ObjectInterval, Left>,
+    firsts: &HashMap<ObjectInterval, Firsts>,
     access: &Access,
-) -> Result<bool, AllocError>
-    ensures { IfOk result (λ yes. Decides yes (Meets (D.launch launch.now) partner.item partner.kind place.now.location.now place.now.byte rule (λ spot. differs (get same_spot spots.now spot)) access.now)) }
+) -> Result<Option<usize>, AllocError>
+    ensures { IfOk result (λ found. Finds found (Meets (D.launch launch.now) partner.item partner.kind place.now.location.now place.now.byte rule (λ spot. partner_at rule.uniform (get same_spot firsts.now spot)) access.now)) }
 {
     let Some(spot) = spot_of(partner, place, rule.one_group, access) else {
-        return Ok(false);
+        return Ok(None);
     };
-    if !differs(spots.get(&spot).copied(), left_at(access, place.byte)) {
-        return Ok(false);
+    let known = firsts.get(&spot).copied();
+    let Some(first) = partner_at(known, rule.uniform, left_at(access, place.byte)) else {
+        return Ok(None);
+    };
+    if is_at(launch, access.region, place.location)? {
+        return Ok(Some(first));
     }
-    is_at(launch, access.region, place.location)
+    Ok(None)
 }
 
-/// Whether a log has such an access. An error is out of memory.
-fn any_meets<D: Described>(
+/// The places of the first such access of a log and of the one that it conflicts with. An error is out of memory.
+fn first_met<D: Described>(
     launch: &D,
     partner: Partner,
     place: &ToldByte<'_>,
     rule: Rule,
-    spots: &HashMap<ObjectInterval, Left>,
+    firsts: &HashMap<ObjectInterval, Firsts>,
     log: &[Access],
-) -> Result<bool, AllocError>
-    ensures { IfOk result (λ yes. Decides yes (AnyMeets (D.launch launch.now) partner.item partner.kind place.now.location.now place.now.byte rule (λ spot. differs (get same_spot spots.now spot)) log.now)) }
+) -> Result<Option<Pair>, AllocError>
+    ensures { IfOk result (λ found. Finds found (MeetAt (D.launch launch.now) partner.item partner.kind place.now.location.now place.now.byte rule (λ spot. partner_at rule.uniform (get same_spot firsts.now spot)) log.now)) }
 {
-    for access in log {
-        if meets(launch, partner, place, rule, spots, access)? {
-            return Ok(true);
+    for (second, access) in log.iter().enumerate() {
+        if let Some(first) = met_by(launch, partner, place, rule, firsts, access)? {
+            return Ok(Some(Pair { first, second }));
         }
     }
-    Ok(false)
+    Ok(None)
 }
 
 /// A conflict, as a fault tells it.
@@ -188,8 +205,7 @@ pub struct ToldConflict<'a> {
 
 /// The conflict that a fault tells, if it tells one.
 pub fn told_conflict(fault: &Fault) -> Option<ToldConflict<'_>>
-    ensures { MatchOption result (is_conflict fault.now ≡ false)
-        (λ told. fault.now ≡ faults.Conflict told.clash told.first.item told.first.kind told.second.item told.second.kind told.place.location.now told.place.byte) }
+    ensures { MatchOption result (is_conflict fault.now ≡ false) (λ told. fault.now ≡ fault_told told) }
 {
     let Fault::Conflict {
         clash,
@@ -242,25 +258,26 @@ fn rule_of<D: Runnable>(launch: &D, first: Partner, second: Partner) -> Rule
     }
 }
 
-/// Whether a log, the oldest access first, has a conflict (OpenCL 1.2, sections 3.3.1 and 6.12.8). It goes over the log
-/// twice, whatever conflicts there are; in a uniform launch two stores conflict where they left different bytes. An
-/// error is out of memory.
-pub fn shows_conflict<D: Runnable>(
+/// The places of two accesses of a log, the oldest first, that conflict as a fault tells, where it has two (OpenCL 1.2,
+/// sections 3.3.1 and 6.12.8): the second at the first access of its partner that has one. It goes over the log twice,
+/// whatever conflicts there are; in a uniform launch two stores conflict where they left different bytes. An error is
+/// out of memory.
+pub fn find_conflict<D: Runnable>(
     alloc: Global,
     launch: &D,
     log: &[Access],
     told: &ToldConflict<'_>,
-) -> Result<bool, AllocError>
-    ensures { IfOk result (λ yes. (state : State) → log.now ≡ reverse state.log → Decides yes (Shows (D.launch launch.now) state
-        (faults.Conflict told.now.clash told.now.first.item told.now.first.kind told.now.second.item told.now.second.kind told.now.place.location.now told.now.place.byte))) }
+) -> Result<Option<Pair>, AllocError>
+    ensures pair { IfOk result (λ found. Finds found (IsPairOf (D.launch launch.now) (fault_told told.now) log.now)) }
+    ensures shown { IfOk result (λ found. (state : State) → log.now ≡ reverse state.log → Decides (is_some found) (Shows (D.launch launch.now) state (fault_told told.now))) }
 {
     if told.first.item == told.second.item {
-        return Ok(false);
+        return Ok(None);
     }
     if !clashes(told.first.kind, told.second.kind, told.clash) {
-        return Ok(false);
+        return Ok(None);
     }
     let rule = rule_of(launch, told.first, told.second);
-    let spots = spots_of(alloc, told.first, &told.place, rule, log)?;
-    any_meets(launch, told.second, &told.place, rule, &spots, log)
+    let firsts = firsts_of(alloc, told.first, &told.place, rule, log)?;
+    first_met(launch, told.second, &told.place, rule, &firsts, log)
 }

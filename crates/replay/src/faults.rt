@@ -14,7 +14,7 @@ ghost use Rattle.replay.specs.Nexts.{StopsAt, ReadsUnset};
 
 use crate::nexts::{NextAccess, access_of, cause_of, stop_of};
 use crate::player::Player;
-use crate::{is_at, is_fault_of, shows_conflict, told_conflict};
+use crate::{find_conflict, is_at, is_fault_of, told_conflict};
 use clmodel::access::{AccessKind, Operation};
 use clmodel::action::Stop;
 use clmodel::fault::{Fault, Location};
@@ -212,7 +212,7 @@ pub fn shows<D: Runnable>(
     ensures { IfOk result (λ yes. (started : ℕ → Running) (state : State) → IsAt D.launch D.started (D.launch launch.now) started player.old state → Decides yes (Shows (D.launch launch.now) state fault.now)) }
 {
     match told_conflict(fault) {
-        Some(told) => shows_conflict(alloc, launch, player.log(), &told),
+        Some(told) => Ok(find_conflict(alloc, launch, player.log(), &told)?.is_some()),
         None => shows_next(launch, player, fault),
     }
 }

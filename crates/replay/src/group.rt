@@ -1,7 +1,7 @@
 //! What a player keeps of a work-group.
 
 ghost use Rattle.std.specs.Prelude.{◌≡◌, ◌+◌, ◌-◌, ◌<◌, ◌≤◌, ◌^◌, ℕ, List, Option, [], length, All, IfOk, IfSome, OnErr, OnOk};
-ghost use Rattle.clmodel.specs.Cells.{cells_of, lowest_unset, size_of};
+ghost use Rattle.clmodel.specs.Cells.{cells_of, lowest_unset, number, size_of};
 ghost use Rattle.clmodel.specs.Launch.{Launch, access_in, bytes_of, first_byte, region_of};
 ghost use Rattle.clmodel.specs.Run.{Memory, by_region};
 ghost use Rattle.clmodel.specs.declared.access.Region.TheVariants as region;
@@ -85,6 +85,20 @@ fn unset_in<S: Space>(space: &S, first: u64, operation: Operation) -> Option<u64
     match space.load(first, operation.width()) {
         Ok(_) => None,
         Err(SpaceFault::Unset(byte)) => Some(byte),
+        Err(SpaceFault::Bounds) => unreachable!(),
+        Err(SpaceFault::ReadOnly) => unreachable!(),
+        Err(SpaceFault::OutOfMemory) => unreachable!(),
+    }
+}
+
+/// The number that the bytes of an operation from `first` on hold, which the space has, if they are all set.
+fn number_in<S: Space>(space: &S, first: u64, operation: Operation) -> Option<u64>
+    requires { first + size_of operation ≤ length (S.bytes space.now) }
+    ensures { result ≡ number (cells_of (S.bytes space.now)) first (size_of operation) }
+{
+    match space.load(first, operation.width()) {
+        Ok(number) => Some(number),
+        Err(SpaceFault::Unset(_)) => None,
         Err(SpaceFault::Bounds) => unreachable!(),
         Err(SpaceFault::ReadOnly) => unreachable!(),
         Err(SpaceFault::OutOfMemory) => unreachable!(),
@@ -213,6 +227,30 @@ impl Group {
             Object::Local(number) => match self.locals.get(number as usize) {
                 Some(space) => unset_in(space, first, operation),
                 None => Some(first),
+            },
+        }
+    }
+
+    /// The number that the bytes of an operation of one of its items hold, from `first` on, which the object has, if
+    /// they are all set. A local object that isn't made yet is unset.
+    pub fn number_at(
+        &self,
+        buffers: &[Plain],
+        object: Object,
+        first: u64,
+        operation: Operation,
+    ) -> Option<u64>
+        requires { (launch : Launch) × (group : ℕ) × (memory : Memory) × SpacesHold (λ b. b) launch (length launch.buffers) region.Buffer buffers.now memory
+            × LocalsHold launch group self.now.locals.items memory × (first + size_of operation ≤ bytes_of launch (region_of group object)) }
+        ensures { (launch : Launch) (group : ℕ) (memory : Memory) → SpacesHold (λ b. b) launch (length launch.buffers) region.Buffer buffers.now memory
+            → LocalsHold launch group self.now.locals.items memory → first + size_of operation ≤ bytes_of launch (region_of group object)
+            → result ≡ number (memory (region_of group object)) first (size_of operation) }
+    {
+        match object {
+            Object::Buffer(number) => number_in(&buffers[number as usize], first, operation),
+            Object::Local(number) => match self.locals.get(number as usize) {
+                Some(space) => number_in(space, first, operation),
+                None => None,
             },
         }
     }

@@ -9,15 +9,16 @@
 //! share. The machine of an item that is under way is the one that its launch's code comes to from the item's start,
 //! with the answers that the item had. `play` answers true exactly where the event is possible in the state that the
 //! player is at, and then the player is at the state that the event leads to; else it stays. The other calls tell of
-//! that state: what an item does next, the accesses so far, where an element begins, the lowest byte that is unset. An
-//! event costs the same however many items there are, and no buffer is copied. `copies` makes the memory with which a
-//! player begins.
+//! that state: what an item does next, the accesses so far, where an element begins, the lowest byte that is unset, the
+//! number that bytes hold. An event costs the same however many items there are, and no buffer is copied. `copies`
+//! makes the memory with which a player begins.
 //!
-//! `told_conflict` is the conflict of a fault that tells one (OpenCL 1.2, sections 3.3.1 and 6.12.8). `shows_conflict`
-//! answers true exactly where each state with a log shows that conflict, with its items, kinds, place and byte (out of
-//! memory aside). It goes over the log twice, whatever conflicts there are. `is_at` and `is_fault_of` answer whether a
-//! region lies where a fault tells, and whether a fault is that of an item that can do nothing more for a cause;
-//! `same_name` and `is_on` compare a name and a byte. The crate uses neither overlays nor the runner of groups.
+//! `told_conflict` is the conflict of a fault that tells one (OpenCL 1.2, sections 3.3.1 and 6.12.8). `find_conflict`
+//! finds two accesses of a log with its items, kinds, place and byte that conflict so, exactly where a state with that
+//! log shows the conflict (out of memory aside). It goes over the log twice, whatever conflicts there are. `is_at` and
+//! `is_fault_of` answer whether a region lies where a fault tells, and whether a fault is that of an item that can do
+//! nothing more for a cause; `same_name` and `same_location` compare names and locations. The crate uses neither
+//! overlays nor the runner of groups.
 #![tactic(auto)]
 
 ghost use Rattle.std.specs.Prelude.{IfOk};
@@ -46,12 +47,11 @@ use crate::faults::shows;
 pub use buffers::copies;
 use clmodel::fault::Fault;
 use clmodel::schedule::Schedule;
-pub use conflicts::{Partner, is_on, shows_conflict, told_conflict};
-pub use fault_lines::{ReadFault, read, write};
+pub use conflicts::{Pair, find_conflict, told_conflict};
 use item_step::Launch;
 use launches::laws::setups_are_runnable;
 use launches::{LoadedLaunch, group_count};
-pub use places::{is_at, is_fault_of, same_name};
+pub use places::{is_at, is_fault_of, same_location, same_name};
 pub use player::Player;
 pub use slot::Stand;
 use spaces::Buffers;

@@ -21,6 +21,23 @@ pub fn same_name(name: &Name, other: &Name) -> bool
     name == other
 }
 
+/// Whether two locations are one.
+pub fn same_location(location: &Location, other: &Location) -> bool
+    ensures { Decides result (location.now ≡ other.now) }
+{
+    match (location, other) {
+        (Location::Buffer(name), Location::Buffer(other)) => same_name(name, other),
+        (
+            Location::Local { group, name },
+            Location::Local {
+                group: other_group,
+                name: other,
+            },
+        ) => *group == *other_group && same_name(name, other),
+        _ => false,
+    }
+}
+
 /// Whether a region lies where a fault tells. An error is out of memory.
 pub fn is_at<D: Described>(
     launch: &D,

@@ -1,7 +1,7 @@
 //! A launch as it is played, one event after another.
 
 ghost use Rattle.std.specs.Prelude.{◌≡◌, ◌+◌, ◌<◌, ◌≤◌, ℕ, ◌*◌, true, IfOk, IfSome, OnErr, reverse};
-ghost use Rattle.clmodel.specs.Cells.{lowest_unset, size_of};
+ghost use Rattle.clmodel.specs.Cells.{lowest_unset, number, size_of};
 ghost use Rattle.clmodel.specs.Launch.{Launch, bytes_of, group_of, region_of};
 ghost use Rattle.clmodel.specs.Run.{State, byte_at, next_action, released, start};
 ghost use Rattle.clmodel.specs.declared.action.Action.TheVariants as action;
@@ -185,6 +185,26 @@ impl<'a, D: Runnable> Player<'a, D> {
         let number = item / self.launch.group_size();
         let group = &self.groups[number as usize];
         group.unset_byte(self.buffers.as_slice(), object, first, operation)
+    }
+
+    /// The number that the bytes of an item's operation on an object hold, from `first` on, which the object has, if
+    /// they are all set (C99 6.2.6.1, 6.7.8): what a load of them gives. Local objects are unset until the first access
+    /// of one of their group's items (OpenCL 1.2, section 6.5.2).
+    pub fn number_at(
+        &self,
+        item: u32,
+        object: Object,
+        first: u64,
+        operation: Operation,
+    ) -> Option<u64>
+        requires { (launch : Launch) × (started : ℕ → Running) × (state : State) × IsAt D.launch D.started launch started self.now state × (item < launch.items)
+            × (first + size_of operation ≤ bytes_of launch (region_of (group_of launch item) object)) }
+        ensures { (launch : Launch) (started : ℕ → Running) (state : State) → IsAt D.launch D.started launch started self.now state
+            → result ≡ number (state.memory (region_of (group_of launch item) object)) first (size_of operation) }
+    {
+        let number = item / self.launch.group_size();
+        let group = &self.groups[number as usize];
+        group.number_at(self.buffers.as_slice(), object, first, operation)
     }
 
     /// An event of an item: its access, where that is what it does next and is possible. An error is out of memory, and

@@ -1,10 +1,9 @@
 use Rattle.std.proofs.Common.{◌≡◌, ◌∙◌, ℕ, ◌++◌, None, Some, map, take, ap, ap₂, sym, subst}
-use Rattle.std.specs.Option.{IfSome}
 use Rattle.clmodel.specs.Launch.{Launch}
 use Rattle.clmodel.specs.Law.{Reaches}
 use Rattle.clmodel.specs.Next.{launch_of}
 use Rattle.clmodel.specs.Outcome.{events_of}
-use Rattle.clmodel.specs.Run.{Events, after, initial, start}
+use Rattle.clmodel.specs.Run.{Events, after, start}
 use Rattle.clmodel.specs.Setup.{buffer_names}
 use Rattle.clmodel.specs.declared.fault.Fault.{Fault}
 use Rattle.item_step.specs.Launches.{setup_of, started}
@@ -13,13 +12,11 @@ use Rattle.launches.specs.Groups.{IsRunnable, filled}
 use Rattle.launches.specs.declared.loaded.LoadedLaunch.{LoadedLaunch}
 use Rattle.replay.proofs.Reaching.{map_map, never_reaches}
 use Rattle.spaces.specs.Buffers.{bytes_in}
-use Rattle.fault_play.specs.Marks.{Follows, Lead, events_in}
-use Rattle.fault_play.specs.Pairs.{IsFoundPair}
-use Rattle.fault_play.specs.Replicas.{Mirrors}
-use Rattle.fault_play.specs.declared.pairs.WantedPair.{WantedPair}
-use Rattle.fault_play.specs.declared.replica.Replica.{Replica}
+use Rattle.fault_play.specs.Marks.{Lead, events_in}
+use Rattle.replay.specs.Spots.{Finds, IsPairOf}
+use Rattle.replay.specs.States.{IsAt}
 use Rattle.fault_play.proofs.Marking.{marked, unmarked}
-use Rattle.fault_play.specs.PlayedOut.{IsPlayedOut, Tells, touch_of}
+use Rattle.fault_play.specs.PlayedOut.{IsPlayedOut, touch_of}
 use Rattle.fault_play.specs.declared.played.Played.{Played}
 use Rattle.fault_play.proofs.played.play.Goals as goal
 
@@ -31,14 +28,10 @@ of_loaded loaded = launch_of (setup_of loaded.launch.now) (bytes_in loaded.buffe
 abbrev of_starts : LoadedLaunch → ℕ → Running
 of_starts loaded = started loaded.launch.now
 
-mirrored : (k l : Launch) (replica : Replica) → k ≡ l → Mirrors k replica (initial k) → Mirrors l replica (initial l)
-mirrored k l replica same h = subst (λ (z : Launch). Mirrors z replica (initial z)) same h
-
 pub mark_schedule-requires : goal.mark_schedule-requires
 mark_schedule-requires c =
-    let same = ap₂ (λ x b. launch_of (setup_of x) (bytes_in b)) c.new-loaded.ensures.launch c.new-loaded.ensures.buffers in
     let l = of_loaded c.new-loaded.result in
-    (l, of_starts c.new-loaded.result, start l, (c.in_ok-player.ensures, mirrored _ l c.in_ok-replica.replica (sym same) c.in_ok-replica.ensures))
+    (l, of_starts c.new-loaded.result, start l, c.in_ok-player.ensures)
 
 pub new-requires-clause-runnable : goal.new-requires-clause-runnable
 new-requires-clause-runnable c =
@@ -59,8 +52,8 @@ returns-then-not-branch-clause-none c = λ other.
     subst (λ z. Reaches z (events_of c.args.schedule.now) other → ⊥) same
     (never_reaches l (events_of c.args.schedule.now) other
     (subst (λ runs. after l (start l) (events_of runs) ≡ None) c.as_slice-runs.ensures
-    (unmarked l r c.group_size-size.result (start l) _ _ _ (Follows {D = LoadedLaunch} of_loaded of_starts l r c.mark_schedule.new.player c.mark_schedule.new.replica) c.in_ok-mark_schedule.field-0
-    c.if-not-branch.true (c.in_ok-mark_schedule.ensures l r (start l) (c.in_ok-player.ensures, mirrored _ l c.in_ok-replica.replica (sym same) c.in_ok-replica.ensures)))))
+    (unmarked l r c.group_size-size.result (start l) _ _ _ (IsAt {D = LoadedLaunch} of_loaded of_starts l r c.mark_schedule.new.player) c.in_ok-mark_schedule.field-0
+    c.if-not-branch.true (c.in_ok-mark_schedule.ensures l r (start l) c.in_ok-player.ensures))))
 
 -- the same of a launch, starts and a size that are the same
 moved :
@@ -75,11 +68,11 @@ returns-clause-played c =
     let same = ap₂ (λ x b. launch_of (setup_of x) (bytes_in b)) c.new-loaded.ensures.launch c.new-loaded.ensures.buffers in
     let l = of_loaded c.new-loaded.result in
     let r = of_starts c.new-loaded.result in
-    let at = Follows {D = LoadedLaunch} of_loaded of_starts l r c.mark_schedule.new.player c.mark_schedule.new.replica in
+    let at = IsAt {D = LoadedLaunch} of_loaded of_starts l r c.mark_schedule.new.player in
     let m =
     marked l r c.group_size-size.result (start l) (events_of c.as_slice-runs.result.now) c.new-marks.result.items c.mark_schedule.new.marks.items at c.in_ok-mark_schedule.field-0 c.if-not-branch.false
-    (c.in_ok-mark_schedule.ensures l r (start l) (c.in_ok-player.ensures, mirrored _ l c.in_ok-replica.replica (sym same) c.in_ok-replica.ensures)) in
-    let here = m.5.0 in
+    (c.in_ok-mark_schedule.ensures l r (start l) c.in_ok-player.ensures) in
+    let here = m.5 in
     let made : c.mark_schedule.new.marks.items ≡ m.0 = m.2 ∙ ap (λ marks. marks ++ m.0) c.new-marks.ensures.items in
     moved l _ r _ c.group_size-size.result _ (events_of c.args.schedule.now) c.args.fault.now c.args.items.0 c.args.items.1 c.args.most _ same (ap started c.new-loaded.ensures.launch)
     c.group_size-size.ensures.value
@@ -88,7 +81,8 @@ returns-clause-played c =
       marked = ap events_in made ∙ m.3 ∙ ap events_of c.as_slice-runs.ensures;
       led = subst (λ ms. Lead l r c.group_size-size.result (start l) ms m.1) (sym made) m.4;
       touched = c.in_ok-touches.ensures ∙ ap (map (touch_of l)) (c.first_of.ensures ∙ ap (take c.args.most) (c.log-2.ensures l r m.1 here));
-      paired = subst (λ log. IfSome c.in_ok-pair.pair (λ pair. (told : WantedPair) × Tells l c.args.fault.now told × IsFoundPair l told log pair)) (c.log.ensures l r m.1 here) c.in_ok-pair.ensures;
+      paired = subst (λ log. Finds c.in_ok-pair.pair (IsPairOf l c.args.fault.now log)) (c.log.ensures l r m.1 here) c.in_ok-pair.ensures.pair;
+      shown = λ tells. c.in_ok-pair.ensures.shown m.1 tells (c.log.ensures l r m.1 here);
       first_named = c.in_ok-first.ensures.item;
       second_named = c.in_ok-second.ensures.item;
       first_acts = c.in_ok-first.ensures.acts l r m.1 here;
