@@ -14,7 +14,9 @@ use Rattle.clap.specs.declared.parser.matches.SubCommand.{SubCommand}
 use Rattle.clap.specs.declared.parser.matches.ArgMatches.TheViews.{out-ArgMatches, out-SubCommand}
 use Rattle.cli.specs.declared.command_line.Invocation.{Invocation}
 use Rattle.cli.specs.declared.command_line.Invocation.TheVariants as invocation
-use Rattle.cli.specs.CommandLine.{GivesWorkers, GivesBudget, GivesFormat, IsFormat, IsNumber, IsRun, IsCheck, IsDump, IsReplay, IsServe, IsExplain, IsRefused, Reads, Holds, program}
+use Rattle.limits.specs.declared.Configuration.{Configuration}
+use Rattle.limits.specs.declared.Limits.{Limits}
+use Rattle.cli.specs.CommandLine.{AreLimits, GivesBudget, GivesConfiguration, GivesFormat, GivesLimits, GivesWorkers, IsFormat, IsNumber, IsRun, IsCheck, IsDump, IsReplay, IsServe, IsExplain, IsRefused, Reads, Holds, program}
 
 -- no option was read where it isn't there
 pub no_option : {E : Type 0} (absent most : ℕ) (G : List ℕ → Result ℕ E → Type 0) (o : Option Text) (read : Option ℕ) → read ≡ None
@@ -57,6 +59,10 @@ not_read absent most G None e few none reads only n is =
     cc
 not_read absent most G (Some t) e few none reads only n is = only t (Err e) (reads t refl) (is.0, omega (arith, is.1, is.3, few))
 
+-- the ticks that limits allow have 32 bits
+pub few_ticks : (ticks : ℕ) → ticks ≤ 4194303 → ticks < 2 ^ 32
+few_ticks ticks few = omega (arith, few)
+
 -- nor is a number that was read and is out of range
 pub out_of_range : {E : Type 0} (absent most : ℕ) (G : List ℕ → Result ℕ E → Type 0) (o : Option Text) (k : ℕ) (read : Option ℕ) → read ≡ Some k → (k < 1) ⊎ (most < k)
     → (o ≡ None → ◌≡◌ {A = Result (Option ℕ) E} (Ok read) (Ok None)) → ((t : Text) → o ≡ Some t → TriesOne G t (Ok read))
@@ -78,6 +84,11 @@ out_of_range absent most G (Some t) k (Some x) same (inr more) none reads only n
 pub no_format : (format : Text) → bytes_eq format (codes "text") ≡ false → bytes_eq format (codes "json") ≡ false → (json : Bool) → ¬ IsFormat (Some format) json
 no_format format text json is (inl h) = false≢true (sym (subst (λ (f : Text). bytes_eq f (codes "text") ≡ false) h.0 text))
 no_format format text json is (inr h) = false≢true (sym (subst (λ (f : Text). bytes_eq f (codes "json") ≡ false) h.0 json))
+
+-- a text that names neither of the two limits
+pub no_limits : (name : Text) → bytes_eq name (codes "profile") ≡ false → bytes_eq name (codes "large") ≡ false → (limits : Limits) → ¬ AreLimits (Some name) limits
+no_limits name profile large limits (inl h) = false≢true (sym (subst (λ (f : Text). bytes_eq f (codes "profile") ≡ false) h.0 profile))
+no_limits name profile large limits (inr h) = false≢true (sym (subst (λ (f : Text). bytes_eq f (codes "large") ≡ false) h.0 large))
 
 -- ---- forms
 
@@ -137,13 +148,27 @@ pub reads_explain : (m : ArgMatches) (rows : List Row) (read : Option Invocation
 reads_explain m rows read named held = reads_form m (codes "explain") rows IsExplain read named held (λ asked is. inr (inr (inr (inr (inr (refl, is))))))
     (λ asked h. by_form (codes "explain") rows asked h (λ e is. differ e refl) (λ e is. differ e refl) (λ e is. differ e refl) (λ e is. differ e refl) (λ e is. differ e refl) (λ e is. is))
 
+-- the limits that are named by a text are one
+pub same_limits : (named : Option Text) (limits other : Limits) → AreLimits named limits → AreLimits named other → limits ≡ other
+same_limits None limits other is named = is ∙ sym named
+same_limits (Some text) limits other (inl is) (inl named) = is.1 ∙ sym named.1
+same_limits (Some text) limits other (inl is) (inr named) = differ (sym is.0 ∙ named.0) refl
+same_limits (Some text) limits other (inr is) (inl named) = differ (sym is.0 ∙ named.0) refl
+same_limits (Some text) limits other (inr is) (inr named) = is.1 ∙ sym named.1
+
+-- a budget that none of the limits named gives is none of any configuration
+pub no_budget : (rows : List Row) (limits : Limits) → GivesLimits rows limits → ((n : ℕ) → ¬ GivesBudget rows limits n)
+    → (configuration : Configuration) → ¬ GivesConfiguration rows configuration
+no_budget rows limits named none configuration is =
+    none configuration.budget (subst (λ (l : Limits). GivesBudget rows l configuration.budget) (same_limits (first_of (codes "limits") rows) configuration.limits limits is.0 named) is.1)
+
 -- what a command has from its matches
 pub run_parts : (rows : List Row) (asked : Invocation) → IsRun rows asked
-    → (path : Text) × (w n : ℕ) × (first_of (codes "FILE") rows ≡ Some path) × GivesWorkers rows w × GivesBudget rows n
-run_parts rows (invocation.Run path options) is = (path.now, options.workers, options.budget, is.0, is.1, is.2)
+    → (path : Text) × (w : ℕ) × (configuration : Configuration) × (first_of (codes "FILE") rows ≡ Some path) × GivesWorkers rows w × GivesConfiguration rows configuration
+run_parts rows (invocation.Run path options) is = (path.now, options.workers, options.configuration, is.0, is.1, is.2)
 run_parts rows (invocation.Check path) is = absurd is
 run_parts rows (invocation.Dump path name) is = absurd is
-run_parts rows (invocation.Replay script schedule) is = absurd is
+run_parts rows (invocation.Replay script schedule configuration) is = absurd is
 run_parts rows (invocation.Serve options) is = absurd is
 run_parts rows (invocation.Explain script schedule wish) is = absurd is
 
@@ -151,7 +176,7 @@ pub check_parts : (rows : List Row) (asked : Invocation) → IsCheck rows asked 
 check_parts rows (invocation.Run path options) is = absurd is
 check_parts rows (invocation.Check path) is = (path.now, is)
 check_parts rows (invocation.Dump path name) is = absurd is
-check_parts rows (invocation.Replay script schedule) is = absurd is
+check_parts rows (invocation.Replay script schedule configuration) is = absurd is
 check_parts rows (invocation.Serve options) is = absurd is
 check_parts rows (invocation.Explain script schedule wish) is = absurd is
 
@@ -160,35 +185,35 @@ pub dump_parts : (rows : List Row) (asked : Invocation) → IsDump rows asked
 dump_parts rows (invocation.Run path options) is = absurd is
 dump_parts rows (invocation.Check path) is = absurd is
 dump_parts rows (invocation.Dump path name) is = (path.now, name.now, is.0, is.1)
-dump_parts rows (invocation.Replay script schedule) is = absurd is
+dump_parts rows (invocation.Replay script schedule configuration) is = absurd is
 dump_parts rows (invocation.Serve options) is = absurd is
 dump_parts rows (invocation.Explain script schedule wish) is = absurd is
 
 pub replay_parts : (rows : List Row) (asked : Invocation) → IsReplay rows asked
-    → (script schedule : Text) × (first_of (codes "SCRIPT") rows ≡ Some script) × (first_of (codes "SCHEDULE") rows ≡ Some schedule)
+    → (script schedule : Text) × (limits : Limits) × (first_of (codes "SCRIPT") rows ≡ Some script) × (first_of (codes "SCHEDULE") rows ≡ Some schedule) × GivesLimits rows limits
 replay_parts rows (invocation.Run path options) is = absurd is
 replay_parts rows (invocation.Check path) is = absurd is
 replay_parts rows (invocation.Dump path name) is = absurd is
-replay_parts rows (invocation.Replay script schedule) is = (script.now, schedule.now, is.0, is.1)
+replay_parts rows (invocation.Replay script schedule configuration) is = (script.now, schedule.now, configuration.limits, is.0, is.1, is.2.0)
 replay_parts rows (invocation.Serve options) is = absurd is
 replay_parts rows (invocation.Explain script schedule wish) is = absurd is
 
-pub serve_parts : (rows : List Row) (asked : Invocation) → IsServe rows asked → (w n : ℕ) × GivesWorkers rows w × GivesBudget rows n
+pub serve_parts : (rows : List Row) (asked : Invocation) → IsServe rows asked → (w : ℕ) × (configuration : Configuration) × GivesWorkers rows w × GivesConfiguration rows configuration
 serve_parts rows (invocation.Run path options) is = absurd is
 serve_parts rows (invocation.Check path) is = absurd is
 serve_parts rows (invocation.Dump path name) is = absurd is
-serve_parts rows (invocation.Replay script schedule) is = absurd is
-serve_parts rows (invocation.Serve options) is = (options.workers, options.budget, is.0, is.1)
+serve_parts rows (invocation.Replay script schedule configuration) is = absurd is
+serve_parts rows (invocation.Serve options) is = (options.workers, options.configuration, is.0, is.1)
 serve_parts rows (invocation.Explain script schedule wish) is = absurd is
 
 pub explain_parts : (rows : List Row) (asked : Invocation) → IsExplain rows asked
-    → (script : Text) × (n : ℕ) × (json : Bool) × (first_of (codes "SCRIPT") rows ≡ Some script) × GivesBudget rows n × GivesFormat rows json
+    → (script : Text) × (configuration : Configuration) × (json : Bool) × (first_of (codes "SCRIPT") rows ≡ Some script) × GivesConfiguration rows configuration × GivesFormat rows json
 explain_parts rows (invocation.Run path options) is = absurd is
 explain_parts rows (invocation.Check path) is = absurd is
 explain_parts rows (invocation.Dump path name) is = absurd is
-explain_parts rows (invocation.Replay script schedule) is = absurd is
+explain_parts rows (invocation.Replay script schedule configuration) is = absurd is
 explain_parts rows (invocation.Serve options) is = absurd is
-explain_parts rows (invocation.Explain script schedule wish) is = (script.now, wish.budget, wish.json, is.0, is.2, is.3)
+explain_parts rows (invocation.Explain script schedule wish) is = (script.now, wish.configuration, wish.json, is.0, is.2, is.3)
 
 pub not_there : {A : Type 0} (o : Option A) (x : A) → o ≡ None → ¬ (o ≡ Some x)
 not_there o x none some = let bad : None ≡ Some x = sym none ∙ some in cc

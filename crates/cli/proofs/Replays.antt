@@ -22,6 +22,7 @@ use Rattle.cli.specs.Replaying.{HadMemory, Leads, Performs, Replays, ReadsFile, 
 use Rattle.cli.specs.declared.session.RunFault.{RunFault}
 use Rattle.cli.specs.declared.session.RunFault.TheVariants as fault
 use Rattle.cli.proofs.Sessions.{plays_more}
+use Rattle.limits.specs.declared.Configuration.{Configuration}
 
 pub leads_none : (m : Machine) → Leads m [] m
 leads_none m = record { replies = []; plays = refl; had_memory = λ k d h. absurd (omega arith) }
@@ -55,15 +56,15 @@ replays {m} {kernel} {range} launch buffers f runs answer p e d =
     record { admitted = p.admitted; decides = subst (λ (b : Table (List ℕ)). D (setup_of m (kernel_of m kernel) range) b) e (subst (λ (s : Setup). D s buffers) p.setup d) }
 
 -- a replay that came to no answer behind its two texts
-pub unreplayed : {rest rest' : Option (List ℕ)} {commands : List Command} {ticket : ℕ} {f : Fault} {runs : List EventRun} (a a' b b' : ℕ) (s : Sink) (why : RunFault)
-    → ReadsScript rest commands → ReadsFile rest' ticket f runs → Unjudged commands ticket why → Unreplayed rest rest' a a' b b' s s why
+pub unreplayed : {configuration : Configuration} {rest rest' : Option (List ℕ)} {commands : List Command} {ticket : ℕ} {f : Fault} {runs : List EventRun} (a a' b b' : ℕ) (s : Sink) (why : RunFault)
+    → ReadsScript rest commands → ReadsFile rest' ticket f runs → Unjudged configuration commands ticket why → Unreplayed configuration rest rest' a a' b b' s s why
 unreplayed a a' b b' s (fault.Read by) script file h = absurd h
 unreplayed a a' b b' s fault.Write script file h = absurd h
 unreplayed a a' b b' s (fault.BadLine n) script file h = absurd h
 unreplayed a a' b b' s fault.OutOfMemory script file h = refl
 unreplayed a a' b b' s fault.NoSuchKernel script file h = absurd h
 unreplayed a a' b b' s fault.BadSchedule script file h = absurd h
-unreplayed {rest} {rest'} {commands} {ticket} {f} {runs} a a' b b' s (fault.NotALaunch named) script file h =
+unreplayed {configuration} {rest} {rest'} {commands} {ticket} {f} {runs} a a' b b' s (fault.NotALaunch named) script file h =
     (subst (λ (n : ℕ). Missed rest rest' n) (sym h.0) (record { commands = commands; fault = f; runs = runs; script = script; file = file; missed = h.1 }), refl)
-unreplayed {rest} {rest'} {commands} {ticket} {f} {runs} a a' b b' s (fault.CommandRefused named) script file h =
-    (subst (λ (n : ℕ). Refused rest rest' n) (sym h.0) (record { commands = commands; fault = f; runs = runs; script = script; file = file; refuses = h.1 }), refl)
+unreplayed {configuration} {rest} {rest'} {commands} {ticket} {f} {runs} a a' b b' s (fault.CommandRefused named) script file h =
+    (subst (λ (n : ℕ). Refused configuration rest rest' n) (sym h.0) (record { commands = commands; fault = f; runs = runs; script = script; file = file; refuses = h.1 }), refl)

@@ -10,7 +10,7 @@ returns c =
     let flag = one_text-rows (found_of c.args.explain.now) (codes "as-given") in (
       sym (first_value-rows (found_of c.args.explain.now) (codes "SCRIPT")) ∙ (sym c.get_str.ensures ∙ ap (option_map (λ s. s.now)) found),
       sym (first_value-rows (found_of c.args.explain.now) (codes "SCHEDULE")) ∙ sym c.get_str-schedule.ensures,
-      c.in_ok-budget.ensures.given,
+      c.in_ok-configuration.ensures,
       c.in_ok-json.ensures,
       record {
         there = λ is. c.get_flag-as_given.ensures.value (flag ∙ is);
@@ -26,8 +26,8 @@ returns-in_err-script c =
     sym (first_value-rows (found_of c.args.explain.now) (codes "SCRIPT")) ∙ (sym c.get_str.ensures ∙ ap (option_map (λ s. s.now)) missing) in
     rw c.from_residual.ensures (λ asked is. let parts = explain_parts (rows_of (found_of c.args.explain.now)) asked is in not_there (first_of (codes "SCRIPT") (rows_of (found_of c.args.explain.now))) parts.0 none parts.3)
 
-pub returns-in_err-budget : goal.returns-in_err-budget
-returns-in_err-budget c = rw c.from_residual-in_err-budget.ensures (λ asked is. let parts = explain_parts (rows_of (found_of c.args.explain.now)) asked is in c.in_err-budget.ensures.given parts.1 parts.4)
+pub returns-in_err-configuration : goal.returns-in_err-configuration
+returns-in_err-configuration c = rw c.from_residual-in_err-configuration.ensures (λ asked is. let parts = explain_parts (rows_of (found_of c.args.explain.now)) asked is in c.in_err-configuration.ensures parts.1 parts.4)
 
 pub returns-in_err-json : goal.returns-in_err-json
 returns-in_err-json c = rw c.from_residual-in_err-json.ensures (λ asked is. let parts = explain_parts (rows_of (found_of c.args.explain.now)) asked is in c.in_err-json.ensures parts.2 parts.5)

@@ -7,7 +7,7 @@ use Rattle.cli.proofs.command_line.run_of.Goals as goal
 pub returns : goal.returns
 returns c =
     let found : c.get_str.result ≡ Some c.in_ok-file.file = search rules in
-    (sym (first_value-rows (found_of c.args.run.now) (codes "FILE")) ∙ (sym c.get_str.ensures ∙ ap (option_map (λ s. s.now)) found), c.in_ok-workers.ensures.given, c.in_ok-budget.ensures.given)
+    (sym (first_value-rows (found_of c.args.run.now) (codes "FILE")) ∙ (sym c.get_str.ensures ∙ ap (option_map (λ s. s.now)) found), c.in_ok-workers.ensures.given, c.in_ok-configuration.ensures)
 
 pub returns-in_err-file : goal.returns-in_err-file
 returns-in_err-file c =
@@ -19,5 +19,5 @@ returns-in_err-file c =
 pub returns-in_err-workers : goal.returns-in_err-workers
 returns-in_err-workers c = rw c.from_residual-in_err-workers.ensures (λ asked is. let parts = run_parts (rows_of (found_of c.args.run.now)) asked is in c.in_err-workers.ensures.given parts.1 parts.4)
 
-pub returns-in_err-budget : goal.returns-in_err-budget
-returns-in_err-budget c = rw c.from_residual-in_err-budget.ensures (λ asked is. let parts = run_parts (rows_of (found_of c.args.run.now)) asked is in c.in_err-budget.ensures.given parts.2 parts.5)
+pub returns-in_err-configuration : goal.returns-in_err-configuration
+returns-in_err-configuration c = rw c.from_residual-in_err-configuration.ensures (λ asked is. let parts = run_parts (rows_of (found_of c.args.run.now)) asked is in c.in_err-configuration.ensures parts.2 parts.5)
