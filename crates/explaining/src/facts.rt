@@ -1,7 +1,7 @@
 //! What an explanation tells of its launch, its fault, its memory and its schedule.
 #![tactic(auto)]
 
-ghost use Rattle.std.specs.Prelude.{◌≡◌, ◌≤◌, IfOk, string_bytes};
+ghost use Rattle.std.specs.Prelude.{◌≡◌, IfOk, string_bytes};
 ghost use Rattle.explain_items.specs.Named.{AreToldInside, told_items};
 ghost use Rattle.explaining.specs.Whole.{AreNamed, TellsFault, TellsLaunch, schedule_words};
 

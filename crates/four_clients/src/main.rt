@@ -8,6 +8,7 @@ use crate::guest::guests_of;
 use crate::serving::serve;
 use device::{Device, Reply};
 use host_queue::{close, open};
+use limits::{Configuration, Limits};
 use std::alloc::Global;
 use std::io;
 use std::sync::Wait;
@@ -34,7 +35,8 @@ fn show<R: Print>(rt: &R, number: u8, reply: &Reply) -> io::Result<()> {
 /// Lets four clients give their commands to a device, and writes each one's replies in the order of its tickets.
 fn run<R: Print + AllocGlobal + Threads + Wait + Sync>(rt: &R) -> io::Result<()> {
     let alloc: Global = rt.alloc();
-    let (queue, clients, driver) = open(alloc, Device::new(alloc, 1000000), 4)?;
+    let device = Device::new(alloc, Configuration::of(Limits::profile()));
+    let (queue, clients, driver) = open(alloc, device, 4)?;
     let guests = guests_of(alloc, &queue, clients)?;
     let (reports, driver) = serve(rt, alloc, &queue, guests, driver);
     for report in reports? {

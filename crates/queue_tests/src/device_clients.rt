@@ -9,6 +9,7 @@ use crate::turns::{notes_are_right, polls_are_right};
 use clmodel::text::{Bytes, Name};
 use device::{Command, Device, Reply};
 use host_queue::{Driver, Queue, close, open};
+use limits::{Configuration, Limits};
 use spaces::Buffers;
 use std::alloc::{AllocError, Global};
 use std::sync::Wait;
@@ -70,14 +71,16 @@ impl Questions<Command, Reply> for Device {
 #[test]
 fn two_clients_share_a_device(rt: HostRuntime) {
     let alloc: Global = rt.alloc();
-    assert!(rt; notes_are_right(alloc, Device::new(alloc, 100000), &[1, 5, 1, 5, 1]) == Ok(true));
+    let device = Device::new(alloc, Configuration::of(Limits::profile()));
+    assert!(rt; notes_are_right(alloc, device, &[1, 5, 1, 5, 1]) == Ok(true));
 }
 
 /// The same, where the replies are polled.
 #[test]
 fn two_clients_poll_a_device(rt: HostRuntime) {
     let alloc: Global = rt.alloc();
-    assert!(rt; polls_are_right(alloc, Device::new(alloc, 100000), &[1, 5, 1, 5, 1]) == Ok(true));
+    let device = Device::new(alloc, Configuration::of(Limits::profile()));
+    assert!(rt; polls_are_right(alloc, device, &[1, 5, 1, 5, 1]) == Ok(true));
 }
 
 /// Whether a client's buffer holds what the client wrote.
@@ -132,7 +135,8 @@ fn sixteen<W: Threads + Wait + Sync>(
     rt: &W,
     alloc: Global,
 ) -> Result<(usize, usize, usize, u8), AllocError> {
-    let (queue, clients, driver) = open(alloc, Device::new(alloc, 1000000), 16)?;
+    let device = Device::new(alloc, Configuration::of(Limits::profile()));
+    let (queue, clients, driver) = open(alloc, device, 16)?;
     let numbered = numbered_clients(alloc, &queue, clients)?;
     let (reports, driver) = serve(rt, alloc, &queue, numbered, driver)?;
     let counts = counted(alloc, Ok(reports), 0, 4096);

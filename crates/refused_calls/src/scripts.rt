@@ -1,6 +1,7 @@
 //! Devices that have done the commands of a script, and commands that are yet to be done.
 
 use device::{Command, Device, Reply};
+use limits::{Configuration, Limits};
 use simfile::script::read_script;
 use std::alloc::Global;
 
@@ -36,7 +37,11 @@ pub fn does_all(device: &mut Device, commands: Vec<Command>) -> bool {
 
 /// A device that has done these commands. None where memory is refused.
 fn device_after(alloc: Global, commands: Vec<Command>) -> Option<Device> {
-    let mut device = Device::new(alloc, BUDGET);
+    let configuration = Configuration {
+        limits: Limits::profile(),
+        budget: BUDGET,
+    };
+    let mut device = Device::new(alloc, configuration);
     if does_all(&mut device, commands) {
         Some(device)
     } else {

@@ -14,6 +14,7 @@ use cltypes::Checked;
 use host_commands::build::build;
 use host_commands::ranges::{group_items, is_bad_dimension, is_bad_group, is_too_many};
 use item_step::{Launch, Setup, is_local_too_large};
+use limits::Limits;
 use lower::lower_kernel;
 use regcode::Code;
 use std::alloc::Global;
@@ -49,15 +50,16 @@ fn compare_code(
         arguments: arguments.as_slice(),
         budget,
     };
+    let limits = Limits::profile();
     if is_bad_dimension(range)
-        || is_bad_group(range)
-        || is_too_many(range)
+        || is_bad_group(&limits, range)
+        || is_too_many(&limits, range)
         || arguments.len() > MOST_ARGUMENTS
         || is_local_too_large(&checked.tree, kernel, arguments.as_slice())
     {
         return Err(NotRun);
     }
-    let launch = Launch::new(alloc, setup, group_items(range), code)?;
+    let launch = Launch::new(alloc, setup, group_items(&limits, range), code)?;
     compare(alloc, &launch, buffers)
 }
 

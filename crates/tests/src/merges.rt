@@ -18,6 +18,7 @@ use host_commands::build::build;
 use host_commands::ranges::{group_items, is_bad_dimension, is_bad_group, is_too_many};
 use item_step::{Launch, Setup, is_local_too_large};
 use launches::group_count;
+use limits::Limits;
 use lower::lower_kernel;
 use spaces::Buffers;
 use std::alloc::{AllocError, Global};
@@ -185,7 +186,8 @@ fn comes_to(
     expected: &Expected,
 ) -> Option<bool> {
     let found = program.kernel(b"k")?;
-    if is_bad_dimension(range) || is_bad_group(range) || is_too_many(range) {
+    let limits = Limits::profile();
+    if is_bad_dimension(range) || is_bad_group(&limits, range) || is_too_many(&limits, range) {
         return None;
     }
     let arguments = [Some(Argument::Buffer(buffer))];
@@ -201,7 +203,7 @@ fn comes_to(
         arguments: &arguments,
         budget: 100,
     };
-    let launch = Launch::new(alloc, setup, group_items(range), &code).ok()?;
+    let launch = Launch::new(alloc, setup, group_items(&limits, range), &code).ok()?;
     let groups = group_count(&launch);
     Some(
         is_as(run_launch(alloc, &launch, buffers), expected)

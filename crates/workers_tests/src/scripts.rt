@@ -1,6 +1,7 @@
 //! Devices that have done the commands of a script.
 
 use device::{Command, Device};
+use limits::{Configuration, Limits};
 use simfile::script::read_script;
 use std::alloc::Global;
 
@@ -26,7 +27,11 @@ pub const SUMS: [u8; 16] = [
 
 /// A device that has done commands.
 fn done(alloc: Global, commands: Vec<Command>) -> Device {
-    let mut device = Device::new(alloc, 1000000);
+    let configuration = Configuration {
+        limits: Limits::profile(),
+        budget: 1_000_000,
+    };
+    let mut device = Device::new(alloc, configuration);
     for command in commands {
         device.apply(command);
     }
