@@ -1,7 +1,7 @@
 //! Commands that are heard one by one, each answered before the next is heard.
 #![tactic(auto)]
 
-ghost use Rattle.std.specs.Prelude.{◌≡◌, ◌≤◌, ℕ, IfOk, IfErr, IfSome, length, []};
+ghost use Rattle.std.specs.Prelude.{◌≡◌, ◌≤◌, IfOk, IfErr, IfSome, length, []};
 ghost use Rattle.std.specs.Option.{MatchOption};
 ghost use Rattle.device.specs.Machine.{machine_of};
 ghost use Rattle.byte_io.specs.Talk.{Conversation};

@@ -1,6 +1,5 @@
 use Rattle.std.proofs.lemmas.Result.{err_from_is_err_and}
 use Rattle.cli.proofs.dialogue.take_turns.Goals as goal
-use Rattle.limits.specs.declared.Configuration.{Configuration}
 
 pub loop-init : goal.loop-init
 loop-init g c = record { line = c.requires; serves = λ start configuration serves. serves }

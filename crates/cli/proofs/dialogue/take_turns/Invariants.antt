@@ -1,4 +1,4 @@
-use Rattle.std.proofs.Common.{ℕ, []}
+use Rattle.std.proofs.Common.{[]}
 use Rattle.device.specs.Machine.{machine_of}
 use Rattle.byte_io.specs.Talk.{Conversation}
 use Rattle.serving.specs.Serving.{HasLine}

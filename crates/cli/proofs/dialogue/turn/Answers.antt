@@ -1,7 +1,6 @@
 use Rattle.std.proofs.lemmas.Result.{err_from_is_err_and}
 use Rattle.cli.proofs.Servings.{is_none, served_all, serves_more, no_command, not_told, not_heard}
 use Rattle.cli.proofs.dialogue.turn.Goals as goal
-use Rattle.limits.specs.declared.Configuration.{Configuration}
 
 pub returns-in_default-clause-turned : goal.returns-in_default-clause-turned
 returns-in_default-clause-turned g c start configuration serves =

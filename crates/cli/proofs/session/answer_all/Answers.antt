@@ -4,7 +4,6 @@ use Rattle.std.proofs.lemmas.List.{append-nil, nil_from_length}
 use Rattle.std.proofs.lemmas.Result.{err_from_is_err_and}
 use Rattle.cli.proofs.Sessions.{answered_none, answered_more, broken_at, answered_all, broken_last}
 use Rattle.cli.proofs.session.answer_all.Goals as goal
-use Rattle.limits.specs.declared.Configuration.{Configuration}
 
 pub loop-command-init : goal.loop-command-init
 loop-command-init g c = record { split = search rules; counts = search rules; answered = λ configuration first. answered_none configuration _ _ first }

@@ -3,7 +3,6 @@ use Rattle.device.specs.Machine.{machine_of}
 use Rattle.explaining.proofs.Walking.{faulted_case, unbuilt}
 use Rattle.explaining.proofs.Writing.{says_faulted, says_unbuilt}
 use Rattle.explaining.proofs.explained.answer_at.Goals as goal
-use Rattle.limits.specs.declared.Configuration.{Configuration}
 
 pub returns-in_ok-unbuilt_answer-in-Unbuilt-clause-found : goal.returns-in_ok-unbuilt_answer-in-Unbuilt-clause-found
 returns-in_ok-unbuilt_answer-in-Unbuilt-clause-found c =

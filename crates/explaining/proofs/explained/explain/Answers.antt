@@ -1,7 +1,6 @@
 use Rattle.std.proofs.lemmas.Result.{err_from_is_err_and}
 use Rattle.explaining.proofs.Answering.{unwritten}
 use Rattle.explaining.proofs.explained.explain.Goals as goal
-use Rattle.limits.specs.declared.Configuration.{Configuration}
 
 pub returns-in_err-answer-clause-failed : goal.returns-in_err-answer-clause-failed
 returns-in_err-answer-clause-failed g c =

@@ -1,6 +1,5 @@
 use Rattle.explaining.proofs.Writing.{says_of}
 use Rattle.explaining.proofs.explained.explain_schedule.Goals as goal
-use Rattle.limits.specs.declared.Configuration.{Configuration}
 
 pub returns-clause-says : goal.returns-clause-says
 returns-clause-says c =

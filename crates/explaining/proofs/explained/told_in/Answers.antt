@@ -1,7 +1,6 @@
 use Rattle.explaining.proofs.Schedules.{explained, unexplained}
 use Rattle.explaining.proofs.Writing.{whole_of}
 use Rattle.explaining.proofs.explained.told_in.Goals as goal
-use Rattle.limits.specs.declared.Configuration.{Configuration}
 
 pub returns-clause-explained : goal.returns-clause-explained
 returns-clause-explained c =
