@@ -2,9 +2,9 @@
 # Runs each script that is named with $CLSIM, or with the clsim on the path, and shows the first fault, refusal or bad
 # line of each: FILE:LINE of its command, and below it the explanation where `clsim explain` has one of that very fault
 # or source, else the line itself. Where $SARIF names a file, these and the explanations are written there as
-# SARIF 2.1.0, which takes Python 3. $CLSIM_WORKERS and $CLSIM_BUDGET, where they are set, are the options of the program
-# by these names. Status 0 if there are none, else 1, and 2 where there is no such program, no script
-# is named, or the file can't be written.
+# SARIF 2.1.0, which takes Python 3. $CLSIM_WORKERS, $CLSIM_BUDGET and $CLSIM_LIMITS, where they are set, are the options
+# of the program by these names. Status 0 if there are none, else 1, and 2 where there is no such program, no script is
+# named, or the file can't be written.
 CLSIM=${CLSIM:-clsim}
 if ! command -v "$CLSIM" >/dev/null; then
     echo "ci.sh: no program: $CLSIM" >&2
@@ -59,11 +59,11 @@ first_reply() {
 }
 
 failed=0
-budget=${CLSIM_BUDGET:+--budget $CLSIM_BUDGET}
+device="${CLSIM_BUDGET:+--budget $CLSIM_BUDGET} ${CLSIM_LIMITS:+--limits $CLSIM_LIMITS}"
 for script in "$@"; do
-    # (CLSIM_WORKERS and CLSIM_BUDGET are options of the program, as for the driver)
+    # (CLSIM_WORKERS, CLSIM_BUDGET and CLSIM_LIMITS are options of the program, as for the driver)
     # shellcheck disable=SC2086
-    "$CLSIM" run "$script" ${CLSIM_WORKERS:+--workers $CLSIM_WORKERS} $budget >"$folder/replies" 2>&1 && continue
+    "$CLSIM" run "$script" ${CLSIM_WORKERS:+--workers $CLSIM_WORKERS} $device >"$folder/replies" 2>&1 && continue
     first_reply "$script" $? >"$folder/first"
     failed=1
     first=$(sed 1q "$folder/first")
@@ -71,7 +71,8 @@ for script in "$@"; do
     # (the explanation is that of the first fault or source that doesn't build, which may stand behind another refusal)
     case $first in
         [0-9]*': fault '* | [0-9]*': refused 10 BuildFailed '*)
-            told=$("$CLSIM" explain "$script" $budget 2>/dev/null) || told= ;;
+            # shellcheck disable=SC2086
+            told=$("$CLSIM" explain "$script" $device 2>/dev/null) || told= ;;
         *) told= ;;
     esac
     if [ -n "$told" ]; then printf '%s\n' "$told"; else sed 1d "$folder/first"; fi
@@ -80,7 +81,7 @@ for script in "$@"; do
         case $first in [0-9]*) printf '%s:%s\n' "$script" "$first" >>"$folder/explained" ;; esac
     fi
     # shellcheck disable=SC2086
-    told=$("$CLSIM" explain "$script" $budget --format json 2>/dev/null)
+    told=$("$CLSIM" explain "$script" $device --format json 2>/dev/null)
     # (of a script with neither a fault nor a source that doesn't build it is the word clean)
     case $told in '{'*) printf '%s\n' "$told" >>"$folder/explained" ;; esac
 done

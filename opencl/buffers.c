@@ -6,24 +6,41 @@
 
 // ---- bytes ----
 
+// Bytes go in pieces: no line of a script writes more at once, and the memory that a call takes doesn't grow with them.
+enum { HEAD_ROOM = 64 };
+static size_t piece_of(size_t n) { return n < PIECE_BYTES ? n : PIECE_BYTES; }
+
 const char *ask_write(cl_context c, unsigned buffer, size_t offset, const void *from, size_t n) {
-    char *command = malloc(2 * n + 64);
-    if (!command) return "refused 16 OutOfMemory";
-    size_t at = (size_t)snprintf(command, 64, "write b%u %zu ", buffer, offset);
-    put_digits(command + at, from, n);
-    at += 2 * n;
-    command[at++] = '\n';
-    const char *reply = session_ask(c->session, command, at);
+    char *command = malloc(2 * piece_of(n) + HEAD_ROOM);
+    const char *reply = command ? "ok" : "refused 16 OutOfMemory";
+    for (size_t done = 0; is_ok(reply) && done < n;) {
+        size_t piece = piece_of(n - done), at;
+        at = (size_t)snprintf(command, HEAD_ROOM, "write b%u %zu ", buffer, offset + done);
+        put_digits(command + at, (const unsigned char *)from + done, piece);
+        at += 2 * piece;
+        command[at++] = '\n';
+        reply = session_ask(c->session, command, at);
+        done += piece;
+    }
     free(command);
     return reply;
 }
 
-cl_int ask_read(cl_context c, unsigned buffer, size_t offset, void *to, size_t n) {
+static cl_int read_piece(cl_context c, unsigned buffer, size_t offset, unsigned char *to, size_t n) {
     const char *reply = session_askf(c->session, "read b%u %zu %zu\n", buffer, offset, n);
     if (!reply || strncmp(reply, "data ", 5) || strlen(reply) != 5 + 2 * n)
         return error_of(reply) == CL_SUCCESS ? CL_OUT_OF_RESOURCES : error_of(reply);
     take_digits(to, reply + 5, n);
     return CL_SUCCESS;
+}
+
+cl_int ask_read(cl_context c, unsigned buffer, size_t offset, void *to, size_t n) {
+    cl_int fault = CL_SUCCESS;
+    for (size_t done = 0, piece; !fault && done < n; done += piece) {
+        piece = piece_of(n - done);
+        fault = read_piece(c, buffer, offset + done, (unsigned char *)to + done, piece);
+    }
+    return fault;
 }
 
 static bool is_outside(cl_mem m, size_t offset, size_t n) { return offset > m->size || n > m->size - offset; }
@@ -71,8 +88,9 @@ CL_API_ENTRY cl_mem CL_API_CALL clCreateBuffer(cl_context c, cl_mem_flags flags,
     if ((flags & CL_MEM_USE_HOST_PTR) && (flags & (CL_MEM_COPY_HOST_PTR | CL_MEM_ALLOC_HOST_PTR)))
         return fail(errcode, CL_INVALID_VALUE);
     if (!n) return fail(errcode, CL_INVALID_BUFFER_SIZE);
-    if (n > MAX_BYTES) {
-        refuse(c, "a buffer of %zu bytes is refused: the limit is %d", n, MAX_BYTES);
+    const device_limits *limits = limits_of_device();
+    if (n > limits->bytes) {
+        refuse(c, "a buffer of %zu bytes is refused: the limit is %zu (limits: %s)", n, limits->bytes, limits->name);
         return fail(errcode, CL_INVALID_BUFFER_SIZE);
     }
     cl_mem m = make_object(sizeof *m, MEMORY);

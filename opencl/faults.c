@@ -33,8 +33,12 @@ void check_settings(void) {
         tell("CLSIM_ON_FAULT is error, go, exit or abort, and not %s", then);
     if (setting("CLSIM_STATUS") && status_setting(-1) < 0)
         tell("CLSIM_STATUS is a number from 0 to 255, and not %s", setting("CLSIM_STATUS"));
-    if (setting("CLSIM_LOCAL") && number_setting("CLSIM_LOCAL", 1, MAX_GROUP, 0) == 0)
-        tell("CLSIM_LOCAL is a number from 1 to 256, and not %s", setting("CLSIM_LOCAL"));
+    const char *limits = setting("CLSIM_LIMITS");
+    if (limits && strcmp(limits, "profile") && strcmp(limits, "large"))
+        tell("CLSIM_LIMITS is profile or large, and not %s", limits);
+    size_t group = limits_of_device()->group;
+    if (setting("CLSIM_LOCAL") && number_setting("CLSIM_LOCAL", 1, (long)group, 0) == 0)
+        tell("CLSIM_LOCAL is a number from 1 to %zu, and not %s", group, setting("CLSIM_LOCAL"));
 }
 
 // With CLSIM_STATUS=N the process ends with status N where a launch faulted, whatever it answers itself.
@@ -209,16 +213,45 @@ static void add_sizes(text *t, const launch_sizes *s) {
     addf(t, "%s\n", s->uniform ? " uniform" : "");
 }
 
-// A buffer with what it holds: a launch that faults has changed nothing.
-static bool add_buffer(text *t, cl_context c, unsigned number, size_t size) {
-    if (t->length + 2 * size > MAX_EXPLAINED_BYTES) return false;
-    char *bytes = take(t->arena, size);
-    if (ask_read(c, number, 0, bytes, size)) return false;
-    char *hex = take(t->arena, 2 * size + 1);
-    put_digits(hex, (const unsigned char *)bytes, size);
-    addf(t, "buffer b%u %zu\nwrite b%u 0 ", number, size, number);
-    add_bytes(t, hex, 2 * size);
-    add(t, "\n");
+// A piece of a buffer's bytes with room for its digits.
+typedef struct {
+    unsigned char bytes[PIECE_BYTES];
+    char digits[2 * PIECE_BYTES];
+} buffer_piece;
+
+static bool are_zero(const unsigned char *bytes, size_t n) { return !bytes[0] && !memcmp(bytes, bytes + 1, n - 1); }
+
+// A buffer with what it holds: a launch that faults has changed nothing. A piece of zeros needs no line, since a buffer
+// is made of them.
+static bool add_buffer(text *t, buffer_piece *piece, cl_context c, unsigned number, size_t size) {
+    addf(t, "buffer b%u %zu\n", number, size);
+    for (size_t at = 0, n; at < size; at += n) {
+        n = size - at < PIECE_BYTES ? size - at : PIECE_BYTES;
+        if (ask_read(c, number, at, piece->bytes, n)) return false;
+        if (are_zero(piece->bytes, n)) continue;
+        if (t->length + 2 * n > MAX_EXPLAINED_BYTES) return false;
+        put_digits(piece->digits, piece->bytes, n);
+        addf(t, "write b%u %zu ", number, at);
+        add_bytes(t, piece->digits, 2 * n);
+        add(t, "\n");
+    }
+    return true;
+}
+
+// The buffers that a launch names, each once.
+static bool add_buffers(text *t, cl_kernel k) {
+    const kernel_form *form = k->form;
+    buffer_piece *piece = take(t->arena, sizeof *piece);
+    for (unsigned i = 0; i < form->count; i++) {
+        cl_mem m = k->arguments[i].memory;
+        bool first = true;
+        for (unsigned j = 0; j < i; j++) first = first && k->arguments[j].memory != m;
+        if (m && first && !add_buffer(t, piece, k->context, m->number, m->size)) return false;
+    }
+    for (unsigned i = 0; i < form->table_count; i++) {
+        unsigned n = form->tables[i];
+        if (!add_buffer(t, piece, k->context, k->program->tables[n], k->program->form.tables[n].size)) return false;
+    }
     return true;
 }
 
@@ -227,15 +260,7 @@ static bool add_script(text *t, cl_kernel k, const launch_sizes *s) {
     const kernel_form *form = k->form;
     const prepared *source = &k->program->form;
     add(t, "clsim 2\n");
-    for (unsigned i = 0; i < form->count; i++) {
-        cl_mem m = k->arguments[i].memory;
-        bool first = true;
-        for (unsigned j = 0; j < i; j++) first = first && k->arguments[j].memory != m;
-        if (m && first && !add_buffer(t, k->context, m->number, m->size)) return false;
-    }
-    for (unsigned i = 0; i < form->table_count; i++)
-        if (!add_buffer(t, k->context, k->program->tables[form->tables[i]], source->tables[form->tables[i]].size))
-            return false;
+    if (!add_buffers(t, k)) return false;
     addf(t, "program p%u %u\n", k->program->number, source->lines);
     add_bytes(t, source->text, source->length);
     addf(t, "kernel k%u p%u %s\n", k->number, k->program->number, form->name);

@@ -1,14 +1,19 @@
 #include "objects.h"
+#include <stdint.h>
 #include <stdio.h>
 #include <stdlib.h>
 #include <string.h>
+
+// How many items a group has at most where the client leaves its size open, whatever a device allows: the groups of
+// such a client, and with them its schedules, are the same under all limits.
+enum { CHOSEN_GROUP = 256 };
 
 // The local sizes where the client leaves them open: in each dimension, from the first on, the largest divisor of the
 // global size that leaves at most 256 items a group, or as many as CLSIM_LOCAL says.
 static void choose_local(cl_uint dimensions, const size_t *global, size_t *local) {
     const char *given = setting("CLSIM_LOCAL");
-    size_t room = given ? strtoul(given, NULL, 10) : MAX_GROUP;
-    if (!room || room > MAX_GROUP) room = MAX_GROUP;
+    size_t room = given ? strtoul(given, NULL, 10) : CHOSEN_GROUP;
+    if (!room || room > limits_of_device()->group) room = CHOSEN_GROUP;
     for (cl_uint d = 0; d < dimensions; d++) {
         local[d] = 1;
         for (size_t n = room; n > 1; n--)
@@ -22,27 +27,28 @@ static void choose_local(cl_uint dimensions, const size_t *global, size_t *local
 // The sizes of a launch, judged as far as the device doesn't judge them.
 static cl_int take_sizes(cl_kernel k, launch_sizes *s, const size_t *offset, const size_t *global,
                          const size_t *local) {
+    const device_limits *limits = limits_of_device();
     const size_t *wanted = k->form->group;
     size_t group = 1, items = 1;
     if (!global) return CL_INVALID_GLOBAL_WORK_SIZE;
     if (wanted[0] && !local) return CL_INVALID_WORK_GROUP_SIZE;
     for (cl_uint d = 0; d < s->dimensions; d++) {
         if (!global[d]) return CL_INVALID_GLOBAL_WORK_SIZE;
-        items = global[d] > MAX_ITEMS || items > MAX_ITEMS ? MAX_ITEMS + 1 : items * global[d];
+        if (__builtin_mul_overflow(items, global[d], &items)) items = SIZE_MAX; // (no size is 0, so it stays too many)
         s->global[d] = global[d];
         s->offset[d] = offset ? offset[d] : 0;
         if (!local) continue;
         if (!local[d] || global[d] % local[d]) return CL_INVALID_WORK_GROUP_SIZE;
-        if (local[d] > MAX_GROUP) return CL_INVALID_WORK_ITEM_SIZE;
+        if (local[d] > limits->group) return CL_INVALID_WORK_ITEM_SIZE;
         group *= local[d];
         s->local[d] = local[d];
     }
     for (cl_uint d = 0; wanted[0] && d < 3; d++)
         if (wanted[d] != (d < s->dimensions ? s->local[d] : 1)) return CL_INVALID_WORK_GROUP_SIZE;
-    if (group > MAX_GROUP) return CL_INVALID_WORK_GROUP_SIZE;
+    if (group > limits->group) return CL_INVALID_WORK_GROUP_SIZE;
     if (!local) choose_local(s->dimensions, global, s->local);
-    if (items <= MAX_ITEMS) return CL_SUCCESS;
-    refuse(k->context, "kernel %s: more than %d work-items", k->form->name, MAX_ITEMS);
+    if (items <= limits->items) return CL_SUCCESS;
+    refuse(k->context, "kernel %s: more than %zu work-items (limits: %s)", k->form->name, limits->items, limits->name);
     return CL_INVALID_GLOBAL_WORK_SIZE;
 }
 

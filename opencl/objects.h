@@ -12,8 +12,6 @@
 #include <CL/cl_ext.h>
 #include <CL/cl_icd.h>
 
-enum { MAX_BYTES = 1048576, MAX_BUFFERS = 64, MAX_ITEMS = 65536, MAX_GROUP = 256, MAX_LOCAL = 32768 };
-
 typedef enum { CONTEXT = 1, QUEUE, MEMORY, PROGRAM, KERNEL, EVENT } object_kind;
 
 // `references` are those of the client, `uses` those of other objects. An object goes when both are 0.
@@ -222,8 +220,11 @@ cl_int finish(cl_event *made, cl_command_type type, cl_int status, cl_event *eve
     } while (0)
 
 // ---- buffers ----
-// Writes bytes into a buffer of a context by its number; the line of the reply.
+// The most bytes that a line `write` has (docs/use/script.md).
+enum { PIECE_BYTES = 1048576 };
+// Writes bytes into a buffer of a context by its number, in pieces; the line of the last reply. No other one is but ok.
 const char *ask_write(cl_context c, unsigned buffer, size_t offset, const void *from, size_t n);
+// Reads bytes of a buffer, in pieces. Where one is refused, those before it have been read.
 cl_int ask_read(cl_context c, unsigned buffer, size_t offset, void *to, size_t n);
 
 // ---- kernels ----

@@ -60,17 +60,21 @@ CL_API_ENTRY cl_int CL_API_CALL clGetDeviceIDs(cl_platform_id p, cl_device_type 
     return CL_SUCCESS;
 }
 
+// The bytes of a kernel's parameters: the least that a device may tell (table 4.3).
+enum { PARAMETER_BYTES = 1024 };
+
 CL_API_ENTRY cl_int CL_API_CALL clGetDeviceInfo(cl_device_id d, cl_device_info name, size_t room, void *to,
                                                 size_t *size) {
+    const device_limits *limits = limits_of_device();
     if (d != &the_device) return CL_INVALID_DEVICE;
     switch (name) {
     case CL_DEVICE_TYPE: GIVE(cl_device_type, DEVICE_TYPES);
     case CL_DEVICE_VENDOR_ID: GIVE(cl_uint, 0);
     case CL_DEVICE_MAX_COMPUTE_UNITS: GIVE(cl_uint, 1);
     case CL_DEVICE_MAX_WORK_ITEM_DIMENSIONS: GIVE(cl_uint, 3);
-    case CL_DEVICE_MAX_WORK_GROUP_SIZE: GIVE(size_t, MAX_GROUP);
+    case CL_DEVICE_MAX_WORK_GROUP_SIZE: GIVE(size_t, limits->group);
     case CL_DEVICE_MAX_WORK_ITEM_SIZES: {
-        size_t sizes[3] = {MAX_GROUP, MAX_GROUP, MAX_GROUP};
+        size_t sizes[3] = {limits->group, limits->group, limits->group};
         return give(sizes, sizeof sizes, room, to, size);
     }
     case CL_DEVICE_PREFERRED_VECTOR_WIDTH_CHAR:
@@ -89,7 +93,7 @@ CL_API_ENTRY cl_int CL_API_CALL clGetDeviceInfo(cl_device_id d, cl_device_info n
     case CL_DEVICE_NATIVE_VECTOR_WIDTH_HALF: GIVE(cl_uint, 0);
     case CL_DEVICE_MAX_CLOCK_FREQUENCY: GIVE(cl_uint, 1);
     case CL_DEVICE_ADDRESS_BITS: GIVE(cl_uint, 64);
-    case CL_DEVICE_MAX_MEM_ALLOC_SIZE: GIVE(cl_ulong, MAX_BYTES);
+    case CL_DEVICE_MAX_MEM_ALLOC_SIZE: GIVE(cl_ulong, limits->bytes);
     case CL_DEVICE_IMAGE_SUPPORT: GIVE(cl_bool, CL_FALSE);
     case CL_DEVICE_MAX_READ_IMAGE_ARGS:
     case CL_DEVICE_MAX_WRITE_IMAGE_ARGS:
@@ -101,7 +105,7 @@ CL_API_ENTRY cl_int CL_API_CALL clGetDeviceInfo(cl_device_id d, cl_device_info n
     case CL_DEVICE_IMAGE3D_MAX_DEPTH:
     case CL_DEVICE_IMAGE_MAX_BUFFER_SIZE:
     case CL_DEVICE_IMAGE_MAX_ARRAY_SIZE: GIVE(size_t, 0);
-    case CL_DEVICE_MAX_PARAMETER_SIZE: GIVE(size_t, 1024);
+    case CL_DEVICE_MAX_PARAMETER_SIZE: GIVE(size_t, PARAMETER_BYTES);
     case CL_DEVICE_MEM_BASE_ADDR_ALIGN: GIVE(cl_uint, 1024);
     case CL_DEVICE_MIN_DATA_TYPE_ALIGN_SIZE: GIVE(cl_uint, 128);
     case CL_DEVICE_SINGLE_FP_CONFIG:
@@ -109,11 +113,14 @@ CL_API_ENTRY cl_int CL_API_CALL clGetDeviceInfo(cl_device_id d, cl_device_info n
     case CL_DEVICE_GLOBAL_MEM_CACHE_TYPE: GIVE(cl_device_mem_cache_type, CL_NONE);
     case CL_DEVICE_GLOBAL_MEM_CACHELINE_SIZE: GIVE(cl_uint, 0);
     case CL_DEVICE_GLOBAL_MEM_CACHE_SIZE: GIVE(cl_ulong, 0);
-    case CL_DEVICE_GLOBAL_MEM_SIZE: GIVE(cl_ulong, (cl_ulong)MAX_BUFFERS * MAX_BYTES);
-    case CL_DEVICE_MAX_CONSTANT_BUFFER_SIZE: GIVE(cl_ulong, MAX_BYTES);
-    case CL_DEVICE_MAX_CONSTANT_ARGS: GIVE(cl_uint, MAX_BUFFERS);
+    case CL_DEVICE_GLOBAL_MEM_SIZE: GIVE(cl_ulong, limits->global_bytes);
+    case CL_DEVICE_MAX_CONSTANT_BUFFER_SIZE: GIVE(cl_ulong, limits->bytes);
+    case CL_DEVICE_MAX_CONSTANT_ARGS: {
+        size_t pointers = PARAMETER_BYTES / sizeof(cl_mem);
+        GIVE(cl_uint, (cl_uint)(limits->buffers < pointers ? limits->buffers : pointers));
+    }
     case CL_DEVICE_LOCAL_MEM_TYPE: GIVE(cl_device_local_mem_type, CL_LOCAL);
-    case CL_DEVICE_LOCAL_MEM_SIZE: GIVE(cl_ulong, MAX_LOCAL);
+    case CL_DEVICE_LOCAL_MEM_SIZE: GIVE(cl_ulong, limits->local_bytes);
     case CL_DEVICE_ERROR_CORRECTION_SUPPORT: GIVE(cl_bool, CL_FALSE);
     case CL_DEVICE_HOST_UNIFIED_MEMORY: GIVE(cl_bool, CL_FALSE);
     case CL_DEVICE_PROFILING_TIMER_RESOLUTION: GIVE(size_t, 1);

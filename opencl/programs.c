@@ -505,7 +505,7 @@ CL_API_ENTRY cl_int CL_API_CALL clGetKernelWorkGroupInfo(cl_kernel k, cl_device_
     if (!is_a(k, KERNEL)) return CL_INVALID_KERNEL;
     if (d && d != &the_device) return CL_INVALID_DEVICE;
     switch (name) {
-    case CL_KERNEL_WORK_GROUP_SIZE: GIVE(size_t, MAX_GROUP);
+    case CL_KERNEL_WORK_GROUP_SIZE: GIVE(size_t, limits_of_device()->group);
     case CL_KERNEL_COMPILE_WORK_GROUP_SIZE: return give(k->form->group, sizeof k->form->group, room, to, size);
     case CL_KERNEL_LOCAL_MEM_SIZE: GIVE(cl_ulong, all_local_bytes(k));
     case CL_KERNEL_PRIVATE_MEM_SIZE: GIVE(cl_ulong, 0);

@@ -87,11 +87,43 @@ static int start(char **words, int in, int out, pid_t *child) {
     return fault;
 }
 
-static void serve_command(char *room, size_t n) {
-    const char *command = setting("CLSIM_SERVE"), *budget = setting("CLSIM_BUDGET"),
-               *workers = setting("CLSIM_WORKERS");
-    snprintf(room, n, "%s%s%s%s%s", command ? command : "clsim serve", budget ? " --budget " : "", budget ? budget : "",
-             workers ? " --workers " : "", workers ? workers : "");
+// ---- limits ----
+
+static const char limits_option[] = " --limits";
+
+static const device_limits profile = {"profile", 65536, 256, 64, 1 << 20, 64 << 20, 32768};
+// (The largest buffer is at least a quarter of the memory that a device tells of, by table 4.3: so that is four of
+// them. 4,096 would be 4 TiB.)
+static const device_limits large = {"large", 1 << 26, 1024, 4096, 1 << 30, (size_t)4 << 30, 32768};
+
+const device_limits *limits_of_device(void) {
+    const char *serve = setting("CLSIM_SERVE"), *word = setting("CLSIM_LIMITS");
+    const char *option = serve ? strstr(serve, limits_option) : NULL;
+    size_t length = strlen(profile.name);
+    if (!option) return word && !strcmp(word, profile.name) ? &profile : &large;
+    option += strlen(limits_option);
+    option += strspn(option, " =");
+    return strcspn(option, " ") == length && !strncmp(option, profile.name, length) ? &profile : &large;
+}
+
+// The options of a command of the device that all its forms take: limits, unless the command has them itself, and a
+// budget. The limits of the profile are those without the option.
+static void put_options(char *room, size_t n, const char *command) {
+    const char *budget = setting("CLSIM_BUDGET");
+    const device_limits *limits = limits_of_device();
+    bool asks = limits != &profile && !strstr(command, limits_option);
+    snprintf(room, n, "%s%s%s%s%s", asks ? limits_option : "", asks ? " " : "", asks ? limits->name : "",
+             budget ? " --budget " : "", budget ? budget : "");
+}
+
+// The command of the device. False where it is too long.
+static bool serve_command(char *room, size_t n) {
+    const char *command = setting("CLSIM_SERVE"), *workers = setting("CLSIM_WORKERS");
+    char options[COMMAND_ROOM];
+    if (!command) command = "clsim serve";
+    put_options(options, sizeof options, command);
+    int put = snprintf(room, n, "%s%s%s%s", command, options, workers ? " --workers " : "", workers ? workers : "");
+    return put > 0 && (size_t)put < n;
 }
 
 static FILE *open_record(void) {
@@ -134,7 +166,7 @@ session *session_open(void) {
     if (!s) return NULL;
     s->in = malloc(s->room = REPLY_ROOM);
     if (!s->in || socketpair(AF_UNIX, SOCK_STREAM | SOCK_CLOEXEC, 0, ends)) return leave(s, errno);
-    serve_command(room, sizeof room);
+    if (!serve_command(room, sizeof room)) *room = 0; // (no word of it can be started)
     split_words(room, words);
     int fault = start(words, ends[1], ends[1], &s->child);
     close(ends[1]);
@@ -266,8 +298,8 @@ void session_record(session *s, bool on) { s->recording = on; }
 
 // The command: $CLSIM_EXPLAIN, or that of `serve` with `explain` in place of its last word.
 static bool explain_command(char *room, size_t n, const char *file) {
-    const char *command = getenv("CLSIM_EXPLAIN"), *serve = setting("CLSIM_SERVE"), *budget = setting("CLSIM_BUDGET");
-    char base[COMMAND_ROOM] = "clsim explain";
+    const char *command = getenv("CLSIM_EXPLAIN"), *serve = setting("CLSIM_SERVE");
+    char base[COMMAND_ROOM] = "clsim explain", options[COMMAND_ROOM];
     if (command) {
         if (!*command) return false;
         snprintf(base, sizeof base, "%s", command);
@@ -276,8 +308,8 @@ static bool explain_command(char *room, size_t n, const char *file) {
         if (length < 6 || strcmp(serve + length - 6, " serve") || length + 2 >= sizeof base) return false;
         snprintf(base, sizeof base, "%.*s explain", (int)(length - 6), serve);
     }
-    int put =
-        snprintf(room, n, "%s %s --format json%s%s", base, file, budget ? " --budget " : "", budget ? budget : "");
+    put_options(options, sizeof options, base);
+    int put = snprintf(room, n, "%s %s --format json%s", base, file, options);
     return put > 0 && (size_t)put < n;
 }
 

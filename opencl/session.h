@@ -22,6 +22,19 @@ void session_record(session *s, bool on);
 // it.
 char *explain_script(const char *script, size_t length);
 
+// What a device allows (docs/use/script.md, "Limits"; OpenCL 1.2, table 4.3). The numbers are Clsim's.
+typedef struct {
+    const char *name;    // the word behind `--limits`
+    size_t items;        // of a launch
+    size_t group;        // items of a work-group
+    size_t buffers;      // that are there at a time
+    size_t bytes;        // of a buffer
+    size_t global_bytes; // what is told of the device's whole memory
+    size_t local_bytes;  // of local memory of a work-group
+} device_limits;
+// Those that the device is asked for: `large`, or `profile` by CLSIM_LIMITS. A `--limits` in CLSIM_SERVE goes before.
+const device_limits *limits_of_device(void);
+
 // A variable of the environment, NULL where it isn't set or is empty.
 const char *setting(const char *name);
 // Tells a line on standard error, or in the file that CLSIM_LOG names.

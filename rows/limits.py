@@ -1,5 +1,12 @@
-"""Sources and scripts at their limits, each with its neighbour behind the limit.
+"""Sources, scripts and devices at their limits, each with its neighbour behind the limit.
 `rows` gives the rows to tools/rows."""
+
+# the limits of a device that have a name (docs/use/script.md): the option that asks for them, the work-items of a
+# launch and of a group, the side of a square of as many items as a launch has, and the bytes of a buffer
+PROFILE = (" --limits profile", 1 << 16, 1 << 8, 1 << 8, 1 << 20)
+LARGE = (" --limits large", 1 << 26, 1 << 10, 1 << 13, 1 << 30)
+# sizes and offsets that only 64 bits hold
+HUGE, MOST = 1 << 63, (1 << 64) - 1
 
 
 def built(title, source, fault=""):
@@ -74,7 +81,132 @@ def scripts():
     yield dict(title="65 buffers", text=buffers, output="ok\n" * 64 + "refused 5 TooManyBuffers\n", status=2)
 
 
+def answered(title, answers, option, head="", done=0):
+    """The row of commands with their replies on a device, some of which are refusals, behind others that are done."""
+    text = head + "".join(f"{command}\n" for command, _ in answers)
+    output = "ok\n" * done + "".join(f"{reply}\n" for _, reply in answers)
+    return dict(title=title, text=text, output=output, status=2, command="clsim run FILE" + option)
+
+
+def launches(option, items, group, side, _):
+    """Index spaces of a kernel whose argument is missing: its refusal is the next one behind those of the limits."""
+    head = "program p 1\n__kernel void f(__global int *a) { }\nkernel k p f\n"
+    allowed, many = "refused 13 ArgumentsMissing", "refused 8 TooManyItems"
+    large, wrong = "refused 7 BadGroupSize", "refused 6 BadDimension"
+    half, wide = group // 2, 1 << 32
+    answers = [
+        (f"{items} 1", allowed), (f"{items} {group}", allowed), (f"{items + 1} 1", many),
+        (f"{items + group} {group}", many), (f"{side},{side} 1,1", allowed), (f"{side},{side + 1} 1,1", many),
+        (f"{items // 4},2,2 1,1,1", allowed), (f"1,1,{items} 1,1,1", allowed), (f"{items // 4},2,3 1,1,1", many),
+        (f"{group} {group}", allowed), (f"{group + 1} {group + 1}", large), (f"{2 * group} {2 * group}", large),
+        (f"{half},2 {half},2", allowed), (f"{half},2,2 {half},2,2", large), (f"{half},2,2 {half},1,2", allowed),
+        (f"{half},3 {half},3", large),
+        (f"{HUGE} 1", many), (f"{MOST} 1", many), (f"{HUGE} {HUGE}", large), (f"{MOST} {MOST}", large),
+        (f"1 {HUGE}", large), (f"1 {MOST}", large), (f"1 1 {HUGE}", allowed), (f"1 1 {MOST - 1}", allowed),
+        (f"1 1 {MOST}", wrong), (f"{HUGE} 1 {HUGE - 1}", many), (f"{HUGE} 1 {HUGE}", wrong), (f"{MOST} 1 1", wrong),
+        (f"{wide},{wide} 1,1", many), (f"{wide},{wide} {wide},{wide}", large), (f"{HUGE},2 1,1", many),
+        (f"{HUGE},2 {HUGE},2", large), (f"{MOST},{MOST},{MOST} 1,1,1", many),
+        (f"{MOST},{MOST},{MOST} {MOST},{MOST},{MOST}", large), (f"{wide},{wide},{wide} 1,1,1", many),
+        (f"{items + 1} 1 {MOST}", wrong), (f"{items + group} {group + 1}", large), (f"{items + 1} 1", many)]
+    answers = [(f"launch k {sizes}", reply) for sizes, reply in answers]
+    return answered(f"index spaces:{option}", answers, option, head, 2)
+
+
+def bytes_of_buffers(option, _, __, ___, size):
+    """The largest buffer, which takes no more than its zeros, and what passes its end."""
+    outside, bad = "refused 4 OutOfRange", "refused 3 BadSize"
+    answers = [
+        (f"buffer a {size}", "ok"), (f"buffer b {size + 1}", bad), ("buffer b 0", bad), (f"buffer b {HUGE}", bad),
+        (f"buffer b {MOST}", bad), (f"buffer a {size + 1}", "refused 1 NameInUse"),
+        ("read b 0 1", "refused 2 NoSuchName"),
+        (f"read a {size - 1} 1", "data 00"), (f"read a {size} 1", outside), (f"read a {size - 1} 2", outside),
+        (f"read a {HUGE} {HUGE}", outside), (f"read a 1 {MOST}", outside), (f"read a {MOST} 1", outside),
+        (f"write a {size - 1} ff", "ok"), (f"write a {size - 1} ffff", outside), (f"write a {size} ff", outside),
+        (f"write a {HUGE} ff", outside), (f"write a {MOST} ffff", outside),
+        (f"fill a {size - 8} 4 01020304", "ok"), (f"fill a {size - 4} 8 01020304", outside),
+        (f"fill a {HUGE} {HUGE} 01", outside), (f"fill a 8 {MOST - 7} 0102030405060708", outside),
+        (f"copy a {size - 8} a 0 8", "ok"), (f"copy a {size - 7} a 0 8", outside),
+        (f"copy a 0 a {size - 7} 8", outside), (f"copy a {HUGE} a 0 {HUGE}", outside),
+        (f"copy a 0 a {MOST} 1", outside), (f"copy a 0 a 1 {MOST}", outside),
+        (f"read a {size - 8} 8", "data 01020304000000ff"), ("read a 0 9", "data 01020304000000ff00"),
+        ("release a", "ok"), (f"buffer a {size}", "ok"), (f"read a {size - 8} 8", "data 0000000000000000")]
+    return answered(f"bytes of a buffer:{option}", answers, option)
+
+
+def ran(title, lines, replies, status=0, option=" --limits large", **more):
+    """The row of a script of whole lines that is run on a device."""
+    return dict(title=title, text="".join(f"{line}\n" for line in lines), output="".join(f"{it}\n" for it in replies),
+                status=status, command=f"clsim run FILE{option}", **more)
+
+
+def large_launches():
+    """Launches that the profile refuses, with what they leave."""
+    turned = "__kernel void f(__global int *a) { __local int t[1024]; int i = get_local_id(0); t[i] = a[i]; " \
+             "barrier(CLK_LOCAL_MEM_FENCE); a[i] = t[1023 - i]; }"
+    numbers = [(n.to_bytes(4, "little")).hex() for n in range(1024)]
+    script = ["buffer a 4096", f"write a 0 {''.join(numbers)}", "program p 1", turned, "kernel k p f",
+              "arg k 0 buffer a", "launch k 1024 1024", "read a 0 4096"]
+    yield ran("a group of 1,024 items that turns their numbers round in local memory", script,
+              ["ok"] * 5 + ["clean", f"data {''.join(reversed(numbers))}"])
+    yield ran("the profile refuses a group of 1,024 items", script,
+              ["ok"] * 5 + ["refused 7 BadGroupSize", f"data {''.join(numbers)}"], 2, "")
+    script = ["buffer a 131072", "program p 1",
+              "__kernel void f(__global uchar *a) { uint i = get_global_id(0); a[i] = i * 7 + get_num_groups(0); }",
+              "kernel k p f", "arg k 0 buffer a", "launch k 131072 256", "read a 0 131072"]
+    data = bytes((7 * i + 512) % 256 for i in range(131072)).hex()
+    yield ran("131,072 items in 512 groups", script, ["ok"] * 4 + ["clean", f"data {data}"])
+    yield ran("the profile refuses 131,072 items", script,
+              ["ok"] * 4 + ["refused 8 TooManyItems", f"data {'00' * 131072}"], 2, "")
+    script = ["buffer a 4194304", "program p 1",
+              "__kernel void f(__global int *a) { a[1048575 - (int)get_global_id(0)] = 5; }",
+              "kernel k p f", "arg k 0 buffer a", "launch k 2 2", "read a 4194292 12", "launch k 1 1 1048576",
+              "read a 0 4"]
+    yield ran("the last two ints of a buffer of 4 MiB, and one in front of it", script,
+              ["ok"] * 4 + ["clean", "data 000000000500000005000000",
+                            "fault 4 bounds item 0 store buffer a element -1 schedule -", "data 00000000"], 1)
+
+
+def large_faults():
+    """A race of the first and the last of 100,000 items, on one large device and in replays on both."""
+    kernel = "__kernel void f(__global int *a) { int i = get_global_id(0); a[i < 99999 ? i : 0] = i; }"
+    script = ["buffer a 400000", "program p 1", kernel, "kernel k p f", "arg k 0 buffer a", "launch k 100000 1000"]
+    schedule = " ".join(f"{item}*1" for item in range(100_000))
+    fault = f"fault 1 race item 0 store item 99999 store buffer a byte 0 schedule {schedule}"
+    yield ran("a race of the first and the last of 100,000 items", script, ["ok"] * 4 + [fault], 1)
+    text, file = "".join(f"{line}\n" for line in script), f"ticket 4\n{fault}\n"
+    short = "ticket 4\nfault 1 race item 99999 store item 0 store buffer a byte 3 schedule 99999*1 0*1\n"
+    for title, lines in [("as it is told", file), ("in two events", short)]:
+        yield dict(title=f"the race of 100,000 items replayed on a large device, {title}", text=text, schedule=lines,
+                   output="yes\n", command="clsim replay FILE SCHEDULE --limits large")
+        yield dict(title=f"the race of 100,000 items replayed on a device of the profile, {title}", text=text,
+                   schedule=lines, output="", error="clsim: command 4 is refused\n", status=2,
+                   command="clsim replay FILE SCHEDULE")
+    loop = "program p 1\n__kernel void f() {{ for (int i = 0; i < {}; i++) ; }}\nkernel k p f\nlaunch k 1 1\n"
+    used_up = "ticket 2\nfault 8 budget item 0 schedule -\n"
+    for turns, option, yes in [(100_001, "", True), (100_001, " --limits profile", True), (100_000, "", False),
+                               (100_001, " --limits large", False), (1_000_001, " --limits large", True),
+                               (1_000_000, " --limits large", False)]:
+        yield dict(title=f"the fault of a budget replayed after {turns} turns{option}", text=loop.format(turns),
+                   schedule=used_up, output="yes\n" if yes else "no\n", status=0 if yes else 1,
+                   command=f"clsim replay FILE SCHEDULE{option}")
+
+
+def large_buffers():
+    """As many buffers as a script can make; tools/talks has one more than a large device allows."""
+    buffers = "".join(f"buffer b{number} 1\n" for number in range(4096))
+    yield dict(title="4,096 buffers of a large device", text=buffers, output="ok\n" * 4096,
+               command="clsim run FILE --limits large")
+    yield dict(title="4,096 buffers of a device of the profile", text=buffers, status=2,
+               output="ok\n" * 64 + "refused 5 TooManyBuffers\n" * 4032, command="clsim run FILE --limits profile")
+
+
 def rows():
     yield from nesting()
     yield from sizes()
     yield from scripts()
+    for limits in (PROFILE, LARGE):
+        yield launches(*limits)
+        yield bytes_of_buffers(*limits)
+    yield from large_launches()
+    yield from large_faults()
+    yield from large_buffers()

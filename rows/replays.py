@@ -15,33 +15,35 @@ HERE = os.path.dirname(os.path.abspath(__file__))
 OTHER_CLASS = {"add": "or", "and": "add", "or": "and", "xor": "add",
                "smin": "umin", "smax": "umax", "umin": "smin", "umax": "smax"}
 # an item and a group that no launch has, and a byte that no buffer has
-NOBODY, NOWHERE = 4_000_000_000, 2_000_000
+NOBODY, NOWHERE = 4_000_000_000, 2_000_000_000
 # changed lines of each launch of groups.py, at most
 CHANGES = 6
 
 
-def answered(title, script, ticket, line, yes):
+def answered(title, script, ticket, line, yes, option=""):
     """The row of a schedule file of a ticket and a fault's line."""
     return dict(title=title, text=script, schedule=b"ticket %d\n%b\n" % (ticket, line),
-                output="yes\n" if yes else "no\n", status=0 if yes else 1, command="clsim replay FILE SCHEDULE")
+                output="yes\n" if yes else "no\n", status=0 if yes else 1,
+                command=f"clsim replay FILE SCHEDULE{option}")
 
 
 # ---- the faults of other rows
 
 
 def faults():
-    """The scripts of all other rows that run with the default budget, each with its place, and with the ticket and the
-    line of a fault of its replies."""
+    """The scripts of all other rows that run with the default budget, each with its place, with the ticket and the line
+    of a fault of its replies, and with the option for its limits."""
     tools = runpy.run_path(os.path.join(HERE, "..", "tools", "rows"))
     for name in sorted(os.listdir(HERE)):
         path = os.path.join(HERE, name)
         if name == os.path.basename(__file__) or not name.endswith((".txt", ".py")):
             continue
         for row in tools["read_text" if name.endswith(".txt") else "read_python"](path):
-            if row.command == "clsim run FILE":
+            command, option = row.command[:14], row.command[14:]
+            if command == "clsim run FILE" and option in ("", " --limits profile", " --limits large"):
                 for ticket, line in enumerate(row.output.splitlines()):
                     if line.startswith(b"fault "):
-                        yield f"{row.place}: {row.title}, command {ticket}", row.text, ticket, line
+                        yield f"{row.place}: {row.title}, command {ticket}", row.text, ticket, line, option
 
 
 def without_last_event(schedule):
@@ -98,10 +100,10 @@ def never(line):
 
 def replayed():
     """Each fault of another row, and what it can't be changed to."""
-    for place, script, ticket, line in faults():
-        yield answered(place, script, ticket, line, True)
+    for place, script, ticket, line, option in faults():
+        yield answered(place, script, ticket, line, True, option)
         for change, other in never(line):
-            yield answered(f"{place}: {change}", script, ticket, other.encode(), False)
+            yield answered(f"{place}: {change}", script, ticket, other.encode(), False, option)
 
 
 # ---- launches of groups.py, played by single events

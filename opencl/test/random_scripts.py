@@ -76,7 +76,7 @@ def script(seed):
         for _ in range(r.randint(1, 3)):
             lines += arguments(r, f"k{n}", kinds, buffers)
             lines.append(memory_command(r, buffers))
-            size = r.choice([1, 2, 4, 8, 8, 16, 16, 100000])
+            size = r.choice([1, 2, 4, 8, 8, 16, 16, 100000000])
             shapes = [f"{size} {r.choice([1, 2, size])}", f"{size},2 {r.choice([1, size])},1 1,0"]
             lines.append(f"launch k{n} {r.choice(shapes)}")
         if r.random() < 0.5:
