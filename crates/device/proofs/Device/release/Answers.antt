@@ -18,7 +18,6 @@ invariant_of-self c =
           subst (λ (ps : Table Checked). AllCompiled ps c.remove-3.new.self) (sym c.remove-2.ensures)
           (subst (λ (ks : Table CompiledKernel). AllCompiled (remove_entry (is c.args.name.now) device.programs) ks) (sym c.remove-3.ensures)
           (kept_with_release device.programs device.kernels c.args.name.now device.kept (unheld_of (machine_of device) device.programs c.args.name.now refl free)));
-      limited = device.limited;
     }
 
 pub returns-clause-ok : goal.returns-clause-ok
