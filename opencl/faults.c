@@ -123,13 +123,24 @@ static void put_element(char *room, size_t n, const memory_place *m, const char 
              (unsigned long long)count, count == 1 ? "" : "s");
 }
 
-// An argument, or a table, that the buffer of a fault is. An element is told only where it is one of this width.
-static void tell_element(const memory_place *m, const char *what, const char *name, size_t bytes, size_t width,
-                         bool is_of_width) {
-    char place[96] = "";
-    if (!m->element)
-        snprintf(place, sizeof place, "[%lu]%s", m->byte / width, m->byte % width ? ", not its first byte" : "");
-    else if (is_of_width) put_element(place, sizeof place, m, "[", "]", bytes / width);
+// An index that the driver writes in place of one that leaves its row, which may be in the object still: it lies far in
+// front of every object.
+static bool is_out_of_row(const memory_place *m) {
+    return m->element && strtoll(m->element, NULL, 10) <= -(INT64_C(1) << 35);
+}
+
+// An argument, or a table, of this type that the buffer of a fault is. An element is told only where it is one of its
+// width, as all elements are by whose number the fault may name it.
+static void tell_object(const memory_place *m, const char *what, const char *name, size_t bytes, const type *type,
+                        bool is_of_width) {
+    char place[160] = "", part[96];
+    size_t width = type->size ? type->size : 1;
+    if (is_out_of_row(m)) snprintf(place, sizeof place, ", an index outside of its row");
+    else if (!m->element) {
+        put_part(part, sizeof part, type, m->byte % width);
+        bool is_inside = type->kind == INTEGER_TYPE && m->byte % width;
+        snprintf(place, sizeof place, "[%lu]%s%s", m->byte / width, part, is_inside ? ", not its first byte" : "");
+    } else if (is_of_width) put_element(place, sizeof place, m, "[", "]", bytes / width);
     if (*place)
         tell("  buffer %.*s has %zu bytes and is %s %s: %s%s", (int)m->length, m->name, bytes, what, name, name, place);
     else
@@ -137,68 +148,82 @@ static void tell_element(const memory_place *m, const char *what, const char *na
              bytes / width);
 }
 
+// Whether all parameters by which a buffer is accessed have elements of this width.
+static bool are_all_of(cl_kernel k, unsigned number, size_t width) {
+    const kernel_form *form = k->form;
+    for (unsigned i = 0; i < form->judged_count; i++) {
+        const judged_parameter *q = &form->judged[i];
+        bool is_it = (q->kind == BUFFER_PARAMETER && k->arguments[q->argument].memory &&
+                      k->arguments[q->argument].memory->number == number) ||
+                     (q->kind == TABLE_PARAMETER && k->program->tables[q->argument] == number);
+        if (is_it && width_of(q->type) != width) return false;
+    }
+    return true;
+}
+
+static bool uses_table(const kernel_form *form, unsigned table) {
+    for (unsigned i = 0; i < form->judged_count; i++)
+        if (form->judged[i].kind == TABLE_PARAMETER && form->judged[i].argument == table) return true;
+    return false;
+}
+
 // The arguments, or the table, that the buffer of a fault is.
 static void tell_buffer(cl_kernel k, const memory_place *m) {
     const kernel_form *form = k->form;
     unsigned number = *m->name == 'b' ? (unsigned)strtoul(m->name + 1, NULL, 10) : 0;
-    unsigned widths = 0; // of all these arguments, a bit for each
     char what[32];
-    for (unsigned i = 0; i < form->count; i++)
-        if (k->arguments[i].memory && k->arguments[i].memory->number == number)
-            widths |= size_of(form->parameters[i].type.base);
-    bool is_one = !(widths & (widths - 1)); // else it isn't known which of them the element is one of
     for (unsigned i = 0; i < form->count; i++) {
         cl_mem b = k->arguments[i].memory;
         if (!b || b->number != number) continue;
+        const type *of = form->parameters[i].type->of;
         snprintf(what, sizeof what, "argument %u,", i);
-        tell_element(m, what, form->parameters[i].name, b->size, size_of(form->parameters[i].type.base), is_one);
+        tell_object(m, what, form->parameters[i].name, b->size, of,
+                    of->kind == INTEGER_TYPE && are_all_of(k, number, of->size));
     }
-    for (unsigned i = 0; i < form->table_count; i++) {
-        const table *t = &k->program->form.tables[form->tables[i]];
-        if (k->program->tables[form->tables[i]] == number)
-            tell_element(m, "the table", t->name, t->size, t->width, true);
-    }
-}
-
-// An element of an object in local memory in the dimensions that the source gives it. Of one variable nothing.
-static void put_indexes(char *room, size_t n, const symbol *y, uint64_t element) {
-    uint64_t part = 1;
-    size_t at = 0;
-    *room = 0;
-    for (unsigned d = 1; d < y->type.dimensions; d++) part *= y->type.lengths[d];
-    for (unsigned d = 0; !y->is_scalar && d < (y->type.dimensions ? y->type.dimensions : 1); d++) {
-        if (at < n) at += (size_t)snprintf(room + at, n - at, "[%llu]", (unsigned long long)(element / part));
-        element %= part;
-        if (d + 1 < y->type.dimensions) part /= y->type.lengths[d + 1];
+    for (unsigned i = 0; i < k->program->form.table_count; i++) {
+        const constant_table *t = &k->program->form.tables[i];
+        if (k->program->tables[i] != number || !uses_table(form, i)) continue;
+        const type element = {.kind = INTEGER_TYPE, .size = t->width};
+        tell_object(m, "the table", t->name, t->size, &element, are_all_of(k, number, t->width));
     }
 }
 
-// The byte of an object in local memory in the dimensions of the source. An element is outside of them: it is told by
-// its number.
+// The byte of an object in local memory as the source names it. An element is outside of it: it is told by its number.
 static void tell_local(cl_kernel k, const memory_place *m) {
-    char place[256];
+    char place[256] = "", part[192];
     for (unsigned i = 0; i < k->form->local_count; i++) {
-        const symbol *y = k->form->locals[i];
-        unsigned width = size_of(y->type.base);
-        bool is_row = !y->is_scalar && y->type.dimensions < 2;
-        if (strlen(y->written) != m->length || strncmp(y->written, m->name, m->length)) continue;
-        if (m->element)
-            put_element(place, sizeof place, m, is_row ? "[" : "element ", is_row ? "]" : "",
-                        local_bytes(k, y) / width);
-        else put_indexes(place, sizeof place, y, m->byte / width);
-        tell("  %s of group %lu: %s%s%s", y->name, m->group, m->element && !is_row ? "" : y->name, place,
+        const local_object *l = &k->form->locals[i];
+        const type *of = l->is_parameter || l->type->kind == ARRAY_TYPE ? l->type : NULL;
+        unsigned width = width_of(l->element);
+        uint64_t all = local_bytes(k, l), each = of && l->is_parameter ? of->size : 0;
+        bool is_row = of && (l->is_parameter ? of : of->of)->kind == INTEGER_TYPE;
+        if (strlen(l->judged) != m->length || strncmp(l->judged, m->name, m->length)) continue;
+        put_part(part, sizeof part, l->type, each ? m->byte % each : m->byte);
+        if (is_out_of_row(m)) snprintf(place, sizeof place, "an index outside of its row");
+        else if (m->element)
+            put_element(place, sizeof place, m, is_row ? "[" : "element ", is_row ? "]" : "", all / width);
+        else if (each) snprintf(place, sizeof place, "[%llu]%s", (unsigned long long)(m->byte / each), part);
+        else snprintf(place, sizeof place, "%s", part);
+        bool has_name = !is_out_of_row(m) && (!m->element || is_row);
+        tell("  %s of group %lu: %s%s%s", l->shown, m->group, has_name ? l->shown : "", place,
              !m->element && m->byte % width ? ", not its first byte" : "");
     }
 }
 
 // A name that the driver wrote in place of the client's.
 static void tell_name(cl_kernel k, const char *reply) {
-    const char *mark = k->program->form.mark, *at = strstr(reply, mark), *schedule = strstr(reply, " schedule ");
-    if (!at || (schedule && at > schedule)) return;
-    const char *name = at + strlen(mark);
-    int n = (int)strcspn(name, " ");
-    if (*name >= '0' && *name <= '9') tell("  %s%.*s holds a part of an expression", mark, n, name);
-    else if (!strncmp(name, "my_", 3)) tell("  %s%.*s is the client's %.*s", mark, n, name, n - 3, name + 3);
+    const char *schedule = strstr(reply, " schedule "), *own = strstr(reply, " variable ");
+    if (!own) own = strstr(reply, " private ");
+    if (!own || (schedule && own > schedule)) return;
+    const char *name = own + (own[1] == 'v' ? 10 : 9);
+    size_t n = strcspn(name, " ");
+    const char *shown = k->program->form.is_own ? name : shown_as(k->form, name, n);
+    bool is_copy = n == 11 && !strncmp(name, "clsim_async", n), is_null = n == 10 && !strncmp(name, "clsim_null", n);
+    if (is_copy) tell("  the work-items of a group make different calls of async_work_group_copy or wait_group_events");
+    else if (is_null) tell("  the pointer is NULL");
+    else if (!shown || shown == name) {
+        if (!k->program->form.is_own) tell("  %.*s holds a part of an expression", (int)n, name);
+    } else if (strlen(shown) != n || strncmp(shown, name, n)) tell("  %.*s is the client's %s", (int)n, name, shown);
 }
 
 // ---- where it stands in the source ----
@@ -241,6 +266,7 @@ static bool add_buffer(text *t, buffer_piece *piece, cl_context c, unsigned numb
 // The buffers that a launch names, each once.
 static bool add_buffers(text *t, cl_kernel k) {
     const kernel_form *form = k->form;
+    const prepared *source = &k->program->form;
     buffer_piece *piece = take(t->arena, sizeof *piece);
     for (unsigned i = 0; i < form->count; i++) {
         cl_mem m = k->arguments[i].memory;
@@ -248,10 +274,9 @@ static bool add_buffers(text *t, cl_kernel k) {
         for (unsigned j = 0; j < i; j++) first = first && k->arguments[j].memory != m;
         if (m && first && !add_buffer(t, piece, k->context, m->number, m->size)) return false;
     }
-    for (unsigned i = 0; i < form->table_count; i++) {
-        unsigned n = form->tables[i];
-        if (!add_buffer(t, piece, k->context, k->program->tables[n], k->program->form.tables[n].size)) return false;
-    }
+    for (unsigned i = 0; i < source->table_count; i++)
+        if (uses_table(form, i) && !add_buffer(t, piece, k->context, k->program->tables[i], source->tables[i].size))
+            return false;
     return true;
 }
 
@@ -261,25 +286,38 @@ static bool add_script(text *t, cl_kernel k, const launch_sizes *s) {
     const prepared *source = &k->program->form;
     add(t, "clsim 2\n");
     if (!add_buffers(t, k)) return false;
-    addf(t, "program p%u %u\n", k->program->number, source->lines);
-    add_bytes(t, source->text, source->length);
-    addf(t, "kernel k%u p%u %s\n", k->number, k->program->number, form->name);
+    unsigned program = program_number(k->program, form);
+    addf(t, "program p%u %u\n", program, form->lines);
+    add_bytes(t, source->text + form->begin, form->length);
+    addf(t, "kernel k%u p%u %s\n", k->number, program, form->name);
     for (unsigned i = 0; i < form->count; i++) add(t, k->arguments[i].command);
-    for (unsigned i = 0; i < form->table_count; i++)
-        addf(t, "arg k%u %u buffer b%u\n", k->number, form->count + i, k->program->tables[form->tables[i]]);
+    for (unsigned i = 0; i < form->judged_count; i++)
+        if (form->judged[i].kind == TABLE_PARAMETER)
+            addf(t, "arg k%u %u buffer b%u\n", k->number, i, k->program->tables[form->judged[i].argument]);
     addf(t, "launch k%u", k->number);
     add_sizes(t, s);
     return true;
 }
 
 // Tells where something stands that an explanation has, behind words about it. False where that isn't known.
-static bool tell_at(const prepared *source, const char *words, json site) {
+static bool tell_at(cl_kernel k, const char *words, json site) {
     char place[512];
     unsigned long offset;
-    if (!json_number(json_member(site, "offset"), &offset) || !place_of(source, offset, place, sizeof place))
-        return false;
-    tell("%s at %s", words, place);
-    return true;
+    bool known = json_number(json_member(site, "offset"), &offset) &&
+                 place_of(&k->program->form, k->form, offset, place, sizeof place);
+    if (known) tell("%s at %s", words, place);
+    return known;
+}
+
+// Tells the calls of the source that are judged in their places, the innermost first.
+static void tell_calls_in_place(cl_kernel k, json site) {
+    char place[512];
+    unsigned long offset;
+    if (!json_number(json_member(site, "offset"), &offset)) return;
+    for (const call_site *c = calls_round(&k->program->form, k->form->begin + offset); c; c = c->up) {
+        put_place(place, sizeof place, c->at);
+        tell("    called at %s", place);
+    }
 }
 
 // The elements of a list, the last one first; how many goes into `n`. The caller frees them. NULL where memory is
@@ -295,46 +333,50 @@ static json *turned_round(json list, size_t *n) {
 }
 
 // Tells the calls of helpers round a place, the innermost first. The explanation has the outermost first.
-static void tell_calls(const prepared *source, json calls) {
+static void tell_calls(cl_kernel k, json calls) {
     size_t n;
     json *all = turned_round(calls, &n);
-    for (size_t i = 0; i < n; i++) tell_at(source, "    called", all[i]);
+    for (size_t i = 0; i < n; i++) tell_at(k, "    called", all[i]);
     free(all);
 }
 
 // Whether a place, or a call of a helper round it, is a part of the turn before in the client's source. (A function is
 // called once at most round a place, so that it is the call in the function of the loop.)
-static bool is_before(const prepared *source, json spot, json loop) {
+static bool is_before(cl_kernel k, json spot, json loop) {
+    const prepared *source = &k->program->form;
     json calls = json_member(spot, "calls");
     unsigned long begin, at;
+    size_t start = k->form->begin;
     if (!json_number(json_member(loop, "offset"), &begin)) return false;
-    if (json_number(json_member(spot, "offset"), &at) && is_of_turn_before(source, at, begin)) return true;
+    if (json_number(json_member(spot, "offset"), &at) && is_of_turn_before(source, start + at, start + begin))
+        return true;
     for (json c = json_first(calls); c.at; c = json_next(calls, c))
-        if (json_number(json_member(c, "offset"), &at) && is_of_turn_before(source, at, begin)) return true;
+        if (json_number(json_member(c, "offset"), &at) && is_of_turn_before(source, start + at, start + begin))
+            return true;
     return false;
 }
 
 // Tells a loop round a place with the turn that it has in the client's source.
-static void tell_loop(const prepared *source, json spot, json loop) {
+static void tell_loop(cl_kernel k, json spot, json loop) {
     char words[64] = "    in the loop";
     unsigned long turn;
     bool known = json_number(json_member(loop, "turn"), &turn);
-    if (known && turn && is_before(source, spot, loop)) turn--;
+    if (known && turn && is_before(k, spot, loop)) turn--;
     if (known && turn) snprintf(words, sizeof words, "    in turn %lu of the loop", turn);
     else if (known) snprintf(words, sizeof words, "    before the first turn of the loop");
-    tell_at(source, words, loop);
+    tell_at(k, words, loop);
 }
 
 // Tells the loops round a place, the innermost first. The explanation has the outermost first.
-static void tell_loops(const prepared *source, json spot) {
+static void tell_loops(cl_kernel k, json spot) {
     size_t n;
     json *all = turned_round(json_member(spot, "loops"), &n);
-    for (size_t i = 0; i < n; i++) tell_loop(source, spot, all[i]);
+    for (size_t i = 0; i < n; i++) tell_loop(k, spot, all[i]);
     free(all);
 }
 
 // Tells what an item of an explanation does, and where. One that has ended is told with its last access.
-static void tell_spot(const prepared *source, json item) {
+static void tell_spot(cl_kernel k, json item) {
     unsigned long number;
     char does[32], words[96];
     if (!json_number(json_member(item, "item"), &number) || !json_word(json_member(item, "does"), does, sizeof does))
@@ -343,22 +385,23 @@ static void tell_spot(const prepared *source, json item) {
     json spot = json_member(item, ended ? "last_access" : "spot");
     if (ended) {
         tell("  item %lu: has ended", number);
-        tell_at(source, "    its last access is", spot);
+        tell_at(k, "    its last access is", spot);
     } else {
         snprintf(words, sizeof words, "  item %lu: %s", number, strcmp(does, "waits") ? does : "waits at the barrier");
-        if (!tell_at(source, words, spot)) tell("%s, its place isn't known", words);
+        if (!tell_at(k, words, spot)) tell("%s, its place isn't known", words);
     }
-    tell_calls(source, json_member(spot, "calls"));
-    tell_loops(source, spot);
+    tell_calls_in_place(k, spot);
+    tell_calls(k, json_member(spot, "calls"));
+    tell_loops(k, spot);
 }
 
 // Tells the items of an explanation, whose members docs/use/explain.md has, and why it is a fault.
-static void tell_spots(const prepared *source, const char *explanation) {
+static void tell_spots(cl_kernel k, const char *explanation) {
     json whole = json_text(explanation, strlen(explanation)), items = json_member(whole, "items");
     unsigned long version;
     if (json_number(json_member(whole, "version"), &version) && version != 2) return;
-    for (json i = json_first(items); i.at; i = json_next(items, i)) tell_spot(source, i);
-    tell_reasons(source, json_member(whole, "why"));
+    for (json i = json_first(items); i.at; i = json_next(items, i)) tell_spot(k, i);
+    tell_reasons(&k->program->form, k->form, json_member(whole, "why"));
 }
 
 static void explain(cl_kernel k, const launch_sizes *s) {
@@ -376,7 +419,7 @@ static void explain(cl_kernel k, const launch_sizes *s) {
     bool whole = add_script(&script, k, s) && script.length <= MAX_EXPLAINED_BYTES;
     session_record(k->context->session, true);
     char *explanation = whole ? explain_script(script.at, script.length) : NULL;
-    if (explanation) tell_spots(&k->program->form, explanation);
+    if (explanation) tell_spots(k, explanation);
     free(explanation);
     free_arena(&a);
 }

@@ -74,17 +74,17 @@ struct _cl_mem {
 struct _cl_program {
     HEAD;
     cl_context context;
-    unsigned number; // p1, p2 .., 0 before it is built
     char *source, *options;
     size_t length;    // of the source, which may have a byte 0
     bool from_binary; // it was made from one
     prepared form;
-    unsigned *tables; // the numbers of the buffers of its tables
+    unsigned *numbers, count; // p1, p2 .. of what is sent of it: one for each kernel, or one for all
+    unsigned *tables;         // the numbers of the buffers of its tables
     cl_build_status status;
 };
 
 typedef struct {
-    char *command; // that gave it, NULL before
+    char *command; // those that gave it, NULL before
     cl_mem memory;
     size_t local; // how many bytes of local memory it was given
 } argument;
@@ -228,8 +228,10 @@ const char *ask_write(cl_context c, unsigned buffer, size_t offset, const void *
 cl_int ask_read(cl_context c, unsigned buffer, size_t offset, void *to, size_t n);
 
 // ---- kernels ----
+// The number of the program that a kernel was sent in.
+unsigned program_number(cl_program p, const kernel_form *k);
 // The bytes of an object of a kernel in local memory. Of an argument those that it was given, 0 before.
-cl_ulong local_bytes(cl_kernel k, const symbol *y);
+cl_ulong local_bytes(cl_kernel k, const local_object *l);
 
 // ---- faults ----
 typedef struct {

@@ -1,5 +1,6 @@
 #include "options.h"
-#include "tokens.h"
+#include <ctype.h>
+#include <stdbool.h>
 #include <string.h>
 
 // OpenCL 1.2, 5.6.4: those of a compiler, without -D and -I. (-cl-strict-aliasing and CL1.0 are of earlier versions;
@@ -39,6 +40,26 @@ static bool is_one_of(const char *word, const char *const *all) {
     for (; *all; all++)
         if (!strcmp(word, *all)) return true;
     return !*word;
+}
+
+char **split_options(arena *a, const char *s, size_t *count) {
+    char **words = take(a, (strlen(s) / 2 + 2) * sizeof *words), *store = take(a, 2 * strlen(s) + 2);
+    *count = 0;
+    for (;;) {
+        while (isspace((unsigned char)*s)) s++;
+        if (!*s) return words;
+        words[(*count)++] = store;
+        char quote = 0;
+        for (; *s && (quote || !isspace((unsigned char)*s)); s++) {
+            if (*s == quote) quote = 0;
+            else if (!quote && (*s == '"' || *s == '\'')) quote = *s;
+            else {
+                if (*s == '\\' && s[1]) s++;
+                *store++ = *s;
+            }
+        }
+        *store++ = 0;
+    }
 }
 
 const char *unknown_option(arena *a, const char *options, option_kind kind) {

@@ -5,6 +5,8 @@
 
 typedef enum { COMPILER_OPTION, LINKER_OPTION } option_kind;
 
+// The words of the options of a build, without their quotes.
+char **split_options(arena *a, const char *options, size_t *count);
 // The first option that OpenCL 1.2 hasn't. NULL where it has all of them.
 const char *unknown_option(arena *a, const char *options, option_kind kind);
 #endif

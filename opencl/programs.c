@@ -12,12 +12,14 @@ void drop_program(cl_program p);
 // Releases what a built program has in the device.
 static void release_built(cl_program p) {
     session *s = p->context->session;
-    if (p->number) session_askf(s, "release p%u\n", p->number);
+    for (unsigned i = 0; i < p->count; i++) session_askf(s, "release p%u\n", p->numbers[i]);
     for (unsigned i = 0; p->tables && i < p->form.table_count; i++) session_askf(s, "release b%u\n", p->tables[i]);
     free(p->tables);
+    free(p->numbers);
     free_prepared(&p->form);
     free(p->options);
-    p->number = 0;
+    p->numbers = NULL;
+    p->count = 0;
     p->tables = NULL;
     p->options = NULL;
 }
@@ -139,23 +141,38 @@ static cl_int make_tables(cl_program p) {
     return CL_SUCCESS;
 }
 
-// Sends a prepared program to the device.
-static cl_int build_prepared(cl_program p) {
+// Sends a part of the judged text as a program.
+static cl_int send_program(cl_program p, size_t begin, size_t length, unsigned lines) {
     unsigned number = ++p->context->names;
-    char *command = malloc(p->form.length + 64);
+    char *command = malloc(length + 64);
     if (!command) return CL_OUT_OF_HOST_MEMORY;
-    size_t at = (size_t)snprintf(command, 64, "program p%u %u\n", number, p->form.lines);
-    memcpy(command + at, p->form.text, p->form.length);
+    size_t at = (size_t)snprintf(command, 64, "program p%u %u\n", number, lines);
+    memcpy(command + at, p->form.text + begin, length);
     // more lines than a script can say are more bytes than a source can have
-    const char *reply = p->form.lines > 65536 ? "refused 10 BuildFailed syntax 5 TooLong at 65536"
-                                              : session_ask(p->context->session, command, at + p->form.length);
+    const char *reply = lines > MAX_LINES ? "refused 10 BuildFailed syntax 5 TooLong at 65536"
+                                          : session_ask(p->context->session, command, at + length);
     free(command);
-    if (is_ok(reply)) {
-        p->number = number;
-        return make_tables(p);
-    }
-    if (error_of(reply) == CL_BUILD_PROGRAM_FAILURE) build_log(&p->form, reply);
-    return error_of(reply);
+    if (is_ok(reply)) p->numbers[p->count++] = number;
+    else if (error_of(reply) == CL_BUILD_PROGRAM_FAILURE) build_log(&p->form, begin, reply);
+    return is_ok(reply) ? CL_SUCCESS : error_of(reply);
+}
+
+// Sends a prepared program to the device: each kernel as a program of its own, so that many or long ones are within its
+// limits. What is judged as it is goes as one.
+static cl_int build_prepared(cl_program p) {
+    const prepared *form = &p->form;
+    bool is_one = form->is_own || !form->kernel_count;
+    cl_int fault = CL_SUCCESS;
+    p->numbers = calloc(form->kernel_count + 1, sizeof *p->numbers);
+    if (!p->numbers) return CL_OUT_OF_HOST_MEMORY;
+    if (is_one) fault = send_program(p, 0, form->length, form->lines);
+    for (unsigned i = 0; !is_one && !fault && i < form->kernel_count; i++)
+        fault = send_program(p, form->kernels[i].begin, form->kernels[i].length, form->kernels[i].lines);
+    return fault ? fault : make_tables(p);
+}
+
+unsigned program_number(cl_program p, const kernel_form *k) {
+    return p->numbers[p->form.is_own ? 0 : k - p->form.kernels];
 }
 
 // Refuses options that OpenCL 1.2 hasn't, with a fault. What is said of it goes into a log, where there is one for it.
@@ -187,7 +204,7 @@ static cl_int build(cl_program p, const char *options) {
         p->form.log = "source: error: a byte 0 stands in the source\n";
         return CL_BUILD_PROGRAM_FAILURE;
     }
-    preparation done = prepare_source(&p->form, p->source, options);
+    preparation done = prepare_source(&p->form, p->source, options, p->context->session);
     if (done == NO_MEMORY) return CL_OUT_OF_HOST_MEMORY;
     cl_int fault = done == PREPARED ? build_prepared(p) : CL_BUILD_PROGRAM_FAILURE;
     if (!fault) p->status = CL_BUILD_SUCCESS;
@@ -270,11 +287,17 @@ CL_API_ENTRY cl_int CL_API_CALL clGetProgramInfo(cl_program p, cl_program_info n
         GIVE(size_t, p->form.kernel_count);
     case CL_PROGRAM_KERNEL_NAMES: {
         if (!built) return CL_INVALID_PROGRAM_EXECUTABLE;
-        char names[65536] = ""; // a source has no more bytes
-        size_t at = 0;
-        for (unsigned i = 0; i < p->form.kernel_count; i++)
-            at += (size_t)snprintf(names + at, sizeof names - at, "%s%s", i ? ";" : "", p->form.kernels[i].name);
-        return give_text(names, room, to, size);
+        arena a = {0};
+        text names = {.arena = &a};
+        if (setjmp(a.failed)) {
+            free_arena(&a);
+            return CL_OUT_OF_HOST_MEMORY;
+        }
+        add(&names, "");
+        for (unsigned i = 0; i < p->form.kernel_count; i++) addf(&names, "%s%s", i ? ";" : "", p->form.kernels[i].name);
+        cl_int given = give_text(names.at, room, to, size);
+        free_arena(&a);
+        return given;
     }
     default: return CL_INVALID_VALUE;
     }
@@ -327,11 +350,12 @@ static cl_kernel new_kernel(cl_program p, const kernel_form *form, cl_int *errco
         return fail(errcode, CL_OUT_OF_HOST_MEMORY);
     }
     k->number = ++p->context->names;
-    cl_int fault = error_of(session_askf(s, "kernel k%u p%u %s\n", k->number, p->number, form->name));
+    cl_int fault = error_of(session_askf(s, "kernel k%u p%u %s\n", k->number, program_number(p, form), form->name));
     bool made = !fault;
-    for (unsigned i = 0; !fault && i < form->table_count; i++)
-        fault = error_of(
-            session_askf(s, "arg k%u %u buffer b%u\n", k->number, form->count + i, p->tables[form->tables[i]]));
+    for (unsigned i = 0; !fault && i < form->judged_count; i++)
+        if (form->judged[i].kind == TABLE_PARAMETER)
+            fault =
+                error_of(session_askf(s, "arg k%u %u buffer b%u\n", k->number, i, p->tables[form->judged[i].argument]));
     if (fault) {
         if (made) session_askf(s, "release k%u\n", k->number);
         free(arguments);
@@ -374,56 +398,71 @@ CL_API_ENTRY cl_int CL_API_CALL clCreateKernelsInProgram(cl_program p, cl_uint r
     if (count) *count = p->form.kernel_count;
     return CL_SUCCESS;
 }
-// A value's argument as a script has it, with the sign of its type.
-static cl_int value_command(char *room, size_t size, cl_kernel k, cl_uint index, base_type t, size_t n,
-                            const void *value) {
+
+// ---- arguments ----
+
+static bool is_pointer(const parameter *q) { return q->type->kind == POINTER_TYPE; }
+static bool is_local(const parameter *q) { return is_pointer(q) && q->type->of->space == LOCAL_SPACE; }
+
+// A number out of a value's bytes as a script has it, with the sign of its type.
+static void add_value(text *commands, cl_kernel k, unsigned index, const judged_parameter *q, const void *value) {
     uint64_t bits = 0;
-    if (n != size_of(t)) return CL_INVALID_ARG_SIZE;
-    if (!value) return CL_INVALID_ARG_VALUE;
-    memcpy(&bits, value, n);
-    bits = converted(bits, t);
-    if (is_signed(t)) snprintf(room, size, "arg k%u %u value %" PRId64 "\n", k->number, index, (int64_t)bits);
-    else snprintf(room, size, "arg k%u %u value %" PRIu64 "\n", k->number, index, bits);
-    return CL_SUCCESS;
+    memcpy(&bits, (const char *)value + q->offset, width_of(q->type));
+    bits = converted(bits, q->type);
+    if (is_signed(q->type)) addf(commands, "arg k%u %u value %" PRId64 "\n", k->number, index, (int64_t)bits);
+    else addf(commands, "arg k%u %u value %" PRIu64 "\n", k->number, index, bits);
 }
-static cl_int buffer_command(char *room, size_t size, cl_kernel k, cl_uint index, size_t n, const void *value,
-                             cl_mem *m) {
+
+// The commands that give an argument to all parameters that belong to it.
+static void add_commands(text *commands, cl_kernel k, cl_uint argument, size_t n, const void *value, cl_mem m) {
+    add(commands, "");
+    for (unsigned i = 0; i < k->form->judged_count; i++) {
+        const judged_parameter *q = &k->form->judged[i];
+        if (q->kind == TABLE_PARAMETER || q->argument != argument) continue;
+        if (q->kind == VALUE_PARAMETER) add_value(commands, k, i, q, value);
+        else if (m) addf(commands, "arg k%u %u buffer b%u\n", k->number, i, m->number);
+        else addf(commands, "arg k%u %u local %zu\n", k->number, i, n);
+    }
+}
+
+// Sends them. The first reply that isn't ok, else the last one; of no command NULL.
+static const char *ask_commands(cl_kernel k, const char *commands) {
+    const char *reply = NULL;
+    for (const char *at = commands; *at;) {
+        size_t n = strcspn(at, "\n") + 1;
+        reply = session_ask(k->context->session, at, n);
+        if (!is_ok(reply)) return reply;
+        at += n;
+    }
+    return reply;
+}
+
+// What is wrong with an argument, by the parameter that it is for.
+static cl_int judge_argument(cl_kernel k, cl_uint index, size_t n, const void *value, cl_mem *m) {
+    const parameter *q = &k->form->parameters[index];
+    *m = NULL;
+    if (is_local(q)) return value ? CL_INVALID_ARG_VALUE : n ? CL_SUCCESS : CL_INVALID_ARG_SIZE;
+    if (!is_pointer(q)) return n != q->type->size ? CL_INVALID_ARG_SIZE : value ? CL_SUCCESS : CL_INVALID_ARG_VALUE;
     if (n != sizeof(cl_mem)) return CL_INVALID_ARG_SIZE;
     *m = value ? *(const cl_mem *)value : NULL;
     if (!*m) {
-        refuse(k->context, "argument %u (%s) of %s: a null buffer is refused", index, k->form->parameters[index].name,
-               k->form->name);
+        refuse(k->context, "argument %u (%s) of %s: a null buffer is refused", index, q->name, k->form->name);
         return CL_INVALID_ARG_VALUE;
     }
-    if (!is_a(*m, MEMORY) || (*m)->context != k->context) return CL_INVALID_MEM_OBJECT;
-    snprintf(room, size, "arg k%u %u buffer b%u\n", k->number, index, (*m)->number);
-    return CL_SUCCESS;
+    return is_a(*m, MEMORY) && (*m)->context == k->context ? CL_SUCCESS : CL_INVALID_MEM_OBJECT;
 }
 
-CL_API_ENTRY cl_int CL_API_CALL clSetKernelArg(cl_kernel k, cl_uint index, size_t n, const void *value) {
-    LOCKED;
-    if (!is_a(k, KERNEL)) return CL_INVALID_KERNEL;
-    if (index >= k->form->count) return CL_INVALID_ARG_INDEX;
+// Gives an argument by its commands, which it takes. Where one is refused, the argument is as before.
+static cl_int give_commands(cl_kernel k, cl_uint index, char *kept, cl_mem m, size_t local) {
     const parameter *q = &k->form->parameters[index];
     argument *a = &k->arguments[index];
-    char room[160];
-    cl_mem m = NULL;
-    cl_int fault = CL_SUCCESS;
-    if (!q->type.pointer) fault = value_command(room, sizeof room, k, index, q->type.base, n, value);
-    else if (q->type.space != LOCAL_SPACE) fault = buffer_command(room, sizeof room, k, index, n, value, &m);
-    else if (value) fault = CL_INVALID_ARG_VALUE;
-    else if (!n) fault = CL_INVALID_ARG_SIZE;
-    else snprintf(room, sizeof room, "arg k%u %u local %zu\n", k->number, index, n);
-    if (fault || (a->command && !strcmp(a->command, room))) return fault; // the same argument again
-    char *command = strdup(room);
-    if (!command) return CL_OUT_OF_HOST_MEMORY;
-    const char *reply = session_ask(k->context->session, room, strlen(room));
-    if (!is_ok(reply)) {
-        free(command);
+    const char *reply = ask_commands(k, kept);
+    if (*kept && !is_ok(reply)) {
+        free(kept);
         refuse(k->context, "argument %u (%s) of %s: %s", index, q->name, k->form->name, reply ? reply : "no reply");
-        fault = error_of(reply);
-        return fault == CL_INVALID_ARG_VALUE && q->type.pointer && q->type.space == LOCAL_SPACE ? CL_INVALID_ARG_SIZE
-                                                                                                : fault;
+        cl_int fault = error_of(reply);
+        if (a->command) ask_commands(k, a->command);
+        return fault == CL_INVALID_ARG_VALUE && is_local(q) ? CL_INVALID_ARG_SIZE : fault;
     }
     if (m) m->uses++;
     if (a->memory) {
@@ -431,26 +470,48 @@ CL_API_ENTRY cl_int CL_API_CALL clSetKernelArg(cl_kernel k, cl_uint index, size_
         drop_memory(a->memory);
     }
     free(a->command);
-    a->command = command;
+    a->command = kept;
     a->memory = m;
-    a->local = q->type.pointer && q->type.space == LOCAL_SPACE ? n : 0;
+    a->local = local;
     return CL_SUCCESS;
 }
 
-cl_ulong local_bytes(cl_kernel k, const symbol *y) {
-    cl_ulong n = size_of(y->type.base);
-    for (unsigned d = 0; d < y->type.dimensions; d++) n *= y->type.lengths[d];
-    if (!y->type.pointer) return n;
-    for (unsigned i = 0; i < k->form->count; i++)
-        if (k->form->parameters[i].name == y->name) return k->arguments[i].local; // a name is one token's alone
-    return 0;
+// The commands of an argument, in memory of their own; NULL where memory is refused.
+static char *commands_of(cl_kernel k, cl_uint index, size_t n, const void *value, cl_mem m) {
+    arena a = {0};
+    text commands = {.arena = &a};
+    if (setjmp(a.failed)) {
+        free_arena(&a);
+        return NULL;
+    }
+    add_commands(&commands, k, index, n, value, m);
+    char *kept = strdup(commands.at);
+    free_arena(&a);
+    return kept;
+}
+
+CL_API_ENTRY cl_int CL_API_CALL clSetKernelArg(cl_kernel k, cl_uint index, size_t n, const void *value) {
+    LOCKED;
+    cl_mem m;
+    if (!is_a(k, KERNEL)) return CL_INVALID_KERNEL;
+    if (index >= k->form->count) return CL_INVALID_ARG_INDEX;
+    cl_int fault = judge_argument(k, index, n, value, &m);
+    if (fault) return fault;
+    const char *before = k->arguments[index].command;
+    char *commands = commands_of(k, index, n, value, m);
+    if (!commands) return CL_OUT_OF_HOST_MEMORY;
+    if (before && !strcmp(before, commands)) free(commands); // the same argument again
+    else fault = give_commands(k, index, commands, m, is_local(&k->form->parameters[index]) ? n : 0);
+    return fault;
+}
+
+cl_ulong local_bytes(cl_kernel k, const local_object *l) {
+    return l->is_parameter ? k->arguments[l->argument].local : l->type->size;
 }
 // All local memory of a kernel: what it declares, and what its arguments were given.
 static cl_ulong all_local_bytes(cl_kernel k) {
     cl_ulong n = 0;
-    for (unsigned i = 0; i < k->form->local_count; i++)
-        if (!k->form->locals[i]->type.pointer) n += local_bytes(k, k->form->locals[i]);
-    for (unsigned i = 0; i < k->form->count; i++) n += k->arguments[i].local;
+    for (unsigned i = 0; i < k->form->local_count; i++) n += local_bytes(k, &k->form->locals[i]);
     return n;
 }
 CL_API_ENTRY cl_int CL_API_CALL clGetKernelInfo(cl_kernel k, cl_kernel_info name, size_t room, void *to, size_t *size) {
@@ -468,12 +529,12 @@ CL_API_ENTRY cl_int CL_API_CALL clGetKernelInfo(cl_kernel k, cl_kernel_info name
     }
 }
 // What qualifies a pointer and what it points to (OpenCL 1.2, table 5.21). Of a value nothing is told.
-static cl_kernel_arg_type_qualifier qualifiers_of(const type *t) {
+static cl_kernel_arg_type_qualifier qualifiers_of(const parameter *p) {
     cl_kernel_arg_type_qualifier q = CL_KERNEL_ARG_TYPE_NONE;
-    if (!t->pointer) return q;
-    if (t->is_const || t->space == CONSTANT_SPACE) q |= CL_KERNEL_ARG_TYPE_CONST;
-    if (t->is_volatile) q |= CL_KERNEL_ARG_TYPE_VOLATILE;
-    if (t->is_restrict) q |= CL_KERNEL_ARG_TYPE_RESTRICT;
+    if (!is_pointer(p)) return q;
+    if (p->type->of->is_const || p->type->of->space == CONSTANT_SPACE) q |= CL_KERNEL_ARG_TYPE_CONST;
+    if (p->type->of->is_volatile) q |= CL_KERNEL_ARG_TYPE_VOLATILE;
+    if (p->type->is_restrict) q |= CL_KERNEL_ARG_TYPE_RESTRICT;
     return q;
 }
 CL_API_ENTRY cl_int CL_API_CALL clGetKernelArgInfo(cl_kernel k, cl_uint index, cl_kernel_arg_info name, size_t room,
@@ -486,15 +547,12 @@ CL_API_ENTRY cl_int CL_API_CALL clGetKernelArgInfo(cl_kernel k, cl_uint index, c
     static const cl_kernel_arg_address_qualifier spaces[] = {
         CL_KERNEL_ARG_ADDRESS_PRIVATE, CL_KERNEL_ARG_ADDRESS_GLOBAL, CL_KERNEL_ARG_ADDRESS_CONSTANT,
         CL_KERNEL_ARG_ADDRESS_LOCAL};
-    char type[32];
     switch (name) {
     case CL_KERNEL_ARG_ADDRESS_QUALIFIER:
-        GIVE(cl_kernel_arg_address_qualifier, spaces[q->type.pointer ? q->type.space : PRIVATE_SPACE]);
+        GIVE(cl_kernel_arg_address_qualifier, spaces[is_pointer(q) ? q->type->of->space : PRIVATE_SPACE]);
     case CL_KERNEL_ARG_ACCESS_QUALIFIER: GIVE(cl_kernel_arg_access_qualifier, CL_KERNEL_ARG_ACCESS_NONE);
-    case CL_KERNEL_ARG_TYPE_NAME:
-        snprintf(type, sizeof type, "%s%s", name_of(q->type.base), q->type.pointer ? "*" : "");
-        return give_text(type, room, to, size);
-    case CL_KERNEL_ARG_TYPE_QUALIFIER: GIVE(cl_kernel_arg_type_qualifier, qualifiers_of(&q->type));
+    case CL_KERNEL_ARG_TYPE_NAME: return give_text(q->type_name, room, to, size);
+    case CL_KERNEL_ARG_TYPE_QUALIFIER: GIVE(cl_kernel_arg_type_qualifier, qualifiers_of(q));
     case CL_KERNEL_ARG_NAME: return give_text(q->name, room, to, size);
     default: return CL_INVALID_VALUE;
     }

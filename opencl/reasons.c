@@ -5,6 +5,12 @@
 #include <stdio.h>
 #include <string.h>
 
+// What a reason is told of: a client's source, and the kernel that was launched.
+typedef struct {
+    const prepared *source;
+    const kernel_form *kernel;
+} client_form;
+
 // ---- words ----
 
 static const char *plural(unsigned long n) { return n == 1 ? "" : "s"; }
@@ -21,11 +27,12 @@ static char *take_string(arena *a, json string) {
     return json_string(string, words, room) ? words : NULL;
 }
 
-// Adds where a place of an explanation is in the client's source, behind a word. Nothing where that isn't known.
-static void add_place(text *t, const prepared *source, const char *word, json place) {
+// Adds where a place of an explanation is in the client's form, behind a word. Nothing where that isn't known.
+static void add_place(text *t, const client_form *form, const char *word, json place) {
     char room[512];
     unsigned long offset;
-    if (json_number(json_member(place, "offset"), &offset) && place_of(source, offset, room, sizeof room))
+    if (json_number(json_member(place, "offset"), &offset) &&
+        place_of(form->source, form->kernel, offset, room, sizeof room))
         addf(t, "%s at %s", word, room);
 }
 
@@ -40,26 +47,25 @@ static bool is_word(json v, const char *word) {
 
 // ---- kinds of reasons. Each adds its sentence, or answers false where a member is missing ----
 
-static bool add_barrier(text *t, const prepared *source, json reason) {
+static bool add_barrier(text *t, const client_form *form, json reason) {
     unsigned long group;
     bool is_local = is_word(json_member(reason, "memory"), "local");
     if (!number_of(reason, "group", &group)) return false;
     addf(t, "group %lu passes a barrier between the two accesses", group);
-    add_place(t, source, ",", json_member(reason, "barrier"));
+    add_place(t, form, ",", json_member(reason, "barrier"));
     addf(t, ", but it does not fence %s memory: CLK_%s_MEM_FENCE is missing", is_local ? "local" : "global",
          is_local ? "LOCAL" : "GLOBAL");
     return true;
 }
 
-static bool add_elements(text *t, const prepared *source, json reason) {
+static bool add_elements(text *t, const client_form *form, json reason) {
     unsigned long bytes, elements, width;
-    char own[128]; // begins a name that the driver wrote in place of the client's
-    size_t length = (size_t)snprintf(own, sizeof own, "%smy_", source->mark);
     const char *name = take_string(t->arena, json_member(reason, "name"));
     if (!name || !number_of(reason, "bytes", &bytes) || !number_of(reason, "elements", &elements) ||
         !number_of(reason, "width", &width))
         return false;
-    add_line(t, strncmp(name, own, length) ? name : name + length);
+    const char *shown = form->source->is_own ? name : shown_as(form->kernel, name, strlen(name));
+    add_line(t, shown ? shown : name);
     addf(t, " has %lu byte%s, which %s %lu element%s of %lu byte%s, numbered from 0", bytes, plural(bytes),
          elements == 1 ? "is" : "are", elements, plural(elements), width, plural(width));
     return true;
@@ -76,24 +82,24 @@ static bool read_stored(json v, stored_bytes *s) {
            number_of(v, "item", &s->item);
 }
 
-static void add_stored(text *t, const prepared *source, const stored_bytes *s) {
+static void add_stored(text *t, const client_form *form, const stored_bytes *s) {
     addf(t, "%lu", s->byte);
     if (s->bytes > 1) addf(t, " to %lu", s->byte + (s->bytes - 1));
     addf(t, ", by work-item %lu", s->item);
-    add_place(t, source, ",", s->place);
+    add_place(t, form, ",", s->place);
 }
 
-static bool add_nearest(text *t, const prepared *source, json reason) {
+static bool add_nearest(text *t, const client_form *form, json reason) {
     stored_bytes sides[2];
     unsigned n = 0;
     n += read_stored(json_member(reason, "below"), &sides[n]);
     n += read_stored(json_member(reason, "above"), &sides[n]);
     if (!n) return false;
     add(t, n == 1 && sides[0].bytes == 1 ? "the nearest byte that was set is " : "the nearest bytes that were set are ");
-    add_stored(t, source, &sides[0]);
+    add_stored(t, form, &sides[0]);
     if (n == 2) {
         add(t, ", and ");
-        add_stored(t, source, &sides[1]);
+        add_stored(t, form, &sides[1]);
     }
     add(t, "; if another work-item sets this byte later, a barrier between the two is missing");
     return true;
@@ -104,17 +110,17 @@ static const char *before_entry(bool is_first, unsigned long left) {
     return is_first ? ": " : left == 1 ? " and " : ", ";
 }
 
-static void add_loop(text *t, const prepared *source, json loop) {
+static void add_loop(text *t, const client_form *form, json loop) {
     unsigned long turns = 0;
     json counted = json_member(loop, "counted");
     number_of(loop, "turns", &turns);
     addf(t, "%s%lu of the loop", is_word(counted, "seen") ? "at least " : "", turns);
-    add_place(t, source, "", loop);
+    add_place(t, form, "", loop);
     if (is_word(counted, "since_entered")) add(t, " since it was entered");
 }
 
 // Adds the loops that the turns of a budget went to. `unseen` is how many turns aren't among theirs.
-static void add_loops(text *t, const prepared *source, json reason, unsigned long unseen) {
+static void add_loops(text *t, const client_form *form, json reason, unsigned long unseen) {
     json loops = json_member(reason, "loops"), others = json_member(reason, "other_loops");
     unsigned long count = 0, turns = 0, left = unseen ? 1 : 0;
     bool is_first = true, has_others = number_of(others, "loops", &count) && number_of(others, "turns", &turns);
@@ -122,7 +128,7 @@ static void add_loops(text *t, const prepared *source, json reason, unsigned lon
     for (json l = json_first(loops); l.at; l = json_next(loops, l)) left++;
     for (json l = json_first(loops); l.at; l = json_next(loops, l)) {
         add(t, before_entry(is_first, left--));
-        add_loop(t, source, l);
+        add_loop(t, form, l);
         is_first = false;
     }
     if (has_others) {
@@ -134,7 +140,7 @@ static void add_loops(text *t, const prepared *source, json reason, unsigned lon
         addf(t, "%s%lu of loops that it had left, which no access or barrier shows", before_entry(is_first, 1), unseen);
 }
 
-static bool add_budget(text *t, const prepared *source, json reason) {
+static bool add_budget(text *t, const client_form *form, json reason) {
     unsigned long ticks, accesses, barriers, turns, unseen;
     if (!number_of(reason, "ticks", &ticks) || !number_of(reason, "accesses", &accesses) ||
         !number_of(reason, "barriers", &barriers) || !number_of(reason, "turns", &turns) ||
@@ -142,14 +148,14 @@ static bool add_budget(text *t, const prepared *source, json reason) {
         return false;
     addf(t, "the budget of %lu tick%s went to %lu access%s, %lu barrier%s and %lu turn%s of loops", ticks, plural(ticks),
          accesses, accesses == 1 ? "" : "es", barriers, plural(barriers), turns, plural(turns));
-    add_loops(t, source, reason, unseen);
+    add_loops(t, form, reason, unseen);
     add(t, "; a loop without end uses up any budget");
     return true;
 }
 
 static const struct {
     const char *kind;
-    bool (*add)(text *t, const prepared *source, json reason);
+    bool (*add)(text *t, const client_form *form, json reason);
 } worded[] = {
     {"unfenced_barrier", add_barrier},
     {"elements", add_elements},
@@ -164,25 +170,26 @@ static bool add_sentence(text *t, json reason) {
     return words;
 }
 
-static bool add_reason(text *t, const prepared *source, json reason) {
+static bool add_reason(text *t, const client_form *form, json reason) {
     json kind = json_member(reason, "kind");
     for (size_t i = 0; i < sizeof worded / sizeof *worded; i++)
-        if (is_word(kind, worded[i].kind)) return worded[i].add(t, source, reason);
+        if (is_word(kind, worded[i].kind)) return worded[i].add(t, form, reason);
     return add_sentence(t, reason);
 }
 
 // Tells one reason. Where memory is refused, it is left out.
-static void tell_reason(const prepared *source, json reason) {
+static void tell_reason(const client_form *form, json reason) {
     arena a = {0};
     text told = {.arena = &a};
     if (setjmp(a.failed)) {
         free_arena(&a);
         return;
     }
-    if (add_reason(&told, source, reason) && told.length) tell("  why: %s", told.at);
+    if (add_reason(&told, form, reason) && told.length) tell("  why: %s", told.at);
     free_arena(&a);
 }
 
-void tell_reasons(const prepared *source, json list) {
-    for (json r = json_first(list); r.at; r = json_next(list, r)) tell_reason(source, r);
+void tell_reasons(const prepared *source, const kernel_form *kernel, json list) {
+    client_form form = {source, kernel};
+    for (json r = json_first(list); r.at; r = json_next(list, r)) tell_reason(&form, r);
 }

@@ -5,5 +5,5 @@
 #include "source.h"
 
 // Tells each reason of a list, with its places in the client's source.
-void tell_reasons(const prepared *source, json list);
+void tell_reasons(const prepared *source, const kernel_form *kernel, json list);
 #endif

@@ -1,6 +1,5 @@
 #include "source.h"
-#include "second.h"
-#include "session.h"
+#include "own.h"
 #include <stdio.h>
 #include <stdlib.h>
 #include <string.h>
@@ -27,61 +26,25 @@ static char *file_line(arena *a, const char *path, unsigned line) {
     return found ? copy_text(a, room, strcspn(room, "\n")) : NULL;
 }
 
-static bool is_word_byte(char c) {
-    return c == '_' || (c >= '0' && c <= '9') || (c >= 'a' && c <= 'z') || (c >= 'A' && c <= 'Z');
+// The client's line at a place; NULL where it isn't found.
+static const char *line_of(prepared *p, const place *at) {
+    if (strcmp(at->file, "source")) return file_line(&p->arena, at->file, at->line);
+    const char *line = start_of_line(p->source, at->line);
+    return line ? copy_text(&p->arena, line, strcspn(line, "\n")) : NULL;
 }
 
-// Whether a token's text stands in a line where the preprocessor put it.
-static bool stands_at(const char *line, const token *t) {
-    size_t n = strlen(t->text), at = t->column - 1;
-    return n && at + n <= strlen(line) && !strncmp(line + at, t->text, n);
-}
-
-// Where a token's text stands in a line as a whole word. That of a macro stands nowhere: then behind the token in front
-// of it.
-static size_t column_in(const prepared *p, const char *line, const token *t) {
-    size_t n = strlen(t->text);
-    if (stands_at(line, t)) return t->column - 1;
-    const token *before = t > p->tokens.at ? t - 1 : NULL;
-    if (before && before->line == t->line && before->file == t->file && stands_at(line, before)) {
-        size_t at = before->column - 1 + strlen(before->text);
-        return at + strspn(line + at, " \t");
-    }
-    for (const char *at = n ? strstr(line, t->text) : NULL; at; at = strstr(at + 1, t->text)) {
-        bool starts = at == line || !is_word_byte(at[-1]) || !is_word_byte(*at),
-             ends = !is_word_byte(at[n]) || !is_word_byte(at[n - 1]);
-        if (starts && ends) return (size_t)(at - line);
-    }
-    return strspn(line, " \t");
-}
-
-// The client's line in which a token stands.
-static const char *line_of(prepared *p, const token *t) {
-    if (t->file) return file_line(&p->arena, t->file, t->line);
-    const char *at = start_of_line(p->source, t->line);
-    return at ? copy_text(&p->arena, at, strcspn(at, "\n")) : NULL;
-}
-
-// A message at a token, or with `behind` at its end.
-static void add_message_at(prepared *p, text *log, const token *t, bool behind, const char *message) {
-    const char *line = line_of(p, t);
-    size_t column = line ? column_in(p, line, t) : t->column - 1;
-    if (behind && line && column + strlen(t->text) <= strlen(line)) column += strlen(t->text);
-    addf(log, "%s:%u:%zu: error: %s\n", t->file ? t->file : "source", t->line, column + 1, message);
+// A message in clang's form, with the line and a caret under the place.
+static void add_message(prepared *p, text *log, const place *at, const char *message) {
+    const char *line = at->line ? line_of(p, at) : NULL;
+    addf(log, "%s:%u:%u: error: %s\n", at->file, at->line, at->column, message);
     if (!line) return;
     addf(log, "%s\n", line);
-    for (size_t i = 0; i < column; i++) add(log, line[i] == '\t' ? "\t" : " ");
+    for (size_t i = 0; i + 1 < at->column && line[i]; i++) add(log, line[i] == '\t' ? "\t" : " ");
     add(log, "^\n");
 }
-static void add_message(prepared *p, text *log, const token *t, const char *message) {
-    add_message_at(p, log, t, false, message);
-}
-static void add_remarks(prepared *p, text *log, const remark *r) {
-    for (; r; r = r->next) add_message_at(p, log, &p->tokens.at[r->token], r->behind, r->message);
-}
 
-// What is known of an offset of the judged text.
-static const place *place_at(const prepared *p, size_t offset) {
+// What begins at an offset of the judged text, or in front of it.
+static const judged_place *place_at(const prepared *p, size_t offset) {
     size_t low = 0, high = p->place_count;
     while (low < high) {
         size_t middle = (low + high) / 2;
@@ -90,34 +53,81 @@ static const place *place_at(const prepared *p, size_t offset) {
     }
     return low ? &p->places[low - 1] : NULL;
 }
-// The token that it stands for.
-static const token *token_at(const prepared *p, size_t offset) {
-    const place *at = place_at(p, offset);
-    return at ? &p->tokens.at[at->token] : NULL;
+
+// Where an offset of a text that is judged as it is stands.
+static place own_place(const prepared *p, size_t offset) {
+    place at = {"source", 1, 1};
+    for (size_t i = 0; i < offset && i < p->length; i++) {
+        at.column++;
+        if (p->text[i] != '\n') continue;
+        at.line++;
+        at.column = 1;
+    }
+    return at;
+}
+
+static bool find_place(const prepared *p, size_t offset, place *at) {
+    const judged_place *found = p->is_own ? NULL : place_at(p, offset);
+    if (p->is_own) *at = own_place(p, offset);
+    else if (found) *at = *found->at;
+    return p->is_own || found;
 }
 
 bool is_of_turn_before(const prepared *p, size_t offset, size_t loop) {
-    const place *at = place_at(p, offset), *begin = place_at(p, loop);
-    return at && begin && at->loop == begin->token + 1;
+    const judged_place *at = place_at(p, offset), *begin = place_at(p, loop);
+    const turn_before *t = at && begin && begin->loop ? at->before : NULL;
+    while (t && t->loop != begin->loop) t = t->more;
+    return t != NULL;
 }
 
-bool place_of(const prepared *p, size_t offset, char *room, size_t n) {
-    const token *t = offset < p->length ? token_at(p, offset) : NULL;
-    if (!t) return false;
-    unsigned column = t->column;
-    const char *line = t->file ? NULL : start_of_line(p->source, t->line);
-    if (line) {
-        size_t length = strcspn(line, "\n");
-        char *copy = malloc(length + 1);
-        if (copy) {
-            memcpy(copy, line, length);
-            copy[length] = 0;
-            column = (unsigned)column_in(p, copy, t) + 1;
-            free(copy);
-        }
-    }
-    snprintf(room, n, "%s:%u:%u", t->file ? t->file : "source", t->line, column);
+bool place_of(const prepared *p, const kernel_form *k, size_t offset, char *room, size_t n) {
+    place at;
+    if (offset >= k->length || !find_place(p, k->begin + offset, &at)) return false;
+    put_place(room, n, &at);
     return true;
+}
+
+void put_place(char *room, size_t n, const place *at) { snprintf(room, n, "%s:%u:%u", at->file, at->line, at->column); }
+
+const call_site *calls_round(const prepared *p, size_t offset) {
+    const judged_place *at = p->is_own ? NULL : place_at(p, offset);
+    return at ? at->calls : NULL;
+}
+
+const char *shown_as(const kernel_form *k, const char *name, size_t length) {
+    for (unsigned i = 0; i < k->name_count; i++) {
+        const char *judged = k->names[i].judged;
+        if (strlen(judged) == length && !strncmp(judged, name, length)) return k->names[i].shown;
+    }
+    return name;
+}
+
+static const field *field_at(const record *r, uint64_t offset) {
+    for (unsigned i = 0; i < r->field_count; i++)
+        if (r->fields[i].offset <= offset && offset - r->fields[i].offset < r->fields[i].type->size)
+            return &r->fields[i];
+    return NULL;
+}
+
+void put_part(char *room, size_t n, const type *type, uint64_t offset) {
+    *room = 0;
+    for (size_t at = 0; at < n;) {
+        if (type->kind == RECORD_TYPE) {
+            const field *f = field_at(type->record, offset);
+            if (!f) return;
+            if (*f->name) at += (size_t)snprintf(room + at, n - at, ".%s", f->name);
+            offset -= f->offset;
+            type = f->type;
+            continue;
+        }
+        bool is_vector = type->kind == VECTOR_TYPE;
+        if ((type->kind != ARRAY_TYPE && !is_vector) || !type->of->size) return;
+        unsigned long long index = offset / type->of->size;
+        if (is_vector && type->length <= 4) at += (size_t)snprintf(room + at, n - at, ".%c", "xyzw"[index % 4]);
+        else at += (size_t)snprintf(room + at, n - at, is_vector ? ".s%llx" : "[%llu]", index);
+        offset %= type->of->size;
+        type = type->of;
+    }
 }
 
 // ---- what a refusal means ----
@@ -125,39 +135,29 @@ bool place_of(const prepared *p, size_t offset, char *room, size_t n) {
 static const char *meaning(const char *name) {
     static const struct {
         const char *name, *words;
-    } of[] = {{"UnknownName", "this name stands for nothing that Clsim has"},
-              {"Redeclared", "this name is declared twice"},
-              {"TypeMismatch", "this is of a wrong kind"},
-              {"NotAssignable", "this can't be stored to"},
-              {"Recursion", "a function calls itself"},
-              {"WrongArgumentCount", "too few or too many arguments"},
-              {"WrongSpace", "a pointer to another address space, or to private memory"},
-              {"BadBarrierFlags", "a barrier takes CLK_LOCAL_MEM_FENCE, CLK_GLOBAL_MEM_FENCE or both"},
-              {"TooManyLoops", "loops are nested more than 8 deep"},
+    } of[] = {{"TooManyLoops", "loops are nested more than 8 deep"},
               {"TooLarge", "an array is too large, or the kernel has too many parts"},
-              {"MissingReturn", "a function with a value doesn't always return"},
               {"TooDeep", "this is nested more than 64 deep"},
-              {"TooLong", "the source has more than 65536 bytes"},
-              {"NumberTooLarge", "this number is too large"},
-              {"Unexpected", "this can't stand here"}};
+              {"TooLong", "the source has more than 65536 bytes"}};
     for (size_t i = 0; i < sizeof of / sizeof *of; i++)
         if (!strcmp(name, of[i].name)) return of[i].words;
     return name;
 }
 
-const char *build_log(prepared *p, const char *reply) {
+const char *build_log(prepared *p, size_t begin, const char *reply) {
     text log = {.arena = &p->arena};
     char name[64] = "";
     unsigned long offset = 0;
+    place at;
     if (setjmp(p->arena.failed)) return NULL;
     bool known = sscanf(reply, "refused 10 BuildFailed %*s %*u %63s at %lu", name, &offset) == 2;
-    const token *t = known ? token_at(p, offset) : NULL;
-    if (t) add_message(p, &log, t, t->kind == END_TOKEN ? "the source ends too early" : meaning(name));
+    offset += begin;
+    if (known && find_place(p, offset, &at)) add_message(p, &log, &at, meaning(name));
     if (known && offset <= p->length) {
-        size_t begin = offset;
-        while (begin && p->text[begin - 1] != '\n') begin--;
-        addf(&log, "as it is judged:\n%.*s\n%*s^\n", (int)strcspn(p->text + begin, "\n"), p->text + begin,
-             (int)(offset - begin), "");
+        size_t line = offset;
+        while (line && p->text[line - 1] != '\n') line--;
+        addf(&log, "as it is judged:\n%.*s\n%*s^\n", (int)strcspn(p->text + line, "\n"), p->text + line,
+             (int)(offset - line), "");
     }
     addf(&log, "%s\n", reply);
     return p->log = log.at;
@@ -165,133 +165,125 @@ const char *build_log(prepared *p, const char *reply) {
 
 // ---- kernels ----
 
-// The attributes of a function in one text.
-static const char *attributes_of(arena *a, const function *f) {
-    text words = {.arena = a};
-    add(&words, "");
-    for (const attribute *t = f->attributes; t; t = t->next) addf(&words, "%s%s", words.length ? " " : "", t->text);
-    return words.at;
+// A type as a client declares it: without address spaces and qualifiers, with OpenCL's own words for unsigned types
+// (OpenCL 1.2, table 5.21).
+static const char *told_type(arena *a, const type *t) {
+    text name = {.arena = a};
+    const type *of = t->kind == POINTER_TYPE ? t->of : t;
+    const type *number = of->kind == VECTOR_TYPE ? of->of : of;
+    bool is_integer = number->kind == INTEGER_TYPE && !number->is_bool;
+    add(&name, is_integer ? name_of(integer_of(number->width, number->is_signed)) : number->name);
+    if (of->kind == VECTOR_TYPE) addf(&name, "%u", (unsigned)of->length);
+    if (t->kind == POINTER_TYPE) add(&name, "*");
+    return name.at;
 }
 
-static void list_kernels(prepared *p, const unit *u) {
-    arena *a = &p->arena;
+// An attribute as it is declared (OpenCL 1.2, table 5.20). (To clang the word `kernel` is one.)
+static void add_attribute(text *words, const attribute *t) {
+    if (t->declared && t->kind != KERNEL_ATTRIBUTE) addf(words, "%s%s", words->length ? " " : "", t->declared);
+}
+
+static unsigned lines_in(const char *text, size_t length) {
     unsigned n = 0;
-    for (const function *f = u->functions; f; f = f->next) n += f->is_kernel;
-    p->kernels = take(a, (n + 1) * sizeof *p->kernels);
-    for (const function *f = u->functions; f; f = f->next) {
-        if (!f->is_kernel) continue;
-        kernel_form *k = &p->kernels[p->kernel_count++];
-        *k = (kernel_form){.name = f->symbol->name,
-                           .parameters = take(a, (f->parameter_count + 1) * sizeof(parameter)),
-                           .count = f->parameter_count,
-                           .tables = take(a, (u->table_count + 1) * sizeof(unsigned)),
-                           .group = {f->group[0], f->group[1], f->group[2]},
-                           .attributes = attributes_of(a, f)};
-        unsigned i = 0, locals = f->parameter_count;
-        for (const struct use *l = f->locals; l; l = l->next) locals++;
-        k->locals = take(a, (locals + 1) * sizeof *k->locals);
-        for (const struct use *l = f->locals; l; l = l->next) k->locals[k->local_count++] = l->symbol;
-        for (const declaration *d = f->parameters; d; d = d->next) {
-            k->parameters[i++] = (parameter){d->symbol->name, d->symbol->type};
-            if (d->symbol->type.pointer && d->symbol->type.space == LOCAL_SPACE)
-                k->locals[k->local_count++] = d->symbol;
-        }
-        for (unsigned t = 0; t < u->table_count; t++)
-            if (f->tables[t]) k->tables[k->table_count++] = t;
+    for (size_t i = 0; i < length; i++) n += text[i] == '\n';
+    return n;
+}
+
+static void list_kernel(prepared *p, kernel_form *k, const judged_kernel *judged) {
+    const node *f = judged->function;
+    text words = {.arena = &p->arena};
+    add(&words, "");
+    *k = (kernel_form){.name = f->name,
+                       .parameters = take(&p->arena, (f->part_count + 1) * sizeof(parameter)),
+                       .count = f->part_count,
+                       .judged = judged->parameters,
+                       .judged_count = judged->parameter_count,
+                       .names = judged->names,
+                       .name_count = judged->name_count,
+                       .locals = judged->locals,
+                       .local_count = judged->local_count,
+                       .begin = judged->begin,
+                       .length = judged->length,
+                       .lines = lines_in(p->text + judged->begin, judged->length)};
+    for (unsigned i = 0; i < f->part_count; i++) {
+        const node *q = f->parts[i];
+        k->parameters[i] = (parameter){q->name ? q->name : "", q->type, told_type(&p->arena, q->type)};
     }
-    p->tables = take(a, (u->table_count + 1) * sizeof *p->tables);
-    p->table_count = u->table_count;
-    for (unsigned t = 0; t < u->table_count; t++)
-        p->tables[t] =
-            (table){u->tables[t]->name, u->tables[t]->bytes, u->tables[t]->size, size_of(u->tables[t]->type.base)};
-}
-
-// Two words that Clsim reads alike.
-static bool is_same_word(const char *a, const char *b) {
-    static const char *const pairs[][2] = {{"__kernel", "kernel"},
-                                           {"__global", "global"},
-                                           {"__local", "local"},
-                                           {"__constant", "constant"},
-                                           {"ulong", "size_t"}};
-    if (!strcmp(a, b)) return true;
-    for (size_t i = 0; i < sizeof pairs / sizeof *pairs; i++)
-        if ((!strcmp(a, pairs[i][0]) && !strcmp(b, pairs[i][1])) ||
-            (!strcmp(a, pairs[i][1]) && !strcmp(b, pairs[i][0])))
-            return true;
-    return false;
-}
-
-// Whether the source can go to the device as it is: it has the same words as what was written of its tree.
-static bool is_as_written(arena *a, const tokens *source, const char *written) {
-    tokens w = read_tokens(a, written, false);
-    bool same = w.count == source->count;
-    for (size_t i = 0; same && i < w.count; i++) same = is_same_word(w.at[i].text, source->at[i].text);
-    return same;
-}
-
-static void keep_text(prepared *p, char *judged) {
-    tokens t = read_tokens(&p->arena, judged, false);
-    p->text = judged;
-    p->length = strlen(judged);
-    p->places = take(&p->arena, t.count * sizeof *p->places);
-    for (size_t i = 0; i < t.count && i < p->tokens.count; i++)
-        p->places[p->place_count++] = (place){t.at[i].offset, i, 0};
+    for (const attribute *t = f->attributes; t; t = t->next) {
+        add_attribute(&words, t);
+        for (int d = 0; t->kind == REQUIRED_SIZE_ATTRIBUTE && d < 3; d++) k->group[d] = t->numbers[d];
+    }
+    k->attributes = words.at;
 }
 
 // ---- the whole ----
 
-static bool make_ready(prepared *p, const char *options) {
-    const char *cpp = setting("CLSIM_CPP"), *rewriting = setting("CLSIM_REWRITE");
-    text log = {.arena = &p->arena};
-    complaint wrong = {.message = NULL};
-    bool marked = needs_preprocessor(p->source, options) && !(cpp && !strcmp(cpp, "none"));
-    const char *read = marked ? preprocess(&p->arena, p->source, options, &log) : p->source;
-    if (!read) {
+static void keep_judged(prepared *p, const judged_source *judged) {
+    p->text = judged->text;
+    p->length = judged->length;
+    p->places = judged->places;
+    p->place_count = judged->place_count;
+    p->tables = judged->tables;
+    p->table_count = judged->table_count;
+    p->kernel_count = judged->kernel_count;
+    p->kernels = take(&p->arena, (p->kernel_count + 1) * sizeof *p->kernels);
+    for (unsigned i = 0; i < p->kernel_count; i++) list_kernel(p, &p->kernels[i], &judged->kernels[i]);
+    if (*judged->notes) p->log = judged->notes;
+}
+
+static bool translate_source(prepared *p, const char *options) {
+    arena *a = &p->arena;
+    tree *t = take(a, sizeof *t);
+    judged_source *judged = take(a, sizeof *judged);
+    refusal wrong;
+    text log = {.arena = a};
+    if (!read_source(a, p->source, options, t)) {
+        p->log = t->log;
+        return false;
+    }
+    if (!translate(a, t, judged, &wrong)) {
+        add_message(p, &log, &wrong.at, wrong.message);
         p->log = log.at;
         return false;
     }
-    unit *u = take(&p->arena, sizeof *u);
-    *u = (unit){.arena = &p->arena, .tokens = read_tokens(&p->arena, read, marked)};
-    p->tokens = u->tokens;
-    if (setjmp(wrong.stop)) {
-        add_message(p, &log, &p->tokens.at[wrong.token], wrong.message);
-        add_remarks(p, &log, second_reading_up_to(u, read, marked, wrong.token));
-        p->log = log.at;
-        return false;
+    if (!judged->kernel_count) { // a program is a function at least
+        judged->text = copy_text(a, "void clsim_nothing() {\n}\n", 25);
+        judged->length = strlen(judged->text);
     }
-    parse(u, &wrong);
-    // CLSIM_REWRITE=0 sends the source as it is, 1 what is written of its tree; without it, what is written where that
-    // has other words
-    bool never = rewriting && !strcmp(rewriting, "0"), always = rewriting && !strcmp(rewriting, "1");
-    judged_text j = {NULL, 0, NULL, 0};
-    if (!never) j = rewrite(u, &wrong);
-    add_remarks(p, &log, second_reading(u, read, marked));
-    if (log.length) {
-        p->log = log.at;
-        return false;
-    }
-    if (never || (!always && is_as_written(&p->arena, &u->tokens, j.text)))
-        keep_text(p, without_markers(&p->arena, read, marked));
-    else {
-        p->text = j.text;
-        p->length = j.length;
-        p->places = j.places;
-        p->place_count = j.place_count;
-    }
-    for (size_t i = 0; i < p->length; i++) p->lines += p->text[i] == '\n';
-    p->mark = u->mark;
-    list_kernels(p, u);
+    keep_judged(p, judged);
     return true;
 }
 
-preparation prepare_source(prepared *p, const char *source, const char *options) {
+// Options with macros may change each word of a source.
+static bool has_macros(const char *options) { return options && strstr(options, "-D"); }
+
+// Whether the source is judged as it is: it is a program in Clsim's language. CLSIM_REWRITE=0 takes every source for
+// one, 1 none.
+static bool is_judged_as_it_is(prepared *p, const char *options, session *device) {
+    const char *rewriting = setting("CLSIM_REWRITE");
+    text whole = {.arena = &p->arena};
+    if (has_macros(options) || (rewriting && !strcmp(rewriting, "1"))) return false;
+    add(&whole, p->source);
+    if (!whole.length || whole.at[whole.length - 1] != '\n') add(&whole, "\n");
+    p->text = whole.at;
+    p->length = whole.length;
+    p->is_own = rewriting && !strcmp(rewriting, "0");
+    p->lines = lines_in(p->text, p->length);
+    if (!p->is_own) p->is_own = is_own_program(p, device);
+    return p->is_own;
+}
+
+preparation prepare_source(prepared *p, const char *source, const char *options, session *device) {
     memset(p, 0, sizeof *p);
     if (setjmp(p->arena.failed)) {
         free_prepared(p);
         return NO_MEMORY;
     }
     p->source = copy_text(&p->arena, source, strlen(source));
-    return make_ready(p, options) ? PREPARED : NOT_PREPARED;
+    if (is_judged_as_it_is(p, options, device)) list_own_kernels(p);
+    else if (!translate_source(p, options)) return NOT_PREPARED;
+    p->lines = lines_in(p->text, p->length);
+    return PREPARED;
 }
 
 void free_prepared(prepared *p) {

@@ -1,59 +1,69 @@
-// A client's source, made ready for the device: preprocessed, in the form of Clsim's language, with its kernels and
-// where each byte comes from.
+// A client's source, made ready for the device: in Clsim's language, with its kernels and where each byte comes from.
 #ifndef CLSIM_SOURCE_H
 #define CLSIM_SOURCE_H
-#include "rewrite.h"
+#include "front/translate.h"
+#include "session.h"
+
+enum { MAX_LINES = 65536 }; // of a program in a script
 
 typedef struct {
     const char *name;
-    type type; // an integer, or a pointer
+    const type *type;
+    const char *type_name; // as clGetKernelArgInfo tells it
 } parameter;
 
 typedef struct {
     const char *name;
-    parameter *parameters; // those of the client; behind them stand the tables
+    parameter *parameters; // those of the client
     unsigned count;
-    unsigned *tables; // the tables that it is given as arguments `count`, `count + 1` and so on
-    unsigned table_count;
-    const symbol **locals; // its objects in local memory
+    judged_parameter *judged; // those of the judged text
+    unsigned judged_count;
+    shown_name *names;
+    unsigned name_count;
+    local_object *locals;
     unsigned local_count;
+    size_t begin, length; // the program that it is sent in: a part of the judged text
+    unsigned lines;
     size_t group[3];        // reqd_work_group_size, or zeros
     const char *attributes; // those of its function, with a space between each two
 } kernel_form;
-
-typedef struct {
-    const char *name;
-    const unsigned char *bytes;
-    size_t size;
-    unsigned width; // of an element
-} table;
 
 typedef struct {
     arena arena;
     char *source, *text; // the client's, and as it is judged
     size_t length;
     unsigned lines;
-    place *places;
+    bool is_own; // it is in Clsim's language, and judged byte for byte, all of it as one program
+    judged_place *places;
     size_t place_count;
-    tokens tokens;
     kernel_form *kernels;
     unsigned kernel_count;
-    table *tables; // constant memory that the source fills itself
+    constant_table *tables; // constant memory that the source fills itself
     unsigned table_count;
-    const char *mark; // stands before names that aren't the client's own
-    const char *log;  // why it can't be built
+    const char *log; // why it can't be built, or what was left out
 } prepared;
 
 typedef enum { PREPARED, NOT_PREPARED, NO_MEMORY } preparation;
 
-// Makes a source ready by the options of a build. The text and the log live until it is freed.
-preparation prepare_source(prepared *p, const char *source, const char *options);
+// Makes a source ready by the options of a build. The device says whether it is a program in Clsim's language. The text
+// and the log live until it is freed.
+preparation prepare_source(prepared *p, const char *source, const char *options, session *device);
 void free_prepared(prepared *p);
-// The log of a build that the device refused, from its reply. NULL where memory is refused.
-const char *build_log(prepared *p, const char *reply);
-// Where a byte of the text that is judged comes from, as FILE:LINE:COLUMN; false where that isn't known.
-bool place_of(const prepared *p, size_t offset, char *room, size_t n);
+// The log of a build that the device refused, from its reply to the program that begins at an offset of the judged
+// text. NULL where memory is refused.
+const char *build_log(prepared *p, size_t begin, const char *reply);
+// Where a byte of the program of a kernel comes from, as FILE:LINE:COLUMN; false where that isn't known, or there is no
+// such byte.
+bool place_of(const prepared *p, const kernel_form *k, size_t offset, char *room, size_t n);
+// The calls of the source round a byte, which are judged in their places; NULL for none.
+const call_site *calls_round(const prepared *p, size_t offset);
+void put_place(char *room, size_t n, const place *at);
 // Whether what stands at a byte of that text is a part of the turn before in the client's source, of the loop that
 // begins at another byte.
 bool is_of_turn_before(const prepared *p, size_t offset, size_t loop);
+// What a name of the judged text stands for in the client's source; NULL where it holds a part of an expression, and
+// the name itself where nothing is known of it. The length is that of the name.
+const char *shown_as(const kernel_form *k, const char *name, size_t length);
+// An object's part at a byte as the source names it behind the object's name: `[3].x`.
+void put_part(char *room, size_t n, const type *type, uint64_t offset);
 #endif

@@ -1,5 +1,5 @@
 // judged FILE [OPTIONS]: what the driver makes of a source, as it is judged. Where it can't be built, the log, with
-// status 1.
+// status 1. The device is that of CLSIM_SERVE.
 #include "../source.h"
 #include <stdio.h>
 #include <stdlib.h>
@@ -16,8 +16,14 @@ int main(int count, char **words) {
     fclose(file);
     source[n] = 0;
     prepared p;
-    preparation done = prepare_source(&p, source, count == 3 ? words[2] : "");
+    session *device = session_open();
+    if (!device) {
+        fputs("judged: no device\n", stderr);
+        return 2;
+    }
+    preparation done = prepare_source(&p, source, count == 3 ? words[2] : "", device);
     fputs(done == PREPARED ? p.text : done == NOT_PREPARED ? p.log : "out of memory\n", stdout);
     free_prepared(&p);
+    session_close(device);
     return done == PREPARED ? 0 : 1;
 }

@@ -1,0 +1,140 @@
+// Types as memory has them: their sizes, and the numbers in them.
+#include "front.h"
+
+// A floating-point number is the integer of its bits: it is moved, and nothing else is done with it.
+integer_type core_type(const type *t) { return integer_of(t->width, t->kind == INTEGER_TYPE && t->is_signed); }
+
+bool is_floating(const type *t) {
+    return t->kind == FLOATING_TYPE || (t->kind == VECTOR_TYPE && t->of->kind == FLOATING_TYPE);
+}
+
+void refuse_floating(translator *t, const type *type, const place *at) {
+    if (is_floating(type)) refuse_at(t, at, "Clsim has no floating point (%s)", type->name);
+}
+
+static void judge_record(translator *t, const record *r, const place *at) {
+    if (!r->is_complete) refuse_at(t, at, "the type %s is incomplete", r->name);
+    if (r->unknown_attribute) refuse_at(t, at, "Clsim doesn't know the attribute %s", r->unknown_attribute);
+    for (unsigned i = 0; i < r->field_count; i++)
+        if (r->fields[i].is_bit_field) refuse_at(t, &r->fields[i].place, "Clsim has no bit-fields");
+}
+
+uint64_t size_of_type(translator *t, const type *type, const place *at) {
+    switch (type->kind) {
+    case RECORD_TYPE: judge_record(t, type->record, at); return type->size;
+    case ARRAY_TYPE:
+    case VECTOR_TYPE: size_of_type(t, type->of, at); return type->size;
+    case INTEGER_TYPE:
+    case FLOATING_TYPE:
+    case EVENT_TYPE:
+    case POINTER_TYPE: return type->size;
+    default: refuse_at(t, at, "Clsim has no %s", type->name);
+    }
+}
+
+integer_type element_of(const type *t) {
+    while (t->kind == ARRAY_TYPE || t->kind == VECTOR_TYPE || (t->kind == RECORD_TYPE && t->record->field_count))
+        t = t->kind == RECORD_TYPE ? t->record->fields[0].type : t->of;
+    if (t->kind == INTEGER_TYPE || t->kind == FLOATING_TYPE) return core_type(t);
+    return t->kind == POINTER_TYPE || t->kind == EVENT_TYPE ? ULONG : UCHAR;
+}
+
+// ---- the numbers in a type ----
+
+typedef struct {
+    translator *t;
+    const place *at;
+    number_place *numbers;
+    unsigned count, room;
+} numbers;
+
+static unsigned smaller(uint64_t a, uint64_t b) { return (unsigned)(a < b ? a : b); }
+
+static void add_number(numbers *n, const type *type, uint64_t offset, unsigned align) {
+    if (n->count == MAX_NUMBERS) refuse_at(n->t, n->at, "an object of more than %d numbers", MAX_NUMBERS);
+    n->numbers = grown(&n->t->pass, n->numbers, n->count, &n->room, sizeof *n->numbers);
+    n->numbers[n->count++] = (number_place){offset, type, align};
+}
+
+static const field *largest_member(const record *r) {
+    const field *largest = r->fields;
+    for (unsigned i = 1; i < r->field_count; i++)
+        if (r->fields[i].type->size > largest->type->size) largest = &r->fields[i];
+    return largest;
+}
+
+static void add_numbers(numbers *n, const type *type, uint64_t offset, unsigned align);
+
+static void add_fields(numbers *n, const record *r, uint64_t offset, unsigned align) {
+    if (r->is_union) {
+        const field *f = r->field_count ? largest_member(r) : NULL;
+        if (f) add_numbers(n, f->type, offset, smaller(align, f->align));
+        return;
+    }
+    for (unsigned i = 0; i < r->field_count; i++)
+        add_numbers(n, r->fields[i].type, offset + r->fields[i].offset, smaller(align, r->fields[i].align));
+}
+
+// Types are nested as deep as clang lets them be, which bounds this.
+static void add_numbers(numbers *n, const type *type, uint64_t offset, unsigned align) {
+    switch (type->kind) {
+    case INTEGER_TYPE:
+    case FLOATING_TYPE:
+    case POINTER_TYPE:
+    case EVENT_TYPE: add_number(n, type, offset, smaller(align, type->align)); break;
+    case VECTOR_TYPE:
+        for (uint64_t i = 0; i < type->length; i++)
+            add_number(n, type->of, offset + i * type->of->size, smaller(align, type->of->align));
+        break;
+    case ARRAY_TYPE:
+        for (uint64_t i = 0; i < type->length; i++)
+            add_numbers(n, type->of, offset + i * type->of->size, smaller(align, type->of->align));
+        break;
+    case RECORD_TYPE: add_fields(n, type->record, offset, align); break;
+    default: size_of_type(n->t, type, n->at);
+    }
+}
+
+number_place *numbers_in(translator *t, const type *type, const place *at, unsigned *count) {
+    numbers n = {.t = t, .at = at};
+    size_of_type(t, type, at);
+    add_numbers(&n, type, 0, (unsigned)type->align);
+    *count = n.count;
+    return n.numbers;
+}
+
+// ---- names of parts ----
+
+static const field *field_at(const record *r, uint64_t offset) {
+    for (unsigned i = 0; i < r->field_count; i++)
+        if (r->fields[i].offset <= offset && offset < r->fields[i].offset + r->fields[i].type->size)
+            return &r->fields[i];
+    return NULL;
+}
+
+// The component of a vector, as `v.x`, or `v.s7` of one that has more than four.
+static const char *component_name(translator *t, const char *name, const type *type, uint64_t index) {
+    if (type->length <= 4) return format(t, "%s.%c", name, "xyzw"[index % 4]);
+    return format(t, "%s.s%c", name, "0123456789abcdef"[index % 16]);
+}
+
+const char *part_name(translator *t, const char *name, const type *type, uint64_t offset, bool as_in_source) {
+    while (type->kind == RECORD_TYPE || type->kind == ARRAY_TYPE || type->kind == VECTOR_TYPE) {
+        if (type->kind == RECORD_TYPE) {
+            const field *f = field_at(type->record, offset);
+            if (!f) return as_in_source ? name : format(t, "%s_%u", name, (unsigned)offset);
+            if (*f->name || !as_in_source)
+                name = format(t, "%s%c%s", name, as_in_source ? '.' : '_', *f->name ? f->name : "u");
+            offset -= f->offset;
+            type = f->type;
+            continue;
+        }
+        uint64_t size = type->of->size ? type->of->size : 1, index = offset / size;
+        if (!as_in_source) name = format(t, "%s_%u", name, (unsigned)index);
+        else if (type->kind == VECTOR_TYPE) name = component_name(t, name, type, index);
+        else name = format(t, "%s[%u]", name, (unsigned)index);
+        offset %= size;
+        type = type->of;
+    }
+    return name;
+}

@@ -1,0 +1,62 @@
+// Names of the judged text: each is another one in its kernel. And marks, which stand in texts in front of accesses and
+// name their places; the writer takes them out.
+#include "front.h"
+#include <string.h>
+
+static unsigned bucket_of(const char *text) {
+    unsigned hash = 5381;
+    for (; *text; text++) hash = hash * 33 + (unsigned char)*text;
+    return hash % BUCKETS;
+}
+
+static name *find_name(const translator *t, const char *text) {
+    name *n = t->names[bucket_of(text)];
+    while (n && strcmp(n->text, text)) n = n->next;
+    return n;
+}
+
+bool is_taken(const translator *t, const char *text) { return find_name(t, text) != NULL; }
+
+void take_name(translator *t, const char *text) {
+    name *n = take(&t->pass, sizeof *n);
+    *n = (name){t->names[bucket_of(text)], text, 1};
+    t->names[bucket_of(text)] = n;
+}
+
+static bool is_name_byte(char c) {
+    return c == '_' || (c >= '0' && c <= '9') || (c >= 'a' && c <= 'z') || (c >= 'A' && c <= 'Z');
+}
+
+const char *fresh_name(translator *t, const char *like) {
+    bool is_reserved = !strncmp(like, "__", 2) || !*like;
+    const char *base = format(t, "%s%s", is_reserved ? "v" : "", like);
+    char *bytes = copy_text(&t->pass, base, strlen(base));
+    for (char *c = bytes; *c; c++)
+        if (!is_name_byte(*c)) *c = '_';
+    name *n = find_name(t, bytes);
+    const char *text = bytes;
+    while (is_taken(t, text)) text = format(t, "%s_%u", bytes, ++n->last);
+    take_name(t, text);
+    return text;
+}
+
+const char *temporary_name(translator *t) {
+    const char *text;
+    do text = format(t, "t%u", ++t->temporary_count);
+    while (is_taken(t, text));
+    take_name(t, text);
+    return text;
+}
+
+void show_name(translator *t, const char *judged, const char *shown) {
+    t->shown = grown(&t->pass, t->shown, t->shown_count, &t->shown_room, sizeof *t->shown);
+    t->shown[t->shown_count++] = (shown_name){judged, shown};
+}
+
+const call_site *calls_here(const translator *t) { return t->call ? t->call->told : NULL; }
+
+const char *mark_here(translator *t, const place *at) {
+    t->marks = grown(&t->pass, t->marks, t->mark_count, &t->mark_room, sizeof *t->marks);
+    t->marks[t->mark_count] = (mark){at, calls_here(t), NULL};
+    return format(t, "\1%u\2", t->mark_count++);
+}

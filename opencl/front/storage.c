@@ -1,0 +1,177 @@
+// Values of every type where they lie: what is loaded there, stored, copied and initialized.
+#include "front.h"
+
+storage whole(pointer p, const type *type) { return (storage){.at = p, .type = type}; }
+
+// The type of the numbers of a storage: of a vector that of its components.
+static const type *number_type(const storage *s) { return s->type->kind == VECTOR_TYPE ? s->type->of : s->type; }
+
+// Whether all of it is in variables, so that reading it is no access.
+static bool is_in_variables(const pointer *p) {
+    for (unsigned i = 0; i < p->count; i++)
+        if (p->objects[i]->space != IN_PRIVATE || p->objects[i]->is_array) return false;
+    return true;
+}
+
+// A vector in memory has the alignment of the whole (OpenCL 1.2, 6.1.5).
+pointer aligned_vector(translator *t, const storage *s) {
+    uint64_t align = s->type->size;
+    pointer p = s->at;
+    if (s->align && s->align < align) align = s->align;
+    if (common_factor(p.offset) % align) p.offset = aligned(t, p.offset, align);
+    return p;
+}
+
+// ---- loading ----
+
+static value get_components(translator *t, const storage *s, pointer p, const place *at) {
+    const type *number = number_type(s);
+    unsigned count = s->components ? s->component_count : (unsigned)s->type->length;
+    integer *components = take(&t->pass, count * sizeof *components);
+    bool is_alone = s->components && s->type->kind != VECTOR_TYPE, in_variables = is_in_variables(&p);
+    for (unsigned i = 0; i < count; i++) {
+        unsigned index = s->components ? s->components[i] : i;
+        components[i] = load(t, shifted(p, (int64_t)(index * number->size)), core_type(number), s->align, at);
+        if (!in_variables && !is_alone) components[i] = kept(t, components[i]);
+    }
+    return is_alone ? integer_value(components[0]) : vector_value(components, count);
+}
+
+value get(translator *t, storage s, const place *at) {
+    if (s.components) return get_components(t, &s, s.at, at);
+    switch (s.type->kind) {
+    case INTEGER_TYPE:
+    case FLOATING_TYPE: return integer_value(load(t, s.at, core_type(s.type), s.align, at));
+    case VECTOR_TYPE: return get_components(t, &s, aligned_vector(t, &s), at);
+    case POINTER_TYPE: return pointer_value(load_pointer(t, s.at, at));
+    case RECORD_TYPE: return record_value(s);
+    case EVENT_TYPE: return integer_value(literal(t, 0, INT));
+    default: refuse_at(t, at, "Clsim has no value of the type %s", s.type->name);
+    }
+}
+
+// ---- copies of records ----
+
+// Whether a number of a private record is never read, so that no copy of it has to be made.
+static bool is_dead(const pointer *to, uint64_t offset, unsigned width) {
+    const object *o = to->count == 1 ? to->objects[0] : NULL;
+    if (!o || o->space != IN_PRIVATE || o->is_array || !is_constant(to->offset)) return false;
+    const leaf *l = find_leaf(o, (uint64_t)to->offset.constant + offset, width);
+    return !l || !l->was_read;
+}
+
+static bool is_private(const pointer *p) {
+    for (unsigned i = 0; i < p->count; i++)
+        if (p->objects[i]->space != IN_PRIVATE) return false;
+    return true;
+}
+
+static unsigned least_align(unsigned a, unsigned b) { return b && b < a ? b : a; }
+
+// Copies the numbers of a record in the order of their addresses. What lies between them isn't touched.
+static void copy_record(translator *t, storage to, storage from, const place *at) {
+    unsigned count;
+    number_place *numbers = numbers_in(t, to.type, at, &count);
+    to = kept_storage(t, to);
+    from = kept_storage(t, from);
+    for (unsigned i = 0; i < count; i++) {
+        const number_place *n = &numbers[i];
+        pointer target = shifted(to.at, (int64_t)n->offset), source = shifted(from.at, (int64_t)n->offset);
+        if (n->type->kind == EVENT_TYPE) continue;
+        if (n->type->kind == POINTER_TYPE) {
+            store_pointer(t, target, load_pointer(t, source, at), at);
+            continue;
+        }
+        bool dead = is_dead(&to.at, n->offset, n->type->width);
+        if (dead && is_private(&from.at)) continue;
+        integer v = load(t, source, core_type(n->type), least_align(n->align, from.align), at);
+        if (dead) kept(t, v);
+        else store(t, target, core_type(n->type), v, least_align(n->align, to.align), at);
+    }
+}
+
+// ---- storing ----
+
+static void put_components(translator *t, storage s, pointer p, value v, const place *at) {
+    const type *number = number_type(&s);
+    unsigned count = s.components ? s.component_count : (unsigned)s.type->length;
+    if (v.kind == VECTOR_VALUE && count > 1) {
+        v = kept_value(t, v);
+        p = kept_pointer(t, p);
+    }
+    for (unsigned i = 0; i < count; i++) {
+        unsigned index = s.components ? s.components[i] : i;
+        integer one = v.kind == VECTOR_VALUE ? v.components[i] : v.integer;
+        store(t, shifted(p, (int64_t)(index * number->size)), core_type(number), one, s.align, at);
+    }
+}
+
+void put(translator *t, storage s, value v, const place *at) {
+    if (s.components) {
+        put_components(t, s, s.at, v, at);
+        return;
+    }
+    switch (s.type->kind) {
+    case INTEGER_TYPE:
+    case FLOATING_TYPE: store(t, s.at, core_type(s.type), v.integer, s.align, at); break;
+    case VECTOR_TYPE: put_components(t, s, aligned_vector(t, &s), v, at); break;
+    case POINTER_TYPE: store_pointer(t, s.at, v.pointer, at); break;
+    case RECORD_TYPE: copy_record(t, s, v.storage, at); break;
+    case EVENT_TYPE: break;
+    default: refuse_at(t, at, "Clsim has no store of the type %s", s.type->name);
+    }
+}
+
+// ---- initial values ----
+
+void put_zeros(translator *t, pointer p, const type *type, const place *at) {
+    unsigned count;
+    number_place *numbers = numbers_in(t, type, at, &count);
+    for (unsigned i = 0; i < count; i++) {
+        const number_place *n = &numbers[i];
+        pointer one = shifted(p, (int64_t)n->offset);
+        if (n->type->kind == POINTER_TYPE) store_pointer(t, one, pointer_to(t, t->null), at);
+        else if (n->type->kind != EVENT_TYPE)
+            store(t, one, core_type(n->type), literal(t, 0, core_type(n->type)), n->align, at);
+    }
+}
+
+static void initialize_text(translator *t, pointer p, const type *type, const node *n, const place *at) {
+    for (uint64_t i = 0; i < type->length; i++) {
+        uint64_t byte = i < n->byte_count ? (unsigned char)n->bytes[i] : 0;
+        store(t, shifted(p, (int64_t)i), core_type(type->of), literal(t, byte, core_type(type->of)), 0, at);
+    }
+}
+
+static void initialize_elements(translator *t, pointer p, const type *type, const node *n, const place *at) {
+    if (n->part_count == 1 && n->parts[0]->kind == STRING_LITERAL && type->of->kind == INTEGER_TYPE) {
+        initialize_text(t, p, type, n->parts[0], at);
+        return;
+    }
+    for (uint64_t i = 0; i < type->length; i++) {
+        pointer one = shifted(p, (int64_t)(i * type->of->size));
+        if (i < n->part_count) initialize(t, one, type->of, n->parts[i], at);
+        else put_zeros(t, one, type->of, at);
+    }
+}
+
+static void initialize_fields(translator *t, pointer p, const record *r, const node *n, const place *at) {
+    const field *first = n->field ? n->field : r->fields;
+    unsigned count = r->is_union ? 1 : r->field_count;
+    for (unsigned i = 0; i < count && r->field_count; i++) {
+        const field *f = r->is_union ? first : &r->fields[i];
+        pointer one = shifted(p, (int64_t)f->offset);
+        if (i < n->part_count) initialize(t, one, f->type, n->parts[i], at);
+        else put_zeros(t, one, f->type, at);
+    }
+}
+
+void initialize(translator *t, pointer p, const type *type, const node *n, const place *at) {
+    go_deeper(t, at);
+    if (n->kind == INITIALIZER_LIST && type->kind == ARRAY_TYPE) initialize_elements(t, p, type, n, at);
+    else if (n->kind == INITIALIZER_LIST && type->kind == RECORD_TYPE) initialize_fields(t, p, type->record, n, at);
+    else if (n->kind == IMPLICIT_VALUE) put_zeros(t, p, type, at);
+    else if (n->kind == STRING_LITERAL && type->kind == ARRAY_TYPE) initialize_text(t, p, type, n, at);
+    else put(t, whole(p, type), evaluate_value(t, n), at);
+    t->depth--;
+}
