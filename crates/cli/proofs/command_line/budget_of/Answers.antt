@@ -19,7 +19,7 @@ returns-in-Ok-Some-clause-given c =
 
 pub returns-in-Ok-Some-2-clause-given : goal.returns-in-Ok-Some-2-clause-given
 returns-in-Ok-Some-2-clause-given c = λ n is.
-    out_of_range c.args.limits.default_ticks c.args.limits.ticks (λ bs r. ParsesUnsigned 32 10 bs r × ExplainsUnsignedError 10 bs r × HasUnsignedDigitsIfOk bs r) _ c.in-Ok-Some.budget c.in-Ok-Some.field-0 (search rules) (inr c.if-budget-le-ticks.false) c.in-Ok-Some.ensures.none c.in-Ok-Some.ensures.value (λ t r g. g.0) n
+    out_of_range c.args.limits.default_ticks c.args.limits.ticks (λ bs r. ParsesUnsigned 32 10 bs r × ExplainsUnsignedError 10 bs r × HasUnsignedDigitsIfOk bs r) _ c.in-Ok-Some.budget c.in-Ok-Some.field-0 (search rules) (inr c.if-budget-limits.false) c.in-Ok-Some.ensures.none c.in-Ok-Some.ensures.value (λ t r g. g.0) n
     (subst (λ (o : Option Text). IsNumber c.args.limits.default_ticks c.args.limits.ticks o n) (sym (one_text-rows (found_of c.args.matches.now) (codes "budget"))) is)
 
 pub returns-in-Ok-Some-2-2-clause-given : goal.returns-in-Ok-Some-2-2-clause-given

@@ -18,7 +18,7 @@ returns-then-eq c =
     let name : c.in-Some.limits.now ≡ codes "profile" = search rules in
     let some : first_of (codes "limits") (rows_of (found_of c.args.matches.now)) ≡ Some c.in-Some.limits.now =
     sym (first_value-rows (found_of c.args.matches.now) (codes "limits")) ∙ (sym c.get_str.ensures ∙ ap (option_map (λ s. s.now)) found) in
-    subst (λ (o : Option Text). AreLimits o c.profile-2.result) (sym some) (inl (name, c.profile-2.ensures))
+    subst (λ (o : Option Text). AreLimits o c.profile-then-eq.result) (sym some) (inl (name, c.profile-then-eq.ensures))
 
 pub returns-then-eq-2 : goal.returns-then-eq-2
 returns-then-eq-2 c =
