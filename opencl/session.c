@@ -91,10 +91,22 @@ static int start(char **words, int in, int out, pid_t *child) {
 
 static const char limits_option[] = " --limits";
 
-static const device_limits profile = {"profile", 65536, 256, 64, 1 << 20, 64 << 20, 32768};
+static const device_limits profile = {.name = "profile",
+                                      .items = 65536,
+                                      .group = 256,
+                                      .buffers = 64,
+                                      .bytes = 1 << 20,
+                                      .global_bytes = 64 << 20,
+                                      .local_bytes = 32768};
 // (The largest buffer is at least a quarter of the memory that a device tells of, by table 4.3: so that is four of
 // them. 4,096 would be 4 TiB.)
-static const device_limits large = {"large", 1 << 26, 1024, 4096, 1 << 30, (size_t)4 << 30, 32768};
+static const device_limits large = {.name = "large",
+                                    .items = 1 << 26,
+                                    .group = 1024,
+                                    .buffers = 4096,
+                                    .bytes = 1 << 30,
+                                    .global_bytes = (size_t)4 << 30,
+                                    .local_bytes = 32768};
 
 const device_limits *limits_of_device(void) {
     const char *serve = setting("CLSIM_SERVE"), *word = setting("CLSIM_LIMITS");

@@ -1,5 +1,7 @@
 """Sources, scripts and devices at their limits, each with its neighbour behind the limit.
-`rows` gives the rows to tools/rows."""
+`rows` gives the rows to tools/rows. Where the environment has ROWS_OF_A_GIB, a row makes buffers of 1 GiB."""
+
+import os
 
 # the limits of a device that have a name (docs/use/script.md): the option that asks for them, the work-items of a
 # launch and of a group, the side of a square of as many items as a launch has, and the bytes of a buffer
@@ -113,7 +115,7 @@ def launches(option, items, group, side, _):
 
 
 def bytes_of_buffers(option, _, __, ___, size):
-    """The largest buffer, which takes no more than its zeros, and what passes its end."""
+    """The largest buffer, and what passes its end."""
     outside, bad = "refused 4 OutOfRange", "refused 3 BadSize"
     answers = [
         (f"buffer a {size}", "ok"), (f"buffer b {size + 1}", bad), ("buffer b 0", bad), (f"buffer b {HUGE}", bad),
@@ -133,10 +135,20 @@ def bytes_of_buffers(option, _, __, ___, size):
     return answered(f"bytes of a buffer:{option}", answers, option)
 
 
-def ran(title, lines, replies, status=0, option=" --limits large", **more):
+def without_room(option, _, __, ___, size):
+    """The largest buffer with too little memory for it, which isn't a wrong size, and one of a byte more."""
+    answers = [(f"buffer a {size}", "refused 16 OutOfMemory"), (f"buffer a {size + 1}", "refused 3 BadSize"),
+               (f"buffer a {HUGE}", "refused 3 BadSize"), (f"buffer a {MOST}", "refused 3 BadSize"),
+               ("buffer a 4194304", "ok"), ("read a 4194303 1", "data 00"),
+               ("read a 4194304 1", "refused 4 OutOfRange")]
+    row = answered(f"bytes of a buffer, with too little memory:{option}", answers, option)
+    return {**row, "command": f"ulimit -v 262144; {row['command']}"}
+
+
+def ran(title, lines, replies, status=0, option=" --limits large"):
     """The row of a script of whole lines that is run on a device."""
     return dict(title=title, text="".join(f"{line}\n" for line in lines), output="".join(f"{it}\n" for it in replies),
-                status=status, command=f"clsim run FILE{option}", **more)
+                status=status, command=f"clsim run FILE{option}")
 
 
 def large_launches():
@@ -206,7 +218,9 @@ def rows():
     yield from scripts()
     for limits in (PROFILE, LARGE):
         yield launches(*limits)
-        yield bytes_of_buffers(*limits)
+        if limits == PROFILE or "ROWS_OF_A_GIB" in os.environ:
+            yield bytes_of_buffers(*limits)
+    yield without_room(*LARGE)
     yield from large_launches()
     yield from large_faults()
     yield from large_buffers()

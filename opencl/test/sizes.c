@@ -258,8 +258,7 @@ static void groups_at(const bounds *b, cl_kernel k) {
     WANT(launch(k, 3, twice, twice) == CL_INVALID_WORK_GROUP_SIZE);
 }
 
-// Launches that are too large, by one item and by more than 64 bits hold. (The largest one would take a while: a launch
-// of a quarter of it, but for one item, is in another test.)
+// Launches that are too large, by one item and by more than 64 bits hold. (The largest one takes minutes.)
 static void launches_at(const bounds *b, cl_kernel k) {
     static const size_t huge[][3] = {{SIZE_MAX, 1, 1},
                                      {(size_t)1 << 63, 1, 1},
@@ -279,8 +278,8 @@ static void launches_at(const bounds *b, cl_kernel k) {
     WANT(launch(k, 1, huge[0], huge[0]) == CL_INVALID_WORK_ITEM_SIZE);
 }
 
-// The largest buffer, and as many as there may be; what is too large, and one too many.
-static void buffers_at(const bounds *b) {
+// A buffer of so many bytes, and as many more as there may be; what is too large, and one too many.
+static void buffers_at(const bounds *b, size_t n) {
     static const size_t huge[] = {(size_t)1 << 32, (size_t)1 << 63, SIZE_MAX};
     cl_mem *all = calloc(b->buffers, sizeof *all);
     cl_int fault;
@@ -288,19 +287,20 @@ static void buffers_at(const bounds *b) {
     WANT(!clCreateBuffer(h.context, 0, b->bytes + 1, NULL, &fault) && fault == CL_INVALID_BUFFER_SIZE);
     for (size_t i = 0; i < sizeof huge / sizeof *huge; i++)
         WANT(!clCreateBuffer(h.context, 0, huge[i], NULL, &fault) && fault == CL_INVALID_BUFFER_SIZE);
-    for (size_t i = 0; i < b->buffers; i++) all[i] = buffer_of(0, i ? 1 : b->bytes, NULL);
+    for (size_t i = 0; i < b->buffers; i++) all[i] = buffer_of(0, i ? 1 : n, NULL);
     WANT(!clCreateBuffer(h.context, 0, 1, NULL, &fault) && fault == CL_MEM_OBJECT_ALLOCATION_FAILURE);
     unsigned char last = 9;
-    read_from(all[0], b->bytes - 1, 1, &last);
+    read_from(all[0], n - 1, 1, &last);
     WANT(last == 0);
-    WANT(clEnqueueReadBuffer(h.queue, all[0], CL_TRUE, b->bytes, 1, &last, 0, NULL, NULL) == CL_INVALID_VALUE);
+    WANT(clEnqueueReadBuffer(h.queue, all[0], CL_TRUE, n, 1, &last, 0, NULL, NULL) == CL_INVALID_VALUE);
     WANT(clEnqueueReadBuffer(h.queue, all[0], CL_TRUE, 1, SIZE_MAX, &last, 0, NULL, NULL) == CL_INVALID_VALUE);
     WANT(clEnqueueReadBuffer(h.queue, all[0], CL_TRUE, SIZE_MAX, 1, &last, 0, NULL, NULL) == CL_INVALID_VALUE);
     for (size_t i = 0; i < b->buffers; i++) OK(clReleaseMemObject(all[i]));
     free(all);
 }
 
-// bounds LIMITS: what the device does at its bounds.
+// bounds LIMITS BYTES: what the device does at its bounds, with a buffer of so many bytes. (The largest one of a large
+// device takes 1 GiB of memory.)
 static void at_bounds(char **words) {
     const bounds *b = bounds_of(words[0]);
     cl_program p = build_program(&h, "__kernel void f(int n) { }\n", "");
@@ -309,9 +309,18 @@ static void at_bounds(char **words) {
     OK(clSetKernelArg(k, 0, sizeof n, &n));
     groups_at(b, k);
     launches_at(b, k);
-    buffers_at(b);
+    buffers_at(b, strtoul(words[1], NULL, 10));
     OK(clReleaseKernel(k));
     OK(clReleaseProgram(p));
+}
+
+// room LIMITS: the largest buffer, on a device that has too little memory for it.
+static void room(char **words) {
+    const bounds *b = bounds_of(words[0]);
+    cl_int fault;
+    WANT(!clCreateBuffer(h.context, 0, b->bytes, NULL, &fault) && fault == CL_OUT_OF_HOST_MEMORY);
+    WANT(!clCreateBuffer(h.context, 0, b->bytes + 1, NULL, &fault) && fault == CL_INVALID_BUFFER_SIZE);
+    OK(clReleaseMemObject(buffer_of(0, MIB, NULL)));
 }
 
 // local N: 3,072 items in groups whose size is left open, which have N items.
@@ -338,7 +347,7 @@ int main(int count, char **words) {
         int arguments;
         void (*call)(char **);
     } all[] = {{"vectors", 2, vectors}, {"race", 2, race},        {"sparse", 0, sparse}, {"pieces", 0, pieces},
-               {"infos", 1, infos},     {"bounds", 1, at_bounds}, {"local", 1, local}};
+               {"infos", 1, infos},     {"bounds", 2, at_bounds}, {"room", 1, room},     {"local", 1, local}};
     for (size_t i = 0; i < sizeof all / sizeof *all; i++) {
         if (count < 2 || strcmp(words[1], all[i].name) || count != 2 + all[i].arguments) continue;
         h = open_host();
@@ -347,7 +356,7 @@ int main(int count, char **words) {
         puts("sizes are right");
         return 0;
     }
-    fprintf(stderr,
-            "sizes: vectors N GROUP | race N GROUP | sparse | pieces | infos LIMITS | bounds LIMITS | local N\n");
+    fprintf(stderr, "sizes: vectors N GROUP | race N GROUP | sparse | pieces | infos LIMITS | bounds LIMITS BYTES | "
+                    "room LIMITS | local N\n");
     return 2;
 }
