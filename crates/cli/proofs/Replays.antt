@@ -56,15 +56,15 @@ replays {m} {kernel} {range} launch buffers f runs answer p e d =
     record { admitted = p.admitted; decides = subst (λ (b : Table (List ℕ)). D (setup_of m (kernel_of m kernel) range) b) e (subst (λ (s : Setup). D s buffers) p.setup d) }
 
 -- a replay that came to no answer behind its two texts
-pub unreplayed : {configuration : Configuration} {rest rest' : Option (List ℕ)} {commands : List Command} {ticket : ℕ} {f : Fault} {runs : List EventRun} (a a' b b' : ℕ) (s : Sink) (why : RunFault)
+pub unreplayed : {rest rest' : Option (List ℕ)} {commands : List Command} {ticket : ℕ} {f : Fault} {runs : List EventRun} (configuration : Configuration) (a a' b b' : ℕ) (s : Sink) (why : RunFault)
     → ReadsScript rest commands → ReadsFile rest' ticket f runs → Unjudged configuration commands ticket why → Unreplayed configuration rest rest' a a' b b' s s why
-unreplayed a a' b b' s (fault.Read by) script file h = absurd h
-unreplayed a a' b b' s fault.Write script file h = absurd h
-unreplayed a a' b b' s (fault.BadLine n) script file h = absurd h
-unreplayed a a' b b' s fault.OutOfMemory script file h = refl
-unreplayed a a' b b' s fault.NoSuchKernel script file h = absurd h
-unreplayed a a' b b' s fault.BadSchedule script file h = absurd h
-unreplayed {configuration} {rest} {rest'} {commands} {ticket} {f} {runs} a a' b b' s (fault.NotALaunch named) script file h =
+unreplayed configuration a a' b b' s (fault.Read by) script file h = absurd h
+unreplayed configuration a a' b b' s fault.Write script file h = absurd h
+unreplayed configuration a a' b b' s (fault.BadLine n) script file h = absurd h
+unreplayed configuration a a' b b' s fault.OutOfMemory script file h = refl
+unreplayed configuration a a' b b' s fault.NoSuchKernel script file h = absurd h
+unreplayed configuration a a' b b' s fault.BadSchedule script file h = absurd h
+unreplayed {rest} {rest'} {commands} {ticket} {f} {runs} configuration a a' b b' s (fault.NotALaunch named) script file h =
     (subst (λ (n : ℕ). Missed rest rest' n) (sym h.0) (record { commands = commands; fault = f; runs = runs; script = script; file = file; missed = h.1 }), refl)
-unreplayed {configuration} {rest} {rest'} {commands} {ticket} {f} {runs} a a' b b' s (fault.CommandRefused named) script file h =
+unreplayed {rest} {rest'} {commands} {ticket} {f} {runs} configuration a a' b b' s (fault.CommandRefused named) script file h =
     (subst (λ (n : ℕ). Refused configuration rest rest' n) (sym h.0) (record { commands = commands; fault = f; runs = runs; script = script; file = file; refuses = h.1 }), refl)

@@ -11,6 +11,18 @@ by_row : (m : Machine) (c : Command) (r : Refusal) → IsRefusal m c r → (r �
 by_row m c r (inl h) other = h
 by_row m c r (inr h) other = absurd (other h.1)
 
+pub returns-in-Ok-clause-judged : goal.returns-in-Ok-clause-judged
+returns-in-Ok-clause-judged c = record {
+  kernel = c.in-Some.launched.kernel;
+  range = c.in-Some.launched.range;
+  machine = machine_of c.in_ok-device.device;
+  comes = record {
+    launch = c.in-Some.ensures.launch;
+    leads = subst (λ (done : List Command). Leads (opening c.args.configuration) done (machine_of c.in_ok-device.device)) c.in-Some.ensures.before c.in_ok-device.ensures;
+  };
+  replays = c.in-Ok.ensures.decided;
+}
+
 pub returns : goal.returns
 returns c = record {
   judged = tt;

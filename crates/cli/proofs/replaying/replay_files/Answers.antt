@@ -5,7 +5,7 @@ use Rattle.cli.proofs.replaying.replay_files.Goals as goal
 pub returns-in_err-yes-clause-failed : goal.returns-in_err-yes-clause-failed
 returns-in_err-yes-clause-failed g c =
     let p = err_from_is_err_and c.from_residual-in_err-yes.result c.from_residual-in_err-yes.ensures.1 in
-    rw (p.1, p.2) (unreplayed _ _ _ _ _ _ c.in_ok-commands.ensures.read c.in_ok-task.ensures.read c.in_err-yes.ensures.failed)
+    rw (p.1, p.2) (unreplayed c.args.configuration _ _ _ _ _ _ c.in_ok-commands.ensures.read c.in_ok-task.ensures.read c.in_err-yes.ensures.failed)
 
 pub returns-in_err-tell-clause-failed : goal.returns-in_err-tell-clause-failed
 returns-in_err-tell-clause-failed g c =
