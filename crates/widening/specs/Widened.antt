@@ -109,8 +109,8 @@ VerdictsAreWide =
     (code : Listing) (setup : Setup) (buffers locals arrays arguments : List Bool) (at : ℕ → Labels) → AreLabels (freedom setup buffers locals arrays arguments) code.instructions at
     → IsWide code setup buffers arguments
 
--- where a verdict is wide, a launch that is clean is so with all bytes and all numbers that are free, and leaves the same
--- in the buffers that aren't
+-- where a verdict is wide, a launch that is clean is so with all bytes and all numbers that are free, and leaves the
+-- same in the buffers that aren't
 abbrev pub CleanIsWide : Type 0
 CleanIsWide =
     (code : Listing) (setup : Setup) (buffers arguments : List Bool) → IsWide code setup buffers arguments

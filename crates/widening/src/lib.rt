@@ -1,11 +1,11 @@
 //! For which bytes and numbers a launch's verdict holds.
 //!
 //! `widen` finds buffers and arguments on which neither a branch, an address, a divisor nor the like of the kernel's
-//! code depends, by a search that nothing rests on, and checks what it found by labels (`same_items`). What it promises:
-//! with any other bytes of these buffers and numbers of these arguments, each schedule is possible in both launches or
-//! in neither, shows the same faults, and leaves the same in the other buffers; so the verdict is the same. It tells
-//! the first place of the code at which each other source decides, of which nothing is promised. The crate knows code
-//! and a launch's arguments, and neither a tree nor a device.
+//! code depends, by a search that nothing rests on, and checks what it found by labels (`same_items`). What it
+//! promises: with any other bytes of these buffers and numbers of these arguments, each schedule is possible in both
+//! launches or in neither, shows the same faults, and leaves the same in the other buffers; so the verdict is the same.
+//! It tells the first place of the code at which each other source decides, of which nothing is promised. The crate
+//! knows code and a launch's arguments, and neither a tree nor a device.
 #![tactic(auto)]
 
 mod checker;
