@@ -223,6 +223,7 @@ static void begin_pass(translator *t, const node *function) {
     t->breaks = NULL;
     t->break_count = t->break_room = 0;
     t->jumps = NULL;
+    t->common = NULL;
     t->hidden = NULL;
     t->hidden_count = t->hidden_room = 0;
     t->shown = NULL;
