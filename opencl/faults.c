@@ -289,7 +289,7 @@ static bool add_script(text *t, cl_kernel k, const launch_sizes *s) {
     unsigned program = program_number(k->program, form);
     addf(t, "program p%u %u\n", program, form->lines);
     add_bytes(t, source->text + form->begin, form->length);
-    addf(t, "kernel k%u p%u %s\n", k->number, program, form->name);
+    addf(t, "kernel k%u p%u %s\n", k->number, program, form->judged_name);
     for (unsigned i = 0; i < form->count; i++) add(t, k->arguments[i].command);
     for (unsigned i = 0; i < form->judged_count; i++)
         if (form->judged[i].kind == TABLE_PARAMETER)

@@ -171,7 +171,23 @@ bool is_own_program(prepared *p, session *device) {
     return takes;
 }
 
-void list_own_kernels(prepared *p) {
+// A kernel behind its first word, up to its block. Its name may be longer than those of a script.
+static void read_kernel(words *w, kernel_form *k, const prepared *p) {
+    next_word(w); // void
+    next_word(w);
+    const char *name = kept_word(w);
+    *k = (kernel_form){.name = name, .judged_name = name, .length = p->length, .lines = p->lines, .attributes = ""};
+    next_word(w); // the bracket
+    read_parameters(w, k);
+}
+
+static bool have_names_of_scripts(const prepared *p) {
+    for (unsigned i = 0; i < p->kernel_count; i++)
+        if (strlen(p->kernels[i].name) > MOST_NAME) return false;
+    return true;
+}
+
+bool list_own_kernels(prepared *p) {
     words w = {.arena = &p->arena, .at = p->text};
     unsigned room = 0;
     for (next_word(&w); *w.word; next_word(&w)) room += is_word(&w, "__kernel") || is_word(&w, "kernel");
@@ -181,13 +197,12 @@ void list_own_kernels(prepared *p) {
         kernel_form *k = NULL;
         if ((is_word(&w, "__kernel") || is_word(&w, "kernel")) && p->kernel_count < room) {
             k = &p->kernels[p->kernel_count++];
-            next_word(&w); // void
-            next_word(&w);
-            *k = (kernel_form){.name = kept_word(&w), .length = p->length, .lines = p->lines, .attributes = ""};
-            next_word(&w); // the bracket
-            read_parameters(&w, k);
+            read_kernel(&w, k, p);
         }
         while (*w.word && !is_word(&w, "{")) next_word(&w);
         read_block(&w, k);
     }
+    bool is_listed = have_names_of_scripts(p);
+    if (!is_listed) p->kernel_count = 0;
+    return is_listed;
 }

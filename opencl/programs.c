@@ -350,7 +350,8 @@ static cl_kernel new_kernel(cl_program p, const kernel_form *form, cl_int *errco
         return fail(errcode, CL_OUT_OF_HOST_MEMORY);
     }
     k->number = ++p->context->names;
-    cl_int fault = error_of(session_askf(s, "kernel k%u p%u %s\n", k->number, program_number(p, form), form->name));
+    cl_int fault =
+        error_of(session_askf(s, "kernel k%u p%u %s\n", k->number, program_number(p, form), form->judged_name));
     bool made = !fault;
     for (unsigned i = 0; !fault && i < form->judged_count; i++)
         if (form->judged[i].kind == TABLE_PARAMETER)

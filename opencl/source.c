@@ -194,6 +194,7 @@ static void list_kernel(prepared *p, kernel_form *k, const judged_kernel *judged
     text words = {.arena = &p->arena};
     add(&words, "");
     *k = (kernel_form){.name = f->name,
+                       .judged_name = judged->name,
                        .parameters = take(&p->arena, (f->part_count + 1) * sizeof(parameter)),
                        .count = f->part_count,
                        .judged = judged->parameters,
@@ -280,8 +281,8 @@ preparation prepare_source(prepared *p, const char *source, const char *options,
         return NO_MEMORY;
     }
     p->source = copy_text(&p->arena, source, strlen(source));
-    if (is_judged_as_it_is(p, options, device)) list_own_kernels(p);
-    else if (!translate_source(p, options)) return NOT_PREPARED;
+    p->is_own = is_judged_as_it_is(p, options, device) && list_own_kernels(p);
+    if (!p->is_own && !translate_source(p, options)) return NOT_PREPARED;
     p->lines = lines_in(p->text, p->length);
     return PREPARED;
 }

@@ -13,8 +13,8 @@ typedef struct {
 } parameter;
 
 typedef struct {
-    const char *name;
-    parameter *parameters; // those of the client
+    const char *name, *judged_name; // the client's, and that in the judged text
+    parameter *parameters;          // those of the client
     unsigned count;
     judged_parameter *judged; // those of the judged text
     unsigned judged_count;

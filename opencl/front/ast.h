@@ -86,7 +86,7 @@ typedef enum {
     DO_STATEMENT,      // parts: body, condition
     FOR_STATEMENT,     // parts: first, condition, step, body; NULL for what is left out (never the body)
     SWITCH_STATEMENT,  // parts: value, body
-    CASE_STATEMENT,    // parts: value, statement; of a range `case a ... b` it is an UNKNOWN_STATEMENT
+    CASE_STATEMENT,    // parts: value, statement; of a range `case a ... b`: both values, statement
     DEFAULT_STATEMENT, // parts: statement
     BREAK_STATEMENT,
     CONTINUE_STATEMENT,
@@ -106,7 +106,8 @@ typedef enum {
     UNARY_EXPRESSION,       // parts: operand; `operation`, `is_postfix`
     BINARY_EXPRESSION,      // parts: left, right; `operation`, assignment and comma among them
     COMPOUND_ASSIGNMENT,    // parts: target, value; `operation` without the `=`; `computed`
-    CONDITIONAL_EXPRESSION, // parts: condition, two values
+    CONDITIONAL_EXPRESSION, // parts: condition, two values; of `a ?: b` also a, which the first two have as
+                            // COMMON_VALUE
     CALL_EXPRESSION,        // parts: what is called, then the arguments
     CAST_EXPRESSION,        // implicit or written; parts: operand; `cast`
     INITIALIZER_LIST,       // parts: the values that are given, without the filler; of a union `field` or NULL
@@ -116,6 +117,7 @@ typedef enum {
     OFFSET_EXPRESSION,      // offsetof: `value` where `is_exact`
     AS_TYPE_EXPRESSION,     // `as_T`; parts: operand
     STATEMENT_EXPRESSION,   // `({ .. })`; parts: the COMPOUND_STATEMENT
+    COMMON_VALUE,           // what a of the `a ?: b` round it came to
     UNKNOWN_EXPRESSION      // `name` is clang's word for its kind
 } node_kind;
 

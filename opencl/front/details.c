@@ -303,15 +303,6 @@ static void label_details(builder *b, node *n, const dump_line *line, const char
     *list = r;
 }
 
-static void case_details(builder *b, node *n, const dump_line *line, const char *s) {
-    (void)b;
-    (void)line;
-    if (is_at(s, "gnu_range")) {
-        n->kind = UNKNOWN_STATEMENT;
-        n->name = "CaseStmt of a range";
-    }
-}
-
 // ---- kinds ----
 
 // In the order of their words.
@@ -319,12 +310,13 @@ static const rule rules[] = {
     {"ArraySubscriptExpr", EXPRESSION_SHAPE, SUBSCRIPT_EXPRESSION, 2, 2, NULL},
     {"AsTypeExpr", EXPRESSION_SHAPE, AS_TYPE_EXPRESSION, 1, 1, NULL},
     {"AttributedStmt", WRAPPER_SHAPE, UNKNOWN_STATEMENT, 1, 1, NULL},
+    {"BinaryConditionalOperator", EXPRESSION_SHAPE, CONDITIONAL_EXPRESSION, 4, 4, NULL},
     {"BinaryOperator", EXPRESSION_SHAPE, BINARY_EXPRESSION, 2, 2, binary_details},
     {"BreakStmt", STATEMENT_SHAPE, BREAK_STATEMENT, 0, 0, NULL},
     {"CStyleCastExpr", EXPRESSION_SHAPE, CAST_EXPRESSION, 1, 1, cast_details},
     {"CXXBoolLiteralExpr", EXPRESSION_SHAPE, INTEGER_LITERAL, 0, 0, number_details},
     {"CallExpr", EXPRESSION_SHAPE, CALL_EXPRESSION, 1, ANY_NUMBER, NULL},
-    {"CaseStmt", STATEMENT_SHAPE, CASE_STATEMENT, 2, 3, case_details},
+    {"CaseStmt", STATEMENT_SHAPE, CASE_STATEMENT, 2, 3, NULL},
     {"CharacterLiteral", EXPRESSION_SHAPE, INTEGER_LITERAL, 0, 0, number_details},
     {"CompoundAssignOperator", EXPRESSION_SHAPE, COMPOUND_ASSIGNMENT, 2, 2, compound_details},
     {"CompoundLiteralExpr", EXPRESSION_SHAPE, COMPOUND_LITERAL, 1, 1, NULL},
@@ -356,6 +348,7 @@ static const rule rules[] = {
     {"MemberExpr", EXPRESSION_SHAPE, MEMBER_EXPRESSION, 1, 1, member_details},
     {"NullStmt", STATEMENT_SHAPE, NULL_STATEMENT, 0, 0, NULL},
     {"OffsetOfExpr", UNKNOWN_SHAPE, OFFSET_EXPRESSION, 0, 0, NULL},
+    {"OpaqueValueExpr", EXPRESSION_SHAPE, COMMON_VALUE, 0, 1, NULL},
     {"ParenExpr", WRAPPER_SHAPE, UNKNOWN_EXPRESSION, 1, 1, NULL},
     {"ParmVarDecl", VARIABLE_SHAPE, PARAMETER_DECLARATION, 0, 1, NULL},
     {"PredefinedExpr", WRAPPER_SHAPE, UNKNOWN_EXPRESSION, 1, 1, NULL},

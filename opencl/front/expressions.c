@@ -363,6 +363,9 @@ static value value_of(translator *t, const node *n) {
     case SIZE_EXPRESSION: return size_value(t, n);
     case AS_TYPE_EXPRESSION: return as_type(t, read_value(t, n, n->parts[0]), n->type, &n->place);
     case STATEMENT_EXPRESSION: return statement_value(t, n, true);
+    case COMMON_VALUE:
+        if (t->common) return *t->common;
+        // fallthrough
     default: refuse_at(t, &n->place, "Clsim has no such expression (%s)", n->name ? n->name : "");
     }
 }
@@ -421,7 +424,7 @@ static void effects_of(translator *t, const node *n) {
         break;
     case CALL_EXPRESSION: call_value(t, n, false); return;
     case CONDITIONAL_EXPRESSION:
-        if (n->parts[0]->type->kind == VECTOR_TYPE) break;
+        if (n->parts[0]->type->kind == VECTOR_TYPE || n->part_count == 4) break;
         conditional_effects(t, n);
         return;
     case CAST_EXPRESSION:

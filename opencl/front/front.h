@@ -251,8 +251,9 @@ typedef struct translator {
     function_frame *frame;
     label **breaks; // of the loops and switches round a statement, NULL for a loop
     unsigned break_count, break_room;
-    jump *jumps;     // the labels behind a statement that it may go to
-    object **hidden; // tables that the kernel uses
+    jump *jumps;         // the labels behind a statement that it may go to
+    const value *common; // what a of the `a ?: b` round an expression came to
+    object **hidden;     // tables that the kernel uses
     unsigned hidden_count, hidden_room;
     shown_name *shown;
     unsigned shown_count, shown_room;

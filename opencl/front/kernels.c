@@ -141,7 +141,7 @@ static void write_views(translator *t, judged_kernel *k, unsigned *room, text *t
 static void write_head(translator *t, judged_kernel *k, const written_parameters *all, text *to) {
     unsigned room = 0;
     add_place(t, (judged_place){.offset = to->length, .at = &k->function->place});
-    addf(to, "__kernel void %s(", k->function->name);
+    addf(to, "__kernel void %s(", k->name);
     for (unsigned i = 0; i < all->count; i++) {
         const written_parameter *w = &all->at[i];
         judged_parameter p = {.argument = w->argument, .offset = w->offset, .type = w->type};
@@ -195,7 +195,7 @@ static const char reserved[] =
     "private get_work_dim get_global_id get_local_id get_group_id get_global_offset get_global_size get_local_size "
     "get_num_groups min max abs clz popcount rotate barrier atomic_add atomic_sub atomic_min atomic_max atomic_and "
     "atomic_or atomic_xor atomic_inc atomic_dec atomic_xchg atomic_cmpxchg CLK_LOCAL_MEM_FENCE CLK_GLOBAL_MEM_FENCE "
-    "clsim_lo clsim_hi clsim_async clsim_k clsim_h clsim_null";
+    "clsim_lo clsim_hi clsim_async clsim_k clsim_h clsim_null clsim_kernel";
 
 static void take_reserved_names(translator *t) {
     for (const char *at = reserved; *at;) {
@@ -207,6 +207,21 @@ static void take_reserved_names(translator *t) {
         const node *d = t->tree->declarations[i];
         if (d->kind == FUNCTION_DECLARATION && d->name && !is_taken(t, d->name)) take_name(t, d->name);
     }
+}
+
+static bool is_reserved(const char *name) {
+    size_t length = strlen(name);
+    for (const char *at = reserved; *at;) {
+        size_t n = strcspn(at, " ");
+        if (n == length && !memcmp(at, name, n)) return true;
+        at += n + strspn(at + n, " ");
+    }
+    return false;
+}
+
+// A kernel's name in the judged text: its own, where a script takes that.
+static const char *judged_name(const char *name) {
+    return strlen(name) > MOST_NAME || is_reserved(name) ? "clsim_kernel" : name;
 }
 
 static void begin_pass(translator *t, const node *function) {
@@ -223,6 +238,7 @@ static void begin_pass(translator *t, const node *function) {
     t->breaks = NULL;
     t->break_count = t->break_room = 0;
     t->jumps = NULL;
+    t->common = NULL;
     t->hidden = NULL;
     t->hidden_count = t->hidden_room = 0;
     t->shown = NULL;
@@ -273,6 +289,7 @@ void translate_kernel(translator *t, const node *function, judged_kernel *k, tex
     } while (t->is_changed);
     if (t->is_incomplete) refuse_at(t, at, "Clsim can't follow the pointers of this kernel");
     k->begin = to->length;
+    k->name = judged_name(function->name);
     write_head(t, k, &all, to);
     list begin = t->uses_null ? one_text(t, "uchar clsim_null[1];", at) : (list){NULL, NULL};
     if (t->uses_copies) append_list(&begin, begin_of_copies(t, at));

@@ -181,13 +181,13 @@ static bool is_expression(const node *n) { return n && n->kind >= INTEGER_LITERA
 static bool is_declaration(const node *n) { return n && n->kind <= UNKNOWN_DECLARATION; }
 
 // Which parts of a statement are expressions, a bit for each.
-static unsigned expression_parts(node_kind kind) {
-    switch (kind) {
+static unsigned expression_parts(const node *n) {
+    switch (n->kind) {
     case IF_STATEMENT:
     case WHILE_STATEMENT:
     case SWITCH_STATEMENT:
-    case CASE_STATEMENT:
     case RETURN_STATEMENT: return 1;
+    case CASE_STATEMENT: return n->part_count == 3 ? 1 | 2 : 1;
     case DO_STATEMENT: return 2;
     case FOR_STATEMENT: return 2 | 4;
     default: return 0;
@@ -201,7 +201,7 @@ static bool is_part(const node *n, unsigned i) {
     if (!part) return may_lack;
     if (is_expression(n) || n->kind == VARIABLE_DECLARATION) return is_expression(part);
     if (n->kind == DECLARATION_STATEMENT) return is_declaration(part);
-    return i < 32 && expression_parts(n->kind) >> i & 1 ? is_expression(part) : !is_declaration(part);
+    return i < 32 && expression_parts(n) >> i & 1 ? is_expression(part) : !is_declaration(part);
 }
 
 static void take_parts(builder *b, const frame *f) {
@@ -232,12 +232,20 @@ static void close_size(builder *b, node *n) {
     n->part_count = 0;
 }
 
+// `a ?: b` has a first, and its own condition and value have it again as what was worked out.
+static void close_short_choice(node *n) {
+    node *common = n->parts[0];
+    memmove(n->parts, n->parts + 1, 3 * sizeof *n->parts);
+    n->parts[3] = common;
+}
+
 static void close_node(builder *b, const frame *f) {
     node *n = f->node;
     take_parts(b, f);
     if (n->kind == FOR_STATEMENT) close_loop(b, n);
-    if (n->kind == CASE_STATEMENT && n->part_count != 2) stop_at(b, "CaseStmt with %u parts", n->part_count);
     check_parts(b, f);
+    if (n->kind == CONDITIONAL_EXPRESSION && n->part_count == 4) close_short_choice(n);
+    if (n->kind == COMMON_VALUE) n->part_count = 0;
     if (n->kind == SIZE_EXPRESSION) close_size(b, n);
     if (n->kind == COMPONENT_EXPRESSION) n->is_arrow = n->parts[0]->type->kind == POINTER_TYPE;
     if (n->kind == UNKNOWN_STATEMENT) n->part_count = 0;

@@ -230,7 +230,7 @@ static value choice_in_variable(translator *t, const node *n, integer test, cons
     return get(t, to, &n->place);
 }
 
-value conditional(translator *t, const node *n) {
+static value choice_of_two(translator *t, const node *n) {
     if (n->parts[0]->type->kind == VECTOR_TYPE) return choice_of_components(t, n);
     integer test = condition(t, n->parts[0]);
     if (test.is_literal) return evaluate_value(t, n->parts[test.value ? 1 : 2]);
@@ -255,4 +255,16 @@ value conditional(translator *t, const node *n) {
         if (done) return pointer_value(p);
     }
     return choice_in_variable(t, n, test, &values[0], &values[1], lists);
+}
+
+// What `a ?: b` has in common is worked out once, in front of both values.
+value conditional(translator *t, const node *n) {
+    if (n->part_count < 4) return choice_of_two(t, n);
+    const value *outer = t->common;
+    value *common = take(&t->pass, sizeof *common);
+    *common = kept_value(t, evaluate_value(t, n->parts[3]));
+    t->common = common;
+    value v = choice_of_two(t, n);
+    t->common = outer;
+    return v;
 }

@@ -3,9 +3,14 @@
 #include "front.h"
 #include <string.h>
 
+// The values of a label: those from one to another.
+typedef struct {
+    uint64_t first, last;
+} span;
+
 // The statements between two groups of labels.
 typedef struct {
-    uint64_t *values;
+    span *values;
     unsigned value_count, value_room;
     bool is_default;
     const node **statements;
@@ -36,16 +41,22 @@ static section *new_section(sections *s) {
     return &s->sections[s->count++];
 }
 
+// A value of a label, in the type of what is switched by.
+static uint64_t label_value(const sections *s, const node *label, unsigned part) {
+    integer v = evaluate_value(s->t, label->parts[part]).integer;
+    if (!v.is_literal) refuse_at(s->t, &label->place, "Clsim has no case whose value isn't known here");
+    return converted(v.value, type_of(&s->value));
+}
+
 static void add_label(sections *s, section *to, const node *label) {
     translator *t = s->t;
     if (label->kind == DEFAULT_STATEMENT) {
         to->is_default = true;
         return;
     }
-    integer v = evaluate_value(t, label->parts[0]).integer;
-    if (!v.is_literal) refuse_at(t, &label->place, "Clsim has no case whose value isn't known here");
     to->values = grown(&t->pass, to->values, to->value_count, &to->value_room, sizeof *to->values);
-    to->values[to->value_count++] = converted(v.value, type_of(&s->value));
+    to->values[to->value_count++] =
+        (span){label_value(s, label, 0), label_value(s, label, label->part_count == 3 ? 1 : 0)};
 }
 
 // A declaration in front of all cases.
@@ -76,7 +87,7 @@ static void add_statement(sections *s, const node *n) {
     while (n->kind == CASE_STATEMENT || n->kind == DEFAULT_STATEMENT) {
         if (!last || last->statement_count) last = new_section(s);
         add_label(s, last, n);
-        n = n->parts[n->kind == CASE_STATEMENT];
+        n = n->parts[n->part_count - 1];
     }
     if (n->kind == COMPOUND_STATEMENT && has_label(n)) {
         add_statement(s, n);
@@ -136,15 +147,30 @@ static bool falls_through(const sections *s) {
     return false;
 }
 
+// Whether the value is one of a label's.
+static const char *test_of_label(const sections *s, const span *values) {
+    translator *t = s->t;
+    integer_type type = type_of(&s->value);
+    integer first = literal(t, values->first, type), last = literal(t, values->last, type);
+    if (values->first == values->last) return binary(t, EQUAL, s->value, first, type).text;
+    integer from = binary(t, GREATER_OR_EQUAL, s->value, first, type);
+    return format(t, "%s&&%s", from.text, binary(t, LESS_OR_EQUAL, s->value, last, type).text);
+}
+
 // Whether the value is one of some of a section's.
 static const char *test_of(const sections *s, const section *one, unsigned first, unsigned end) {
     const char *all = NULL;
-    integer_type type = type_of(&s->value);
     for (unsigned i = first; i < end; i++) {
-        integer test = binary(s->t, EQUAL, s->value, literal(s->t, one->values[i], type), type);
-        all = all ? format(s->t, "%s||%s", all, test.text) : test.text;
+        const char *test = test_of_label(s, &one->values[i]);
+        all = all ? format(s->t, "%s||%s", all, test) : test;
     }
     return all;
+}
+
+static bool is_in(const sections *s, const span *values) {
+    uint64_t v = s->value.value;
+    if (!is_signed(type_of(&s->value))) return values->first <= v && v <= values->last;
+    return (int64_t)values->first <= (int64_t)v && (int64_t)v <= (int64_t)values->last;
 }
 
 static unsigned default_section(const sections *s) {
@@ -199,7 +225,7 @@ static bool write_known(sections *s, const char *number, bool falls) {
     unsigned entered = default_section(s);
     for (unsigned i = 0; i < s->count; i++)
         for (unsigned j = 0; j < s->sections[i].value_count; j++)
-            if (s->sections[i].values[j] == s->value.value) entered = i;
+            if (is_in(s, &s->sections[i].values[j])) entered = i;
     if (entered == s->count) return true;
     if (falls) return false;
     if (s->label.is_tested) {

@@ -32,6 +32,7 @@ typedef struct {
 
 typedef struct {
     const node *function;
+    const char *name;     // in the judged text, at most MOST_NAME bytes
     size_t begin, length; // its text, which is a program of its own
     judged_parameter *parameters;
     unsigned parameter_count;
@@ -54,6 +55,8 @@ typedef struct call_site {
     const struct call_site *up; // the call round it, NULL for none
     const place *at;
 } call_site;
+
+enum { MOST_NAME = 63 }; // bytes of a name in a script
 
 // A loop, by its number. What has it is a part of the turn before in the client's source: the loop's test, or its step,
 // where these stand at the begin of the judged loop's body.
