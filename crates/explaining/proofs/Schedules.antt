@@ -1,5 +1,6 @@
 -- Schedule files that are explained, on a device to which commands led.
-use Rattle.std.proofs.Common.{◌≡◌, ℕ, Option, Result, Ok, Err, List, inl, inr, refl, ap, subst}
+use Rattle.std.proofs.Common.{◌≡◌, ◌≤◌, ◌∙◌, ℕ, Option, None, Some, Result, Ok, Err, List, length, inl, inr, refl, sym, ap, subst}
+use Rattle.std.proofs.lemmas.Option.{slice_get_past}
 use Rattle.std.specs.Prelude.{take}
 use Rattle.std.specs.Option.{is_some}
 use Rattle.std.specs.Result.{IfErr, IfOk}
@@ -7,6 +8,7 @@ use Rattle.clmodel.specs.declared.fault.Fault.{Fault}
 use Rattle.clmodel.specs.declared.schedule.EventRun.{EventRun}
 use Rattle.device.specs.Machine.{Machine, opening}
 use Rattle.host_commands.specs.declared.command.Command.{Command}
+use Rattle.host_commands.specs.declared.command.Command.TheVariants as command
 use Rattle.fault_lines.specs.ScheduleFile.{IsScheduleFile}
 use Rattle.simfile.specs.Script.{IsScript}
 use Rattle.explaining.specs.Explaining.{Explained, IsTold, NoLaunch, Tells, Unexplained, Unled, Unread, Untold}
@@ -61,6 +63,12 @@ pub explained :
 explained configuration script schedule commands ticket f runs (Ok found) is file told =
     record { commands = commands; ticket = ticket; f = f; runs = runs; is = is; file = file; told = told }
 explained configuration script schedule commands ticket f runs (Err why) is file told = tt
+
+-- no command stands at a place behind the last one
+pub none_behind : (commands : List Command) (ticket : ℕ) → length commands ≤ ticket → NoLaunch commands ticket
+none_behind commands ticket past kernel range h =
+    let bad : ◌≡◌ {A = Option Command} None (Some (command.Launch kernel range)) = sym (slice_get_past commands ticket past) ∙ h in
+    cc
 
 pub no_launch :
     (configuration : Configuration) (script schedule : List ℕ) (commands : List Command) (ticket : ℕ) (f : Fault) (runs : List EventRun) → IsScript script commands → IsScheduleFile schedule ticket f runs

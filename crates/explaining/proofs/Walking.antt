@@ -1,5 +1,5 @@
 -- What a walk over the commands of a script came to, explained.
-use Rattle.std.proofs.Common.{◌≡◌, ℕ, Bool, true, List, inl, inr, sym, subst}
+use Rattle.std.proofs.Common.{◌≡◌, ℕ, Bool, true, false, List, inl, inr, sym, subst}
 use Rattle.clmodel.specs.declared.fault.Fault.{Fault}
 use Rattle.clmodel.specs.declared.schedule.EventRun.{EventRun}
 use Rattle.device.specs.Machine.{Machine, opening}
@@ -19,6 +19,14 @@ use Rattle.limits.specs.declared.Configuration.{Configuration}
 -- commands that are read twice are the same
 pub walked_same : (old new : Machine) (same commands : List Command) (w : Walked) → same ≡ commands → WalkedTo old same new w → WalkedTo old commands new w
 walked_same old new same commands w e h = subst (λ (l : List Command). WalkedTo old l new w) e h
+
+-- no reply is a fault or the refusal of a build
+pub clean_case :
+    (configuration : Configuration) (script : List ℕ) (commands : List Command) (m : Machine) (w : Walked) (answer : Bool) → IsScript script commands → WalkedTo (opening configuration) commands m w
+    → w ≡ walked.Clean → answer ≡ false → Found configuration script answer
+clean_case configuration script commands m w answer is h e same =
+    subst (Found configuration script) (sym same)
+    (record { commands = commands; machine = m; is = is; led = subst (λ (v : Walked). WalkedTo (opening configuration) commands m v) e h })
 
 -- a build that is refused is explained
 pub unbuilt :

@@ -1,8 +1,13 @@
 use Rattle.std.specs.Option.{is_some}
 use Rattle.device.specs.Machine.{machine_of}
-use Rattle.explaining.proofs.Walking.{faulted_case, unbuilt}
+use Rattle.explaining.proofs.Walking.{clean_case, faulted_case, unbuilt}
 use Rattle.explaining.proofs.Writing.{says_faulted, says_unbuilt}
 use Rattle.explaining.proofs.explained.answer_at.Goals as goal
+
+pub returns-in_ok-word_answer-in-Clean-clause-found : goal.returns-in_ok-word_answer-in-Clean-clause-found
+returns-in_ok-word_answer-in-Clean-clause-found c =
+    clean_case c.args.performed.now.options.configuration c.args.performed.now.given.script.now c.args.performed.now.commands.now (machine_of c.args.device.now) c.args.end
+    c.in_ok-word_answer-in-Clean.field-0.yes c.requires.script c.requires.walked c.in-Clean.is c.in_ok-word_answer-in-Clean.ensures.yes
 
 pub returns-in_ok-unbuilt_answer-in-Unbuilt-clause-found : goal.returns-in_ok-unbuilt_answer-in-Unbuilt-clause-found
 returns-in_ok-unbuilt_answer-in-Unbuilt-clause-found c =

@@ -1,4 +1,5 @@
-use Rattle.explaining.proofs.Schedules.{explained, unexplained}
+use Rattle.std.proofs.Common.{arith}
+use Rattle.explaining.proofs.Schedules.{explained, no_launch, none_behind, unexplained}
 use Rattle.explaining.proofs.Writing.{whole_of}
 use Rattle.explaining.proofs.explained.told_in.Goals as goal
 
@@ -16,3 +17,8 @@ pub returns-clause-whole : goal.returns-clause-whole
 returns-clause-whole c =
     whole_of c.args.options.configuration c.args.options.as_given c.args.given.script.now c.args.schedule.now c.args.commands.now c.in_ok-number.number c.in_ok-number.fault c.in_ok-number.runs c.told_at.result
     c.requires c.in_ok-number.ensures.found c.told_at.ensures.whole
+
+pub returns-then-number-commands-clause-failed : goal.returns-then-number-commands-clause-failed
+returns-then-number-commands-clause-failed c =
+    no_launch c.args.options.configuration c.args.given.script.now c.args.schedule.now c.args.commands.now c.in_ok-number.number c.in_ok-number.fault c.in_ok-number.runs c.requires
+    c.in_ok-number.ensures.found (none_behind c.args.commands.now c.in_ok-number.number (omega (arith, c.if-number-commands.true)))
