@@ -67,8 +67,8 @@ fn explain_texts<W: Write>(
     options: ExplainOptions,
     writer: &mut W,
 ) -> Result<bool, RunFault>
-    ensures told { IfOk result (Answered options.budget texts.now.name.items texts.now.script.items (option_map (λ bytes. bytes.items) texts.now.schedule) (W.sink writer.old) (W.sink writer.new)) }
-    ensures untold { IfErr result (Unanswered options.budget texts.now.name.items texts.now.script.items (option_map (λ bytes. bytes.items) texts.now.schedule) (W.sink writer.old) (W.sink writer.new)) }
+    ensures told { IfOk result (Answered options.configuration texts.now.name.items texts.now.script.items (option_map (λ bytes. bytes.items) texts.now.schedule) (W.sink writer.old) (W.sink writer.new)) }
+    ensures untold { IfErr result (Unanswered options.configuration texts.now.name.items texts.now.script.items (option_map (λ bytes. bytes.items) texts.now.schedule) (W.sink writer.old) (W.sink writer.new)) }
 {
     let given = texts.given();
     match explain(alloc, given, options, writer) {
@@ -90,9 +90,9 @@ pub(crate) fn explain_script<R: Read, W: Write>(
     options: ExplainOptions,
     writer: &mut W,
 ) -> Result<bool, RunFault>
-    ensures told { IfOk result (ScriptTold options.budget name.now (R.rest reader.old) (W.sink writer.old) (W.sink writer.new)) }
+    ensures told { IfOk result (ScriptTold options.configuration name.now (R.rest reader.old) (W.sink writer.old) (W.sink writer.new)) }
     ensures untold { IfErr result
-        (ScriptUntold options.budget name.now (R.rest reader.old) (R.failures reader.old) (R.failures reader.new) (W.sink writer.old) (W.sink writer.new)) }
+        (ScriptUntold options.configuration name.now (R.rest reader.old) (R.failures reader.old) (R.failures reader.new) (W.sink writer.old) (W.sink writer.new)) }
 {
     let script = bytes_of(alloc, reader, Reader::First)?;
     let name = name.as_bytes().to_vec(alloc)?;
@@ -116,9 +116,9 @@ pub(crate) fn explain_schedule<R: Read, S: Read, W: Write>(
     options: ExplainOptions,
     writer: &mut W,
 ) -> Result<bool, RunFault>
-    ensures told { IfOk result (FileTold options.budget name.now (R.rest reader.old) (S.rest file.old) (W.sink writer.old) (W.sink writer.new)) }
+    ensures told { IfOk result (FileTold options.configuration name.now (R.rest reader.old) (S.rest file.old) (W.sink writer.old) (W.sink writer.new)) }
     ensures untold { IfErr result
-        (FileUntold options.budget name.now (R.rest reader.old) (S.rest file.old) (R.failures reader.old) (R.failures reader.new) (S.failures file.old) (S.failures file.new)
+        (FileUntold options.configuration name.now (R.rest reader.old) (S.rest file.old) (R.failures reader.old) (R.failures reader.new) (S.failures file.old) (S.failures file.new)
         (W.sink writer.old) (W.sink writer.new)) }
 {
     let script = bytes_of(alloc, reader, Reader::First)?;

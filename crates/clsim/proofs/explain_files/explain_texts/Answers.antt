@@ -22,6 +22,6 @@ returns-in-Err g c = record {
   untold = record {
     given = c.given-given.result;
     is = c.given-given.ensures;
-    untold = untold_as c.args.options.budget c.given-given.result _ _ c.in-Err.fault c.fault_of.result c.fault_of.ensures c.in-Err.ensures.failed;
+    untold = untold_as c.args.options.configuration c.given-given.result _ _ c.in-Err.fault c.fault_of.result c.fault_of.ensures c.in-Err.ensures.failed;
   };
 }
