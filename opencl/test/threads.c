@@ -277,7 +277,7 @@ static void waiting_in_errors(void) {
     OK(fault);
     other.queue = clCreateCommandQueue(other.context, h.device, 0, &fault);
     OK(fault);
-    if (clCreateBuffer(other.context, 0, 1 << 21, NULL, &fault) || strcmp(order, "x")) exit(30);
+    if (clCreateBuffer(other.context, 0, (size_t)1 << 31, NULL, &fault) || strcmp(order, "x")) exit(30);
     cl_event never = clCreateUserEvent(other.context, &fault);
     if (clEnqueueMarkerWithWaitList(other.queue, 1, &never, NULL) != CL_INVALID_OPERATION) exit(31);
     OK(clReleaseEvent(never));
