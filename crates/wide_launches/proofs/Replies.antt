@@ -1,5 +1,5 @@
 -- The replies to launches whose verdict is wide.
-use Rattle.std.proofs.Common.{◌≡◌, ℕ, zero, suc, Bool, true, false, Option, None, Some, List, [], ◌∷◌, length, map, slice_index_or, refl, ap, ap₂, sym, ◌∙◌, subst}
+use Rattle.std.proofs.Common.{◌≡◌, ℕ, zero, suc, Bool, true, false, Option, None, Some, Result, Ok, Err, IfOk, IfSome, List, [], ◌∷◌, length, map, slice_index_or, refl, ap, ap₂, sym, ◌∙◌, subst}
 use Rattle.std.proofs.Math.Logic.{∥∥₁_map}
 use Rattle.clmodel.specs.Law.{CleanWith}
 use Rattle.clmodel.specs.Next.{launch_of, next}
@@ -17,7 +17,8 @@ use Rattle.spaces.specs.Tables.{with_values}
 use Rattle.same_launches.specs.Alike.{AlikeCells, AlikeElements}
 use Rattle.same_launches.specs.Verdicts.{AlikeBytes}
 use Rattle.widening.specs.Widened.{ArgumentsDiffer, BytesDiffer, CleanIsWide, IsWide, is_free_at, with_arguments}
-use Rattle.wide_launches.specs.Replies.{RepliesAreWide, SameReply}
+use Rattle.widening.specs.declared.wide.Wide.{Wide}
+use Rattle.wide_launches.specs.Replies.{IsWideReply, RepliesAreWide, SameReply}
 
 -- ---- contents in which all cells are set
 
@@ -55,11 +56,11 @@ pub record AllSetTo (free : ℕ → Bool) (contents : List (List ℕ)) (others :
   pub are : others ≡ all_set values
   pub alike : (number : ℕ) → AlikeBytes (free number) (slice_index_or contents number []) (slice_index_or values number [])
 
-head_of : List (List ℕ) → List ℕ
+abbrev head_of : List (List ℕ) → List ℕ
 head_of [] = []
 head_of (xs ∷ contents) = xs
 
-rest_of : List (List ℕ) → List (List ℕ)
+abbrev rest_of : List (List ℕ) → List (List ℕ)
 rest_of [] = []
 rest_of (xs ∷ contents) = contents
 
@@ -123,6 +124,7 @@ same_reply : CleanIsWide → (code : Listing) (setup : Setup) (buffers arguments
     → (old other : Machine) (given : List (Option Argument)) → ArgumentsDiffer arguments setup.arguments given → BytesDiffer buffers (buffer_names setup) (bytes_of old) (bytes_of other)
     → SameReply buffers old other setup (with_arguments setup given)
 same_reply law code setup buffers arguments wide acts old other given numbers bytes =
+    let same = wide given (bytes_of old) (bytes_of other) numbers bytes (acts setup.arguments) (acts given) in
     record {
       clean = λ new h.
           let l = law code setup buffers arguments wide given (bytes_of old) (bytes_of other) numbers bytes (acts setup.arguments) (acts given) (all_set h.0) h.1 in
@@ -133,9 +135,18 @@ same_reply law code setup buffers arguments wide acts old other given numbers by
           );
       fault = λ fault schedule new h. ((same.reached (events_of schedule) fault).0 h.0, (same.reported (events_of schedule) fault).0 h.1, h.2, refl);
     }
-  where
-    same = wide given (bytes_of old) (bytes_of other) numbers bytes (acts setup.arguments) (acts given)
 
 pub replies_are_wide : ActsAsTheTree → CleanIsWide → RepliesAreWide
 replies_are_wide acts clean code setup buffers arguments wide is old other given numbers bytes =
     ∥∥₁_map (code_acts acts setup code is) (λ every. same_reply clean code setup buffers arguments wide every old other given numbers bytes)
+
+-- what is found for a launch holds for the replies to it
+pub answers_wide : {E : Type 0} (code : Listing) (names : List (List ℕ)) (arguments : List (Option Argument)) (uniform : Bool) (r : Result (Option Wide) E) → RepliesAreWide
+    → IfOk r (λ found. IfSome found (λ wide. (setup : Setup) → setup.arguments ≡ arguments → buffer_names setup ≡ names → setup.range.uniform ≡ uniform
+    → IsWide code setup wide.buffers.items wide.arguments.items))
+    → IfOk r (λ found. IfSome found (λ wide. (old : Machine) (setup : Setup) → IsCodeOf setup.program setup.kernel code → setup.arguments ≡ arguments → buffer_names setup ≡ names → setup.range.uniform ≡ uniform
+    → IsWideReply wide.buffers.items wide.arguments.items old setup))
+answers_wide code names arguments uniform (Ok (Some wide)) replies h =
+    λ old setup is given named said. replies code setup wide.buffers.items wide.arguments.items (h setup given named said) is old
+answers_wide code names arguments uniform (Ok None) replies h = tt
+answers_wide code names arguments uniform (Err why) replies h = tt
