@@ -37,7 +37,7 @@ use Rattle.explaining.specs.Leading.{IsFirst, Leads, WalkedTo}
 use Rattle.explaining.specs.Whole.{AnswersTo, AreNamed, HasWhole, IsAsWanted, IsExplained, IsSourceOf, IsToldOf, IsToldThere, SaysOf, SaysScript, TellsFault, TellsLaunch, schedule_words}
 use Rattle.explaining.specs.declared.answers.Answer.{Answer}
 use Rattle.explaining.specs.declared.facts.Format.{Format}
-use Rattle.explaining.specs.declared.faults.ExplainFault.{ExplainFault}
+use Rattle.simfile.specs.declared.faults.RunFault.{RunFault}
 use Rattle.explaining.specs.declared.told.ExplainedCase.{ExplainedCase}
 use Rattle.explaining.specs.declared.walks.Case.{Case}
 use Rattle.explaining.specs.declared.walks.Unbuilt.{Unbuilt}
@@ -103,14 +103,14 @@ some_all (Some x) P Q R S T p q r s h = h x p q r s
 some_all None P Q R S T p q r s h = tt
 
 pub whole_there :
-    (configuration : Configuration) (as_given : Bool) (commands : List Command) (ticket : ℕ) (f : Fault) (runs : List EventRun) (m : Machine) (r : Result (Option ExplainedCase) ExplainFault) → Leads (opening configuration) (take ticket commands) m
+    (configuration : Configuration) (as_given : Bool) (commands : List Command) (ticket : ℕ) (f : Fault) (runs : List EventRun) (m : Machine) (r : Result (Option ExplainedCase) RunFault) → Leads (opening configuration) (take ticket commands) m
     → IfOk r (λ found. IfSome found (λ told. HasWhole m as_given commands ticket f runs told.schedule told.whole)) → IfOk r (λ found. IfSome found (IsToldThere configuration as_given commands ticket f runs))
 whole_there configuration as_given commands ticket f runs m (Ok (Some told)) led h = record { machine = m; led = led; whole = h }
 whole_there configuration as_given commands ticket f runs m (Ok None) led h = tt
 whole_there configuration as_given commands ticket f runs m (Err why) led h = tt
 
 pub whole_of :
-    (configuration : Configuration) (as_given : Bool) (script schedule : List ℕ) (commands : List Command) (ticket : ℕ) (f : Fault) (runs : List EventRun) (r : Result (Option ExplainedCase) ExplainFault) → IsScript script commands
+    (configuration : Configuration) (as_given : Bool) (script schedule : List ℕ) (commands : List Command) (ticket : ℕ) (f : Fault) (runs : List EventRun) (r : Result (Option ExplainedCase) RunFault) → IsScript script commands
     → IsScheduleFile schedule ticket f runs → IfOk r (λ found. IfSome found (IsToldThere configuration as_given commands ticket f runs)) → IfOk r (λ found. IfSome found (IsToldOf configuration as_given script schedule))
 whole_of configuration as_given script schedule commands ticket f runs (Ok (Some told)) is file h =
     record { commands = commands; ticket = ticket; f = f; runs = runs; is = is; file = file; there = h }

@@ -7,12 +7,12 @@ ghost use Rattle.explaining.specs.Whole.{SaysSource};
 
 use crate::answers::{Answer, word_answer};
 use crate::facts::Format;
-use crate::faults::ExplainFault;
 use crate::walks::Unbuilt;
 use build_hints::{Refused, refusal_text};
 use device::{BuildFault, Command};
 use explain_json::refused_json;
 use host_commands::build::{NotBuilt, build};
+use simfile::faults::RunFault;
 use std::alloc::{AllocError, Global};
 
 /// Turns the fault of a build into the one that a refusal is written for.
@@ -69,14 +69,14 @@ pub(crate) fn explain_source(
     format: Format,
     name: &[u8],
     source: &[u8],
-) -> Result<Answer, ExplainFault>
+) -> Result<Answer, RunFault>
     ensures refused { IfOk result (λ answer. IsRefused source.now answer.yes) }
     ensures says { IfOk result (λ answer. SaysSource answer.yes (string_bytes answer.text)) }
-    ensures failed { IfErr result (λ why. why ≡ ExplainFault.OutOfMemory) }
+    ensures failed { IfErr result (λ why. why ≡ RunFault.OutOfMemory) }
 {
     let fault = match build(alloc, source) {
         Ok(_) => return Ok(word_answer(alloc, "ok\n")?),
-        Err(NotBuilt::OutOfMemory) => return Err(ExplainFault::OutOfMemory),
+        Err(NotBuilt::OutOfMemory) => return Err(RunFault::OutOfMemory),
         Err(NotBuilt::Fault(fault)) => fault,
     };
     let name = String::from_utf8_lossy(alloc, name)?;

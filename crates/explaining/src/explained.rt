@@ -5,15 +5,15 @@ ghost use Rattle.std.specs.Prelude.{◌≡◌, [], IfOk, IfErr, IfSome, OnOk, Li
 ghost use Rattle.byte_io.specs.Sink.{Wrote};
 ghost use Rattle.device.specs.Machine.{machine_of, opening};
 ghost use Rattle.host_commands.specs.declared.command.Command.{Command};
+ghost use Rattle.simfile.specs.Faults.{NoScript};
 ghost use Rattle.simfile.specs.Script.{IsScript};
-ghost use Rattle.explaining.specs.Explaining.{Explained, Explains, Found, IsTold, Unanswered, Unexplained, Unled, Unread, Unwritten};
+ghost use Rattle.explaining.specs.Explaining.{Explained, Explains, Found, IsTold, Unanswered, Unexplained, Unled, Unwritten};
 ghost use Rattle.explaining.specs.Leading.{WalkedTo};
 ghost use Rattle.explaining.specs.Whole.{IsToldOf, IsToldThere, Says, SaysOf, SaysScript};
 
 use crate::answers::{Answer, answer_of, tell, word_answer};
 use crate::building::{explain_source, explain_unbuilt};
 use crate::facts::{ExplainOptions, Format, Given, lines_before};
-use crate::faults::ExplainFault;
 use crate::told::{ExplainedCase, PerformedScript, explain_case};
 use crate::walks::{Performed, Unbuilt, Walked, perform_all, walk_anew};
 use byte_io::Write;
@@ -22,13 +22,14 @@ use clmodel::schedule::Schedule;
 use device::{Command, Device};
 use fault_lines::read;
 use launch_facts::line_of;
+use simfile::faults::RunFault;
 use simfile::script::read_script;
 use std::alloc::{AllocError, Global};
 
 /// The same commands, and the first of them.
-fn read_first(alloc: Global, script: &[u8], count: usize) -> Result<Vec<Command>, ExplainFault>
+fn read_first(alloc: Global, script: &[u8], count: usize) -> Result<Vec<Command>, RunFault>
     ensures first { (commands : List Command) → IsScript script.now commands → IfOk result (λ first. first.items ≡ take count commands) }
-    ensures failed { IfErr result (Unread script.now) }
+    ensures failed { IfErr result (NoScript script.now) }
 {
     let mut commands = read_script(alloc, script)?;
     commands.truncate(count);
@@ -44,7 +45,7 @@ fn told_at(
     ticket: usize,
     fault: &Fault,
     schedule: Schedule,
-) -> Result<Option<ExplainedCase>, ExplainFault>
+) -> Result<Option<ExplainedCase>, RunFault>
     requires { IsScript given.script.now commands.now }
     ensures told { IfOk result (λ found. IsTold options.configuration commands.now ticket fault.now schedule (is_some found)) }
     ensures whole { IfOk result (λ found. IfSome found (IsToldThere options.configuration options.as_given commands.now ticket fault.now schedule)) }
@@ -69,7 +70,7 @@ fn told_in(
     options: ExplainOptions,
     commands: &[Command],
     schedule: &[u8],
-) -> Result<Option<ExplainedCase>, ExplainFault>
+) -> Result<Option<ExplainedCase>, RunFault>
     requires { IsScript given.script.now commands.now }
     ensures explained { IfOk result (λ found. Explained options.configuration given.entry.script.now schedule.now (is_some found)) }
     ensures whole { IfOk result (λ found. IfSome found (IsToldOf options.configuration options.as_given given.entry.script.now schedule.now)) }
@@ -77,7 +78,7 @@ fn told_in(
 {
     let (number, fault, runs) = read(alloc, schedule)?;
     if number >= commands.len() as u64 {
-        return Err(ExplainFault::NotALaunch(number));
+        return Err(RunFault::NotALaunch(number));
     }
     told_at(
         alloc,
@@ -96,7 +97,7 @@ fn explain_schedule(
     given: Given<'_>,
     schedule: &[u8],
     options: ExplainOptions,
-) -> Result<Answer, ExplainFault>
+) -> Result<Answer, RunFault>
     ensures explained { IfOk result (λ answer. Explained options.configuration given.entry.script.now schedule.now answer.yes) }
     ensures says { IfOk result (λ answer. SaysOf options.configuration options.as_given options.format given.entry.script.now schedule.now answer.yes (string_bytes answer.text)) }
     ensures failed { IfErr result (Unexplained options.configuration given.entry.script.now schedule.now) }
@@ -127,12 +128,12 @@ fn answer_at(
     device: &Device,
     performed: &PerformedScript<'_>,
     end: Walked,
-) -> Result<Answer, ExplainFault>
+) -> Result<Answer, RunFault>
     requires script { IsScript performed.now.given.script.now performed.now.commands.now }
     requires walked { WalkedTo (opening performed.now.options.configuration) performed.now.commands.now (machine_of device.now) end }
     ensures found { IfOk result (λ answer. Found performed.now.options.configuration performed.now.given.script.now answer.yes) }
     ensures says { IfOk result (λ answer. SaysScript performed.now.options.configuration performed.now.options.as_given performed.now.options.format performed.now.given.script.now answer.yes (string_bytes answer.text)) }
-    ensures failed { IfErr result (Unread performed.now.given.script.now) }
+    ensures failed { IfErr result (NoScript performed.now.given.script.now) }
 {
     match end {
         Walked::Clean => Ok(word_answer(alloc, "clean\n")?),
@@ -159,11 +160,11 @@ fn explain_commands(
     given: Given<'_>,
     options: ExplainOptions,
     commands: &[Command],
-) -> Result<Answer, ExplainFault>
+) -> Result<Answer, RunFault>
     requires { IsScript given.script.now commands.now }
     ensures found { IfOk result (λ answer. Found options.configuration given.entry.script.now answer.yes) }
     ensures says { IfOk result (λ answer. SaysScript options.configuration options.as_given options.format given.entry.script.now answer.yes (string_bytes answer.text)) }
-    ensures failed { IfErr result (Unread given.entry.script.now) }
+    ensures failed { IfErr result (NoScript given.entry.script.now) }
 {
     let same = read_script(alloc, given.script)?;
     let Performed { device, end, done } = walk_anew(alloc, options, same)?;
@@ -181,10 +182,10 @@ fn explain_script(
     alloc: Global,
     given: Given<'_>,
     options: ExplainOptions,
-) -> Result<Answer, ExplainFault>
+) -> Result<Answer, RunFault>
     ensures found { IfOk result (λ answer. Found options.configuration given.entry.script.now answer.yes) }
     ensures says { IfOk result (λ answer. SaysScript options.configuration options.as_given options.format given.entry.script.now answer.yes (string_bytes answer.text)) }
-    ensures failed { IfErr result (Unread given.entry.script.now) }
+    ensures failed { IfErr result (NoScript given.entry.script.now) }
 {
     let commands = read_script(alloc, given.script)?;
     explain_commands(alloc, given, options, commands.as_slice())
@@ -195,7 +196,7 @@ fn answer_to(
     alloc: Global,
     given: Given<'_>,
     options: ExplainOptions,
-) -> Result<Answer, ExplainFault>
+) -> Result<Answer, RunFault>
     ensures explains { IfOk result (λ answer. Explains options.configuration given.entry answer.yes) }
     ensures says { IfOk result (λ answer. Says options.configuration options.as_given options.format given.entry answer.yes (string_bytes answer.text)) }
     ensures failed { IfErr result (Unanswered options.configuration given.entry) }
@@ -221,7 +222,7 @@ pub fn explain<W: Write>(
     given: Given<'_>,
     options: ExplainOptions,
     writer: &mut W,
-) -> Result<bool, ExplainFault>
+) -> Result<bool, RunFault>
     ensures explains { IfOk result (Explains options.configuration given.entry) }
     ensures wrote { OnOk result ((text : List ℕ) × Wrote (W.sink writer.old) (W.sink writer.new) text) }
     ensures says { IfOk result (λ answer. (text : List ℕ) × Wrote (W.sink writer.old) (W.sink writer.new) text × Says options.configuration options.as_given options.format given.entry answer text) }

@@ -18,7 +18,6 @@ use crate::facts::{
     ExplainOptions, Given, LaunchTexts, explanation_of, items_of, lines_before, named_of,
     schedule_facts,
 };
-use crate::faults::ExplainFault;
 use clmodel::fault::Fault;
 use clmodel::schedule::Schedule;
 use clmodel::setup::Range;
@@ -32,6 +31,7 @@ use launch_facts::{ProgramSource, schedule_words, source_of};
 use origins::code_is_marked;
 use replay::replay;
 use shortening::{Named, Shortened, event_count};
+use simfile::faults::RunFault;
 use spaces::Buffers;
 use std::alloc::{AllocError, Global};
 
@@ -255,19 +255,19 @@ pub(crate) fn explain_case(
     ticket: usize,
     fault: &Fault,
     schedule: Schedule,
-) -> Result<Option<ExplainedCase>, ExplainFault>
+) -> Result<Option<ExplainedCase>, RunFault>
     ensures told { IfOk result (λ found. Tells (machine_of device.now) performed.now.commands.now ticket fault.now schedule (is_some found)) }
     ensures short { IfOk result (λ found. IfSome found (λ told. HasShort (machine_of device.now) performed.now.commands.now ticket fault.now schedule told.schedule)) }
     ensures whole { IfOk result (λ found. IfSome found (λ told. HasWhole (machine_of device.now) performed.now.options.as_given performed.now.commands.now ticket fault.now schedule told.schedule told.whole)) }
     ensures failed { IfErr result (Untold (machine_of device.now) performed.now.commands.now ticket) }
 {
     let Some((kernel, range)) = launch_in(performed.commands, ticket) else {
-        return Err(ExplainFault::NotALaunch(ticket as u64));
+        return Err(RunFault::NotALaunch(ticket as u64));
     };
     let launch = match device.prepare(kernel, range) {
         Ok(launch) => launch,
-        Err(Refusal::OutOfMemory) => return Err(ExplainFault::OutOfMemory),
-        Err(_) => return Err(ExplainFault::CommandRefused(ticket as u64)),
+        Err(Refusal::OutOfMemory) => return Err(RunFault::OutOfMemory),
+        Err(_) => return Err(RunFault::CommandRefused(ticket as u64)),
     };
     launch_is_marked(&launch);
     let before = lines_before(performed.given.script);

@@ -8,30 +8,12 @@ ghost use Rattle.simfile.specs.Faults.{NoScript};
 ghost use Rattle.host_commands.specs.declared.command.Command.{Command};
 
 use crate::commands::command_of;
+use crate::faults::RunFault;
 use crate::forms::{line_at, version_at};
 use crate::lines::Line;
 use host_commands::command::Command;
 use std::alloc::{AllocError, Global};
 use text_lines::line_feeds;
-
-/// Why a text is no script, or was not read.
-#[derive(Clone, Copy, Debug, PartialEq, Eq)]
-pub enum ScriptFault {
-    /// The number of the lowest line that is bad, counted from 1
-    BadLine(usize),
-    OutOfMemory,
-}
-
-impl From<AllocError> for ScriptFault {
-    ghost use Rattle.std.specs.Prelude.{◌≡◌};
-    ghost use Rattle.simfile.specs.declared.script.ScriptFault.TheVariants as script_fault;
-
-    ghost from_gives = { λ _ made. made ≡ script_fault.OutOfMemory };
-
-    fn from(_: AllocError) -> Self {
-        ScriptFault::OutOfMemory
-    }
-}
 
 /// The most commands of a script.
 const MAX_COMMANDS: u32 = 4096;
@@ -58,7 +40,7 @@ fn add(alloc: Global, line: Line<'_>, commands: &mut Vec<Command>) -> Result<(),
 /// The commands of a script. One whose first line is `clsim 2` is of version 2, which has uniform launches, and this
 /// line is no command. A text that is no script has a bad line: one that is no command's of its version, is without its
 /// line feed, has too few source lines after it, or is that of the 4,097th command.
-pub fn read_script(alloc: Global, bytes: &[u8]) -> Result<Vec<Command>, ScriptFault>
+pub fn read_script(alloc: Global, bytes: &[u8]) -> Result<Vec<Command>, RunFault>
     ensures found { IfOk result (λ commands. IsScript bytes.now commands.items) }
     ensures only { (commands : List Command) → IsScript bytes.now commands →
         IfOk result (λ found. found.items ≡ commands) }
@@ -72,7 +54,7 @@ pub fn read_script(alloc: Global, bytes: &[u8]) -> Result<Vec<Command>, ScriptFa
             return Ok(commands);
         }
         let Some((line, others)) = line_at(version, rest) else {
-            return Err(ScriptFault::BadLine(line_number(bytes, rest)));
+            return Err(RunFault::BadLine(line_number(bytes, rest)));
         };
         add(alloc, line, &mut commands)?;
         rest = others;
@@ -80,5 +62,5 @@ pub fn read_script(alloc: Global, bytes: &[u8]) -> Result<Vec<Command>, ScriptFa
     if rest.is_empty() {
         return Ok(commands);
     }
-    Err(ScriptFault::BadLine(line_number(bytes, rest)))
+    Err(RunFault::BadLine(line_number(bytes, rest)))
 }
