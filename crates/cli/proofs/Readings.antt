@@ -1,6 +1,5 @@
 -- A script that is read, and why it wasn't.
-use Rattle.std.proofs.Common.{◌≡◌, ℕ, Option, List, Result, Ok, Err, inl, inr}
-use Rattle.std.specs.Result.{IfErr}
+use Rattle.std.proofs.Common.{◌≡◌, ℕ, Option, List, Err, inl, inr}
 use Rattle.byte_io.specs.Source.{Are, ReadsAll}
 use Rattle.byte_io.specs.declared.counted.ReadFault.{ReadFault}
 use Rattle.byte_io.specs.declared.counted.ReadFault.TheVariants as read
@@ -16,7 +15,8 @@ pub read_fails : {A : Type 0} (items : A → List ℕ) (rest : Option (List ℕ)
 read_fails items rest named failures failures' read.Failed why is h = inl (is, h)
 read_fails items rest named failures failures' read.OutOfMemory why is h = inr is
 
-no_script : (rest : Option (List ℕ)) (failures failures' : ℕ) (bytes : List ℕ) (why : RunFault) → Are rest bytes → NoScript bytes why → ScriptFails rest failures failures' why
+-- bytes that were read are no script
+pub no_script : (rest : Option (List ℕ)) (failures failures' : ℕ) (bytes : List ℕ) (why : RunFault) → Are rest bytes → NoScript bytes why → ScriptFails rest failures failures' why
 no_script rest failures failures' bytes (fault.BadLine n) are h = record { bytes = bytes; read = are; bad = h }
 no_script rest failures failures' bytes fault.OutOfMemory are h = tt
 no_script rest failures failures' bytes (fault.Read by) are h = absurd h
@@ -25,8 +25,3 @@ no_script rest failures failures' bytes fault.NoSuchKernel are h = absurd h
 no_script rest failures failures' bytes fault.BadSchedule are h = absurd h
 no_script rest failures failures' bytes (fault.NotALaunch ticket) are h = absurd h
 no_script rest failures failures' bytes (fault.CommandRefused ticket) are h = absurd h
-
--- bytes that were read are no script
-pub script_fails : {T : Type 0} (rest : Option (List ℕ)) (failures failures' : ℕ) (bytes : List ℕ) (r : Result T RunFault) → Are rest bytes → IfErr r (NoScript bytes) → IfErr r (ScriptFails rest failures failures')
-script_fails rest failures failures' bytes (Ok x) are h = tt
-script_fails rest failures failures' bytes (Err why) are h = no_script rest failures failures' bytes why are h

@@ -28,5 +28,6 @@ pub fn commands_of<R: Read>(alloc: Global, reader: &mut R) -> Result<Vec<Command
     ensures failed { IfErr result (ScriptFails (R.rest reader.old) (R.failures reader.old) (R.failures reader.new)) }
 {
     let bytes = bytes_of(alloc, reader, Reader::First)?;
-    read_script(alloc, bytes.as_slice())
+    let script = read_script(alloc, bytes.as_slice())?;
+    Ok(script.commands)
 }

@@ -32,33 +32,22 @@ pub told_there :
 told_there configuration commands ticket f runs m (Ok found) led tells = record { machine = m; led = led; tells = tells }
 told_there configuration commands ticket f runs m (Err why) led tells = tt
 
-untold : (configuration : Configuration) (script : List ℕ) (commands : List Command) (ticket : ℕ) (m : Machine) → Leads (opening configuration) (take ticket commands) m → (why : RunFault)
-    → Untold m commands ticket why → Unled configuration script commands ticket why
-untold configuration script commands ticket m led (fault.Read by) h = absurd h
-untold configuration script commands ticket m led fault.Write h = absurd h
-untold configuration script commands ticket m led (fault.BadLine n) h = absurd h
-untold configuration script commands ticket m led fault.OutOfMemory h = tt
-untold configuration script commands ticket m led fault.NoSuchKernel h = absurd h
-untold configuration script commands ticket m led fault.BadSchedule h = absurd h
-untold configuration script commands ticket m led (fault.NotALaunch named) h = h
-untold configuration script commands ticket m led (fault.CommandRefused named) h = (h.0, record { machine = m; led = led; refuses = h.1 })
+untold : (configuration : Configuration) (commands : List Command) (ticket : ℕ) (m : Machine) → Leads (opening configuration) (take ticket commands) m → (why : RunFault)
+    → Untold m commands ticket why → Unled configuration commands ticket why
+untold configuration commands ticket m led (fault.Read by) h = absurd h
+untold configuration commands ticket m led fault.Write h = absurd h
+untold configuration commands ticket m led (fault.BadLine n) h = absurd h
+untold configuration commands ticket m led fault.OutOfMemory h = tt
+untold configuration commands ticket m led fault.NoSuchKernel h = absurd h
+untold configuration commands ticket m led fault.BadSchedule h = absurd h
+untold configuration commands ticket m led (fault.NotALaunch named) h = h
+untold configuration commands ticket m led (fault.CommandRefused named) h = (h.0, record { machine = m; led = led; refuses = h.1 })
 
 pub untold_there :
-    (configuration : Configuration) (script : List ℕ) (commands : List Command) (ticket : ℕ) (m : Machine) (r : Result (Option ExplainedCase) RunFault) → Leads (opening configuration) (take ticket commands) m
-    → IfErr r (Untold m commands ticket) → IfErr r (Unled configuration script commands ticket)
-untold_there configuration script commands ticket m (Ok found) led h = tt
-untold_there configuration script commands ticket m (Err why) led h = untold configuration script commands ticket m led why h
-
--- commands that weren't read again
-pub unread_there : (configuration : Configuration) (script : List ℕ) (commands : List Command) (ticket : ℕ) (why : RunFault) → NoScript script why → Unled configuration script commands ticket why
-unread_there configuration script commands ticket (fault.Read by) h = h
-unread_there configuration script commands ticket fault.Write h = h
-unread_there configuration script commands ticket (fault.BadLine n) h = h
-unread_there configuration script commands ticket fault.OutOfMemory h = tt
-unread_there configuration script commands ticket fault.NoSuchKernel h = h
-unread_there configuration script commands ticket fault.BadSchedule h = h
-unread_there configuration script commands ticket (fault.NotALaunch named) h = absurd h
-unread_there configuration script commands ticket (fault.CommandRefused named) h = absurd h
+    (configuration : Configuration) (commands : List Command) (ticket : ℕ) (m : Machine) (r : Result (Option ExplainedCase) RunFault) → Leads (opening configuration) (take ticket commands) m
+    → IfErr r (Untold m commands ticket) → IfErr r (Unled configuration commands ticket)
+untold_there configuration commands ticket m (Ok found) led h = tt
+untold_there configuration commands ticket m (Err why) led h = untold configuration commands ticket m led why h
 
 -- a script that wasn't read
 pub no_script : (configuration : Configuration) (script schedule : List ℕ) (why : RunFault) → NoScript script why → Unexplained configuration script schedule why
@@ -93,10 +82,10 @@ no_launch configuration script schedule commands ticket f runs is file none =
     record { commands = commands; ticket = ticket; f = f; runs = runs; is = is; file = file; untold = inl (none, refl) }
 
 unled : (configuration : Configuration) (script schedule : List ℕ) (commands : List Command) (ticket : ℕ) (f : Fault) (runs : List EventRun) → IsScript script commands → IsScheduleFile schedule ticket f runs
-    → (why : RunFault) → Unled configuration script commands ticket why → Unexplained configuration script schedule why
+    → (why : RunFault) → Unled configuration commands ticket why → Unexplained configuration script schedule why
 unled configuration script schedule commands ticket f runs is file (fault.Read by) h = h
 unled configuration script schedule commands ticket f runs is file fault.Write h = h
-unled configuration script schedule commands ticket f runs is file (fault.BadLine n) h = h
+unled configuration script schedule commands ticket f runs is file (fault.BadLine n) h = absurd h
 unled configuration script schedule commands ticket f runs is file fault.OutOfMemory h = tt
 unled configuration script schedule commands ticket f runs is file fault.NoSuchKernel h = absurd h
 unled configuration script schedule commands ticket f runs is file fault.BadSchedule h = absurd h
@@ -107,6 +96,6 @@ unled configuration script schedule commands ticket f runs is file (fault.Comman
 
 pub unexplained :
     (configuration : Configuration) (script schedule : List ℕ) (commands : List Command) (ticket : ℕ) (f : Fault) (runs : List EventRun) (r : Result (Option ExplainedCase) RunFault) → IsScript script commands
-    → IsScheduleFile schedule ticket f runs → IfErr r (Unled configuration script commands ticket) → IfErr r (Unexplained configuration script schedule)
+    → IsScheduleFile schedule ticket f runs → IfErr r (Unled configuration commands ticket) → IfErr r (Unexplained configuration script schedule)
 unexplained configuration script schedule commands ticket f runs (Ok found) is file h = tt
 unexplained configuration script schedule commands ticket f runs (Err why) is file h = unled configuration script schedule commands ticket f runs is file why h

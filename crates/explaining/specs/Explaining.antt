@@ -87,15 +87,15 @@ pub record IsRefusedThere (configuration : Configuration) (commands : List Comma
   pub refuses : Refuses machine commands ticket
 
 -- why it wasn't
-abbrev pub Unled : Configuration → List ℕ → List Command → ℕ → RunFault → Type 0
-Unled configuration script commands ticket (fault.Read by) = ⊥
-Unled configuration script commands ticket fault.Write = ⊥
-Unled configuration script commands ticket (fault.BadLine n) = IsBadLine script n
-Unled configuration script commands ticket fault.OutOfMemory = ⊤
-Unled configuration script commands ticket fault.NoSuchKernel = ⊥
-Unled configuration script commands ticket fault.BadSchedule = ⊥
-Unled configuration script commands ticket (fault.NotALaunch named) = (named ≡ ticket) × NoLaunch commands ticket
-Unled configuration script commands ticket (fault.CommandRefused named) = (named ≡ ticket) × IsRefusedThere configuration commands ticket
+abbrev pub Unled : Configuration → List Command → ℕ → RunFault → Type 0
+Unled configuration commands ticket (fault.Read by) = ⊥
+Unled configuration commands ticket fault.Write = ⊥
+Unled configuration commands ticket (fault.BadLine n) = ⊥
+Unled configuration commands ticket fault.OutOfMemory = ⊤
+Unled configuration commands ticket fault.NoSuchKernel = ⊥
+Unled configuration commands ticket fault.BadSchedule = ⊥
+Unled configuration commands ticket (fault.NotALaunch named) = (named ≡ ticket) × NoLaunch commands ticket
+Unled configuration commands ticket (fault.CommandRefused named) = (named ≡ ticket) × IsRefusedThere configuration commands ticket
 
 -- the answer to a script and a schedule file
 pub record Explained (configuration : Configuration) (script schedule : List ℕ) (answer : Bool) : Type 0 where

@@ -13,6 +13,7 @@ use device::{BuildFault, Command};
 use explain_json::refused_json;
 use host_commands::build::{NotBuilt, build};
 use simfile::faults::RunFault;
+use simfile::script::CommandPlace;
 use std::alloc::{AllocError, Global};
 
 /// Turns the fault of a build into the one that a refusal is written for.
@@ -38,21 +39,24 @@ fn refusal_in(
     }
 }
 
-/// The refused build of a script whose command stands in a line, in a format.
+/// The refused build of a script, whose commands stand at these places, in a format.
 pub(crate) fn explain_unbuilt(
     alloc: Global,
     format: Format,
     name: &[u8],
     commands: &[Command],
+    places: &[CommandPlace],
     unbuilt: Unbuilt,
-    line: usize,
 ) -> Result<String, AllocError> {
     let name = String::from_utf8_lossy(alloc, name)?;
     let source = match commands.get(unbuilt.ticket) {
         Some(Command::Program { source, .. }) => source.as_slice(),
         _ => &[],
     };
-    let first = line.saturating_add(1);
+    let first = match places.get(unbuilt.ticket) {
+        Some(place) => place.source_line,
+        None => 1,
+    };
     refusal_in(
         alloc,
         format,

@@ -12,7 +12,7 @@ mod lines;
 mod numbers;
 mod parameters;
 
-pub use commands::{ProgramSource, line_of, source_of};
+pub use commands::{ProgramSource, source_of};
 pub use gathered::Gathered;
 pub use lines::{fault_words, schedule_words};
 pub use numbers::{fault_name, fault_number, memory_of, named_items};

@@ -6,6 +6,7 @@
 #![tactic(auto)]
 
 mod commands;
+pub mod copies;
 pub mod faults;
 mod fields;
 mod forms;
