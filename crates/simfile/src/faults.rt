@@ -18,8 +18,8 @@ pub enum Reader {
     Second,
 }
 
-/// Why a run, a check, a dump, a replay, a talk or an explanation failed. Where it says nothing of what was written, the
-/// contract that gives it does.
+/// Why a run, a check, a dump, a replay, a talk or an explanation failed. What was written until then, the contract of
+/// each says.
 #[derive(Clone, Copy, Debug, PartialEq, Eq, Error)]
 pub enum RunFault {
     /// 1: this reader failed
