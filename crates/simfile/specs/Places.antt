@@ -6,11 +6,11 @@ use Rattle.simfile.specs.declared.lines.Version.{Version}
 use Rattle.simfile.specs.declared.script.CommandPlace.{CommandPlace}
 use Rattle.simfile.specs.Script.{Begins, IsText, head, line_feeds}
 
--- the place of the byte `at`: its line, and the one behind it
-pub record Locates (bytes : List ℕ) (at : ℕ) (place : CommandPlace) : Type 0 where
-  pub at : place.at ≡ at
-  pub line : place.line ≡ line_of bytes at
-  pub few : place.line ≤ at + 1
+-- the place of a byte: its line, and the one behind it
+pub record Locates (bytes : List ℕ) (byte : ℕ) (place : CommandPlace) : Type 0 where
+  pub at : place.at ≡ byte
+  pub line : place.line ≡ line_of bytes byte
+  pub few : place.line ≤ byte + 1
   pub source_line : place.source_line ≡ place.line + 1
 
 -- The text of the command of a number stands at this place: behind what its version begins with and behind the texts of
