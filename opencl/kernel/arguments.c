@@ -44,6 +44,9 @@ static const char *read_type(given *g, const char *at) {
     return end + 1;
 }
 
+// (`inf` and `nan` are numbers too)
+static bool begins_as_number(const char *text) { return *text && strchr("+-.0123456789in", *text); }
+
 static bool begins_with(const char *text, const char *word, const char **behind) {
     size_t n = strlen(word);
     if (strncmp(text, word, n) || (text[n] && text[n] != '=')) return false;
@@ -82,6 +85,8 @@ static void read_content(arena *a, given *g, const char *at) {
                                                : "nothing, =SEED or =SEED,LEAST,GREATEST");
         return;
     }
+    if (!begins_as_number(at))
+        stop("%s: %s is neither zero, range, fill=NUMBER, random, file=PATH nor numbers with commas", g->from, at);
     g->content = LIST_CONTENT;
     add_numbers(a, g, at);
 }
@@ -116,7 +121,7 @@ void read_argument(request *r, const char *argument) {
     }
     const char *behind = read_type(g, value);
     if (!behind) {
-        if (!*value || !strchr("+-.0123456789in", *value)) // (`in` of inf and nan)
+        if (!begins_as_number(value))
             stop("%s: %s is neither a number nor a TYPE[COUNT] (clsim-kernel --help has the forms)", g->from, value);
         g->content = LIST_CONTENT;
         add_numbers(r->arena, g, value);

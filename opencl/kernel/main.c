@@ -4,6 +4,7 @@
 #define _GNU_SOURCE
 #include "contents.h"
 #include "listing.h"
+#include "settings.h"
 #include "telling.h"
 #include <errno.h>
 #include <inttypes.h>
@@ -27,35 +28,6 @@ typedef struct {
     contents *contents;  // likewise
     const given **given; // likewise
 } run;
-
-// ---- settings ----
-
-// The device is the `clsim` beside this command, where there is one and nothing else is said.
-static void find_device(void) {
-    char path[4096], serve[4200];
-    ssize_t n = readlink("/proc/self/exe", path, sizeof path - 8);
-    const char *set = getenv("CLSIM_SERVE");
-    if ((set && *set) || n <= 0) return;
-    path[n] = 0;
-    char *slash = strrchr(path, '/');
-    if (!slash) return;
-    strcpy(slash, "/clsim");
-    if (access(path, X_OK) || strchr(path, ' ')) return; // (the driver takes a command apart at its spaces)
-    snprintf(serve, sizeof serve, "%s serve", path);
-    setenv("CLSIM_SERVE", serve, 1);
-}
-
-// What the driver does for other host programs isn't for this one.
-static void set_driver(const request *r) {
-    static const char *const others[] = {"CLSIM_ON_FAULT", "CLSIM_STATUS", "CLSIM_SCRIPT", "CLSIM_LOG", "CLSIM_ASKED"};
-    for (size_t i = 0; i < sizeof others / sizeof *others; i++) unsetenv(others[i]);
-    find_device();
-    if (!r->script) return;
-    FILE *file = fopen(r->script, "wbe");
-    if (!file) stop("cannot write %s: %s", r->script, strerror(errno));
-    fclose(file);
-    setenv("CLSIM_SCRIPT", r->script, 1);
-}
 
 // ---- calls ----
 
@@ -165,17 +137,21 @@ static void want_all(run *r) {
     if (!r->has_kernel) add(&missing, ", KERNEL");
     if (!r->request.dimensions) add(&missing, ", --global SIZES");
     for (cl_uint i = 0; i < r->kernel.count; i++)
-        if (!r->given[i]) addf(&missing, ", --arg %s", form_of(r->arena, &r->kernel.parameters[i]));
+        if (!r->given[i])
+            addf(&missing, ", %s %s", r->request.simulation ? "argument" : "--arg",
+                 r->request.simulation ? declared(r->arena, &r->kernel.parameters[i])
+                                       : form_of(r->arena, &r->kernel.parameters[i]));
     if (!missing.length) return;
     show_kernels(r);
+    if (r->request.simulation) stop("missing in %s: %s", r->request.simulation, missing.at + 2);
     stop("missing: %s", missing.at + 2);
 }
 
 // ---- arguments ----
 
-static cl_ulong most_bytes(run *r) {
+static cl_ulong device_size(run *r, cl_device_info name) {
     cl_ulong most;
-    cl_int fault = clGetDeviceInfo(r->device, CL_DEVICE_MAX_MEM_ALLOC_SIZE, sizeof most, &most, NULL);
+    cl_int fault = clGetDeviceInfo(r->device, name, sizeof most, &most, NULL);
     if (fault) stop_call("clGetDeviceInfo", fault);
     return most;
 }
@@ -187,7 +163,7 @@ static void give(run *r, cl_uint index, size_t n, const void *value) {
     if (!fault) return;
     tell_errors();
     if (fault == CL_INVALID_ARG_SIZE) stop("%s: %zu bytes aren't the size of %s", g->from, n, declared(r->arena, p));
-    stop("%s: clSetKernelArg of %s answers %d", g->from, declared(r->arena, p), fault);
+    stop("%s: the driver refuses it for %s (error %d)", g->from, declared(r->arena, p), fault);
 }
 
 static void give_local(run *r, cl_uint index) {
@@ -197,6 +173,9 @@ static void give_local(run *r, cl_uint index) {
     if (!has_bytes)
         stop("%s: %s is in local memory, whose bytes are given: %s", g->from, declared(r->arena, p),
              g->is_of_file ? "<size=BYTES>" : form_of(r->arena, p));
+    cl_ulong most = device_size(r, CL_DEVICE_LOCAL_MEM_SIZE);
+    if (g->bytes > most)
+        stop("%s: %" PRIu64 " bytes are more than the local memory of a group: %" PRIu64, g->from, g->bytes, most);
     give(r, index, g->bytes, NULL);
 }
 
@@ -205,7 +184,8 @@ static void give_value(run *r, cl_uint index) {
     const parameter_form *p = &r->kernel.parameters[index];
     size_t size = p->has_element ? element_size(&p->element) : 0;
     if (g->is_local || g->is_null || (g->is_of_file && g->content == NO_CONTENT))
-        stop("%s: %s is a value: %s", g->from, declared(r->arena, p), form_of(r->arena, p));
+        stop("%s: %s is a value: %s", g->from, declared(r->arena, p),
+             g->is_of_file ? "its number stands behind the >" : form_of(r->arena, p));
     contents c = contents_of(r->arena, g, p->has_element ? &p->element : NULL, size, 65536, index);
     give(r, index, c.size, c.at ? (void *)c.at : take(r->arena, c.size));
 }
@@ -221,7 +201,8 @@ static void give_buffer(run *r, cl_uint index) {
     }
     if (g->is_local || (g->content == LIST_CONTENT && !g->has_type && !g->is_of_file))
         stop("%s: %s is a pointer to a buffer: %s", g->from, declared(r->arena, p), form_of(r->arena, p));
-    contents c = contents_of(r->arena, g, p->has_element ? &p->element : NULL, 0, most_bytes(r), index);
+    contents c = contents_of(r->arena, g, p->has_element ? &p->element : NULL, 0,
+                             device_size(r, CL_DEVICE_MAX_MEM_ALLOC_SIZE), index);
     r->contents[index] = c;
     r->buffers[index] = clCreateBuffer(r->context, CL_MEM_READ_WRITE, c.size, NULL, &fault);
     if (!fault && c.at)
@@ -248,7 +229,6 @@ static void check_sizes(run *r) {
     const size_t *wanted = r->kernel.group;
     bool is_required = wanted[0];
     for (unsigned d = 0; d < q->dimensions; d++) {
-        if (!q->global[d] || (q->has_local && !q->local[d])) stop("a size is 0");
         if (is_required && !q->has_local) q->local[d] = wanted[d];
         if ((is_required || q->has_local) && q->global[d] % q->local[d])
             stop("the local size %zu doesn't divide the global size %zu", q->local[d], q->global[d]);
@@ -345,7 +325,7 @@ static int judge(run *r, int count, char **words) {
     request *q = &r->request;
     q->arena = r->arena;
     read_command(q, count, words);
-    set_driver(q);
+    set_driver(r->arena, q->script);
     const char *source = read_file(r->arena, q->file, NULL, &length);
     keep_lines(q->file, source);
     open_device(r);
@@ -363,6 +343,7 @@ static int judge(run *r, int count, char **words) {
     for (size_t i = 0; i < q->dump_count; i++) dump(r, &q->dumps[i]);
     close_all(r);
     if (tell_errors()) stop("%s isn't whole", q->script);
+    keep_script();
     if (fflush(stdout) || ferror(stdout)) stop("cannot write: %s", strerror(errno));
     return has_fault;
 }

@@ -45,7 +45,7 @@ typedef struct {
 typedef struct {
     arena *arena;
     const char *file, *kernel, *script; // NULL where they aren't given
-    const char *in_front;               // the folder of the source, where its headers are looked for first
+    const char *simulation;             // the file that names them and has the arguments, NULL for none
     text options;                       // of the build
     unsigned dimensions;                // 0 where there is no global size
     size_t global[3], local[3], offset[3];

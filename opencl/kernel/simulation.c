@@ -48,7 +48,7 @@ static const char *read_name(reader *r, const char *wanted) {
 static void read_three(reader *r, size_t *sizes, const char *wanted) {
     for (int d = 0; d < 3; d++) {
         uint64_t size;
-        if (!r->word || !read_count(r->word, r->length, &size)) stop_at(r, wanted);
+        if (!r->word || !read_count(r->word, r->length, &size) || !size) stop_at(r, wanted);
         sizes[d] = size;
         next(r);
     }
@@ -153,10 +153,11 @@ void read_simulation(request *q) {
     reader r = {.arena = q->arena, .path = q->file, .at = content, .line = 1};
     if (strlen(content) != n) stop("%s: a byte 0 stands in the file", q->file);
     next(&r);
+    q->simulation = q->file;
     q->file = path_beside(q->arena, q->file, read_name(&r, "the path of a source"));
     q->kernel = read_name(&r, "the name of a kernel");
-    read_three(&r, q->global, "a global size, of which there are three");
-    read_three(&r, q->local, "a local size, of which there are three");
+    read_three(&r, q->global, "a global size from 1, of which there are three");
+    read_three(&r, q->local, "a local size from 1, of which there are three");
     q->dimensions = 3;
     q->has_local = true;
     while (r.word) read_one(q, &r);

@@ -125,17 +125,19 @@ typedef struct {
     unsigned global, local, offset; // how many sizes each option was given
 } size_counts;
 
-static void set_sizes(const char *option, const char *value, unsigned *count, size_t *sizes) {
+static void set_sizes(const char *option, const char *value, size_t least, unsigned *count, size_t *sizes) {
     if (*count) stop("%s is given twice", option);
     *count = read_sizes(value, sizes);
     if (!*count) stop("%s takes one to three sizes with commas, as 64,64, and not %s", option, value);
+    for (unsigned d = 0; d < *count; d++)
+        if (sizes[d] < least) stop("%s takes sizes from 1, and not %s", option, value);
 }
 
 // An option that a value stands behind. False where there is none of the name.
 static bool take_option(request *r, size_counts *counts, const char *option, const char *value) {
-    if (!strcmp(option, "--global")) set_sizes(option, value, &counts->global, r->global);
-    else if (!strcmp(option, "--local")) set_sizes(option, value, &counts->local, r->local);
-    else if (!strcmp(option, "--offset")) set_sizes(option, value, &counts->offset, r->offset);
+    if (!strcmp(option, "--global")) set_sizes(option, value, 1, &counts->global, r->global);
+    else if (!strcmp(option, "--local")) set_sizes(option, value, 1, &counts->local, r->local);
+    else if (!strcmp(option, "--offset")) set_sizes(option, value, 0, &counts->offset, r->offset);
     else if (!strcmp(option, "--arg")) read_argument(r, value);
     else if (!strcmp(option, "--dump")) want_dump(r, value);
     else if (!strcmp(option, "--script")) r->script = value;
