@@ -262,7 +262,7 @@ static bool launch(run *r) {
     cl_int fault = clEnqueueNDRangeKernel(r->queue, r->kernel.kernel, q->dimensions, q->offset, q->global,
                                           q->has_local ? q->local : NULL, 0, NULL, NULL);
     if (fault == CL_INVALID_OPERATION) {
-        tell_verdict(r->arena);
+        if (!tell_verdict(r->arena)) stop("the launch answers %d, and it isn't known why", fault);
         return true;
     }
     tell_errors();

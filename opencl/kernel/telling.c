@@ -172,9 +172,10 @@ static void show_place(arena *a, const char *line, size_t n) {
     if (found) show_line(found, row, column);
 }
 
-void tell_verdict(arena *a) {
+bool tell_verdict(arena *a) {
     static const char launch[] = ", launch 1 of its context";
     char *lines = new_lines();
+    bool is_fault = lines && !strncmp(behind_head(lines), "fault ", 6);
     for (char *at = lines; at && *at;) {
         size_t n = strcspn(at, "\n"), next = n + (at[n] != 0);
         char *line = at + (behind_head(at) - at), *cut = memmem(at, n, launch, sizeof launch - 1);
@@ -188,4 +189,5 @@ void tell_verdict(arena *a) {
         show_place(a, line, n);
     }
     free(lines);
+    return is_fault;
 }

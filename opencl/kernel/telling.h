@@ -14,8 +14,8 @@ char *read_file(arena *a, const char *path, const char *from, size_t *n);
 void keep_lines(const char *path, const char *source);
 // Tells what the driver said since the last look. Whether it lost a part of the script.
 bool tell_errors(void);
-// Tells on standard output what it said of a launch that faulted.
-void tell_verdict(arena *a);
+// Tells on standard output what it said of a launch that faulted. False where it didn't say of a fault.
+bool tell_verdict(arena *a);
 // Tells the log of a build on standard error, each line with words in front.
 void tell_log(const char *log, const char *in_front);
 #endif
