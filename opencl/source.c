@@ -168,14 +168,33 @@ const char *build_log(prepared *p, size_t begin, const char *reply) {
 
 // ---- kernels ----
 
+// A name of clang's without the address spaces and qualifiers in front of it.
+static const char *behind_qualifiers(const char *name) {
+    static const char *const words[] = {"const ",      "volatile ", "__private ", "__global ",
+                                        "__constant ", "__local ",  NULL};
+    for (const char *const *w = words; *w;) {
+        size_t n = strlen(*w);
+        if (strncmp(name, *w, n)) w++;
+        else {
+            name += n;
+            w = words;
+        }
+    }
+    return name;
+}
+
+static const char *floating_name(unsigned width) { return width == 2 ? "half" : width == 4 ? "float" : "double"; }
+
 // A type as a client declares it: without address spaces and qualifiers, with OpenCL's own words for unsigned types
 // (OpenCL 1.2, table 5.21).
 static const char *told_type(arena *a, const type *t) {
     text name = {.arena = a};
     const type *of = t->kind == POINTER_TYPE ? t->of : t;
     const type *number = of->kind == VECTOR_TYPE ? of->of : of;
-    bool is_integer = number->kind == INTEGER_TYPE && !number->is_bool;
-    add(&name, is_integer ? name_of(integer_of(number->width, number->is_signed)) : number->name);
+    bool is_integer = number->kind == INTEGER_TYPE && !number->is_bool, is_floating = number->kind == FLOATING_TYPE;
+    add(&name, is_integer    ? name_of(integer_of(number->width, number->is_signed))
+               : is_floating ? floating_name(number->width)
+                             : behind_qualifiers(number->name));
     if (of->kind == VECTOR_TYPE) addf(&name, "%u", (unsigned)of->length);
     if (t->kind == POINTER_TYPE) add(&name, "*");
     return name.at;

@@ -1,0 +1,11 @@
+// The driver's settings, and the file of the script.
+#ifndef CLSIM_KERNEL_SETTINGS_H
+#define CLSIM_KERNEL_SETTINGS_H
+#include "../arena.h"
+
+// Sets the driver's variables for this command. The script of what is done is recorded beside its file, if one is asked
+// for: until it is kept, nothing of that file is lost.
+void set_driver(arena *a, const char *script);
+// Puts the recorded script in its place.
+void keep_script(void);
+#endif

@@ -1,0 +1,193 @@
+#define _GNU_SOURCE
+#include "telling.h"
+#include <ctype.h>
+#include <errno.h>
+#include <stdarg.h>
+#include <stdio.h>
+#include <stdlib.h>
+#include <string.h>
+#include <sys/mman.h>
+#include <sys/stat.h>
+#include <unistd.h>
+
+static const char command[] = "clsim-kernel";
+// How the driver calls the client's own text, and what its lines begin with.
+static const char driver_source[] = "source:", driver_head[] = "clsim: ";
+
+static const char *path_of_source = "source", *text_of_source = "";
+static int log_file = -1;
+static off_t log_seen;
+
+void stop(const char *format, ...) {
+    va_list values;
+    fflush(stdout);
+    fprintf(stderr, "%s: ", command);
+    va_start(values, format);
+    vfprintf(stderr, format, values);
+    va_end(values);
+    fputc('\n', stderr);
+    exit(2);
+}
+
+char *read_file(arena *a, const char *path, const char *from, size_t *n) {
+    FILE *file = fopen(path, "rbe");
+    char room[65536];
+    text all = {.arena = a};
+    struct stat about;
+    errno = file && !fstat(fileno(file), &about) && S_ISDIR(about.st_mode) ? EISDIR : errno;
+    if (!file || errno == EISDIR)
+        stop("%s%scannot read %s: %s", from ? from : "", from ? ": " : "", path, strerror(errno));
+    add(&all, "");
+    for (size_t got; (got = fread(room, 1, sizeof room, file)) > 0;) add_bytes(&all, room, got);
+    if (ferror(file)) stop("%s%scannot read %s: %s", from ? from : "", from ? ": " : "", path, strerror(errno));
+    fclose(file);
+    *n = all.length;
+    return all.at;
+}
+
+// ---- the driver's lines ----
+
+void keep_lines(const char *path, const char *source) {
+    char name[64];
+    path_of_source = path;
+    text_of_source = source;
+    log_file = memfd_create(command, MFD_CLOEXEC);
+    snprintf(name, sizeof name, "/proc/self/fd/%d", log_file);
+    if (log_file >= 0) setenv("CLSIM_LOG", name, 1); // (else they stay on standard error)
+}
+
+// What was said since the last look, NULL for nothing. The caller frees it.
+static char *new_lines(void) {
+    struct stat about;
+    if (log_file < 0 || fstat(log_file, &about) || about.st_size <= log_seen) return NULL;
+    size_t n = (size_t)(about.st_size - log_seen), at = 0;
+    char *lines = malloc(n + 1);
+    if (!lines) return NULL;
+    for (ssize_t got; at < n && (got = pread(log_file, lines + at, n - at, log_seen + (off_t)at)) > 0;)
+        at += (size_t)got;
+    lines[at] = 0;
+    log_seen += (off_t)at;
+    return lines;
+}
+
+// Writes a line with the file's path where the driver has its own word for it: in front of a line's number, and at the
+// beginning.
+static void put_named(FILE *to, const char *line, size_t n) {
+    size_t length = sizeof driver_source - 1;
+    for (size_t i = 0; i < n; i++) {
+        bool begins = !i || strchr(" (,", line[i - 1]),
+             is_it = n - i > length && !strncmp(line + i, driver_source, length);
+        if (begins && is_it && (!i || isdigit((unsigned char)line[i + length]))) {
+            fprintf(to, "%s:", path_of_source);
+            i += length - 1;
+        } else fputc(line[i], to);
+    }
+    fputc('\n', to);
+}
+
+static const char *behind_head(const char *line) {
+    size_t n = sizeof driver_head - 1;
+    return strncmp(line, driver_head, n) ? line : line + n;
+}
+
+bool tell_errors(void) {
+    char *lines = new_lines();
+    bool is_lost = lines && strstr(lines, "the script is not whole");
+    for (const char *at = lines; at && *at;) {
+        size_t n = strcspn(at, "\n");
+        const char *line = behind_head(at);
+        fprintf(stderr, "%s: ", command);
+        put_named(stderr, line, n - (size_t)(line - at));
+        at += n + (at[n] != 0);
+    }
+    free(lines);
+    return is_lost;
+}
+
+void tell_log(const char *log, const char *in_front) {
+    fflush(stdout);
+    while (*log) {
+        size_t n = strcspn(log, "\n");
+        fputs(in_front, stderr);
+        put_named(stderr, log, n);
+        log += n + (log[n] != 0);
+    }
+}
+
+// ---- the verdict ----
+
+// A line of a text by its number from 1, NULL where it has fewer.
+static const char *line_of(const char *text, unsigned long number) {
+    for (; number > 1; number--) {
+        text = strchr(text, '\n');
+        if (!text) return NULL;
+        text++;
+    }
+    return *text ? text : NULL;
+}
+
+// Shows the line of a place with a mark below it.
+static void show_line(const char *line, unsigned long number, unsigned long column) {
+    size_t n = strcspn(line, "\r\n");
+    if (!column || column > n + 1) return;
+    printf("    %5lu | %.*s\n          | ", number, (int)n, line);
+    for (unsigned long i = 0; i + 1 < column; i++) {
+        if (((unsigned char)line[i] & 0xc0) != 0x80) putchar(line[i] == '\t' ? '\t' : ' '); // (UTF-8: once a character)
+    }
+    puts("^");
+}
+
+// The place at the end of a line of n bytes: ` at FILE:LINE:COLUMN`. False where there is none.
+static bool ends_with_place(const char *line, size_t n, char *file, size_t room, unsigned long *row,
+                            unsigned long *column) {
+    size_t at = n;
+    while (at && isdigit((unsigned char)line[at - 1])) at--;
+    if (at == n || !at || line[at - 1] != ':') return false;
+    *column = strtoul(line + at, NULL, 10);
+    size_t colon = --at;
+    while (at && isdigit((unsigned char)line[at - 1])) at--;
+    if (at == colon || !at || line[at - 1] != ':') return false;
+    *row = strtoul(line + at, NULL, 10);
+    size_t end = at - 1;
+    for (at = end; at >= 4 && strncmp(line + at - 4, " at ", 4); at--) {}
+    if (at < 4 || end - at >= room) return false;
+    memcpy(file, line + at, end - at);
+    file[end - at] = 0;
+    return true;
+}
+
+// Shows the source's line behind a line that tells where a work-item is.
+static void show_place(arena *a, const char *line, size_t n) {
+    char file[4096];
+    unsigned long row, column;
+    size_t length;
+    bool is_item = !strncmp(line, "  item ", 7) || !strncmp(line, "    its last access is ", 23);
+    if (!is_item || !ends_with_place(line, n, file, sizeof file, &row, &column)) return;
+    const char *text = text_of_source;
+    if (strncmp(file, driver_source, strlen(file)) || strlen(file) != sizeof driver_source - 2) {
+        if (access(file, R_OK)) return;
+        text = read_file(a, file, NULL, &length);
+    }
+    const char *found = line_of(text, row);
+    if (found) show_line(found, row, column);
+}
+
+bool tell_verdict(arena *a) {
+    static const char launch[] = ", launch 1 of its context";
+    char *lines = new_lines();
+    bool is_fault = lines && !strncmp(behind_head(lines), "fault ", 6);
+    for (char *at = lines; at && *at;) {
+        size_t n = strcspn(at, "\n"), next = n + (at[n] != 0);
+        char *line = at + (behind_head(at) - at), *cut = memmem(at, n, launch, sizeof launch - 1);
+        n -= (size_t)(line - at);
+        at += next;
+        if (cut && !strncmp(line, "  kernel ", 9)) { // (there is but one)
+            memmove(cut, cut + sizeof launch - 1, (size_t)(line + n - cut) - (sizeof launch - 1));
+            n -= sizeof launch - 1;
+        }
+        put_named(stdout, line, n);
+        show_place(a, line, n);
+    }
+    free(lines);
+    return is_fault;
+}
