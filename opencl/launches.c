@@ -79,14 +79,17 @@ static cl_int launch(cl_command_queue q, cl_kernel k, cl_uint dimensions, const 
         if (!k->arguments[i].command) return CL_INVALID_KERNEL_ARGS;
     cl_int fault = take_sizes(k, &sizes, offset, global, local);
     if (fault) return fault;
-    const char *reply = ask_launch(k, &sizes);
+    cl_kernel launched;
+    fault = launched_kernel(k, &launched);
+    if (fault) return fault;
+    const char *reply = ask_launch(launched, &sizes);
     if (!reply) return CL_DEVICE_NOT_AVAILABLE;
     if (!strcmp(reply, "clean")) return finish(&made, type, CL_SUCCESS, event);
     if (strncmp(reply, "fault ", 6)) {
         refuse(q->context, "kernel %s: %s", k->form->name, reply);
         return error_of(reply);
     }
-    report_fault(k, reply, &sizes);
+    report_fault(launched, reply, &sizes);
     const char *then = setting("CLSIM_ON_FAULT");
     if (!then || strcmp(then, "go")) return FAULTED;
     give_event(&made, type, FAULTED, event);

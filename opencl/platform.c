@@ -126,8 +126,8 @@ CL_API_ENTRY cl_int CL_API_CALL clGetDeviceInfo(cl_device_id d, cl_device_info n
     case CL_DEVICE_PROFILING_TIMER_RESOLUTION: GIVE(size_t, 1);
     case CL_DEVICE_ENDIAN_LITTLE: GIVE(cl_bool, CL_TRUE);
     case CL_DEVICE_AVAILABLE:
-    case CL_DEVICE_COMPILER_AVAILABLE: GIVE(cl_bool, CL_TRUE);
-    case CL_DEVICE_LINKER_AVAILABLE: GIVE(cl_bool, CL_FALSE);
+    case CL_DEVICE_COMPILER_AVAILABLE:
+    case CL_DEVICE_LINKER_AVAILABLE: GIVE(cl_bool, CL_TRUE);
     case CL_DEVICE_EXECUTION_CAPABILITIES: GIVE(cl_device_exec_capabilities, CL_EXEC_KERNEL);
     case CL_DEVICE_QUEUE_PROPERTIES: GIVE(cl_command_queue_properties, queue_properties());
     case CL_DEVICE_BUILT_IN_KERNELS: return give_text("", room, to, size);

@@ -164,6 +164,7 @@ struct object {
     integer_type element; // where no access says otherwise
     bool is_fixed;        // it is never assigned
     bool is_const;
+    unsigned char accesses, held;     // of a buffer: which accesses are written, and which of them are held back
     const char *views[INTEGER_TYPES]; // of a buffer: the parameters by the types of their elements
     integer_type array_element;
     const value *alias;         // what it always holds
@@ -224,8 +225,8 @@ typedef struct translator {
     bool *is_modified;      // of each declaration, whether it is used otherwise than to read it
     unsigned *return_count; // of each function's body 1 above how many returns it has, 0 where that isn't known
     judged_source *to;
-    unsigned *table_numbers; // of each declaration and text 1 above the number of its table, 0 where it has none
-    unsigned table_room;
+    const node *only;          // the one kernel that is written, NULL for all
+    const unsigned char *held; // of each of its arguments
     unsigned place_room;
     note *notes;
 

@@ -39,6 +39,7 @@ static void take_pointer(translator *t, written_parameters *all, unsigned argume
     if (space == IN_PRIVATE) refuse_at(t, &p->place, "a kernel has no pointers to private memory as parameters");
     if (pointed->kind != VOID_TYPE) size_of_type(t, pointed, &p->place);
     new_object(t, o, space, pointed, p->name);
+    o->held = t->held ? t->held[argument] : 0;
     if (space == IN_LOCAL) add_local(t, o);
     else {
         o->judged = fresh_name(t, o->name);
@@ -185,6 +186,12 @@ static void keep_locals(translator *t, judged_kernel *k) {
     }
 }
 
+static void keep_accesses(translator *t, judged_kernel *k, const written_parameters *all) {
+    k->accesses = take(t->result, k->function->part_count + 1);
+    for (unsigned i = 0; i < all->count; i++)
+        if (all->at[i].object) k->accesses[all->at[i].argument] |= all->at[i].object->accesses;
+}
+
 // ---- passes ----
 
 // The words of the language, and the driver's own names.
@@ -299,4 +306,5 @@ void translate_kernel(translator *t, const node *function, judged_kernel *k, tex
     k->length = to->length - k->begin;
     keep_names(t, k);
     keep_locals(t, k);
+    keep_accesses(t, k, &all);
 }

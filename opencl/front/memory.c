@@ -152,6 +152,17 @@ static integer element_at(translator *t, accessed_array array, linear at, const 
     return v;
 }
 
+// In place of an access that is held back: one of no element. Of its index nothing is evaluated, since it is a fault
+// anyway.
+static const char *held_access(translator *t, const accessed_array *array, const place *at) {
+    return format(t, "%s%s[" HELD_ELEMENT "]", mark_here(t, at), array->name);
+}
+
+static bool is_held(object *o, unsigned accesses) {
+    o->accesses |= accesses;
+    return o->held & accesses;
+}
+
 // ---- loading ----
 
 // A wider number with one more piece of it, from the lowest byte on.
@@ -169,6 +180,11 @@ static integer load_pieces(translator *t, object *o, pieces p, integer_type type
     unsigned count = p.count * p.width / step;
     integer whole = {.text = NULL};
     if (!array.name || p.width < element) return unknown(t, type);
+    if (is_held(o, LOADS)) {
+        integer v = variable(held_access(t, &array, at), array.element, false);
+        v.has_effect = true;
+        return cast_to(t, v, type);
+    }
     for (unsigned i = 0; i < count; i++) {
         integer piece = element_at(t, array, plus(p.at, (int64_t)i * step), at);
         if (count == 1) return cast_to(t, piece, type);
@@ -268,6 +284,10 @@ static void store_pieces(translator *t, object *o, pieces p, integer_type type, 
         return;
     }
     v = cast_to(t, v, type);
+    if (is_held(o, STORES)) {
+        emit(t, "%s=%s;", held_access(t, &array, at), assigned(t, cast_to(t, v, array.element), array.element));
+        return;
+    }
     if (count > 1) v = kept(t, v);
     for (unsigned i = 0; i < count; i++) {
         integer index = in_units(t, plus(p.at, (int64_t)i * step), element), piece = v;

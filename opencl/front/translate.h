@@ -40,7 +40,13 @@ typedef struct {
     unsigned name_count;
     local_object *locals;
     unsigned local_count;
+    unsigned char *accesses; // of each of the client's arguments: which accesses of its buffer are written
 } judged_kernel;
+
+// Accesses of a buffer, a bit for each.
+enum { LOADS = 1, STORES = 2 };
+// Where an access goes that is held back: an element that no object has.
+#define HELD_ELEMENT "-2305843009213693952"
 
 // Constant memory that the source fills itself: the driver makes a buffer of it.
 typedef struct {
@@ -81,6 +87,8 @@ typedef struct {
     unsigned kernel_count;
     constant_table *tables;
     unsigned table_count;
+    unsigned *table_numbers; // of each declaration and text 1 above the number of its table, 0 where it has none
+    unsigned table_room;
     judged_place *places; // in the order of their offsets
     size_t place_count;
     const char *notes; // what is left out, a line each; empty where nothing is
@@ -94,4 +102,8 @@ typedef struct {
 // Writes the kernels of a tree in Clsim's language. False where there is something without a rule: then `wrong` says
 // what and where. Where memory is refused it goes on behind `a->failed`.
 bool translate(arena *a, const tree *tree, judged_source *to, refusal *wrong);
+// Writes one kernel of a tree that is translated once more, over the same tables. Accesses by its arguments that are
+// held back, a set for each, are the fault bounds, at HELD_ELEMENT.
+bool translate_held(arena *a, const tree *tree, const node *kernel, const unsigned char *held, judged_source *to,
+                    refusal *wrong);
 #endif
