@@ -9,7 +9,7 @@
 #include <string.h>
 #include <unistd.h>
 
-enum { MAX_EXPLAINED = 16, MAX_EXPLAINED_BYTES = 32 << 20 };
+enum { MAX_ARGUMENTS = 65536, MAX_EXPLAINED = 16, MAX_EXPLAINED_BYTES = 32 << 20 };
 
 static unsigned faults;
 
@@ -135,13 +135,20 @@ static bool is_held_back(const memory_place *m) {
     return m->element && !strncmp(m->element, HELD_ELEMENT, n) && (!m->element[n] || m->element[n] == ' ');
 }
 
+// The argument outside of which an access is, where that is a part of its buffer; -1 for none.
+static int outside_of(const memory_place *m) {
+    long long number = m->element ? strtoll(m->element, NULL, 10) : 0;
+    return number >= OUTSIDE_ELEMENT && number < OUTSIDE_ELEMENT + MAX_ARGUMENTS ? (int)(number - OUTSIDE_ELEMENT) : -1;
+}
+
 // An argument, or a table, of this type that the buffer of a fault is. An element is told only where it is one of its
 // width, as all elements are by whose number the fault may name it.
 static void tell_object(const memory_place *m, const char *what, const char *name, size_t bytes, const type *type,
                         bool is_of_width) {
     char place[160] = "", part[96];
     size_t width = type->size ? type->size : 1;
-    if (is_out_of_row(m)) snprintf(place, sizeof place, ", an index outside of its row");
+    if (outside_of(m) >= 0) snprintf(place, sizeof place, ", an index outside of the sub-buffer");
+    else if (is_out_of_row(m)) snprintf(place, sizeof place, ", an index outside of its row");
     else if (!m->element) {
         put_part(part, sizeof part, type, m->byte % width);
         bool is_inside = type->kind == INTEGER_TYPE && m->byte % width;
@@ -159,8 +166,8 @@ static bool are_all_of(cl_kernel k, unsigned number, size_t width) {
     const kernel_form *form = k->form;
     for (unsigned i = 0; i < form->judged_count; i++) {
         const judged_parameter *q = &form->judged[i];
-        bool is_it = (q->kind == BUFFER_PARAMETER && k->arguments[q->argument].memory &&
-                      k->arguments[q->argument].memory->number == number) ||
+        cl_mem given = q->kind == BUFFER_PARAMETER ? k->arguments[q->argument].memory : NULL;
+        bool is_it = (given && given_number(k, q->argument, given) == number) ||
                      (q->kind == TABLE_PARAMETER && k->program->tables[q->argument] == number);
         if (is_it && width_of(q->type) != width) return false;
     }
@@ -184,10 +191,10 @@ static void tell_flags(cl_kernel k, const memory_place *m) {
     unsigned number = (unsigned)strtoul(m->name + 1, NULL, 10);
     for (unsigned i = 0; i < k->form->count; i++) {
         cl_mem b = k->arguments[i].memory;
-        const char *flag = b && b->number == number ? forbidding_flag(k, i) : NULL;
+        const char *flag = b && given_number(k, i, b) == number ? forbidding_flag(k, i) : NULL;
         if (flag)
             tell("  buffer b%u has %zu bytes and is argument %u, %s: %s made it with %s", number, b->size, i,
-                 k->form->parameters[i].name, "clCreateBuffer", flag);
+                 k->form->parameters[i].name, b->parent ? "clCreateSubBuffer" : "clCreateBuffer", flag);
     }
 }
 
@@ -198,6 +205,16 @@ static void tell_held_back(const char *reply, const memory_place *m) {
     if (begin && before) tell("fault flags%.*s%s", (int)(before - begin), begin, m->element + strlen(HELD_ELEMENT));
 }
 
+// Moves a place in the buffer to where it is in an argument that is a part of it. False where it lies outside of that.
+static bool find_in_part(cl_kernel k, unsigned argument, memory_place *m) {
+    cl_mem b = k->arguments[argument].memory;
+    if (outside_of(m) >= 0) return outside_of(m) == (int)argument;
+    if (given_number(k, argument, b) == b->number || m->element) return true;
+    bool is_inside = m->byte >= b->origin && m->byte - b->origin < b->size;
+    m->byte -= is_inside ? b->origin : 0;
+    return is_inside;
+}
+
 // The arguments, or the table, that the buffer of a fault is.
 static void tell_buffer(cl_kernel k, const memory_place *m) {
     const kernel_form *form = k->form;
@@ -205,11 +222,13 @@ static void tell_buffer(cl_kernel k, const memory_place *m) {
     char what[32];
     for (unsigned i = 0; i < form->count; i++) {
         cl_mem b = k->arguments[i].memory;
-        if (!b || b->number != number) continue;
+        memory_place in = *m;
+        if (!b || given_number(k, i, b) != number || !find_in_part(k, i, &in)) continue;
         const type *of = form->parameters[i].type->of;
         snprintf(what, sizeof what, "argument %u,", i);
-        tell_object(m, what, form->parameters[i].name, b->size, of,
+        tell_object(&in, what, form->parameters[i].name, b->size, of,
                     of->kind == INTEGER_TYPE && are_all_of(k, number, of->size));
+        if (b->parent) tell("  argument %u is a sub-buffer of b%u, from byte %zu on", i, b->parent->number, b->origin);
     }
     for (unsigned i = 0; i < k->source->table_count; i++) {
         const constant_table *t = &k->source->tables[i];
@@ -301,9 +320,15 @@ static bool add_buffers(text *t, cl_kernel k) {
     buffer_piece *piece = take(t->arena, sizeof *piece);
     for (unsigned i = 0; i < form->count; i++) {
         cl_mem m = k->arguments[i].memory;
-        bool first = true;
-        for (unsigned j = 0; j < i; j++) first = first && k->arguments[j].memory != m;
-        if (m && first && !add_buffer(t, piece, k->context, m->number, m->size)) return false;
+        bool first = m;
+        for (unsigned j = 0; first && j < i; j++) {
+            cl_mem other = k->arguments[j].memory;
+            first = !other || given_number(k, j, other) != given_number(k, i, m);
+        }
+        if (!first) continue;
+        unsigned number = given_number(k, i, m);
+        size_t size = number == m->number ? m->size : m->parent->size;
+        if (!add_buffer(t, piece, k->context, number, size)) return false;
     }
     for (unsigned i = 0; i < source->table_count; i++)
         if (uses_table(form, i) && !add_buffer(t, piece, k->context, k->program->tables[i], source->tables[i].size))
@@ -333,8 +358,8 @@ static bool add_script(text *t, cl_kernel k, const launch_sizes *s) {
 static bool tell_at(cl_kernel k, const char *words, json site) {
     char place[512];
     unsigned long offset;
-    bool known = json_number(json_member(site, "offset"), &offset) &&
-                 place_of(k->source, k->form, offset, place, sizeof place);
+    bool known =
+        json_number(json_member(site, "offset"), &offset) && place_of(k->source, k->form, offset, place, sizeof place);
     if (known) tell("%s at %s", words, place);
     return known;
 }

@@ -1,6 +1,12 @@
-// Buffers that kernels may only read or only write (OpenCL 1.2, table 5.3). A launch is held to their flags where its
-// kernel has an access that they forbid: in its place goes a kernel in which each such access is a fault, so that the
-// device judges whether one of them is made. Where none is, the two do the same.
+// Launches whose kernel is written once more, for its arguments. In the place of the kernel goes one that does the
+// same:
+//
+// - A launch is held to CL_MEM_READ_ONLY and CL_MEM_WRITE_ONLY (OpenCL 1.2, table 5.3) where its kernel has an access
+//   that they forbid: each such access is a fault then, so that the device judges whether one of them is made.
+// - Sub-buffers that have bytes in common, or a buffer and a part of it, are one memory where something is stored: all
+//   of them are the one buffer, of which an index reaches its part alone. Others are buffers of their own, into which
+//   the launch's bytes are copied, and back.
+// - An argument that is NULL is the null pointer.
 #include "objects.h"
 #include <stdlib.h>
 #include <string.h>
@@ -17,6 +23,8 @@ struct held {
 
 // ---- what is held back ----
 
+enum { IS_NEEDED = IS_PART | IS_NULL };
+
 static unsigned char forbidden_by(cl_mem_flags flags) {
     return flags & CL_MEM_READ_ONLY ? STORES : flags & CL_MEM_WRITE_ONLY ? LOADS : 0;
 }
@@ -28,12 +36,23 @@ static unsigned char possible_accesses(const kernel_form *form, unsigned argumen
     return of->is_const || of->space == CONSTANT_SPACE ? LOADS : LOADS | STORES;
 }
 
-// Puts together which accesses are to be held back. False where there is none.
+// Whether two arguments are different memory objects with bytes in common, of which something may be stored.
+static bool share_bytes(cl_kernel k, unsigned i, unsigned j) {
+    cl_mem a = k->arguments[i].memory, b = k->arguments[j].memory;
+    if (!a || !b || a == b || whole_of(a) != whole_of(b)) return false;
+    bool overlap = a->origin < b->origin + b->size && b->origin < a->origin + a->size;
+    return overlap && (possible_accesses(k->form, i) | possible_accesses(k->form, j)) & STORES;
+}
+
+// Puts together what is to be known of each argument. False where there is nothing.
 static bool choose_accesses(cl_kernel k, unsigned char *to) {
     bool any = false;
     for (unsigned i = 0; i < k->form->count; i++) {
         cl_mem m = k->arguments[i].memory;
         to[i] = m ? forbidden_by(m->flags) & possible_accesses(k->form, i) : 0;
+        if (k->arguments[i].is_null) to[i] = IS_NULL;
+        for (unsigned j = 0; m && m->parent && j < k->form->count; j++)
+            if (share_bytes(k, i, j)) to[i] |= IS_PART;
         any = any || to[i];
     }
     return any;
@@ -41,7 +60,14 @@ static bool choose_accesses(cl_kernel k, unsigned char *to) {
 
 static bool has_any(const unsigned char *held, const kernel_form *form) {
     for (unsigned i = 0; i < form->count; i++)
-        if (held[i] & form->accesses[i]) return true;
+        if (held[i] & (form->accesses[i] | IS_NEEDED)) return true;
+    return false;
+}
+
+// Whether the kernel itself can't be launched.
+static bool is_needed(const struct held *h) {
+    for (unsigned i = 0; i < h->of->count; i++)
+        if (h->accesses[i] & IS_NEEDED) return true;
     return false;
 }
 
@@ -58,7 +84,7 @@ static cl_int make_form(cl_kernel k, struct held *h) {
                           : CL_BUILD_PROGRAM_FAILURE;
     h->is_launched = !fault;
     if (!fault) h->number = number;
-    if (fault == CL_BUILD_PROGRAM_FAILURE)
+    if (fault == CL_BUILD_PROGRAM_FAILURE && !is_needed(h))
         tell("kernel %s: whether it is held to CL_MEM_READ_ONLY and CL_MEM_WRITE_ONLY isn't judged: %s", k->form->name,
              number ? "what is written for that is too large" : "clang is needed for that");
     return fault == CL_BUILD_PROGRAM_FAILURE ? CL_SUCCESS : fault;
@@ -172,10 +198,44 @@ cl_int launched_kernel(cl_kernel k, cl_kernel *to) {
         return CL_SUCCESS;
     }
     cl_int fault = form_for(k, accesses, &h);
-    if (fault || !h->is_launched) return fault;
+    if (fault) return fault;
+    if (!h->is_launched && is_needed(h)) {
+        refuse(k->context,
+               "kernel %s can't be written for its arguments, of which one is NULL or a sub-buffer that has "
+               "bytes in common with another one%s",
+               k->form->name,
+               k->form->function ? ""
+                                 : "; clang is "
+                                   "needed for that");
+        return CL_INVALID_OPERATION;
+    }
+    if (!h->is_launched) return CL_SUCCESS;
     if (k->held && k->held->source != &h->source) drop_held_kernel(k);
     if (!k->held) fault = make_kernel(k, h);
     for (cl_uint i = 0; !fault && i < k->form->count; i++) fault = pass_argument(k, i);
     if (!fault) *to = k->held;
     return fault;
+}
+
+// ---- sub-buffers ----
+
+// Whether a sub-buffer may be stored to in a launch.
+static bool may_change(cl_kernel k, cl_mem m) {
+    for (unsigned i = 0; i < k->form->count; i++)
+        if (k->arguments[i].memory == m && possible_accesses(k->form, i) & STORES) return true;
+    return false;
+}
+
+cl_int copy_parts(cl_kernel k, cl_kernel launched, bool is_back) {
+    for (unsigned i = 0; i < k->form->count; i++) {
+        cl_mem m = k->arguments[i].memory;
+        bool is_copied = m && m->parent && given_number(launched, i, m) == m->number;
+        for (unsigned j = 0; is_copied && j < i; j++) is_copied = k->arguments[j].memory != m;
+        if (!is_copied || (is_back && !may_change(k, m))) continue;
+        unsigned whole = m->parent->number;
+        cl_int fault = is_back ? ask_copy(k->context, m->number, 0, whole, m->origin, m->size)
+                               : ask_copy(k->context, whole, m->origin, m->number, 0, m->size);
+        if (fault) return fault;
+    }
+    return CL_SUCCESS;
 }

@@ -81,10 +81,11 @@ static cl_int launch(cl_command_queue q, cl_kernel k, cl_uint dimensions, const 
     if (fault) return fault;
     cl_kernel launched;
     fault = launched_kernel(k, &launched);
+    if (!fault) fault = copy_parts(k, launched, false);
     if (fault) return fault;
     const char *reply = ask_launch(launched, &sizes);
     if (!reply) return CL_DEVICE_NOT_AVAILABLE;
-    if (!strcmp(reply, "clean")) return finish(&made, type, CL_SUCCESS, event);
+    if (!strcmp(reply, "clean")) return finish(&made, type, copy_parts(k, launched, true), event);
     if (strncmp(reply, "fault ", 6)) {
         refuse(q->context, "kernel %s: %s", k->form->name, reply);
         return error_of(reply);

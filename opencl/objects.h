@@ -63,7 +63,9 @@ typedef struct memory_end {
 struct _cl_mem {
     HEAD;
     cl_context context;
-    unsigned number; // b1, b2 ..
+    unsigned number; // b1, b2 ..; 0 for a sub-buffer that no kernel was given yet
+    cl_mem parent;   // of a sub-buffer the buffer that it is a part of, else NULL
+    size_t origin;   // where in that it begins
     size_t size;
     cl_mem_flags flags;
     void *host;
@@ -93,6 +95,7 @@ typedef struct {
     cl_mem memory;
     size_t local; // how many bytes of local memory it was given
     void *value;  // the bytes of a value
+    bool is_null; // it is NULL in place of a buffer
 } argument;
 
 struct _cl_kernel {
@@ -235,6 +238,14 @@ enum { PIECE_BYTES = 1048576 };
 const char *ask_write(cl_context c, unsigned buffer, size_t offset, const void *from, size_t n);
 // Reads bytes of a buffer, in pieces. Where one is refused, those before it have been read.
 cl_int ask_read(cl_context c, unsigned buffer, size_t offset, void *to, size_t n);
+// Copies bytes from one buffer into one by their numbers.
+cl_int ask_copy(cl_context c, unsigned from, size_t offset, unsigned to, size_t at, size_t n);
+// Gives a sub-buffer a buffer of its own in the device, for kernels.
+cl_int number_part(cl_mem m);
+// Where sub-buffers may begin: at multiples of so many bytes (table 4.3, CL_DEVICE_MEM_BASE_ADDR_ALIGN).
+enum { BASE_ALIGN = 128 };
+// The buffer that holds the bytes of a memory object: itself, or that of a sub-buffer.
+static inline cl_mem whole_of(cl_mem m) { return m->parent ? m->parent : m; }
 
 // ---- programs ----
 // A new program, which the source belongs to from then on. NULL, and the source is freed, where memory is refused.
@@ -268,13 +279,16 @@ cl_int send_text(cl_context c, prepared *source, size_t begin, size_t length, un
 // The commands that give an argument to all parameters of the judged kernel that belong to it. NULL where memory is
 // refused; the caller frees them.
 char *commands_of(cl_kernel k, cl_uint index, size_t n, const void *value, cl_mem m);
+// The number of the buffer that an argument is in a kernel of the device.
+unsigned given_number(cl_kernel k, cl_uint argument, cl_mem m);
 // Sends commands. The first reply that isn't ok, else the last one; of no command NULL.
 const char *ask_commands(cl_kernel k, const char *commands);
 // Makes a kernel of the device, with its tables, by the number that it has.
 cl_int ask_kernel(cl_kernel k);
-// The kernel that is launched: itself, or one in which accesses are held back that the flags of its buffers forbid
-// (OpenCL 1.2, table 5.3).
+// The kernel that is launched: itself, or one that is written for its arguments.
 cl_int launched_kernel(cl_kernel k, cl_kernel *to);
+// Copies what the sub-buffers of a launch have into the buffers that its kernel is given, or back behind the launch.
+cl_int copy_parts(cl_kernel k, cl_kernel launched, bool is_back);
 // Releases what was made for that.
 void drop_held_kernel(cl_kernel k);
 void drop_held_forms(cl_program p);

@@ -106,8 +106,8 @@ CL_API_ENTRY cl_int CL_API_CALL clGetDeviceInfo(cl_device_id d, cl_device_info n
     case CL_DEVICE_IMAGE_MAX_BUFFER_SIZE:
     case CL_DEVICE_IMAGE_MAX_ARRAY_SIZE: GIVE(size_t, 0);
     case CL_DEVICE_MAX_PARAMETER_SIZE: GIVE(size_t, PARAMETER_BYTES);
-    case CL_DEVICE_MEM_BASE_ADDR_ALIGN: GIVE(cl_uint, 1024);
-    case CL_DEVICE_MIN_DATA_TYPE_ALIGN_SIZE: GIVE(cl_uint, 128);
+    case CL_DEVICE_MEM_BASE_ADDR_ALIGN: GIVE(cl_uint, 8 * BASE_ALIGN);
+    case CL_DEVICE_MIN_DATA_TYPE_ALIGN_SIZE: GIVE(cl_uint, BASE_ALIGN);
     case CL_DEVICE_SINGLE_FP_CONFIG:
     case CL_DEVICE_DOUBLE_FP_CONFIG: GIVE(cl_device_fp_config, 0);
     case CL_DEVICE_GLOBAL_MEM_CACHE_TYPE: GIVE(cl_device_mem_cache_type, CL_NONE);

@@ -423,6 +423,11 @@ static void add_value(text *commands, cl_kernel k, unsigned index, const judged_
     else addf(commands, "arg k%u %u value %" PRIu64 "\n", k->number, index, bits);
 }
 
+unsigned given_number(cl_kernel k, cl_uint argument, cl_mem m) {
+    bool is_part = k->held_back && k->held_back[argument] & IS_PART;
+    return is_part ? whole_of(m)->number : m->number;
+}
+
 // The commands that give an argument to all parameters that belong to it.
 static void add_commands(text *commands, cl_kernel k, cl_uint argument, size_t n, const void *value, cl_mem m) {
     add(commands, "");
@@ -430,7 +435,9 @@ static void add_commands(text *commands, cl_kernel k, cl_uint argument, size_t n
         const judged_parameter *q = &k->form->judged[i];
         if (q->kind == TABLE_PARAMETER || q->argument != argument) continue;
         if (q->kind == VALUE_PARAMETER) add_value(commands, k, i, q, value);
-        else if (m) addf(commands, "arg k%u %u buffer b%u\n", k->number, i, m->number);
+        else if (q->kind == ORIGIN_PARAMETER) addf(commands, "arg k%u %u value %zu\n", k->number, i, m->origin);
+        else if (q->kind == SIZE_PARAMETER) addf(commands, "arg k%u %u value %zu\n", k->number, i, m->size);
+        else if (m) addf(commands, "arg k%u %u buffer b%u\n", k->number, i, given_number(k, argument, m));
         else addf(commands, "arg k%u %u local %zu\n", k->number, i, n);
     }
 }
@@ -454,11 +461,23 @@ static cl_int judge_argument(cl_kernel k, cl_uint index, size_t n, const void *v
     if (!is_pointer(q)) return n != q->type->size ? CL_INVALID_ARG_SIZE : value ? CL_SUCCESS : CL_INVALID_ARG_VALUE;
     if (n != sizeof(cl_mem)) return CL_INVALID_ARG_SIZE;
     *m = value ? *(const cl_mem *)value : NULL;
-    if (!*m) {
-        refuse(k->context, "argument %u (%s) of %s: a null buffer is refused", index, q->name, k->form->name);
-        return CL_INVALID_ARG_VALUE;
+    if (!*m) return CL_SUCCESS; // NULL (OpenCL 1.2, 5.7.2)
+    if (!is_a(*m, MEMORY) || (*m)->context != k->context) return CL_INVALID_MEM_OBJECT;
+    return (*m)->parent ? number_part(*m) : CL_SUCCESS;
+}
+
+// A buffer argument that is NULL: the device gets a kernel that is written for that.
+static cl_int give_null(cl_kernel k, cl_uint index) {
+    argument *a = &k->arguments[index];
+    char *nothing = calloc(1, 1);
+    if (!nothing) return CL_OUT_OF_HOST_MEMORY;
+    if (a->memory) {
+        a->memory->uses--;
+        drop_memory(a->memory);
     }
-    return is_a(*m, MEMORY) && (*m)->context == k->context ? CL_SUCCESS : CL_INVALID_MEM_OBJECT;
+    free(a->command);
+    *a = (argument){.command = nothing, .is_null = true};
+    return CL_SUCCESS;
 }
 
 // Gives an argument by its commands, which it takes, as it does its value. Where one is refused, the argument is as
@@ -486,6 +505,7 @@ static cl_int give_commands(cl_kernel k, cl_uint index, char *kept, void *value,
     a->value = value;
     a->memory = m;
     a->local = local;
+    a->is_null = false;
     return CL_SUCCESS;
 }
 
@@ -509,17 +529,18 @@ CL_API_ENTRY cl_int CL_API_CALL clSetKernelArg(cl_kernel k, cl_uint index, size_
     if (index >= k->form->count) return CL_INVALID_ARG_INDEX;
     cl_int fault = judge_argument(k, index, n, value, &m);
     if (fault) return fault;
+    const parameter *q = &k->form->parameters[index];
+    if (is_pointer(q) && !is_local(q) && !m) return give_null(k, index);
     const char *before = k->arguments[index].command;
     char *commands = commands_of(k, index, n, value, m);
-    bool is_value = !is_pointer(&k->form->parameters[index]);
+    bool is_value = !is_pointer(q);
     void *kept = is_value && commands ? malloc(n + 1) : NULL;
     if (!commands || (is_value && !kept)) {
         free(commands);
         return CL_OUT_OF_HOST_MEMORY;
     }
     if (kept) memcpy(kept, value, n);
-    if (!before || strcmp(before, commands))
-        return give_commands(k, index, commands, kept, m, is_local(&k->form->parameters[index]) ? n : 0);
+    if (!before || strcmp(before, commands)) return give_commands(k, index, commands, kept, m, is_local(q) ? n : 0);
     free(commands);                  // the same argument again
     free(k->arguments[index].value); // (of which bytes may differ that no parameter is)
     k->arguments[index].value = kept;

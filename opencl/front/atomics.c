@@ -43,7 +43,7 @@ static const char *atomic_text(translator *t, object *o, const atomic *a) {
         refuse_at(t, at, "Clsim has no atomic_%s on local memory that is both int and uint", a->operation);
     text all = {.arena = &t->pass};
     o->accesses |= LOADS | STORES;
-    const char *index = o->held ? HELD_ELEMENT : in_units(t, offset, 4).text;
+    const char *index = o->held & (LOADS | STORES) ? HELD_ELEMENT : index_in(t, o, offset, 4).text;
     addf(&all, "%satomic_%s(&%s[%s]", mark_here(t, at), a->operation, name, index);
     for (unsigned i = 1; i < a->count; i++) addf(&all, ",%s", forced(t, a->given[i].value.integer).text);
     add(&all, ")");

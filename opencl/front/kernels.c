@@ -1,5 +1,6 @@
 // A kernel: its parameters, its passes, its text.
 #include "front.h"
+#include <inttypes.h>
 #include <string.h>
 
 // A parameter that is written: of a pointer its object, of a value its name, type and place.
@@ -40,13 +41,18 @@ static void take_pointer(translator *t, written_parameters *all, unsigned argume
     if (pointed->kind != VOID_TYPE) size_of_type(t, pointed, &p->place);
     new_object(t, o, space, pointed, p->name);
     o->held = t->held ? t->held[argument] : 0;
+    if (o->held & IS_PART) {
+        o->part_origin = fresh_name(t, format(t, "%s_origin", o->name));
+        o->part_size = fresh_name(t, format(t, "%s_size", o->name));
+        o->outside = format(t, "%" PRId64, OUTSIDE_ELEMENT + argument);
+    }
     if (space == IN_LOCAL) add_local(t, o);
     else {
         o->judged = fresh_name(t, o->name);
         show_name(t, o->judged, o->name);
     }
-    add_written(t, all, (written_parameter){.argument = argument, .object = o});
-    value v = pointer_value(pointer_to(t, o));
+    if (!(o->held & IS_NULL)) add_written(t, all, (written_parameter){.argument = argument, .object = o});
+    value v = pointer_value(pointer_to(t, o->held & IS_NULL ? t->null : o));
     if (t->is_modified[p->number]) {
         declare(t, self, p->type, p->name, &p->place);
         store_pointer(t, pointer_to(t, self), v.pointer, &p->place);
@@ -124,6 +130,17 @@ static void write_pointer(translator *t, judged_kernel *k, unsigned *room, text 
     addf(to, "%s %s%s *%s", spaces[o->space], is_const ? "const " : "", name_of(p.type), name);
 }
 
+// Which part of its buffer an argument is.
+static void write_part(translator *t, judged_kernel *k, unsigned *room, text *to, const object *o, unsigned argument) {
+    judged_parameter p = {.kind = ORIGIN_PARAMETER, .type = ULONG, .argument = argument};
+    if (!(o->held & IS_PART)) return;
+    *add_parameter(t, k, room, to) = p;
+    addf(to, "ulong %s", o->part_origin);
+    p.kind = SIZE_PARAMETER;
+    *add_parameter(t, k, room, to) = p;
+    addf(to, "ulong %s", o->part_size);
+}
+
 // One for each type that a buffer is accessed by, the one with its own name first.
 static void write_views(translator *t, judged_kernel *k, unsigned *room, text *to, const object *o,
                         judged_parameter p) {
@@ -152,7 +169,10 @@ static void write_head(translator *t, judged_kernel *k, const written_parameters
             *add_parameter(t, k, &room, to) = p;
             addf(to, "%s %s", name_of(w->type), w->name);
         } else if (p.kind == LOCAL_PARAMETER) write_pointer(t, k, &room, to, w->object, p, w->object->judged);
-        else write_views(t, k, &room, to, w->object, p);
+        else {
+            write_views(t, k, &room, to, w->object, p);
+            write_part(t, k, &room, to, w->object, w->argument);
+        }
     }
     for (unsigned i = 0; i < t->hidden_count; i++) {
         judged_parameter p = {.kind = TABLE_PARAMETER, .argument = t->hidden[i]->table};

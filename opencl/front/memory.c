@@ -144,8 +144,22 @@ static accessed_array array_for(translator *t, object *o, integer_type type) {
     return (accessed_array){view_of(t, o, type), type};
 }
 
-static integer element_at(translator *t, accessed_array array, linear at, const place *place) {
-    integer index = in_units(t, at, width_of(array.element));
+integer index_in(translator *t, const object *o, linear at, unsigned width) {
+    integer index = in_units(t, at, width);
+    unsigned shift = 0;
+    if (!(o->held & IS_PART)) return index;
+    while (1u << shift < width) shift++;
+    index = kept(t, cast_to(t, index, ULONG));
+    integer units = literal(t, shift, INT), size = variable(o->part_size, ULONG, true);
+    integer count = binary(t, SHIFT_RIGHT, size, units, ULONG);
+    integer first = binary(t, SHIFT_RIGHT, variable(o->part_origin, ULONG, true), units, ULONG);
+    integer sum = cast_to(t, binary(t, ADD, index, first, ULONG), LONG);
+    integer test = binary(t, LESS, exactly(t, index, ULONG), count, ULONG);
+    return kept(t, choice(t, test, sum, variable(o->outside, LONG, true), LONG));
+}
+
+static integer element_at(translator *t, const object *o, accessed_array array, linear at, const place *place) {
+    integer index = index_in(t, o, at, width_of(array.element));
     integer v = variable(format(t, "%s%s[%s]", mark_here(t, place), array.name, index.text), array.element, false);
     v.depth = (unsigned char)(index.depth + 2);
     v.has_effect = true;
@@ -186,7 +200,7 @@ static integer load_pieces(translator *t, object *o, pieces p, integer_type type
         return cast_to(t, v, type);
     }
     for (unsigned i = 0; i < count; i++) {
-        integer piece = element_at(t, array, plus(p.at, (int64_t)i * step), at);
+        integer piece = element_at(t, o, array, plus(p.at, (int64_t)i * step), at);
         if (count == 1) return cast_to(t, piece, type);
         whole = with_piece(t, i ? &whole : NULL, piece, i * step, width_of(type));
     }
@@ -290,7 +304,7 @@ static void store_pieces(translator *t, object *o, pieces p, integer_type type, 
     }
     if (count > 1) v = kept(t, v);
     for (unsigned i = 0; i < count; i++) {
-        integer index = in_units(t, plus(p.at, (int64_t)i * step), element), piece = v;
+        integer index = index_in(t, o, plus(p.at, (int64_t)i * step), element), piece = v;
         if (count > 1) piece = binary(t, SHIFT_RIGHT, cast_to(t, v, whole), literal(t, 8 * i * step, INT), whole);
         emit(t, "%s%s[%s]=%s;", mark_here(t, at), array.name, index.text, assigned(t, piece, array.element));
     }

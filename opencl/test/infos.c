@@ -458,25 +458,20 @@ static void options_of_builds(void) {
     WANT(linked_by("-cl-mad-enable") == CL_INVALID_LINKER_OPTIONS && linked_by("-DA") == CL_INVALID_LINKER_OPTIONS);
 }
 
-// What the device hasn't: parts of a device (4.3), parts of a buffer (5.2.1), samplers (5.5.1), built-in kernels
-// (5.6.1) and functions of the host as commands (5.9). Each call answers its error, and hands out nothing.
+// What the device hasn't: parts of a device (4.3), samplers (5.5.1), built-in kernels (5.6.1) and functions of the host
+// as commands (5.9). Each call answers its error, and hands out nothing.
 static void refused_calls(void) {
     static const cl_device_partition_property halves[] = {CL_DEVICE_PARTITION_EQUALLY, 1, 0};
-    static const cl_buffer_region region = {0, 32};
-    cl_mem m = buffer_with(CL_MEM_READ_WRITE);
     cl_int fault = CL_SUCCESS;
     cl_device_id parts[2];
     WANT(clCreateSubDevices(h.device, halves, 2, parts, NULL) == CL_INVALID_VALUE);
     WANT(clCreateSubDevices(NULL, halves, 2, parts, NULL) == CL_INVALID_DEVICE);
-    WANT(!clCreateSubBuffer(m, 0, CL_BUFFER_CREATE_TYPE_REGION, &region, &fault) && fault == CL_INVALID_VALUE);
-    WANT(!clCreateSubBuffer(NULL, 0, CL_BUFFER_CREATE_TYPE_REGION, &region, &fault) && fault == CL_INVALID_MEM_OBJECT);
     WANT(!clCreateSampler(h.context, CL_FALSE, CL_ADDRESS_NONE, CL_FILTER_NEAREST, &fault) &&
          fault == CL_INVALID_OPERATION);
     WANT(!clCreateSampler(NULL, CL_FALSE, CL_ADDRESS_NONE, CL_FILTER_NEAREST, &fault) && fault == CL_INVALID_CONTEXT);
     WANT(!clCreateProgramWithBuiltInKernels(h.context, 1, &h.device, "sum", &fault) && fault == CL_INVALID_VALUE);
     WANT(clEnqueueNativeKernel(h.queue, NULL, NULL, 0, 0, NULL, NULL, 0, NULL, NULL) == CL_INVALID_OPERATION);
     WANT(clEnqueueNativeKernel(NULL, NULL, NULL, 0, 0, NULL, NULL, 0, NULL, NULL) == CL_INVALID_COMMAND_QUEUE);
-    OK(clReleaseMemObject(m));
 }
 
 int main(int count, char **words) {
