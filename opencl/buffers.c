@@ -123,7 +123,8 @@ CL_API_ENTRY cl_mem CL_API_CALL clCreateBuffer(cl_context c, cl_mem_flags flags,
     const char *reply = session_askf(c->session, "buffer b%u %zu\n", m->number, n);
     cl_int fault = error_of(reply);
     if (fault) {
-        refuse(c, "clCreateBuffer: %s", reply ? reply : "no reply");
+        refuse(c, "clCreateBuffer: %s (limits: %s, %zu buffers)", reply ? reply : "no reply", limits->name,
+               limits->buffers);
         free_object(m);
         return fail(errcode, fault);
     }

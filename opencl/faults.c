@@ -9,7 +9,7 @@
 #include <string.h>
 #include <unistd.h>
 
-enum { MAX_ARGUMENTS = 65536, MAX_EXPLAINED = 16, MAX_EXPLAINED_BYTES = 32 << 20 };
+enum { MAX_ARGUMENTS = 65536, MOST_TOLD = 4096, MAX_EXPLAINED = 16, MAX_EXPLAINED_BYTES = 32 << 20 };
 
 static unsigned faults;
 
@@ -198,11 +198,21 @@ static void tell_flags(cl_kernel k, const memory_place *m) {
     }
 }
 
+// How much of a line is told: on standard error a schedule of millions of bytes would hide all else.
+static size_t shown_length(const char *line) {
+    size_t n = strlen(line);
+    return tells_in_file() || n <= MOST_TOLD ? n : MOST_TOLD;
+}
+#define CUT " .. (the rest is cut: CLSIM_LOG=FILE has all of it)"
+
 // A fault's line without the element that none is, and the word for its kind.
 static void tell_held_back(const char *reply, const memory_place *m) {
     const char *begin = strstr(reply, " item ");
     const char *before = strstr(reply, " element " HELD_ELEMENT);
-    if (begin && before) tell("fault flags%.*s%s", (int)(before - begin), begin, m->element + strlen(HELD_ELEMENT));
+    if (!begin || !before) return;
+    const char *behind = m->element + strlen(HELD_ELEMENT);
+    size_t shown = shown_length(behind);
+    tell("fault flags%.*s%.*s%s", (int)(before - begin), begin, (int)shown, behind, behind[shown] ? CUT : "");
 }
 
 // Moves a place in the buffer to where it is in an argument that is a part of it. False where it lies outside of that.
@@ -512,7 +522,10 @@ void report_fault(cl_kernel k, const char *reply, const launch_sizes *s) {
     memory_place place;
     faults++;
     if (read_place(reply, &place) && is_held_back(&place)) tell_held_back(reply, &place);
-    else tell("%s", reply);
+    else {
+        size_t shown = shown_length(reply);
+        tell("%.*s%s", (int)shown, reply, reply[shown] ? CUT : "");
+    }
     tell_fault(k, reply, s);
     const char *then = setting("CLSIM_ON_FAULT");
     bool aborts = then && !strcmp(then, "abort"), exits = then && !strcmp(then, "exit");

@@ -489,7 +489,9 @@ static cl_int give_commands(cl_kernel k, cl_uint index, char *kept, void *value,
     if (*kept && !is_ok(reply)) {
         free(kept);
         free(value);
-        refuse(k->context, "argument %u (%s) of %s: %s", index, q->name, k->form->name, reply ? reply : "no reply");
+        const device_limits *limits = limits_of_device();
+        refuse(k->context, "argument %u (%s) of %s: %s (limits: %s, %zu bytes of local memory)", index, q->name,
+               k->form->name, reply ? reply : "no reply", limits->name, limits->local_bytes);
         cl_int fault = error_of(reply);
         if (a->command) ask_commands(k, a->command);
         return fault == CL_INVALID_ARG_VALUE && is_local(q) ? CL_INVALID_ARG_SIZE : fault;
