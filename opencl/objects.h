@@ -12,6 +12,9 @@
 #include <CL/cl.h>
 #include <CL/cl_ext.h>
 #include <CL/cl_icd.h>
+#ifndef CLSIM_OUTER
+#include "inner.h"
+#endif
 
 typedef enum { CONTEXT = 1, QUEUE, MEMORY, PROGRAM, KERNEL, EVENT } object_kind;
 
