@@ -466,15 +466,37 @@ static cl_int judge_argument(cl_kernel k, cl_uint index, size_t n, const void *v
     return (*m)->parent ? number_part(*m) : CL_SUCCESS;
 }
 
+// Lets the buffer of an argument go. (The device releases none that an argument of a kernel names.)
+static void drop_argument_memory(cl_kernel k, argument *a) {
+    cl_mem m = a->memory;
+    if (!m) return;
+    drop_held_kernel(k);
+    a->memory = NULL;
+    m->uses--;
+    drop_memory(m);
+}
+
+// Makes the device's kernel anew, with all arguments but one.
+static cl_int forget_argument(cl_kernel k, cl_uint index) {
+    session_askf(k->context->session, "release k%u\n", k->number);
+    cl_int fault = ask_kernel(k);
+    for (unsigned i = 0; !fault && i < k->form->count; i++)
+        if (i != index && k->arguments[i].command && *k->arguments[i].command)
+            fault = error_of(ask_commands(k, k->arguments[i].command));
+    return fault;
+}
+
 // A buffer argument that is NULL: the device gets a kernel that is written for that.
 static cl_int give_null(cl_kernel k, cl_uint index) {
     argument *a = &k->arguments[index];
     char *nothing = calloc(1, 1);
     if (!nothing) return CL_OUT_OF_HOST_MEMORY;
-    if (a->memory) {
-        a->memory->uses--;
-        drop_memory(a->memory);
+    cl_int fault = a->memory ? forget_argument(k, index) : CL_SUCCESS;
+    if (fault) {
+        free(nothing);
+        return fault;
     }
+    drop_argument_memory(k, a);
     free(a->command);
     *a = (argument){.command = nothing, .is_null = true};
     return CL_SUCCESS;
@@ -497,10 +519,7 @@ static cl_int give_commands(cl_kernel k, cl_uint index, char *kept, void *value,
         return fault == CL_INVALID_ARG_VALUE && is_local(q) ? CL_INVALID_ARG_SIZE : fault;
     }
     if (m) m->uses++;
-    if (a->memory) {
-        a->memory->uses--;
-        drop_memory(a->memory);
-    }
+    drop_argument_memory(k, a);
     free(a->command);
     free(a->value);
     a->command = kept;

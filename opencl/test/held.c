@@ -1,5 +1,5 @@
-// held [own]: buffers that kernels may only read or only write (OpenCL 1.2, table 5.3). Status 0: each launch answers
-// what it should; what is told is compared by `run`.
+// held [own|many]: buffers that kernels may only read or only write (OpenCL 1.2, table 5.3). Status 0: each launch
+// answers what it should; what is told is compared by `run`.
 #include "host.h"
 #include <stdint.h>
 
@@ -134,9 +134,46 @@ static void hold_nothing(void) {
     OK(clReleaseMemObject(to));
 }
 
+// More buffers than a device may have at a time, each released behind the launches that it was for: held to its flags,
+// as a part that shares bytes, and in front of NULL.
+static void hold_many(void) {
+    enum { MANY = 70 };
+    static const char source[] = "kernel void f(global int *from, global int *to, int n) {\n"
+                                 "    int i = get_global_id(0);\n"
+                                 "    if (n < 0) from[i] = to[i];\n"
+                                 "    if (n < 0) to[i] = from[i];\n"
+                                 "}\n";
+    static const cl_buffer_region region = {128, 64};
+    cl_int fault;
+    cl_program p = build_program(&h, source, "");
+    cl_kernel k = clCreateKernel(p, "f", &fault);
+    OK(fault);
+    cl_mem to = buffer_with(CL_MEM_READ_WRITE, 0);
+    for (int i = 0; i < MANY; i++) {
+        cl_mem from = buffer_with(CL_MEM_READ_ONLY, 1), none = NULL;
+        OK(launch(k, from, to, i));
+        OK(launch(k, to, from, i));
+        OK(launch(k, from, none, i));
+        OK(clReleaseMemObject(from));
+        from = clCreateBuffer(h.context, 0, 256, NULL, &fault);
+        OK(fault);
+        cl_mem part = clCreateSubBuffer(from, 0, CL_BUFFER_CREATE_TYPE_REGION, &region, &fault);
+        OK(fault);
+        OK(launch(k, part, to, i));
+        OK(launch(k, part, from, i));
+        OK(clReleaseMemObject(from));
+        OK(launch(k, to, to, i));
+        OK(clReleaseMemObject(part));
+    }
+    OK(clReleaseKernel(k));
+    OK(clReleaseProgram(p));
+    OK(clReleaseMemObject(to));
+}
+
 int main(int count, char **words) {
     h = open_host();
     if (count > 1 && !strcmp(words[1], "own")) hold_nothing();
+    else if (count > 1 && !strcmp(words[1], "many")) hold_many();
     else {
         hold(clang_source);
         hold(own_source);
