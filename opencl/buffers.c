@@ -43,6 +43,22 @@ cl_int ask_read(cl_context c, unsigned buffer, size_t offset, void *to, size_t n
     return fault;
 }
 
+cl_int ask_copy(cl_context c, unsigned from, size_t offset, unsigned to, size_t at, size_t n) {
+    return error_of(session_askf(c->session, "copy b%u %zu b%u %zu %zu\n", from, offset, to, at, n));
+}
+
+// The bytes of a memory object from an offset on; those of a sub-buffer are its buffer's.
+static const char *write_memory(cl_mem m, size_t offset, const void *from, size_t n) {
+    return ask_write(m->context, whole_of(m)->number, m->origin + offset, from, n);
+}
+static cl_int read_memory(cl_mem m, size_t offset, void *to, size_t n) {
+    return ask_read(m->context, whole_of(m)->number, m->origin + offset, to, n);
+}
+static cl_int copy_memory(cl_mem m, size_t offset, cl_mem target, size_t to, size_t n) {
+    return ask_copy(m->context, whole_of(m)->number, m->origin + offset, whole_of(target)->number, target->origin + to,
+                    n);
+}
+
 static bool is_outside(cl_mem m, size_t offset, size_t n) { return offset > m->size || n > m->size - offset; }
 
 // ---- buffers ----
@@ -50,8 +66,13 @@ static bool is_outside(cl_mem m, size_t offset, size_t n) { return offset > m->s
 void drop_memory(cl_mem m) {
     if (m->references || m->uses) return;
     cl_context c = m->context;
-    session_askf(c->session, "release b%u\n", m->number);
+    cl_mem parent = m->parent;
+    if (m->number) session_askf(c->session, "release b%u\n", m->number);
     let_go(m);
+    if (parent) {
+        parent->uses--;
+        drop_memory(parent);
+    }
     leave_context(c);
 }
 void end_memory(cl_mem m) {
@@ -102,7 +123,8 @@ CL_API_ENTRY cl_mem CL_API_CALL clCreateBuffer(cl_context c, cl_mem_flags flags,
     const char *reply = session_askf(c->session, "buffer b%u %zu\n", m->number, n);
     cl_int fault = error_of(reply);
     if (fault) {
-        refuse(c, "clCreateBuffer: %s", reply ? reply : "no reply");
+        refuse(c, "clCreateBuffer: %s (limits: %s, %zu buffers)", reply ? reply : "no reply", limits->name,
+               limits->buffers);
         free_object(m);
         return fail(errcode, fault);
     }
@@ -117,16 +139,73 @@ CL_API_ENTRY cl_mem CL_API_CALL clCreateBuffer(cl_context c, cl_mem_flags flags,
     done(errcode);
     return m;
 }
-CL_API_ENTRY cl_mem CL_API_CALL clCreateSubBuffer(cl_mem m, cl_mem_flags f, cl_buffer_create_type t, const void *i,
-                                                  cl_int *errcode) {
-    (void)f;
-    (void)t;
-    (void)i;
+
+// ---- sub-buffers (OpenCL 1.2, 5.2.1) ----
+
+static const cl_mem_flags for_kernels = CL_MEM_READ_WRITE | CL_MEM_READ_ONLY | CL_MEM_WRITE_ONLY,
+                          for_host = CL_MEM_HOST_NO_ACCESS | CL_MEM_HOST_READ_ONLY | CL_MEM_HOST_WRITE_ONLY,
+                          of_pointers = CL_MEM_USE_HOST_PTR | CL_MEM_ALLOC_HOST_PTR | CL_MEM_COPY_HOST_PTR;
+
+// Whether a sub-buffer may have flags: none gives it an access that its buffer hasn't.
+static bool may_have(cl_mem m, cl_mem_flags flags) {
+    if (has_two(flags, for_kernels) || has_two(flags, for_host) || flags & of_pointers || flags >> 10) return false;
+    if (m->flags & CL_MEM_WRITE_ONLY && flags & (CL_MEM_READ_WRITE | CL_MEM_READ_ONLY)) return false;
+    if (m->flags & CL_MEM_READ_ONLY && flags & (CL_MEM_READ_WRITE | CL_MEM_WRITE_ONLY)) return false;
+    if (m->flags & CL_MEM_HOST_WRITE_ONLY && flags & CL_MEM_HOST_READ_ONLY) return false;
+    if (m->flags & CL_MEM_HOST_READ_ONLY && flags & CL_MEM_HOST_WRITE_ONLY) return false;
+    return !(m->flags & CL_MEM_HOST_NO_ACCESS && flags & (CL_MEM_HOST_READ_ONLY | CL_MEM_HOST_WRITE_ONLY));
+}
+
+// What its flags don't say is as its buffer has it.
+static cl_mem_flags flags_of_part(cl_mem m, cl_mem_flags flags) {
+    if (!(flags & for_kernels)) flags |= m->flags & for_kernels;
+    if (!(flags & for_host)) flags |= m->flags & for_host;
+    return flags | (m->flags & of_pointers);
+}
+
+static cl_int judge_part(cl_mem m, cl_mem_flags flags, cl_buffer_create_type type, const cl_buffer_region *r) {
+    if (m->parent) {
+        refuse(m->context, "clCreateSubBuffer: b%u is a sub-buffer itself", m->parent->number);
+        return CL_INVALID_MEM_OBJECT;
+    }
+    if (!may_have(m, flags) || type != CL_BUFFER_CREATE_TYPE_REGION || !r) return CL_INVALID_VALUE;
+    if (!r->size) return CL_INVALID_BUFFER_SIZE;
+    if (is_outside(m, r->origin, r->size)) return CL_INVALID_VALUE;
+    if (r->origin % BASE_ALIGN == 0) return CL_SUCCESS;
+    refuse(m->context, "clCreateSubBuffer: the origin %zu is no multiple of %d", r->origin, BASE_ALIGN);
+    return CL_MISALIGNED_SUB_BUFFER_OFFSET;
+}
+
+CL_API_ENTRY cl_mem CL_API_CALL clCreateSubBuffer(cl_mem m, cl_mem_flags flags, cl_buffer_create_type type,
+                                                  const void *region, cl_int *errcode) {
     LOCKED;
     if (!is_a(m, MEMORY)) return fail(errcode, CL_INVALID_MEM_OBJECT);
-    refuse(m->context, "a sub-buffer is refused");
-    return fail(errcode, CL_INVALID_VALUE);
+    const cl_buffer_region *r = region;
+    cl_int fault = judge_part(m, flags, type, r);
+    if (fault) return fail(errcode, fault);
+    cl_mem part = make_object(sizeof *part, MEMORY);
+    if (!part) return fail(errcode, CL_OUT_OF_HOST_MEMORY);
+    part->context = m->context;
+    part->parent = m;
+    part->origin = r->origin;
+    part->size = r->size;
+    part->flags = flags_of_part(m, flags);
+    if (m->host) part->host = (char *)m->host + r->origin;
+    m->uses++;
+    m->context->uses++;
+    done(errcode);
+    return part;
 }
+
+cl_int number_part(cl_mem m) {
+    if (m->number) return CL_SUCCESS;
+    unsigned number = ++m->context->names;
+    const char *reply = session_askf(m->context->session, "buffer b%u %zu\n", number, m->size);
+    if (is_ok(reply)) m->number = number;
+    else refuse(m->context, "no room for a sub-buffer: %s", reply ? reply : "no reply");
+    return error_of(reply);
+}
+
 CL_API_ENTRY cl_int CL_API_CALL clGetMemObjectInfo(cl_mem m, cl_mem_info name, size_t room, void *to, size_t *size) {
     LOCKED;
     if (!is_a(m, MEMORY)) return CL_INVALID_MEM_OBJECT;
@@ -142,8 +221,8 @@ CL_API_ENTRY cl_int CL_API_CALL clGetMemObjectInfo(cl_mem m, cl_mem_info name, s
     }
     case CL_MEM_REFERENCE_COUNT: GIVE(cl_uint, m->references);
     case CL_MEM_CONTEXT: GIVE(cl_context, m->context);
-    case CL_MEM_ASSOCIATED_MEMOBJECT: GIVE(cl_mem, NULL);
-    case CL_MEM_OFFSET: GIVE(size_t, 0);
+    case CL_MEM_ASSOCIATED_MEMOBJECT: GIVE(cl_mem, m->parent);
+    case CL_MEM_OFFSET: GIVE(size_t, m->origin);
     default: return CL_INVALID_VALUE;
     }
 }
@@ -171,7 +250,7 @@ CL_API_ENTRY cl_int CL_API_CALL clEnqueueReadBuffer(cl_command_queue q, cl_mem m
     MEMBER(m);
     if (!to || !n || is_outside(m, offset, n)) return CL_INVALID_VALUE;
     if (no_reading(m)) return CL_INVALID_OPERATION;
-    return finish(&made, CL_COMMAND_READ_BUFFER, ask_read(m->context, m->number, offset, to, n), event);
+    return finish(&made, CL_COMMAND_READ_BUFFER, read_memory(m, offset, to, n), event);
 }
 CL_API_ENTRY cl_int CL_API_CALL clEnqueueWriteBuffer(cl_command_queue q, cl_mem m, cl_bool blocking, size_t offset,
                                                      size_t n, const void *from, cl_uint wait_count,
@@ -181,7 +260,7 @@ CL_API_ENTRY cl_int CL_API_CALL clEnqueueWriteBuffer(cl_command_queue q, cl_mem 
     MEMBER(m);
     if (!from || !n || is_outside(m, offset, n)) return CL_INVALID_VALUE;
     if (no_writing(m)) return CL_INVALID_OPERATION;
-    return finish(&made, CL_COMMAND_WRITE_BUFFER, error_of(ask_write(m->context, m->number, offset, from, n)), event);
+    return finish(&made, CL_COMMAND_WRITE_BUFFER, error_of(write_memory(m, offset, from, n)), event);
 }
 CL_API_ENTRY cl_int CL_API_CALL clEnqueueFillBuffer(cl_command_queue q, cl_mem m, const void *pattern, size_t length,
                                                     size_t offset, size_t n, cl_uint wait_count,
@@ -193,7 +272,8 @@ CL_API_ENTRY cl_int CL_API_CALL clEnqueueFillBuffer(cl_command_queue q, cl_mem m
         return CL_INVALID_VALUE;
     char hex[2 * 128 + 1] = "";
     put_digits(hex, pattern, length);
-    const char *reply = session_askf(q->context->session, "fill b%u %zu %zu %s\n", m->number, offset, n, hex);
+    const char *reply =
+        session_askf(q->context->session, "fill b%u %zu %zu %s\n", whole_of(m)->number, m->origin + offset, n, hex);
     return finish(&made, CL_COMMAND_FILL_BUFFER, error_of(reply), event);
 }
 CL_API_ENTRY cl_int CL_API_CALL clEnqueueCopyBuffer(cl_command_queue q, cl_mem m, cl_mem target, size_t offset,
@@ -203,9 +283,7 @@ CL_API_ENTRY cl_int CL_API_CALL clEnqueueCopyBuffer(cl_command_queue q, cl_mem m
     MEMBER(m);
     MEMBER(target);
     if (!n || is_outside(m, offset, n) || is_outside(target, to, n)) return CL_INVALID_VALUE;
-    const char *reply =
-        session_askf(q->context->session, "copy b%u %zu b%u %zu %zu\n", m->number, offset, target->number, to, n);
-    return finish(&made, CL_COMMAND_COPY_BUFFER, error_of(reply), event);
+    return finish(&made, CL_COMMAND_COPY_BUFFER, copy_memory(m, offset, target, to, n), event);
 }
 
 // Rectangles go row by row.
@@ -236,10 +314,11 @@ static bool take_rectangle(rectangle *a, const size_t *origin, const size_t *reg
 }
 static bool leaves(cl_mem m, const rectangle *a) { return is_outside(m, row_at(a, a->count - 1), a->width); }
 
-// Whether two rectangles have a byte in common (OpenCL 1.2, 5.2.2). Each row is looked at once, since rows ascend.
-static bool overlap(const rectangle *a, const rectangle *b) {
+// Whether two rectangles in parts of one buffer that begin somewhere have a byte in common (OpenCL 1.2, 5.2.2). Each
+// row is looked at once, since rows ascend.
+static bool overlap(size_t begin, const rectangle *a, size_t other_begin, const rectangle *b) {
     for (size_t i = 0, j = 0; i < a->count && j < b->count;) {
-        size_t x = row_at(a, i), y = row_at(b, j);
+        size_t x = begin + row_at(a, i), y = other_begin + row_at(b, j);
         if (x + a->width <= y) i++;
         else if (y + b->width <= x) j++;
         else return true;
@@ -255,15 +334,14 @@ static cl_int rect(cl_mem m, cl_mem target, const size_t *o, const size_t *p, co
     if (!take_rectangle(&a, o, r, row, slice) || !take_rectangle(&b, p, r, row2, slice2)) return CL_INVALID_VALUE;
     if (leaves(m, &a) || (target && leaves(target, &b))) return CL_INVALID_VALUE;
     if (m == target && a.row != b.row && a.slice != b.slice) return CL_INVALID_VALUE;
-    if (m == target && overlap(&a, &b)) return CL_MEM_COPY_OVERLAP;
+    if (target && whole_of(m) == whole_of(target) && overlap(m->origin, &a, target->origin, &b))
+        return CL_MEM_COPY_OVERLAP;
     for (size_t n = 0; n < a.count; n++) {
         size_t x = row_at(&a, n), y = row_at(&b, n);
         cl_int fault;
-        if (to) fault = ask_read(m->context, m->number, x, to + y, a.width);
-        else if (from) fault = error_of(ask_write(m->context, m->number, x, from + y, a.width));
-        else
-            fault = error_of(session_askf(m->context->session, "copy b%u %zu b%u %zu %zu\n", m->number, x,
-                                          target->number, y, a.width));
+        if (to) fault = read_memory(m, x, to + y, a.width);
+        else if (from) fault = error_of(write_memory(m, x, from + y, a.width));
+        else fault = copy_memory(m, x, target, y, a.width);
         if (fault) return fault;
     }
     return CL_SUCCESS;
@@ -334,7 +412,7 @@ CL_API_ENTRY void *CL_API_CALL clEnqueueMapBuffer(cl_command_queue q, cl_mem m, 
         if (!m->host) free(at);
         return fail(errcode, CL_MAP_FAILURE);
     }
-    if (!(flags & CL_MAP_WRITE_INVALIDATE_REGION)) fault = ask_read(m->context, m->number, offset, at, n);
+    if (!(flags & CL_MAP_WRITE_INVALIDATE_REGION)) fault = read_memory(m, offset, at, n);
     if (fault) {
         free(map);
         if (!m->host) free(at);
@@ -355,7 +433,7 @@ CL_API_ENTRY cl_int CL_API_CALL clEnqueueUnmapMemObject(cl_command_queue q, cl_m
     if (!*link) return CL_INVALID_VALUE;
     mapping *map = *link;
     if (map->flags & (CL_MAP_WRITE | CL_MAP_WRITE_INVALIDATE_REGION)) {
-        cl_int fault = error_of(ask_write(m->context, m->number, map->offset, at, map->size));
+        cl_int fault = error_of(write_memory(m, map->offset, at, map->size));
         if (fault) return fault; // it stays mapped, so that what the client wrote isn't lost
     }
     *link = map->next;

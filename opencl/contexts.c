@@ -25,6 +25,8 @@ clCreateContext(const cl_context_properties *properties, cl_uint n, const cl_dev
     size_t count = 0;
     if (properties) {
         for (; properties[count]; count += 2) {
+            for (size_t i = 0; i < count; i += 2)
+                if (properties[i] == properties[count]) return fail(errcode, CL_INVALID_PROPERTY);
             if (properties[count] != CL_CONTEXT_PLATFORM && properties[count] != CL_CONTEXT_INTEROP_USER_SYNC)
                 return fail(errcode, CL_INVALID_PROPERTY);
             if (properties[count] == CL_CONTEXT_PLATFORM && (cl_platform_id)properties[count + 1] != &the_platform)

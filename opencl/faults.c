@@ -9,7 +9,7 @@
 #include <string.h>
 #include <unistd.h>
 
-enum { MAX_EXPLAINED = 16, MAX_EXPLAINED_BYTES = 32 << 20 };
+enum { MAX_ARGUMENTS = 65536, MOST_TOLD = 4096, MAX_EXPLAINED = 16, MAX_EXPLAINED_BYTES = 32 << 20 };
 
 static unsigned faults;
 
@@ -129,13 +129,26 @@ static bool is_out_of_row(const memory_place *m) {
     return m->element && strtoll(m->element, NULL, 10) <= -(INT64_C(1) << 35);
 }
 
+// An access that is held back by the flags of its buffer (holding.c).
+static bool is_held_back(const memory_place *m) {
+    size_t n = strlen(HELD_ELEMENT);
+    return m->element && !strncmp(m->element, HELD_ELEMENT, n) && (!m->element[n] || m->element[n] == ' ');
+}
+
+// The argument outside of which an access is, where that is a part of its buffer; -1 for none.
+static int outside_of(const memory_place *m) {
+    long long number = m->element ? strtoll(m->element, NULL, 10) : 0;
+    return number >= OUTSIDE_ELEMENT && number < OUTSIDE_ELEMENT + MAX_ARGUMENTS ? (int)(number - OUTSIDE_ELEMENT) : -1;
+}
+
 // An argument, or a table, of this type that the buffer of a fault is. An element is told only where it is one of its
 // width, as all elements are by whose number the fault may name it.
 static void tell_object(const memory_place *m, const char *what, const char *name, size_t bytes, const type *type,
                         bool is_of_width) {
     char place[160] = "", part[96];
     size_t width = type->size ? type->size : 1;
-    if (is_out_of_row(m)) snprintf(place, sizeof place, ", an index outside of its row");
+    if (outside_of(m) >= 0) snprintf(place, sizeof place, ", an index outside of the sub-buffer");
+    else if (is_out_of_row(m)) snprintf(place, sizeof place, ", an index outside of its row");
     else if (!m->element) {
         put_part(part, sizeof part, type, m->byte % width);
         bool is_inside = type->kind == INTEGER_TYPE && m->byte % width;
@@ -153,8 +166,8 @@ static bool are_all_of(cl_kernel k, unsigned number, size_t width) {
     const kernel_form *form = k->form;
     for (unsigned i = 0; i < form->judged_count; i++) {
         const judged_parameter *q = &form->judged[i];
-        bool is_it = (q->kind == BUFFER_PARAMETER && k->arguments[q->argument].memory &&
-                      k->arguments[q->argument].memory->number == number) ||
+        cl_mem given = q->kind == BUFFER_PARAMETER ? k->arguments[q->argument].memory : NULL;
+        bool is_it = (given && given_number(k, q->argument, given) == number) ||
                      (q->kind == TABLE_PARAMETER && k->program->tables[q->argument] == number);
         if (is_it && width_of(q->type) != width) return false;
     }
@@ -167,6 +180,51 @@ static bool uses_table(const kernel_form *form, unsigned table) {
     return false;
 }
 
+// The flag of a buffer that forbids an access by an argument; NULL for none.
+static const char *forbidding_flag(cl_kernel k, unsigned argument) {
+    unsigned held = k->held_back ? k->held_back[argument] : 0;
+    return held & STORES ? "CL_MEM_READ_ONLY" : held & LOADS ? "CL_MEM_WRITE_ONLY" : NULL;
+}
+
+// The arguments by which a buffer has a flag that the fault is against.
+static void tell_flags(cl_kernel k, const memory_place *m) {
+    unsigned number = (unsigned)strtoul(m->name + 1, NULL, 10);
+    for (unsigned i = 0; i < k->form->count; i++) {
+        cl_mem b = k->arguments[i].memory;
+        const char *flag = b && given_number(k, i, b) == number ? forbidding_flag(k, i) : NULL;
+        if (flag)
+            tell("  buffer b%u has %zu bytes and is argument %u, %s: %s made it with %s", number, b->size, i,
+                 k->form->parameters[i].name, b->parent ? "clCreateSubBuffer" : "clCreateBuffer", flag);
+    }
+}
+
+// How much of a line is told: on standard error a schedule of millions of bytes would hide all else.
+static size_t shown_length(const char *line) {
+    size_t n = strlen(line);
+    return tells_in_file() || n <= MOST_TOLD ? n : MOST_TOLD;
+}
+#define CUT " .. (the rest is cut: CLSIM_LOG=FILE has all of it)"
+
+// A fault's line without the element that none is, and the word for its kind.
+static void tell_held_back(const char *reply, const memory_place *m) {
+    const char *begin = strstr(reply, " item ");
+    const char *before = strstr(reply, " element " HELD_ELEMENT);
+    if (!begin || !before) return;
+    const char *behind = m->element + strlen(HELD_ELEMENT);
+    size_t shown = shown_length(behind);
+    tell("fault flags%.*s%.*s%s", (int)(before - begin), begin, (int)shown, behind, behind[shown] ? CUT : "");
+}
+
+// Moves a place in the buffer to where it is in an argument that is a part of it. False where it lies outside of that.
+static bool find_in_part(cl_kernel k, unsigned argument, memory_place *m) {
+    cl_mem b = k->arguments[argument].memory;
+    if (outside_of(m) >= 0) return outside_of(m) == (int)argument;
+    if (given_number(k, argument, b) == b->number || m->element) return true;
+    bool is_inside = m->byte >= b->origin && m->byte - b->origin < b->size;
+    m->byte -= is_inside ? b->origin : 0;
+    return is_inside;
+}
+
 // The arguments, or the table, that the buffer of a fault is.
 static void tell_buffer(cl_kernel k, const memory_place *m) {
     const kernel_form *form = k->form;
@@ -174,14 +232,16 @@ static void tell_buffer(cl_kernel k, const memory_place *m) {
     char what[32];
     for (unsigned i = 0; i < form->count; i++) {
         cl_mem b = k->arguments[i].memory;
-        if (!b || b->number != number) continue;
+        memory_place in = *m;
+        if (!b || given_number(k, i, b) != number || !find_in_part(k, i, &in)) continue;
         const type *of = form->parameters[i].type->of;
         snprintf(what, sizeof what, "argument %u,", i);
-        tell_object(m, what, form->parameters[i].name, b->size, of,
+        tell_object(&in, what, form->parameters[i].name, b->size, of,
                     of->kind == INTEGER_TYPE && are_all_of(k, number, of->size));
+        if (b->parent) tell("  argument %u is a sub-buffer of b%u, from byte %zu on", i, b->parent->number, b->origin);
     }
-    for (unsigned i = 0; i < k->program->form.table_count; i++) {
-        const constant_table *t = &k->program->form.tables[i];
+    for (unsigned i = 0; i < k->source->table_count; i++) {
+        const constant_table *t = &k->source->tables[i];
         if (k->program->tables[i] != number || !uses_table(form, i)) continue;
         const type element = {.kind = INTEGER_TYPE, .size = t->width};
         tell_object(m, "the table", t->name, t->size, &element, are_all_of(k, number, t->width));
@@ -217,12 +277,12 @@ static void tell_name(cl_kernel k, const char *reply) {
     if (!own || (schedule && own > schedule)) return;
     const char *name = own + (own[1] == 'v' ? 10 : 9);
     size_t n = strcspn(name, " ");
-    const char *shown = k->program->form.is_own ? name : shown_as(k->form, name, n);
+    const char *shown = k->source->is_own ? name : shown_as(k->form, name, n);
     bool is_copy = n == 11 && !strncmp(name, "clsim_async", n), is_null = n == 10 && !strncmp(name, "clsim_null", n);
     if (is_copy) tell("  the work-items of a group make different calls of async_work_group_copy or wait_group_events");
     else if (is_null) tell("  the pointer is NULL");
     else if (!shown || shown == name) {
-        if (!k->program->form.is_own) tell("  %.*s holds a part of an expression", (int)n, name);
+        if (!k->source->is_own) tell("  %.*s holds a part of an expression", (int)n, name);
     } else if (strlen(shown) != n || strncmp(shown, name, n)) tell("  %.*s is the client's %s", (int)n, name, shown);
 }
 
@@ -266,13 +326,19 @@ static bool add_buffer(text *t, buffer_piece *piece, cl_context c, unsigned numb
 // The buffers that a launch names, each once.
 static bool add_buffers(text *t, cl_kernel k) {
     const kernel_form *form = k->form;
-    const prepared *source = &k->program->form;
+    const prepared *source = k->source;
     buffer_piece *piece = take(t->arena, sizeof *piece);
     for (unsigned i = 0; i < form->count; i++) {
         cl_mem m = k->arguments[i].memory;
-        bool first = true;
-        for (unsigned j = 0; j < i; j++) first = first && k->arguments[j].memory != m;
-        if (m && first && !add_buffer(t, piece, k->context, m->number, m->size)) return false;
+        bool first = m;
+        for (unsigned j = 0; first && j < i; j++) {
+            cl_mem other = k->arguments[j].memory;
+            first = !other || given_number(k, j, other) != given_number(k, i, m);
+        }
+        if (!first) continue;
+        unsigned number = given_number(k, i, m);
+        size_t size = number == m->number ? m->size : m->parent->size;
+        if (!add_buffer(t, piece, k->context, number, size)) return false;
     }
     for (unsigned i = 0; i < source->table_count; i++)
         if (uses_table(form, i) && !add_buffer(t, piece, k->context, k->program->tables[i], source->tables[i].size))
@@ -283,13 +349,12 @@ static bool add_buffers(text *t, cl_kernel k) {
 // A script of the one launch: the buffers that it names, its program, its kernel with the arguments.
 static bool add_script(text *t, cl_kernel k, const launch_sizes *s) {
     const kernel_form *form = k->form;
-    const prepared *source = &k->program->form;
+    const prepared *source = k->source;
     add(t, "clsim 2\n");
     if (!add_buffers(t, k)) return false;
-    unsigned program = program_number(k->program, form);
-    addf(t, "program p%u %u\n", program, form->lines);
+    addf(t, "program p%u %u\n", k->program_number, form->lines);
     add_bytes(t, source->text + form->begin, form->length);
-    addf(t, "kernel k%u p%u %s\n", k->number, program, form->judged_name);
+    addf(t, "kernel k%u p%u %s\n", k->number, k->program_number, form->judged_name);
     for (unsigned i = 0; i < form->count; i++) add(t, k->arguments[i].command);
     for (unsigned i = 0; i < form->judged_count; i++)
         if (form->judged[i].kind == TABLE_PARAMETER)
@@ -303,8 +368,8 @@ static bool add_script(text *t, cl_kernel k, const launch_sizes *s) {
 static bool tell_at(cl_kernel k, const char *words, json site) {
     char place[512];
     unsigned long offset;
-    bool known = json_number(json_member(site, "offset"), &offset) &&
-                 place_of(&k->program->form, k->form, offset, place, sizeof place);
+    bool known =
+        json_number(json_member(site, "offset"), &offset) && place_of(k->source, k->form, offset, place, sizeof place);
     if (known) tell("%s at %s", words, place);
     return known;
 }
@@ -314,7 +379,7 @@ static void tell_calls_in_place(cl_kernel k, json site) {
     char place[512];
     unsigned long offset;
     if (!json_number(json_member(site, "offset"), &offset)) return;
-    for (const call_site *c = calls_round(&k->program->form, k->form->begin + offset); c; c = c->up) {
+    for (const call_site *c = calls_round(k->source, k->form->begin + offset); c; c = c->up) {
         put_place(place, sizeof place, c->at);
         tell("    called at %s", place);
     }
@@ -343,7 +408,7 @@ static void tell_calls(cl_kernel k, json calls) {
 // Whether a place, or a call of a helper round it, is a part of the turn before in the client's source. (A function is
 // called once at most round a place, so that it is the call in the function of the loop.)
 static bool is_before(cl_kernel k, json spot, json loop) {
-    const prepared *source = &k->program->form;
+    const prepared *source = k->source;
     json calls = json_member(spot, "calls");
     unsigned long begin, at;
     size_t start = k->form->begin;
@@ -396,15 +461,15 @@ static void tell_spot(cl_kernel k, json item) {
 }
 
 // Tells the items of an explanation, whose members docs/use/explain.md has, and why it is a fault.
-static void tell_spots(cl_kernel k, const char *explanation) {
+static void tell_spots(cl_kernel k, const char *explanation, bool has_reasons) {
     json whole = json_text(explanation, strlen(explanation)), items = json_member(whole, "items");
     unsigned long version;
     if (json_number(json_member(whole, "version"), &version) && version != 2) return;
     for (json i = json_first(items); i.at; i = json_next(items, i)) tell_spot(k, i);
-    tell_reasons(&k->program->form, k->form, json_member(whole, "why"));
+    if (has_reasons) tell_reasons(k->source, k->form, json_member(whole, "why"));
 }
 
-static void explain(cl_kernel k, const launch_sizes *s) {
+static void explain(cl_kernel k, const launch_sizes *s, bool has_reasons) {
     static unsigned explained;
     arena a = {0};
     text script = {.arena = &a};
@@ -419,7 +484,7 @@ static void explain(cl_kernel k, const launch_sizes *s) {
     bool whole = add_script(&script, k, s) && script.length <= MAX_EXPLAINED_BYTES;
     session_record(k->context->session, true);
     char *explanation = whole ? explain_script(script.at, script.length) : NULL;
-    if (explanation) tell_spots(k, explanation);
+    if (explanation) tell_spots(k, explanation, has_reasons);
     free(explanation);
     free_arena(&a);
 }
@@ -437,7 +502,8 @@ static void tell_fault(cl_kernel k, const char *reply, const launch_sizes *s) {
     sizes_text(local, sizeof local, s->dimensions, s->local);
     tell("  kernel %s, launch %u of its context, global size %s, local size %s", k->form->name, k->context->launches,
          global, local);
-    if (read_place(line, &place)) (place.is_local ? tell_local : tell_buffer)(k, &place);
+    bool has_place = read_place(line, &place), is_held = has_place && is_held_back(&place);
+    if (has_place) (is_held ? tell_flags : place.is_local ? tell_local : tell_buffer)(k, &place);
     tell_name(k, line);
     const char *schedule = strstr(line, " schedule ");
     for (const char *at = strstr(line, " item "); at && (!schedule || at < schedule); at = strstr(at + 1, " item ")) {
@@ -446,14 +512,20 @@ static void tell_fault(cl_kernel k, const char *reply, const launch_sizes *s) {
         first = false;
         last = item;
     }
-    explain(k, s);
+    explain(k, s, !is_held);
+    if (is_held) tell("  why: such an access of a buffer with this flag is undefined (OpenCL 1.2, table 5.3)");
     call_back(k->context, line);
     free(line);
 }
 
 void report_fault(cl_kernel k, const char *reply, const launch_sizes *s) {
+    memory_place place;
     faults++;
-    tell("%s", reply);
+    if (read_place(reply, &place) && is_held_back(&place)) tell_held_back(reply, &place);
+    else {
+        size_t shown = shown_length(reply);
+        tell("%.*s%s", (int)shown, reply, reply[shown] ? CUT : "");
+    }
     tell_fault(k, reply, s);
     const char *then = setting("CLSIM_ON_FAULT");
     bool aborts = then && !strcmp(then, "abort"), exits = then && !strcmp(then, "exit");

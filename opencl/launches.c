@@ -24,30 +24,50 @@ static void choose_local(cl_uint dimensions, const size_t *global, size_t *local
         room /= local[d];
     }
 }
-// The sizes of a launch, judged as far as the device doesn't judge them.
-static cl_int take_sizes(cl_kernel k, launch_sizes *s, const size_t *offset, const size_t *global,
-                         const size_t *local) {
+// Tells why sizes are refused.
+static cl_int refuse_sizes(cl_kernel k, cl_int fault, const char *why) {
     const device_limits *limits = limits_of_device();
-    const size_t *wanted = k->form->group;
-    size_t group = 1, items = 1;
-    if (!global) return CL_INVALID_GLOBAL_WORK_SIZE;
-    if (wanted[0] && !local) return CL_INVALID_WORK_GROUP_SIZE;
-    for (cl_uint d = 0; d < s->dimensions; d++) {
-        if (!global[d]) return CL_INVALID_GLOBAL_WORK_SIZE;
-        if (__builtin_mul_overflow(items, global[d], &items)) items = SIZE_MAX; // (no size is 0, so it stays too many)
-        s->global[d] = global[d];
-        s->offset[d] = offset ? offset[d] : 0;
-        if (!local) continue;
-        if (!local[d] || global[d] % local[d]) return CL_INVALID_WORK_GROUP_SIZE;
-        if (local[d] > limits->group) return CL_INVALID_WORK_ITEM_SIZE;
+    refuse(k->context, "kernel %s: %s (limits: %s, groups of at most %zu)", k->form->name, why, limits->name,
+           limits->group);
+    return fault;
+}
+
+// Judges the group of a launch. Where the client leaves it open it is chosen.
+static cl_int take_group(cl_kernel k, launch_sizes *s, const size_t *local) {
+    const size_t *wanted = k->form->group, most = limits_of_device()->group;
+    size_t group = 1;
+    if (wanted[0] && !local)
+        return refuse_sizes(k, CL_INVALID_WORK_GROUP_SIZE, "it asks for a local size (reqd_work_group_size)");
+    for (cl_uint d = 0; local && d < s->dimensions; d++) {
+        if (!local[d] || s->global[d] % local[d])
+            return refuse_sizes(k, CL_INVALID_WORK_GROUP_SIZE, "the local size doesn't divide the global size");
+        if (local[d] > most) return refuse_sizes(k, CL_INVALID_WORK_ITEM_SIZE, "the local size is too large");
         group *= local[d];
         s->local[d] = local[d];
     }
     for (cl_uint d = 0; wanted[0] && d < 3; d++)
-        if (wanted[d] != (d < s->dimensions ? s->local[d] : 1)) return CL_INVALID_WORK_GROUP_SIZE;
-    if (group > limits->group) return CL_INVALID_WORK_GROUP_SIZE;
-    if (!local) choose_local(s->dimensions, global, s->local);
-    if (items <= limits->items) return CL_SUCCESS;
+        if (wanted[d] != (d < s->dimensions ? s->local[d] : 1))
+            return refuse_sizes(k, CL_INVALID_WORK_GROUP_SIZE,
+                                "the local size isn't the one that it asks for (reqd_work_group_size)");
+    if (group > most) return refuse_sizes(k, CL_INVALID_WORK_GROUP_SIZE, "the group is too large");
+    if (!local) choose_local(s->dimensions, s->global, s->local);
+    return CL_SUCCESS;
+}
+
+// The sizes of a launch, judged as far as the device doesn't judge them.
+static cl_int take_sizes(cl_kernel k, launch_sizes *s, const size_t *offset, const size_t *global,
+                         const size_t *local) {
+    const device_limits *limits = limits_of_device();
+    size_t items = 1;
+    if (!global) return CL_INVALID_GLOBAL_WORK_SIZE;
+    for (cl_uint d = 0; d < s->dimensions; d++) {
+        if (!global[d]) return refuse_sizes(k, CL_INVALID_GLOBAL_WORK_SIZE, "a global size is 0");
+        if (__builtin_mul_overflow(items, global[d], &items)) items = SIZE_MAX; // (no size is 0, so it stays too many)
+        s->global[d] = global[d];
+        s->offset[d] = offset ? offset[d] : 0;
+    }
+    cl_int fault = take_group(k, s, local);
+    if (fault || items <= limits->items) return fault;
     refuse(k->context, "kernel %s: more than %zu work-items (limits: %s)", k->form->name, limits->items, limits->name);
     return CL_INVALID_GLOBAL_WORK_SIZE;
 }
@@ -76,17 +96,24 @@ static cl_int launch(cl_command_queue q, cl_kernel k, cl_uint dimensions, const 
     if (k->context != q->context) return CL_INVALID_CONTEXT;
     if (dimensions < 1 || dimensions > 3) return CL_INVALID_WORK_DIMENSION;
     for (unsigned i = 0; i < k->form->count; i++)
-        if (!k->arguments[i].command) return CL_INVALID_KERNEL_ARGS;
+        if (!k->arguments[i].command) {
+            refuse(k->context, "kernel %s: argument %u (%s) is not set", k->form->name, i, k->form->parameters[i].name);
+            return CL_INVALID_KERNEL_ARGS;
+        }
     cl_int fault = take_sizes(k, &sizes, offset, global, local);
     if (fault) return fault;
-    const char *reply = ask_launch(k, &sizes);
+    cl_kernel launched;
+    fault = launched_kernel(k, &launched);
+    if (!fault) fault = copy_parts(k, launched, false);
+    if (fault) return fault;
+    const char *reply = ask_launch(launched, &sizes);
     if (!reply) return CL_DEVICE_NOT_AVAILABLE;
-    if (!strcmp(reply, "clean")) return finish(&made, type, CL_SUCCESS, event);
+    if (!strcmp(reply, "clean")) return finish(&made, type, copy_parts(k, launched, true), event);
     if (strncmp(reply, "fault ", 6)) {
         refuse(q->context, "kernel %s: %s", k->form->name, reply);
         return error_of(reply);
     }
-    report_fault(k, reply, &sizes);
+    report_fault(launched, reply, &sizes);
     const char *then = setting("CLSIM_ON_FAULT");
     if (!then || strcmp(then, "go")) return FAULTED;
     give_event(&made, type, FAULTED, event);

@@ -6,11 +6,15 @@
 #define CL_TARGET_OPENCL_VERSION 120
 #define CL_USE_DEPRECATED_OPENCL_1_0_APIS
 #define CL_USE_DEPRECATED_OPENCL_1_1_APIS
+#include "options.h"
 #include "session.h"
 #include "source.h"
 #include <CL/cl.h>
 #include <CL/cl_ext.h>
 #include <CL/cl_icd.h>
+#ifndef CLSIM_OUTER
+#include "inner.h"
+#endif
 
 typedef enum { CONTEXT = 1, QUEUE, MEMORY, PROGRAM, KERNEL, EVENT } object_kind;
 
@@ -62,7 +66,9 @@ typedef struct memory_end {
 struct _cl_mem {
     HEAD;
     cl_context context;
-    unsigned number; // b1, b2 ..
+    unsigned number; // b1, b2 ..; 0 for a sub-buffer that no kernel was given yet
+    cl_mem parent;   // of a sub-buffer the buffer that it is a part of, else NULL
+    size_t origin;   // where in that it begins
     size_t size;
     cl_mem_flags flags;
     void *host;
@@ -75,9 +81,13 @@ struct _cl_program {
     HEAD;
     cl_context context;
     char *source, *options;
-    size_t length;    // of the source, which may have a byte 0
-    bool from_binary; // it was made from one
+    size_t length;               // of the source, which may have a byte 0
+    bool from_binary, is_linked; // what it was made from; else from a source
+    char *units;                 // what a compile or a link left, as bytes (units.h); NULL for none
+    size_t units_length;
+    cl_program_binary_type type; // of its binary
     prepared form;
+    struct held *held;        // kernels of it in which accesses are held back (holding.c)
     unsigned *numbers, count; // p1, p2 .. of what is sent of it: one for each kernel, or one for all
     unsigned *tables;         // the numbers of the buffers of its tables
     cl_build_status status;
@@ -87,15 +97,20 @@ typedef struct {
     char *command; // those that gave it, NULL before
     cl_mem memory;
     size_t local; // how many bytes of local memory it was given
+    void *value;  // the bytes of a value
+    bool is_null; // it is NULL in place of a buffer
 } argument;
 
 struct _cl_kernel {
     HEAD;
     cl_context context;
     cl_program program;
-    unsigned number;
+    unsigned number, program_number;
     const kernel_form *form;
+    prepared *source; // that the form is of
     argument *arguments;
+    cl_kernel held;                 // that is launched in its place, with the same arguments; NULL for none
+    const unsigned char *held_back; // in such a one: which accesses, a set for each argument
 };
 
 typedef struct event_end {
@@ -226,10 +241,60 @@ enum { PIECE_BYTES = 1048576 };
 const char *ask_write(cl_context c, unsigned buffer, size_t offset, const void *from, size_t n);
 // Reads bytes of a buffer, in pieces. Where one is refused, those before it have been read.
 cl_int ask_read(cl_context c, unsigned buffer, size_t offset, void *to, size_t n);
+// Copies bytes from one buffer into one by their numbers.
+cl_int ask_copy(cl_context c, unsigned from, size_t offset, unsigned to, size_t at, size_t n);
+// Gives a sub-buffer a buffer of its own in the device, for kernels.
+cl_int number_part(cl_mem m);
+// Where sub-buffers may begin: at multiples of so many bytes (table 4.3, CL_DEVICE_MEM_BASE_ADDR_ALIGN).
+enum { BASE_ALIGN = 128 };
+// The buffer that holds the bytes of a memory object: itself, or that of a sub-buffer.
+static inline cl_mem whole_of(cl_mem m) { return m->parent ? m->parent : m; }
+
+// ---- programs ----
+// A new program, which the source belongs to from then on. NULL, and the source is freed, where memory is refused.
+cl_program new_program(cl_context c, char *source, size_t length);
+// Releases what a built program has in the device, and what a compile left.
+void release_built(cl_program p);
+// Refuses options that OpenCL 1.2 hasn't, with a fault. What is said of it goes into a log, where there is one for it.
+cl_int judge_options(cl_context c, const char *options, option_kind kind, cl_int fault, prepared *form);
+// Judges a list of devices as builds have it.
+cl_int judge_devices(cl_uint n, const cl_device_id *devices);
+// Sends a prepared program to the device. The error of the first part that it refuses.
+cl_int build_prepared(cl_program p);
+// Makes what a compile or a link left ready for the device.
+preparation prepare_units(cl_program p);
+// What a binary holds.
+typedef struct {
+    const char *at; // units, or a source
+    size_t length;
+    cl_program_binary_type type;
+    bool has_units;
+} binary_parts;
+// Takes a binary apart. False where it isn't one of this driver.
+bool take_binary(const unsigned char *at, size_t length, binary_parts *to);
+// What stands in front of what a program's binary holds; NULL where it has no binary.
+const char *binary_head(cl_program p);
+
+// Sends a part of a text as a program by a number. A refusal of its text goes into the log.
+cl_int send_text(cl_context c, prepared *source, size_t begin, size_t length, unsigned lines, unsigned number);
 
 // ---- kernels ----
-// The number of the program that a kernel was sent in.
-unsigned program_number(cl_program p, const kernel_form *k);
+// The commands that give an argument to all parameters of the judged kernel that belong to it. NULL where memory is
+// refused; the caller frees them.
+char *commands_of(cl_kernel k, cl_uint index, size_t n, const void *value, cl_mem m);
+// The number of the buffer that an argument is in a kernel of the device.
+unsigned given_number(cl_kernel k, cl_uint argument, cl_mem m);
+// Sends commands. The first reply that isn't ok, else the last one; of no command NULL.
+const char *ask_commands(cl_kernel k, const char *commands);
+// Makes a kernel of the device, with its tables, by the number that it has.
+cl_int ask_kernel(cl_kernel k);
+// The kernel that is launched: itself, or one that is written for its arguments.
+cl_int launched_kernel(cl_kernel k, cl_kernel *to);
+// Copies what the sub-buffers of a launch have into the buffers that its kernel is given, or back behind the launch.
+cl_int copy_parts(cl_kernel k, cl_kernel launched, bool is_back);
+// Releases what was made for that.
+void drop_held_kernel(cl_kernel k);
+void drop_held_forms(cl_program p);
 // The bytes of an object of a kernel in local memory. Of an argument those that it was given, 0 before.
 cl_ulong local_bytes(cl_kernel k, const local_object *l);
 

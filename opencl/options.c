@@ -1,6 +1,5 @@
 #include "options.h"
 #include <ctype.h>
-#include <stdbool.h>
 #include <string.h>
 
 // OpenCL 1.2, 5.6.4: those of a compiler, without -D and -I. (-cl-strict-aliasing and CL1.0 are of earlier versions;
@@ -60,6 +59,14 @@ char **split_options(arena *a, const char *s, size_t *count) {
         }
         *store++ = 0;
     }
+}
+
+bool has_option(arena *a, const char *options, const char *word) {
+    size_t count;
+    char **words = split_options(a, options ? options : "", &count);
+    for (size_t i = 0; i < count; i++)
+        if (!strcmp(words[i], word)) return true;
+    return false;
 }
 
 const char *unknown_option(arena *a, const char *options, option_kind kind) {

@@ -106,8 +106,8 @@ CL_API_ENTRY cl_int CL_API_CALL clGetDeviceInfo(cl_device_id d, cl_device_info n
     case CL_DEVICE_IMAGE_MAX_BUFFER_SIZE:
     case CL_DEVICE_IMAGE_MAX_ARRAY_SIZE: GIVE(size_t, 0);
     case CL_DEVICE_MAX_PARAMETER_SIZE: GIVE(size_t, PARAMETER_BYTES);
-    case CL_DEVICE_MEM_BASE_ADDR_ALIGN: GIVE(cl_uint, 1024);
-    case CL_DEVICE_MIN_DATA_TYPE_ALIGN_SIZE: GIVE(cl_uint, 128);
+    case CL_DEVICE_MEM_BASE_ADDR_ALIGN: GIVE(cl_uint, 8 * BASE_ALIGN);
+    case CL_DEVICE_MIN_DATA_TYPE_ALIGN_SIZE: GIVE(cl_uint, BASE_ALIGN);
     case CL_DEVICE_SINGLE_FP_CONFIG:
     case CL_DEVICE_DOUBLE_FP_CONFIG: GIVE(cl_device_fp_config, 0);
     case CL_DEVICE_GLOBAL_MEM_CACHE_TYPE: GIVE(cl_device_mem_cache_type, CL_NONE);
@@ -126,8 +126,8 @@ CL_API_ENTRY cl_int CL_API_CALL clGetDeviceInfo(cl_device_id d, cl_device_info n
     case CL_DEVICE_PROFILING_TIMER_RESOLUTION: GIVE(size_t, 1);
     case CL_DEVICE_ENDIAN_LITTLE: GIVE(cl_bool, CL_TRUE);
     case CL_DEVICE_AVAILABLE:
-    case CL_DEVICE_COMPILER_AVAILABLE: GIVE(cl_bool, CL_TRUE);
-    case CL_DEVICE_LINKER_AVAILABLE: GIVE(cl_bool, CL_FALSE);
+    case CL_DEVICE_COMPILER_AVAILABLE:
+    case CL_DEVICE_LINKER_AVAILABLE: GIVE(cl_bool, CL_TRUE);
     case CL_DEVICE_EXECUTION_CAPABILITIES: GIVE(cl_device_exec_capabilities, CL_EXEC_KERNEL);
     case CL_DEVICE_QUEUE_PROPERTIES: GIVE(cl_command_queue_properties, queue_properties());
     case CL_DEVICE_BUILT_IN_KERNELS: return give_text("", room, to, size);

@@ -1,5 +1,4 @@
 #include "objects.h"
-#include "options.h"
 #include <inttypes.h>
 #include <stdio.h>
 #include <stdlib.h>
@@ -9,9 +8,9 @@
 
 void drop_program(cl_program p);
 
-// Releases what a built program has in the device.
-static void release_built(cl_program p) {
+void release_built(cl_program p) {
     session *s = p->context->session;
+    drop_held_forms(p);
     for (unsigned i = 0; i < p->count; i++) session_askf(s, "release p%u\n", p->numbers[i]);
     for (unsigned i = 0; p->tables && i < p->form.table_count; i++) session_askf(s, "release b%u\n", p->tables[i]);
     free(p->tables);
@@ -22,11 +21,17 @@ static void release_built(cl_program p) {
     p->count = 0;
     p->tables = NULL;
     p->options = NULL;
+    p->status = CL_BUILD_NONE;
+    if (p->from_binary) return; // what was compiled elsewhere stays
+    free(p->units);
+    p->units = NULL;
+    p->type = CL_PROGRAM_BINARY_TYPE_NONE;
 }
 
 void drop_program(cl_program p) {
     if (p->references || p->uses) return;
     cl_context c = p->context;
+    p->from_binary = false; // what it was made from goes too
     release_built(p);
     free(p->source);
     free_object(p);
@@ -34,9 +39,7 @@ void drop_program(cl_program p) {
 }
 COUNTED(cl_program, Program, PROGRAM, CL_INVALID_PROGRAM, drop_program)
 
-static const char binary_head[] = "CLSIM-SOURCE 1\n";
-
-static cl_program new_program(cl_context c, char *source, size_t length) {
+cl_program new_program(cl_context c, char *source, size_t length) {
     cl_program p = source ? make_object(sizeof *p, PROGRAM) : NULL;
     if (!p) {
         free(source);
@@ -73,38 +76,44 @@ CL_API_ENTRY cl_program CL_API_CALL clCreateProgramWithSource(cl_context c, cl_u
     done(errcode);
     return p;
 }
-// Judges the binary for each device of a list, with a state for each (OpenCL 1.2, 5.6.1).
+// Judges the binary for each device of a list, with a state for each (OpenCL 1.2, 5.6.1). The first one counts.
 static cl_int judge_binaries(cl_uint n, const cl_device_id *devices, const size_t *lengths,
-                             const unsigned char **binaries, cl_int *states) {
-    size_t head = sizeof binary_head - 1;
+                             const unsigned char **binaries, cl_int *states, binary_parts *first) {
     cl_int fault = CL_SUCCESS;
     if (!n || !devices || !lengths || !binaries) return CL_INVALID_VALUE;
     for (cl_uint i = 0; i < n; i++)
         if (devices[i] != &the_device) return CL_INVALID_DEVICE;
-    for (cl_uint i = 0; i < n; i++) {
-        bool empty = !lengths[i] || !binaries[i], good = !empty && lengths[i] >= head;
-        good = good && !memcmp(binaries[i], binary_head, head);
-        cl_int state = empty ? CL_INVALID_VALUE : good ? CL_SUCCESS : CL_INVALID_BINARY;
+    for (cl_uint i = n; i-- > 0;) {
+        bool empty = !lengths[i] || !binaries[i];
+        cl_int state = empty                                         ? CL_INVALID_VALUE
+                       : take_binary(binaries[i], lengths[i], first) ? CL_SUCCESS
+                                                                     : CL_INVALID_BINARY;
         if (states) states[i] = state;
-        if (!fault || empty) fault = state;
+        if (state && (!fault || fault == CL_INVALID_BINARY)) fault = state;
     }
     return fault;
 }
-// A binary is the source with a head, so that caches of binaries work. Of a device that is named twice, the first one
-// counts.
+// A binary is the source, or what was compiled of it, with a head, so that caches of binaries work. Of a device that is
+// named twice, the first one counts.
 CL_API_ENTRY cl_program CL_API_CALL clCreateProgramWithBinary(cl_context c, cl_uint n, const cl_device_id *devices,
                                                               const size_t *lengths, const unsigned char **binaries,
                                                               cl_int *states, cl_int *errcode) {
     LOCKED;
     if (!is_a(c, CONTEXT)) return fail(errcode, CL_INVALID_CONTEXT);
-    cl_int fault = judge_binaries(n, devices, lengths, binaries, states);
+    binary_parts parts;
+    cl_int fault = judge_binaries(n, devices, lengths, binaries, states, &parts);
     if (fault) return fail(errcode, fault);
-    size_t head = sizeof binary_head - 1;
-    char *source = calloc(1, lengths[0] - head + 1);
-    if (source) memcpy(source, binaries[0] + head, lengths[0] - head);
-    cl_program p = new_program(c, source, lengths[0] - head);
-    if (!p) return fail(errcode, CL_OUT_OF_HOST_MEMORY);
+    char *kept = calloc(1, parts.length + 1), *source = parts.has_units ? calloc(1, 1) : kept;
+    if (kept) memcpy(kept, parts.at, parts.length);
+    cl_program p = kept ? new_program(c, source, parts.has_units ? 0 : parts.length) : NULL;
+    if (!p) {
+        if (parts.has_units) free(kept);
+        return fail(errcode, CL_OUT_OF_HOST_MEMORY);
+    }
     p->from_binary = true;
+    p->type = parts.type;
+    p->units = parts.has_units ? kept : NULL;
+    p->units_length = parts.has_units ? parts.length : 0;
     done(errcode);
     return p;
 }
@@ -141,27 +150,33 @@ static cl_int make_tables(cl_program p) {
     return CL_SUCCESS;
 }
 
-// Sends a part of the judged text as a program.
-static cl_int send_program(cl_program p, size_t begin, size_t length, unsigned lines) {
-    unsigned number = ++p->context->names;
+cl_int send_text(cl_context c, prepared *source, size_t begin, size_t length, unsigned lines, unsigned number) {
     char *command = malloc(length + 64);
     if (!command) return CL_OUT_OF_HOST_MEMORY;
     size_t at = (size_t)snprintf(command, 64, "program p%u %u\n", number, lines);
-    memcpy(command + at, p->form.text + begin, length);
+    memcpy(command + at, source->text + begin, length);
     // more lines than a script can say, which by the profile are more bytes than a source can have
-    const char *reply = lines <= MAX_LINES ? session_ask(p->context->session, command, at + length)
+    const char *reply = lines <= MAX_LINES ? session_ask(c->session, command, at + length)
                         : limits_of_device()->source_bytes <= MAX_LINES
                             ? "refused 10 BuildFailed syntax 5 TooLong at 65536"
                             : "refused 10 BuildFailed: a program has more than 65536 lines";
     free(command);
-    if (is_ok(reply)) p->numbers[p->count++] = number;
-    else if (error_of(reply) == CL_BUILD_PROGRAM_FAILURE) build_log(&p->form, begin, reply);
-    return is_ok(reply) ? CL_SUCCESS : error_of(reply);
+    cl_int fault = is_ok(reply) ? CL_SUCCESS : error_of(reply);
+    if (fault == CL_BUILD_PROGRAM_FAILURE) build_log(source, begin, reply);
+    return fault;
 }
 
-// Sends a prepared program to the device: each kernel as a program of its own, so that many or long ones are within its
-// limits. What is judged as it is goes as one.
-static cl_int build_prepared(cl_program p) {
+// Sends a part of the judged text as a program.
+static cl_int send_program(cl_program p, size_t begin, size_t length, unsigned lines) {
+    unsigned number = ++p->context->names;
+    cl_int fault = send_text(p->context, &p->form, begin, length, lines, number);
+    if (!fault) p->numbers[p->count++] = number;
+    return fault;
+}
+
+// Each kernel goes as a program of its own, so that many or long ones are within the limits of the device. What is
+// judged as it is goes as one.
+cl_int build_prepared(cl_program p) {
     const prepared *form = &p->form;
     bool is_one = form->is_own || !form->kernel_count;
     cl_int fault = CL_SUCCESS;
@@ -173,12 +188,12 @@ static cl_int build_prepared(cl_program p) {
     return fault ? fault : make_tables(p);
 }
 
-unsigned program_number(cl_program p, const kernel_form *k) {
+// The number of the program that a kernel was sent in.
+static unsigned program_number(cl_program p, const kernel_form *k) {
     return p->numbers[p->form.is_own ? 0 : k - p->form.kernels];
 }
 
-// Refuses options that OpenCL 1.2 hasn't, with a fault. What is said of it goes into a log, where there is one for it.
-static cl_int judge_options(cl_context c, const char *options, option_kind kind, cl_int fault, prepared *form) {
+cl_int judge_options(cl_context c, const char *options, option_kind kind, cl_int fault, prepared *form) {
     prepared none = {0}, *into = form ? form : &none;
     text log = {.arena = &into->arena};
     if (setjmp(into->arena.failed)) {
@@ -195,22 +210,35 @@ static cl_int judge_options(cl_context c, const char *options, option_kind kind,
     return unknown ? fault : CL_SUCCESS;
 }
 
+// Makes the source of a program, or what was compiled of it, ready for the device.
+static preparation prepare(cl_program p, const char *options) {
+    if (p->units) return prepare_units(p);
+    if (strlen(p->source) == p->length) return prepare_source(&p->form, p->source, options, p->context->session);
+    p->form.log = "source: error: a byte 0 stands in the source\n"; // what stands behind it would be left out
+    return NOT_PREPARED;
+}
+
 static cl_int build(cl_program p, const char *options) {
-    if (p->uses) return CL_INVALID_OPERATION;
+    if (p->uses || p->is_linked) return CL_INVALID_OPERATION;
     release_built(p);
     p->status = CL_BUILD_ERROR;
     p->options = strdup(options ? options : "");
     cl_int wrong = judge_options(p->context, options, COMPILER_OPTION, CL_INVALID_BUILD_OPTIONS, &p->form);
     if (!p->options || wrong) return p->options ? wrong : CL_OUT_OF_HOST_MEMORY;
-    if (strlen(p->source) != p->length) { // what stands behind it would be left out
-        p->form.log = "source: error: a byte 0 stands in the source\n";
-        return CL_BUILD_PROGRAM_FAILURE;
-    }
-    preparation done = prepare_source(&p->form, p->source, options, p->context->session);
+    preparation done = prepare(p, options);
     if (done == NO_MEMORY) return CL_OUT_OF_HOST_MEMORY;
     cl_int fault = done == PREPARED ? build_prepared(p) : CL_BUILD_PROGRAM_FAILURE;
-    if (!fault) p->status = CL_BUILD_SUCCESS;
-    return fault;
+    if (fault) return fault;
+    p->status = CL_BUILD_SUCCESS;
+    p->type = CL_PROGRAM_BINARY_TYPE_EXECUTABLE;
+    return CL_SUCCESS;
+}
+
+cl_int judge_devices(cl_uint n, const cl_device_id *devices) {
+    if ((!n) != (!devices)) return CL_INVALID_VALUE;
+    for (cl_uint i = 0; i < n; i++)
+        if (devices[i] != &the_device) return CL_INVALID_DEVICE;
+    return CL_SUCCESS;
 }
 
 CL_API_ENTRY cl_int CL_API_CALL clBuildProgram(cl_program p, cl_uint n, const cl_device_id *devices,
@@ -220,75 +248,51 @@ CL_API_ENTRY cl_int CL_API_CALL clBuildProgram(cl_program p, cl_uint n, const cl
     {
         LOCKED;
         if (!is_a(p, PROGRAM)) return CL_INVALID_PROGRAM;
-        if ((!n) != (!devices) || (!notify && user)) return CL_INVALID_VALUE;
-        for (cl_uint i = 0; i < n; i++)
-            if (devices[i] != &the_device) return CL_INVALID_DEVICE;
+        if (!notify && user) return CL_INVALID_VALUE;
+        fault = judge_devices(n, devices);
+        if (fault) return fault;
         fault = build(p, options);
     }
     if (notify) notify(p, user); // without the lock
     return fault;
-}
-CL_API_ENTRY cl_int CL_API_CALL clCompileProgram(cl_program p, cl_uint n, const cl_device_id *d, const char *o,
-                                                 cl_uint h, const cl_program *hs, const char **ns,
-                                                 void(CL_CALLBACK *f)(cl_program, void *), void *u) {
-    (void)n;
-    (void)d;
-    (void)h;
-    (void)hs;
-    (void)ns;
-    (void)f;
-    (void)u;
-    LOCKED;
-    if (!is_a(p, PROGRAM)) return CL_INVALID_PROGRAM;
-    cl_int fault = judge_options(p->context, o, COMPILER_OPTION, CL_INVALID_COMPILER_OPTIONS, NULL);
-    return fault ? fault : CL_COMPILER_NOT_AVAILABLE;
-}
-CL_API_ENTRY cl_program CL_API_CALL clLinkProgram(cl_context c, cl_uint n, const cl_device_id *d, const char *o,
-                                                  cl_uint m, const cl_program *ps,
-                                                  void(CL_CALLBACK *f)(cl_program, void *), void *u, cl_int *errcode) {
-    (void)n;
-    (void)d;
-    (void)m;
-    (void)ps;
-    (void)f;
-    (void)u;
-    LOCKED;
-    if (!is_a(c, CONTEXT)) return fail(errcode, CL_INVALID_CONTEXT);
-    cl_int fault = judge_options(c, o, LINKER_OPTION, CL_INVALID_LINKER_OPTIONS, NULL);
-    return fail(errcode, fault ? fault : CL_LINKER_NOT_AVAILABLE);
 }
 CL_API_ENTRY cl_int CL_API_CALL clUnloadCompiler(void) { return CL_SUCCESS; }
 CL_API_ENTRY cl_int CL_API_CALL clUnloadPlatformCompiler(cl_platform_id p) {
     return p == &the_platform ? CL_SUCCESS : CL_INVALID_PLATFORM;
 }
 
+// Whether its kernels are there. (A program from a binary is of a type before it is built.)
+static bool is_executable(cl_program p) {
+    return p->status == CL_BUILD_SUCCESS && p->type == CL_PROGRAM_BINARY_TYPE_EXECUTABLE;
+}
+
 CL_API_ENTRY cl_int CL_API_CALL clGetProgramInfo(cl_program p, cl_program_info name, size_t room, void *to,
                                                  size_t *size) {
     LOCKED;
     if (!is_a(p, PROGRAM)) return CL_INVALID_PROGRAM;
-    bool built = p->status == CL_BUILD_SUCCESS;
-    size_t binary = built || p->from_binary ? sizeof binary_head - 1 + p->length : 0;
+    const char *head = binary_head(p);
+    size_t head_length = head ? strlen(head) : 0, length = p->units ? p->units_length : p->length;
     switch (name) {
     case CL_PROGRAM_REFERENCE_COUNT: GIVE(cl_uint, p->references);
     case CL_PROGRAM_CONTEXT: GIVE(cl_context, p->context);
     case CL_PROGRAM_NUM_DEVICES: GIVE(cl_uint, 1);
     case CL_PROGRAM_DEVICES: GIVE(cl_device_id, &the_device);
     case CL_PROGRAM_SOURCE: return give_text(p->source, room, to, size);
-    case CL_PROGRAM_BINARY_SIZES: GIVE(size_t, binary);
+    case CL_PROGRAM_BINARY_SIZES: GIVE(size_t, head ? head_length + length : 0);
     case CL_PROGRAM_BINARIES:
         if (size) *size = sizeof(unsigned char *);
         if (!to) return CL_SUCCESS;
         if (room < sizeof(unsigned char *)) return CL_INVALID_VALUE;
-        if (*(unsigned char **)to && binary) {
-            memcpy(*(unsigned char **)to, binary_head, sizeof binary_head - 1);
-            memcpy(*(unsigned char **)to + sizeof binary_head - 1, p->source, p->length);
+        if (*(unsigned char **)to && head) {
+            memcpy(*(unsigned char **)to, head, head_length);
+            memcpy(*(unsigned char **)to + head_length, p->units ? p->units : p->source, length);
         }
         return CL_SUCCESS;
     case CL_PROGRAM_NUM_KERNELS:
-        if (!built) return CL_INVALID_PROGRAM_EXECUTABLE;
+        if (!is_executable(p)) return CL_INVALID_PROGRAM_EXECUTABLE;
         GIVE(size_t, p->form.kernel_count);
     case CL_PROGRAM_KERNEL_NAMES: {
-        if (!built) return CL_INVALID_PROGRAM_EXECUTABLE;
+        if (!is_executable(p)) return CL_INVALID_PROGRAM_EXECUTABLE;
         arena a = {0};
         text names = {.arena = &a};
         if (setjmp(a.failed)) {
@@ -313,9 +317,7 @@ CL_API_ENTRY cl_int CL_API_CALL clGetProgramBuildInfo(cl_program p, cl_device_id
     case CL_PROGRAM_BUILD_STATUS: GIVE(cl_build_status, p->status);
     case CL_PROGRAM_BUILD_OPTIONS: return give_text(p->options, room, to, size);
     case CL_PROGRAM_BUILD_LOG: return give_text(p->form.log, room, to, size);
-    case CL_PROGRAM_BINARY_TYPE:
-        GIVE(cl_program_binary_type,
-             p->status == CL_BUILD_SUCCESS ? CL_PROGRAM_BINARY_TYPE_EXECUTABLE : CL_PROGRAM_BINARY_TYPE_NONE);
+    case CL_PROGRAM_BINARY_TYPE: GIVE(cl_program_binary_type, p->type);
     default: return CL_INVALID_VALUE;
     }
 }
@@ -326,9 +328,11 @@ void drop_kernel(cl_kernel k) {
     if (k->references || k->uses) return;
     cl_context c = k->context;
     cl_program p = k->program;
+    drop_held_kernel(k);
     session_askf(c->session, "release k%u\n", k->number);
     for (unsigned i = 0; i < k->form->count; i++) {
         free(k->arguments[i].command);
+        free(k->arguments[i].value);
         if (k->arguments[i].memory) {
             k->arguments[i].memory->uses--;
             drop_memory(k->arguments[i].memory);
@@ -342,33 +346,38 @@ void drop_kernel(cl_kernel k) {
 }
 COUNTED(cl_kernel, Kernel, KERNEL, CL_INVALID_KERNEL, drop_kernel)
 
-static cl_kernel new_kernel(cl_program p, const kernel_form *form, cl_int *errcode) {
-    session *s = p->context->session;
-    cl_kernel k = make_object(sizeof *k, KERNEL);
-    argument *arguments = calloc(form->count + 1, sizeof *arguments);
-    if (!k || !arguments) {
-        free(arguments);
-        if (k) free_object(k);
-        return fail(errcode, CL_OUT_OF_HOST_MEMORY);
-    }
-    k->number = ++p->context->names;
-    cl_int fault =
-        error_of(session_askf(s, "kernel k%u p%u %s\n", k->number, program_number(p, form), form->judged_name));
+cl_int ask_kernel(cl_kernel k) {
+    session *s = k->context->session;
+    const kernel_form *form = k->form;
+    cl_int fault = error_of(session_askf(s, "kernel k%u p%u %s\n", k->number, k->program_number, form->judged_name));
     bool made = !fault;
     for (unsigned i = 0; !fault && i < form->judged_count; i++)
         if (form->judged[i].kind == TABLE_PARAMETER)
-            fault =
-                error_of(session_askf(s, "arg k%u %u buffer b%u\n", k->number, i, p->tables[form->judged[i].argument]));
+            fault = error_of(
+                session_askf(s, "arg k%u %u buffer b%u\n", k->number, i, k->program->tables[form->judged[i].argument]));
+    if (fault && made) session_askf(s, "release k%u\n", k->number);
+    return fault;
+}
+
+static cl_kernel new_kernel(cl_program p, const kernel_form *form, cl_int *errcode) {
+    cl_kernel k = make_object(sizeof *k, KERNEL);
+    argument *arguments = calloc(form->count + 1, sizeof *arguments);
+    cl_int fault = k && arguments ? CL_SUCCESS : CL_OUT_OF_HOST_MEMORY;
+    if (!fault) {
+        k->context = p->context;
+        k->program = p;
+        k->form = form;
+        k->source = &p->form;
+        k->arguments = arguments;
+        k->number = ++p->context->names;
+        k->program_number = program_number(p, form);
+        fault = ask_kernel(k);
+    }
     if (fault) {
-        if (made) session_askf(s, "release k%u\n", k->number);
         free(arguments);
-        free_object(k);
+        if (k) free_object(k);
         return fail(errcode, fault);
     }
-    k->context = p->context;
-    k->program = p;
-    k->form = form;
-    k->arguments = arguments;
     p->uses++;
     p->context->uses++;
     done(errcode);
@@ -377,7 +386,7 @@ static cl_kernel new_kernel(cl_program p, const kernel_form *form, cl_int *errco
 CL_API_ENTRY cl_kernel CL_API_CALL clCreateKernel(cl_program p, const char *name, cl_int *errcode) {
     LOCKED;
     if (!is_a(p, PROGRAM)) return fail(errcode, CL_INVALID_PROGRAM);
-    if (p->status != CL_BUILD_SUCCESS) return fail(errcode, CL_INVALID_PROGRAM_EXECUTABLE);
+    if (!is_executable(p)) return fail(errcode, CL_INVALID_PROGRAM_EXECUTABLE);
     if (!name) return fail(errcode, CL_INVALID_VALUE);
     for (unsigned i = 0; i < p->form.kernel_count; i++)
         if (!strcmp(p->form.kernels[i].name, name)) return new_kernel(p, &p->form.kernels[i], errcode);
@@ -386,7 +395,7 @@ CL_API_ENTRY cl_kernel CL_API_CALL clCreateKernel(cl_program p, const char *name
 CL_API_ENTRY cl_int CL_API_CALL clCreateKernelsInProgram(cl_program p, cl_uint room, cl_kernel *to, cl_uint *count) {
     LOCKED;
     if (!is_a(p, PROGRAM)) return CL_INVALID_PROGRAM;
-    if (p->status != CL_BUILD_SUCCESS) return CL_INVALID_PROGRAM_EXECUTABLE;
+    if (!is_executable(p)) return CL_INVALID_PROGRAM_EXECUTABLE;
     if (to && room < p->form.kernel_count) return CL_INVALID_VALUE;
     for (unsigned i = 0; to && i < p->form.kernel_count; i++) {
         cl_int fault;
@@ -416,6 +425,11 @@ static void add_value(text *commands, cl_kernel k, unsigned index, const judged_
     else addf(commands, "arg k%u %u value %" PRIu64 "\n", k->number, index, bits);
 }
 
+unsigned given_number(cl_kernel k, cl_uint argument, cl_mem m) {
+    bool is_part = k->held_back && k->held_back[argument] & IS_PART;
+    return is_part ? whole_of(m)->number : m->number;
+}
+
 // The commands that give an argument to all parameters that belong to it.
 static void add_commands(text *commands, cl_kernel k, cl_uint argument, size_t n, const void *value, cl_mem m) {
     add(commands, "");
@@ -423,13 +437,14 @@ static void add_commands(text *commands, cl_kernel k, cl_uint argument, size_t n
         const judged_parameter *q = &k->form->judged[i];
         if (q->kind == TABLE_PARAMETER || q->argument != argument) continue;
         if (q->kind == VALUE_PARAMETER) add_value(commands, k, i, q, value);
-        else if (m) addf(commands, "arg k%u %u buffer b%u\n", k->number, i, m->number);
+        else if (q->kind == ORIGIN_PARAMETER) addf(commands, "arg k%u %u value %zu\n", k->number, i, m->origin);
+        else if (q->kind == SIZE_PARAMETER) addf(commands, "arg k%u %u value %zu\n", k->number, i, m->size);
+        else if (m) addf(commands, "arg k%u %u buffer b%u\n", k->number, i, given_number(k, argument, m));
         else addf(commands, "arg k%u %u local %zu\n", k->number, i, n);
     }
 }
 
-// Sends them. The first reply that isn't ok, else the last one; of no command NULL.
-static const char *ask_commands(cl_kernel k, const char *commands) {
+const char *ask_commands(cl_kernel k, const char *commands) {
     const char *reply = NULL;
     for (const char *at = commands; *at;) {
         size_t n = strcspn(at, "\n") + 1;
@@ -448,39 +463,76 @@ static cl_int judge_argument(cl_kernel k, cl_uint index, size_t n, const void *v
     if (!is_pointer(q)) return n != q->type->size ? CL_INVALID_ARG_SIZE : value ? CL_SUCCESS : CL_INVALID_ARG_VALUE;
     if (n != sizeof(cl_mem)) return CL_INVALID_ARG_SIZE;
     *m = value ? *(const cl_mem *)value : NULL;
-    if (!*m) {
-        refuse(k->context, "argument %u (%s) of %s: a null buffer is refused", index, q->name, k->form->name);
-        return CL_INVALID_ARG_VALUE;
-    }
-    return is_a(*m, MEMORY) && (*m)->context == k->context ? CL_SUCCESS : CL_INVALID_MEM_OBJECT;
+    if (!*m) return CL_SUCCESS; // NULL (OpenCL 1.2, 5.7.2)
+    if (!is_a(*m, MEMORY) || (*m)->context != k->context) return CL_INVALID_MEM_OBJECT;
+    return (*m)->parent ? number_part(*m) : CL_SUCCESS;
 }
 
-// Gives an argument by its commands, which it takes. Where one is refused, the argument is as before.
-static cl_int give_commands(cl_kernel k, cl_uint index, char *kept, cl_mem m, size_t local) {
+// Lets the buffer of an argument go. (The device releases none that an argument of a kernel names.)
+static void drop_argument_memory(cl_kernel k, argument *a) {
+    cl_mem m = a->memory;
+    if (!m) return;
+    drop_held_kernel(k);
+    a->memory = NULL;
+    m->uses--;
+    drop_memory(m);
+}
+
+// Makes the device's kernel anew, with all arguments but one.
+static cl_int forget_argument(cl_kernel k, cl_uint index) {
+    session_askf(k->context->session, "release k%u\n", k->number);
+    cl_int fault = ask_kernel(k);
+    for (unsigned i = 0; !fault && i < k->form->count; i++)
+        if (i != index && k->arguments[i].command && *k->arguments[i].command)
+            fault = error_of(ask_commands(k, k->arguments[i].command));
+    return fault;
+}
+
+// A buffer argument that is NULL: the device gets a kernel that is written for that.
+static cl_int give_null(cl_kernel k, cl_uint index) {
+    argument *a = &k->arguments[index];
+    char *nothing = calloc(1, 1);
+    if (!nothing) return CL_OUT_OF_HOST_MEMORY;
+    cl_int fault = a->memory ? forget_argument(k, index) : CL_SUCCESS;
+    if (fault) {
+        free(nothing);
+        return fault;
+    }
+    drop_argument_memory(k, a);
+    free(a->command);
+    *a = (argument){.command = nothing, .is_null = true};
+    return CL_SUCCESS;
+}
+
+// Gives an argument by its commands, which it takes, as it does its value. Where one is refused, the argument is as
+// before.
+static cl_int give_commands(cl_kernel k, cl_uint index, char *kept, void *value, cl_mem m, size_t local) {
     const parameter *q = &k->form->parameters[index];
     argument *a = &k->arguments[index];
     const char *reply = ask_commands(k, kept);
     if (*kept && !is_ok(reply)) {
         free(kept);
-        refuse(k->context, "argument %u (%s) of %s: %s", index, q->name, k->form->name, reply ? reply : "no reply");
+        free(value);
+        const device_limits *limits = limits_of_device();
+        refuse(k->context, "argument %u (%s) of %s: %s (limits: %s, %zu bytes of local memory)", index, q->name,
+               k->form->name, reply ? reply : "no reply", limits->name, limits->local_bytes);
         cl_int fault = error_of(reply);
         if (a->command) ask_commands(k, a->command);
         return fault == CL_INVALID_ARG_VALUE && is_local(q) ? CL_INVALID_ARG_SIZE : fault;
     }
     if (m) m->uses++;
-    if (a->memory) {
-        a->memory->uses--;
-        drop_memory(a->memory);
-    }
+    drop_argument_memory(k, a);
     free(a->command);
+    free(a->value);
     a->command = kept;
+    a->value = value;
     a->memory = m;
     a->local = local;
+    a->is_null = false;
     return CL_SUCCESS;
 }
 
-// The commands of an argument, in memory of their own; NULL where memory is refused.
-static char *commands_of(cl_kernel k, cl_uint index, size_t n, const void *value, cl_mem m) {
+char *commands_of(cl_kernel k, cl_uint index, size_t n, const void *value, cl_mem m) {
     arena a = {0};
     text commands = {.arena = &a};
     if (setjmp(a.failed)) {
@@ -500,12 +552,22 @@ CL_API_ENTRY cl_int CL_API_CALL clSetKernelArg(cl_kernel k, cl_uint index, size_
     if (index >= k->form->count) return CL_INVALID_ARG_INDEX;
     cl_int fault = judge_argument(k, index, n, value, &m);
     if (fault) return fault;
+    const parameter *q = &k->form->parameters[index];
+    if (is_pointer(q) && !is_local(q) && !m) return give_null(k, index);
     const char *before = k->arguments[index].command;
     char *commands = commands_of(k, index, n, value, m);
-    if (!commands) return CL_OUT_OF_HOST_MEMORY;
-    if (before && !strcmp(before, commands)) free(commands); // the same argument again
-    else fault = give_commands(k, index, commands, m, is_local(&k->form->parameters[index]) ? n : 0);
-    return fault;
+    bool is_value = !is_pointer(q);
+    void *kept = is_value && commands ? malloc(n + 1) : NULL;
+    if (!commands || (is_value && !kept)) {
+        free(commands);
+        return CL_OUT_OF_HOST_MEMORY;
+    }
+    if (kept) memcpy(kept, value, n);
+    if (!before || strcmp(before, commands)) return give_commands(k, index, commands, kept, m, is_local(q) ? n : 0);
+    free(commands);                  // the same argument again
+    free(k->arguments[index].value); // (of which bytes may differ that no parameter is)
+    k->arguments[index].value = kept;
+    return CL_SUCCESS;
 }
 
 cl_ulong local_bytes(cl_kernel k, const local_object *l) {

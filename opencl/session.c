@@ -3,6 +3,7 @@
 #include <errno.h>
 #include <fcntl.h>
 #include <sched.h>
+#include <signal.h>
 #include <spawn.h>
 #include <stdarg.h>
 #include <stdio.h>
@@ -19,6 +20,7 @@ extern char **environ;
 struct session {
     pid_t owner, child;
     int fd;
+    int life; // whose other end the child has: where this process is gone, the kernel ends the child
     bool gone, recording;
     bool looks;            // whether the child may answer while this thread looks for the reply
     unsigned misses, skip; // how many looks in a row found nothing, and how many replies aren't looked for therefore
@@ -27,7 +29,7 @@ struct session {
     FILE *record;
 };
 
-enum { MAX_WORDS = 32, COMMAND_ROOM = 4096, REPLY_ROOM = 65536 };
+enum { MAX_WORDS = 32, COMMAND_ROOM = 4096, REPLY_ROOM = 65536, HELD_DESCRIPTOR = 3 };
 
 // How long a reply is looked for before the thread sleeps. Small commands are answered within it, and waking a
 // processor that sleeps takes as long as they do. Where the child waits for this thread's own processor, looking only
@@ -53,6 +55,8 @@ static FILE *log_file(void) {
     return log;
 }
 
+bool tells_in_file(void) { return log_file() != stderr; }
+
 void tell(const char *format, ...) {
     va_list values;
     va_start(values, format);
@@ -74,17 +78,48 @@ static void split_words(char *room, char **words) {
     words[n] = NULL;
 }
 
-// Starts words[0], found on the path, over two descriptors. An error's number, or 0.
-static int start(char **words, int in, int out, pid_t *child) {
+// Starts words[0], found on the path, over a descriptor for its commands and replies, and one that it only holds. It is
+// in a process group of its own, so that a client that catches the interrupt of a terminal keeps it. An error's number,
+// or 0.
+static int start(char **words, int both, int held, pid_t *child) {
     posix_spawn_file_actions_t actions;
+    posix_spawnattr_t attributes;
     if (!words[0]) return ENOENT;
     int fault = posix_spawn_file_actions_init(&actions);
     if (fault) return fault;
-    fault = posix_spawn_file_actions_adddup2(&actions, in, 0);
-    if (!fault) fault = posix_spawn_file_actions_adddup2(&actions, out, 1);
-    if (!fault) fault = posix_spawnp(child, words[0], &actions, NULL, words, environ);
+    fault = posix_spawnattr_init(&attributes);
+    if (!fault) {
+        fault = posix_spawnattr_setpgroup(&attributes, 0);
+        if (!fault) fault = posix_spawnattr_setflags(&attributes, POSIX_SPAWN_SETPGROUP);
+        if (!fault) fault = posix_spawn_file_actions_adddup2(&actions, both, 0);
+        if (!fault) fault = posix_spawn_file_actions_adddup2(&actions, both, 1);
+        if (!fault) fault = posix_spawn_file_actions_adddup2(&actions, held, HELD_DESCRIPTOR);
+        if (!fault) fault = posix_spawnp(child, words[0], &actions, &attributes, words, environ);
+        posix_spawnattr_destroy(&attributes);
+    }
     posix_spawn_file_actions_destroy(&actions);
     return fault;
+}
+
+// Two ends of which a child holds the second one, above all that it is given by number. The first one; -1 where there
+// is none.
+static int open_life(int *held) {
+    int ends[2];
+    *held = -1;
+    if (socketpair(AF_UNIX, SOCK_STREAM | SOCK_CLOEXEC, 0, ends)) return -1;
+    *held = fcntl(ends[1], F_DUPFD_CLOEXEC, HELD_DESCRIPTOR + 1);
+    int fault = errno;
+    close(ends[1]);
+    if (*held >= 0) return ends[0];
+    close(ends[0]);
+    errno = fault;
+    return -1;
+}
+
+// From now on the kernel ends the child as soon as nobody has the other end. (A launch doesn't look for its peer.)
+static void tie_life(int held, pid_t child) {
+    if (fcntl(held, F_SETSIG, SIGKILL) || fcntl(held, F_SETOWN, child)) return;
+    fcntl(held, F_SETFL, fcntl(held, F_GETFL) | O_ASYNC);
 }
 
 // ---- limits ----
@@ -168,6 +203,7 @@ static bool has_processors(void) {
 
 // Gives up a session that couldn't be opened, with an error's number.
 static session *leave(session *s, int fault) {
+    if (s->life >= 0) close(s->life);
     free(s->in);
     free(s);
     errno = fault;
@@ -177,15 +213,19 @@ static session *leave(session *s, int fault) {
 session *session_open(void) {
     static const char version[] = "clsim 2\n";
     char room[COMMAND_ROOM], *words[MAX_WORDS];
-    int ends[2];
+    int ends[2], held = -1;
     session *s = calloc(1, sizeof *s);
     if (!s) return NULL;
+    s->life = -1;
     s->in = malloc(s->room = REPLY_ROOM);
     if (!s->in || socketpair(AF_UNIX, SOCK_STREAM | SOCK_CLOEXEC, 0, ends)) return leave(s, errno);
     if (!serve_command(room, sizeof room)) *room = 0; // (no word of it can be started)
     split_words(room, words);
-    int fault = start(words, ends[1], ends[1], &s->child);
+    s->life = open_life(&held);
+    int fault = s->life < 0 ? errno : start(words, ends[1], held, &s->child);
     close(ends[1]);
+    if (!fault) tie_life(held, s->child);
+    if (held >= 0) close(held);
     if (fault) {
         tell("cannot start %s: %s", words[0] ? words[0] : "the simulator", strerror(fault));
         close(ends[0]);
@@ -206,6 +246,7 @@ void session_close(session *s) {
     close(s->fd);
     if (getpid() == s->owner)
         while (waitpid(s->child, &status, 0) < 0 && errno == EINTR) {}
+    close(s->life);
     if (s->record) fclose(s->record);
     free(s->in);
     free(s);

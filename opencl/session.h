@@ -39,6 +39,8 @@ const device_limits *limits_of_device(void);
 
 // A variable of the environment, NULL where it isn't set or is empty.
 const char *setting(const char *name);
+// Whether lines are told in a file.
+bool tells_in_file(void);
 // Tells a line on standard error, or in the file that CLSIM_LOG names.
 void tell(const char *format, ...) __attribute__((format(printf, 1, 2)));
 #endif

@@ -1,4 +1,5 @@
 #include "source.h"
+#include "front/linking.h"
 #include "own.h"
 #include <stdio.h>
 #include <stdlib.h>
@@ -26,10 +27,21 @@ static char *file_line(arena *a, const char *path, unsigned line) {
     return found ? copy_text(a, room, strcspn(room, "\n")) : NULL;
 }
 
+// The client's text that a place names: the very one by its name, or another one of that name. NULL for a file.
+static const char *text_of(const prepared *p, const char *name) {
+    const char *found = NULL;
+    for (unsigned i = 0; i < p->text_count; i++) {
+        if (p->texts[i].name == name) return p->texts[i].text;
+        if (!found && !strcmp(p->texts[i].name, name)) found = p->texts[i].text;
+    }
+    return found;
+}
+
 // The client's line at a place; NULL where it isn't found.
 static const char *line_of(prepared *p, const place *at) {
-    if (strcmp(at->file, "source")) return file_line(&p->arena, at->file, at->line);
-    const char *line = start_of_line(p->source, at->line);
+    const char *whole = text_of(p, at->file);
+    if (!whole) return file_line(&p->arena, at->file, at->line);
+    const char *line = start_of_line(whole, at->line);
     return line ? copy_text(&p->arena, line, strcspn(line, "\n")) : NULL;
 }
 
@@ -211,13 +223,13 @@ static unsigned lines_in(const char *text, size_t length) {
     return n;
 }
 
-static void list_kernel(prepared *p, kernel_form *k, const judged_kernel *judged) {
+static void list_kernel(arena *a, const prepared *p, kernel_form *k, const judged_kernel *judged) {
     const node *f = judged->function;
-    text words = {.arena = &p->arena};
+    text words = {.arena = a};
     add(&words, "");
     *k = (kernel_form){.name = f->name,
                        .judged_name = judged->name,
-                       .parameters = take(&p->arena, (f->part_count + 1) * sizeof(parameter)),
+                       .parameters = take(a, (f->part_count + 1) * sizeof(parameter)),
                        .count = f->part_count,
                        .judged = judged->parameters,
                        .judged_count = judged->parameter_count,
@@ -227,10 +239,12 @@ static void list_kernel(prepared *p, kernel_form *k, const judged_kernel *judged
                        .local_count = judged->local_count,
                        .begin = judged->begin,
                        .length = judged->length,
+                       .function = f,
+                       .accesses = judged->accesses,
                        .lines = lines_in(p->text + judged->begin, judged->length)};
     for (unsigned i = 0; i < f->part_count; i++) {
         const node *q = f->parts[i];
-        k->parameters[i] = (parameter){q->name ? q->name : "", q->type, told_type(&p->arena, q->type)};
+        k->parameters[i] = (parameter){q->name ? q->name : "", q->type, told_type(a, q->type)};
     }
     for (const attribute *t = f->attributes; t; t = t->next) {
         add_attribute(&words, t);
@@ -241,39 +255,58 @@ static void list_kernel(prepared *p, kernel_form *k, const judged_kernel *judged
 
 // ---- the whole ----
 
-static void keep_judged(prepared *p, const judged_source *judged) {
+static void keep_judged(arena *a, prepared *p, const judged_source *judged) {
     p->text = judged->text;
     p->length = judged->length;
     p->places = judged->places;
     p->place_count = judged->place_count;
     p->tables = judged->tables;
     p->table_count = judged->table_count;
+    p->table_numbers = judged->table_numbers;
+    p->table_room = judged->table_room;
     p->kernel_count = judged->kernel_count;
-    p->kernels = take(&p->arena, (p->kernel_count + 1) * sizeof *p->kernels);
-    for (unsigned i = 0; i < p->kernel_count; i++) list_kernel(p, &p->kernels[i], &judged->kernels[i]);
+    p->kernels = take(a, (p->kernel_count + 1) * sizeof *p->kernels);
+    for (unsigned i = 0; i < p->kernel_count; i++) list_kernel(a, p, &p->kernels[i], &judged->kernels[i]);
     if (*judged->notes) p->log = judged->notes;
 }
 
-static bool translate_source(prepared *p, const char *options) {
+// What is refused, as the log.
+static bool log_refusal(prepared *p, const refusal *wrong) {
+    text log = {.arena = &p->arena};
+    add_message(p, &log, &wrong->at, wrong->message);
+    p->log = log.at;
+    return false;
+}
+
+// The one tree of several sources; NULL where there is none, and the log says why.
+static const tree *read_trees(prepared *p, client_source *sources, unsigned count) {
     arena *a = &p->arena;
-    tree *t = take(a, sizeof *t);
+    tree **trees = take(a, count * sizeof *trees), *whole = take(a, sizeof *whole);
+    refusal wrong;
+    for (unsigned i = 0; i < count; i++) {
+        trees[i] = take(a, sizeof **trees);
+        if (read_compiled(a, &sources[i], i ? trees[i - 1]->node_count - 1 : 0, trees[i])) continue;
+        p->log = trees[i]->log;
+        return NULL;
+    }
+    if (link_trees(a, trees, count, whole, &wrong)) return whole;
+    log_refusal(p, &wrong);
+    return NULL;
+}
+
+static bool translate_sources(prepared *p, client_source *sources, unsigned count) {
+    arena *a = &p->arena;
     judged_source *judged = take(a, sizeof *judged);
     refusal wrong;
-    text log = {.arena = a};
-    if (!read_source(a, p->source, options, t)) {
-        p->log = t->log;
-        return false;
-    }
-    if (!translate(a, t, judged, &wrong)) {
-        add_message(p, &log, &wrong.at, wrong.message);
-        p->log = log.at;
-        return false;
-    }
+    const tree *t = read_trees(p, sources, count);
+    if (!t) return false;
+    if (!translate(a, t, judged, &wrong)) return log_refusal(p, &wrong);
     if (!judged->kernel_count) { // a program is a function at least
         judged->text = copy_text(a, "void clsim_nothing() {\n}\n", 25);
         judged->length = strlen(judged->text);
     }
-    keep_judged(p, judged);
+    keep_judged(a, p, judged);
+    p->tree = t;
     return true;
 }
 
@@ -282,11 +315,11 @@ static bool has_macros(const char *options) { return options && strstr(options, 
 
 // Whether the source is judged as it is: it is a program in Clsim's language. CLSIM_REWRITE=0 takes every source for
 // one, 1 none.
-static bool is_judged_as_it_is(prepared *p, const char *options, session *device) {
+static bool is_judged_as_it_is(prepared *p, const client_source *source, session *device) {
     const char *rewriting = setting("CLSIM_REWRITE");
     text whole = {.arena = &p->arena};
-    if (has_macros(options) || (rewriting && !strcmp(rewriting, "1"))) return false;
-    add(&whole, p->source);
+    if (has_macros(source->options) || (rewriting && !strcmp(rewriting, "1"))) return false;
+    add(&whole, source->source.text);
     if (!whole.length || whole.at[whole.length - 1] != '\n') add(&whole, "\n");
     p->text = whole.at;
     p->length = whole.length;
@@ -296,16 +329,88 @@ static bool is_judged_as_it_is(prepared *p, const char *options, session *device
     return p->is_own;
 }
 
+// Keeps the client's texts for places. Where there are several sources they are numbered from 1 on.
+static void keep_texts(prepared *p, client_source *sources, unsigned count) {
+    unsigned n = 0;
+    for (unsigned i = 0; i < count; i++) n += 1 + sources[i].header_count;
+    named_text *texts = take(&p->arena, n * sizeof *texts);
+    p->texts = texts;
+    for (unsigned i = 0; i < count; i++) {
+        text name = {.arena = &p->arena};
+        addf(&name, "source%u", i + 1);
+        sources[i].source.name = count > 1 ? name.at : "source";
+        texts[p->text_count++] = sources[i].source;
+        for (unsigned k = 0; k < sources[i].header_count; k++) texts[p->text_count++] = sources[i].headers[k];
+    }
+}
+
+preparation prepare_linked(prepared *p, client_source *sources, unsigned count, session *device) {
+    if (setjmp(p->arena.failed)) {
+        free_prepared(p);
+        return NO_MEMORY;
+    }
+    keep_texts(p, sources, count);
+    bool may_be_own = count == 1 && !sources->preprocessed;
+    p->is_own = may_be_own && is_judged_as_it_is(p, sources, device) && list_own_kernels(p);
+    if (!p->is_own && !translate_sources(p, sources, count)) return NOT_PREPARED;
+    p->lines = lines_in(p->text, p->length);
+    return PREPARED;
+}
+
 preparation prepare_source(prepared *p, const char *source, const char *options, session *device) {
+    client_source *s = NULL;
     memset(p, 0, sizeof *p);
     if (setjmp(p->arena.failed)) {
         free_prepared(p);
         return NO_MEMORY;
     }
-    p->source = copy_text(&p->arena, source, strlen(source));
-    p->is_own = is_judged_as_it_is(p, options, device) && list_own_kernels(p);
-    if (!p->is_own && !translate_source(p, options)) return NOT_PREPARED;
-    p->lines = lines_in(p->text, p->length);
+    s = take(&p->arena, sizeof *s);
+    *s = (client_source){.source = {"source", copy_text(&p->arena, source, strlen(source))}, .options = options};
+    return prepare_linked(p, s, 1, device);
+}
+
+preparation prepare_compiled(prepared *p, client_source *source, session *device) {
+    if (setjmp(p->arena.failed)) {
+        free_prepared(p);
+        return NO_MEMORY;
+    }
+    keep_texts(p, source, 1);
+    p->is_own = is_judged_as_it_is(p, source, device) && list_own_kernels(p);
+    if (!p->is_own) p->log = compile_source(&p->arena, source);
+    return p->log ? NOT_PREPARED : PREPARED;
+}
+
+// The tree of a source that is judged as it is, for what asks for more of it. NULL where clang doesn't read it.
+static const tree *tree_of_own(prepared *p) {
+    client_source *s = take(&p->arena, sizeof *s);
+    tree *t = take(&p->arena, sizeof *t);
+    *s = (client_source){.source = p->texts[0]};
+    return read_compiled(&p->arena, s, 0, t) ? t : NULL;
+}
+
+static const node *kernel_named(const tree *t, const char *name) {
+    for (unsigned i = 0; i < t->declaration_count; i++) {
+        const node *n = t->declarations[i];
+        if (n->kind == FUNCTION_DECLARATION && n->body && !strcmp(n->name, name)) return n;
+    }
+    return NULL;
+}
+
+preparation prepare_held(prepared *p, const kernel_form *k, const unsigned char *held, prepared *to) {
+    refusal wrong;
+    if (setjmp(p->arena.failed)) return NO_MEMORY;
+    if (!p->tree) p->tree = tree_of_own(p);
+    const node *function = !p->tree ? NULL : k->function ? k->function : kernel_named(p->tree, k->name);
+    if (!function) return NOT_PREPARED;
+    judged_source *judged = take(&p->arena, sizeof *judged);
+    *judged = (judged_source){.tables = p->tables,
+                              .table_count = p->table_count,
+                              .table_numbers = p->table_numbers,
+                              .table_room = p->table_room};
+    bool is_done = translate_held(&p->arena, p->tree, function, held, judged, &wrong);
+    if (!is_done || judged->kernel_count != 1 || judged->table_count != p->table_count) return NOT_PREPARED;
+    *to = (prepared){.texts = p->texts, .text_count = p->text_count, .tree = p->tree};
+    keep_judged(&p->arena, to, judged);
     return PREPARED;
 }
 

@@ -24,13 +24,17 @@ typedef struct {
     unsigned local_count;
     size_t begin, length; // the program that it is sent in: a part of the judged text
     unsigned lines;
-    size_t group[3];        // reqd_work_group_size, or zeros
-    const char *attributes; // those of its function, with a space between each two
+    size_t group[3];               // reqd_work_group_size, or zeros
+    const char *attributes;        // those of its function, with a space between each two
+    const node *function;          // NULL where it is judged as it is
+    const unsigned char *accesses; // of each argument: which accesses of its buffer are written; NULL where unknown
 } kernel_form;
 
 typedef struct {
     arena arena;
-    char *source, *text; // the client's, and as it is judged
+    char *text;              // as it is judged
+    const named_text *texts; // the client's: sources and their headers
+    unsigned text_count;
     size_t length;
     unsigned lines;
     bool is_own; // it is in Clsim's language, and judged byte for byte, all of it as one program
@@ -40,7 +44,10 @@ typedef struct {
     unsigned kernel_count;
     constant_table *tables; // constant memory that the source fills itself
     unsigned table_count;
-    const char *log; // why it can't be built, or what was left out
+    const char *log;         // why it can't be built, or what was left out
+    const tree *tree;        // NULL where it is judged as it is
+    unsigned *table_numbers; // as in `judged_source`
+    unsigned table_room;
 } prepared;
 
 typedef enum { PREPARED, NOT_PREPARED, NO_MEMORY } preparation;
@@ -48,6 +55,14 @@ typedef enum { PREPARED, NOT_PREPARED, NO_MEMORY } preparation;
 // Makes a source ready by the options of a build. The device says whether it is a program in Clsim's language. The text
 // and the log live until it is freed.
 preparation prepare_source(prepared *p, const char *source, const char *options, session *device);
+// Makes several sources ready as one program (OpenCL 1.2, 5.6.3). Those that aren't compiled are then.
+preparation prepare_linked(prepared *p, client_source *sources, unsigned count, session *device);
+// Compiles a source, unless it is in Clsim's language: such a one stays as it is. What it becomes lives until `p` is
+// freed, which gets the log.
+preparation prepare_compiled(prepared *p, client_source *source, session *device);
+// Makes a kernel ready once more, in which accesses by its arguments, a set for each, are the fault bounds at
+// HELD_ELEMENT. What it comes to lives as long as `p`, which has no more tables then. NOT_PREPARED where it can't be.
+preparation prepare_held(prepared *p, const kernel_form *k, const unsigned char *held, prepared *to);
 void free_prepared(prepared *p);
 // The log of a build that the device refused, from its reply to the program that begins at an offset of the judged
 // text. NULL where memory is refused.

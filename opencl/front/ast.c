@@ -2,6 +2,7 @@
 #include "ast.h"
 #include "../options.h"
 #include "../session.h"
+#include "folder.h"
 #include "known.h"
 #include "nodes.h"
 #include <errno.h>
@@ -191,6 +192,8 @@ static bool takes_value(const char *option) { return !strncmp(option, "-D", 2) |
 typedef struct {
     arena *arena;
     const char *clang;
+    const client_source *source;
+    const char *headers, *current; // the folder of the headers, and the client's own one; NULL without headers
     char **options;
     size_t option_count;
     bool wants_warnings; // as errors
@@ -198,14 +201,29 @@ typedef struct {
     bool is_late;        // its time ran out
 } request;
 
+// An option with a value as one word. A folder of the client's is found from the one of the headers too.
+static void add_option_with(word_list *l, const request *q, const char *option, const char *value) {
+    bool is_moved = option[1] == 'I' && q->headers && *value != '/';
+    text word = {.arena = l->arena};
+    addf(&word, "%.2s%s%s%s", option, is_moved ? q->current : "", is_moved ? "/" : "", value);
+    add_word(l, word.at);
+}
+
 static void add_options(word_list *l, const request *q, bool with_values) {
     for (size_t i = 0; i < q->option_count; i++) {
         const char *option = q->options[i];
         bool has_value = takes_value(option), is_split = has_value && !option[2] && i + 1 < q->option_count;
-        if (is_for_clang(option) || (has_value && with_values)) add_word(l, option);
-        if (is_split && with_values) add_word(l, q->options[i + 1]);
+        if (is_for_clang(option)) add_word(l, option);
+        if (has_value && with_values) add_option_with(l, q, option, is_split ? q->options[i + 1] : option + 2);
         i += is_split;
     }
+}
+
+// The headers are found in front of all other files: clang's folder is theirs.
+static void add_headers(word_list *l, const request *q) {
+    const char *const words[] = {"-working-directory", q->headers, "-iquote",  q->headers, "-iquote",
+                                 q->current,           "-I",       q->headers, NULL};
+    if (q->headers) add_words(l, words);
 }
 
 // The command that reads the client's source, or with `for_dump` what was preprocessed of it.
@@ -215,6 +233,7 @@ static char **words_for(const request *q, const char *const *purpose) {
     add_word(&l, q->clang);
     add_words(&l, for_all);
     if (is_source) add_words(&l, for_source);
+    if (is_source) add_headers(&l, q);
     add_options(&l, q, is_source);
     if (purpose == for_checking) add_word(&l, q->wants_warnings ? "-Werror" : "-w");
     add_words(&l, purpose);
@@ -281,9 +300,10 @@ static outcome check_source(const request *q, const text *named) {
     return run_clang(q->arena, words_for(q, for_checking), named->at, named->length, read_whole, &nothing);
 }
 
-// Why clang doesn't take a source: what it says of the client's own text, where it says so there too.
+// Why clang doesn't take a source: what it says of the client's own text, where that is at hand and it says so there
+// too.
 static void explain_refusal(const request *q, const text *named, const outcome *o, text *log) {
-    if (tells_errors(o)) {
+    if (named && tells_errors(o)) {
         outcome again = check_source(q, named);
         if (!is_done(&again) && tells_errors(&again)) {
             add(log, again.told);
@@ -291,15 +311,6 @@ static void explain_refusal(const request *q, const text *named, const outcome *
         }
     }
     explain_outcome(log, q->clang, o);
-}
-
-static bool read_preprocessed(request *q, const text *named, const char *source, char *at, size_t length, tree *t,
-                              text *log) {
-    tree_request wanted = {q->arena, read_rows(q->arena, at, length, source), t};
-    outcome o = run_clang(q->arena, words_for(q, for_dump), at, length, read_tree, &wanted);
-    q->is_late = o.is_late;
-    if (!is_done(&o)) explain_refusal(q, named, &o, log);
-    return is_done(&o);
 }
 
 // What clang looks for where it knows a built-in function by an extension: the preprocessed text has no macros any
@@ -313,32 +324,46 @@ static const char in_front[] = "#define __opencl_c_int64 1\n"
                                "#define cl_khr_local_int32_extended_atomics 1\n";
 static const char behind[] = "\ntypedef int " LAST_NAME ";\n";
 
-static bool read_named(request *q, const text *named, const char *source, tree *t, text *log) {
-    whole *w = take(q->arena, sizeof *w);
-    w->arena = q->arena;
+// Reads what a source is after its preprocessing. Without `named` its own text isn't read again.
+static bool read_preprocessed(request *q, const text *named, const char *at, size_t length, tree *t, text *log) {
+    text read = {.arena = q->arena};
+    add(&read, in_front);
+    add_bytes(&read, at, length);
+    add(&read, behind);
+    tree_request wanted = {q->arena, read_rows(q->arena, read.at, read.length, q->source), t};
+    outcome o = run_clang(q->arena, words_for(q, for_dump), read.at, read.length, read_tree, &wanted);
+    q->is_late = o.is_late;
+    if (!is_done(&o)) explain_refusal(q, named, &o, log);
+    return is_done(&o);
+}
+
+// Preprocesses a source; with `is_checked` it is judged first, as it is where its warnings are errors.
+static bool preprocess(request *q, const text *named, bool is_checked, whole *w, text *log) {
     outcome o = {.told = ""};
-    if (q->wants_warnings) o = check_source(q, named);
+    if (is_checked || q->wants_warnings) o = check_source(q, named);
     if (is_done(&o)) o = run_clang(q->arena, words_for(q, for_preprocessing), named->at, named->length, read_whole, w);
     q->fault = o.fault;
     q->is_late = o.is_late;
     if (is_done(&o) && !ends_as_source(w)) o.wrong = "its preprocessed text ends too early";
-    if (!is_done(&o)) {
-        explain_outcome(log, q->clang, &o);
-        return false;
-    }
-    text read = {.arena = q->arena};
-    add(&read, in_front);
-    add_bytes(&read, w->at, w->length);
-    add(&read, behind);
-    return read_preprocessed(q, named, source, read.at, read.length, t, log);
+    if (!is_done(&o)) explain_outcome(log, q->clang, &o);
+    return is_done(&o);
 }
 
-static bool read_by(request *q, const char *source, const char *options, tree *t, text *log) {
-    q->options = split_options(q->arena, options ? options : "", &q->option_count);
-    for (size_t i = 0; i < q->option_count; i++) q->wants_warnings |= !strcmp(q->options[i], "-Werror");
-    text named = named_source(q->arena, source);
-    *t = (tree){.declarations = NULL};
-    return read_named(q, &named, source, t, log);
+static request request_for(arena *a, const char *clang, const client_source *s) {
+    request q = {.arena = a, .clang = clang, .source = s};
+    q.options = split_options(a, s->options ? s->options : "", &q.option_count);
+    for (size_t i = 0; i < q.option_count; i++) q.wants_warnings |= !strcmp(q.options[i], "-Werror");
+    return q;
+}
+
+static bool read_by(request *q, unsigned taken, tree *t, text *log) {
+    const client_source *s = q->source;
+    *t = (tree){.node_count = taken};
+    if (s->preprocessed) return read_preprocessed(q, NULL, s->preprocessed, s->preprocessed_length, t, log);
+    whole *w = take(q->arena, sizeof *w);
+    w->arena = q->arena;
+    text named = named_source(q->arena, s->source.text);
+    return preprocess(q, &named, false, w, log) && read_preprocessed(q, &named, w->at, w->length, t, log);
 }
 
 // ---- which clang ----
@@ -359,12 +384,13 @@ static const char *version_of(arena *a, const char *clang) {
 
 // Whether a clang can be used. Where it is there and can't, the log says why.
 static bool is_usable(arena *a, const char *clang, text *log) {
+    static const client_source known = {.source = {"source", known_source}};
     request *q = take(a, sizeof *q);
     tree *t = take(a, sizeof *t);
     text why = {.arena = a};
     add(&why, "");
-    *q = (request){.arena = a, .clang = clang};
-    bool is_read = read_by(q, known_source, "", t, &why);
+    *q = request_for(a, clang, &known);
+    bool is_read = read_by(q, 0, t, &why);
     if (is_read && is_known_tree(a, t)) return true;
     if (q->fault == ENOENT) return false;
     if (q->fault || q->is_late) add(log, why.at);
@@ -394,13 +420,63 @@ static bool find_clang(arena *a, text *log) {
     return false;
 }
 
-bool read_source(arena *a, const char *source, const char *options, tree *t) {
+// Why the last step didn't come out.
+static const char *log_text(const text *log) { return log->at ? log->at : "clang doesn't read this source\n"; }
+
+bool read_compiled(arena *a, client_source *s, unsigned taken, tree *t) {
     text log = {.arena = a};
     *t = (tree){.declarations = NULL};
     bool is_found = find_clang(a, &log);
     if (is_found) log = (text){.arena = a};
-    request q = {.arena = a, .clang = chosen};
-    bool is_read = is_found && read_by(&q, source, options, t, &log);
-    t->log = is_read ? NULL : log.at ? log.at : "clang doesn't read this source\n";
+    request q = request_for(a, chosen, s);
+    bool is_read = is_found && read_by(&q, taken, t, &log);
+    t->log = is_read ? NULL : log_text(&log);
     return is_read;
+}
+
+bool read_source(arena *a, const char *source, const char *options, tree *t) {
+    client_source *s = take(a, sizeof *s);
+    *s = (client_source){.source = {"source", source}, .options = options};
+    return read_compiled(a, s, 0, t);
+}
+
+// ---- a source that is compiled ----
+
+static bool compile_by(request *q, client_source *s, text *log) {
+    whole *w = take(q->arena, sizeof *w);
+    w->arena = q->arena;
+    text named = named_source(q->arena, s->source.text);
+    if (!preprocess(q, &named, true, w, log)) return false;
+    s->preprocessed = w->at;
+    s->preprocessed_length = w->length;
+    return true;
+}
+
+// Compiles a source with its headers in a folder, which goes again: where memory is refused too.
+static bool compile_with(request *q, folder *f, client_source *s, text *log) {
+    jmp_buf *outer = take(q->arena, sizeof *outer);
+    memcpy(outer, &q->arena->failed, sizeof *outer);
+    if (setjmp(q->arena->failed)) {
+        remove_folder(f);
+        memcpy(&q->arena->failed, outer, sizeof *outer);
+        longjmp(q->arena->failed, 1);
+    }
+    const char *wrong = make_folder(f, q->arena, s->headers, s->header_count);
+    q->headers = f->path;
+    q->current = current_folder(q->arena);
+    if (wrong) add(log, wrong);
+    bool is_done = !wrong && compile_by(q, s, log);
+    memcpy(&q->arena->failed, outer, sizeof *outer);
+    remove_folder(f);
+    return is_done;
+}
+
+const char *compile_source(arena *a, client_source *s) {
+    text log = {.arena = a};
+    if (!find_clang(a, &log)) return log_text(&log);
+    log = (text){.arena = a};
+    request *q = take(a, sizeof *q);
+    *q = request_for(a, chosen, s);
+    bool is_done = s->header_count ? compile_with(q, take(a, sizeof(folder)), s, &log) : compile_by(q, s, &log);
+    return is_done ? NULL : log_text(&log);
 }

@@ -211,6 +211,7 @@ struct node {
     const type *type; // of an expression or a declaration
     bool is_lvalue;
     bool is_arrow, is_postfix, is_static, is_exact;
+    bool is_extern, is_inline; // of a declaration: it is declared with these words
     operation operation;
     cast_kind cast;
     node **parts;
@@ -233,10 +234,31 @@ typedef struct {
     const node **declarations; // those of program scope in the order of the text, without those of clang's own header
     unsigned declaration_count;
     unsigned node_count; // 1 above the highest `number`
-    const char *log;     // why it can't be read, in clang's form with the client's lines; NULL where it is read
+    node **open;         // names of functions and of `extern` variables that are declared here and defined nowhere here
+    unsigned open_count;
+    const char *log; // why it can't be read, in clang's form with the client's lines; NULL where it is read
 } tree;
+
+// A text of the client's, by the name that places have for it.
+typedef struct {
+    const char *name, *text;
+} named_text;
+
+// A source with all that is asked for to read it.
+typedef struct {
+    named_text source;
+    const char *options;       // of its build
+    const named_text *headers; // that it may include by their names (OpenCL 1.2, 5.6.3)
+    unsigned header_count;
+    const char *preprocessed; // what clang makes of it first; NULL before
+    size_t preprocessed_length;
+} client_source;
 
 // Has clang read a source with the options of a build. False where it can't be read; then `log` says why. Where memory
 // is refused it goes on behind `a->failed`.
 bool read_source(arena *a, const char *source, const char *options, tree *t);
+// Has clang judge a source, and keep what it is after its preprocessing. NULL, or why clang doesn't take it.
+const char *compile_source(arena *a, client_source *s);
+// Reads a source that is compiled, or one without headers that isn't. Numbers begin behind one that is taken.
+bool read_compiled(arena *a, client_source *s, unsigned taken, tree *t);
 #endif

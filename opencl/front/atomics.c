@@ -42,7 +42,9 @@ static const char *atomic_text(translator *t, object *o, const atomic *a) {
     if (is_local && has_order && o->array_element != a->type && width_of(o->array_element) == 4)
         refuse_at(t, at, "Clsim has no atomic_%s on local memory that is both int and uint", a->operation);
     text all = {.arena = &t->pass};
-    addf(&all, "%satomic_%s(&%s[%s]", mark_here(t, at), a->operation, name, in_units(t, offset, 4).text);
+    o->accesses |= LOADS | STORES;
+    const char *index = o->held & (LOADS | STORES) ? HELD_ELEMENT : index_in(t, o, offset, 4).text;
+    addf(&all, "%satomic_%s(&%s[%s]", mark_here(t, at), a->operation, name, index);
     for (unsigned i = 1; i < a->count; i++) addf(&all, ",%s", forced(t, a->given[i].value.integer).text);
     add(&all, ")");
     return all.at;

@@ -164,7 +164,10 @@ struct object {
     integer_type element; // where no access says otherwise
     bool is_fixed;        // it is never assigned
     bool is_const;
-    const char *views[INTEGER_TYPES]; // of a buffer: the parameters by the types of their elements
+    unsigned char accesses, held;        // of a buffer: which accesses are written, and which of them are held back
+    // of a part of a buffer: its parameters, and the element that stands for all outside of it
+    const char *part_origin, *part_size, *outside;
+    const char *views[INTEGER_TYPES];    // of a buffer: the parameters by the types of their elements
     integer_type array_element;
     const value *alias;         // what it always holds
     const unsigned char *bytes; // of a table
@@ -224,8 +227,8 @@ typedef struct translator {
     bool *is_modified;      // of each declaration, whether it is used otherwise than to read it
     unsigned *return_count; // of each function's body 1 above how many returns it has, 0 where that isn't known
     judged_source *to;
-    unsigned *table_numbers; // of each declaration and text 1 above the number of its table, 0 where it has none
-    unsigned table_room;
+    const node *only;          // the one kernel that is written, NULL for all
+    const unsigned char *held; // of each of its arguments
     unsigned place_room;
     note *notes;
 
@@ -390,6 +393,8 @@ integer load(translator *t, pointer p, integer_type type, unsigned align, const 
 void store(translator *t, pointer p, integer_type type, integer v, unsigned align, const place *at);
 bool is_inside(const object *o, linear l, unsigned width);
 const char *view_of(translator *t, object *o, integer_type type);
+// The index of an element of an object; of a part of a buffer that in the buffer, or one of no element.
+integer index_in(translator *t, const object *o, linear at, unsigned width);
 const char *null_name(translator *t);
 // Writes for each of several objects what is done where the selector chooses it.
 typedef void on_object(translator *t, object *o, void *with);

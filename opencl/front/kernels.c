@@ -1,5 +1,6 @@
 // A kernel: its parameters, its passes, its text.
 #include "front.h"
+#include <inttypes.h>
 #include <string.h>
 
 // A parameter that is written: of a pointer its object, of a value its name, type and place.
@@ -39,13 +40,19 @@ static void take_pointer(translator *t, written_parameters *all, unsigned argume
     if (space == IN_PRIVATE) refuse_at(t, &p->place, "a kernel has no pointers to private memory as parameters");
     if (pointed->kind != VOID_TYPE) size_of_type(t, pointed, &p->place);
     new_object(t, o, space, pointed, p->name);
+    o->held = t->held ? t->held[argument] : 0;
+    if (o->held & IS_PART) {
+        o->part_origin = fresh_name(t, format(t, "%s_origin", o->name));
+        o->part_size = fresh_name(t, format(t, "%s_size", o->name));
+        o->outside = format(t, "%" PRId64, OUTSIDE_ELEMENT + argument);
+    }
     if (space == IN_LOCAL) add_local(t, o);
     else {
         o->judged = fresh_name(t, o->name);
         show_name(t, o->judged, o->name);
     }
-    add_written(t, all, (written_parameter){.argument = argument, .object = o});
-    value v = pointer_value(pointer_to(t, o));
+    if (!(o->held & IS_NULL)) add_written(t, all, (written_parameter){.argument = argument, .object = o});
+    value v = pointer_value(pointer_to(t, o->held & IS_NULL ? t->null : o));
     if (t->is_modified[p->number]) {
         declare(t, self, p->type, p->name, &p->place);
         store_pointer(t, pointer_to(t, self), v.pointer, &p->place);
@@ -123,6 +130,17 @@ static void write_pointer(translator *t, judged_kernel *k, unsigned *room, text 
     addf(to, "%s %s%s *%s", spaces[o->space], is_const ? "const " : "", name_of(p.type), name);
 }
 
+// Which part of its buffer an argument is.
+static void write_part(translator *t, judged_kernel *k, unsigned *room, text *to, const object *o, unsigned argument) {
+    judged_parameter p = {.kind = ORIGIN_PARAMETER, .type = ULONG, .argument = argument};
+    if (!(o->held & IS_PART)) return;
+    *add_parameter(t, k, room, to) = p;
+    addf(to, "ulong %s", o->part_origin);
+    p.kind = SIZE_PARAMETER;
+    *add_parameter(t, k, room, to) = p;
+    addf(to, "ulong %s", o->part_size);
+}
+
 // One for each type that a buffer is accessed by, the one with its own name first.
 static void write_views(translator *t, judged_kernel *k, unsigned *room, text *to, const object *o,
                         judged_parameter p) {
@@ -151,7 +169,10 @@ static void write_head(translator *t, judged_kernel *k, const written_parameters
             *add_parameter(t, k, &room, to) = p;
             addf(to, "%s %s", name_of(w->type), w->name);
         } else if (p.kind == LOCAL_PARAMETER) write_pointer(t, k, &room, to, w->object, p, w->object->judged);
-        else write_views(t, k, &room, to, w->object, p);
+        else {
+            write_views(t, k, &room, to, w->object, p);
+            write_part(t, k, &room, to, w->object, w->argument);
+        }
     }
     for (unsigned i = 0; i < t->hidden_count; i++) {
         judged_parameter p = {.kind = TABLE_PARAMETER, .argument = t->hidden[i]->table};
@@ -183,6 +204,12 @@ static void keep_locals(translator *t, judged_kernel *k) {
         for (unsigned p = 0; l->is_parameter && p < k->function->part_count; p++)
             if (k->function->parts[p]->number == o->number) l->argument = p;
     }
+}
+
+static void keep_accesses(translator *t, judged_kernel *k, const written_parameters *all) {
+    k->accesses = take(t->result, k->function->part_count + 1);
+    for (unsigned i = 0; i < all->count; i++)
+        if (all->at[i].object) k->accesses[all->at[i].argument] |= all->at[i].object->accesses;
 }
 
 // ---- passes ----
@@ -299,4 +326,5 @@ void translate_kernel(translator *t, const node *function, judged_kernel *k, tex
     k->length = to->length - k->begin;
     keep_names(t, k);
     keep_locals(t, k);
+    keep_accesses(t, k, &all);
 }

@@ -144,12 +144,37 @@ static accessed_array array_for(translator *t, object *o, integer_type type) {
     return (accessed_array){view_of(t, o, type), type};
 }
 
-static integer element_at(translator *t, accessed_array array, linear at, const place *place) {
-    integer index = in_units(t, at, width_of(array.element));
+integer index_in(translator *t, const object *o, linear at, unsigned width) {
+    integer index = in_units(t, at, width);
+    unsigned shift = 0;
+    if (!(o->held & IS_PART)) return index;
+    while (1u << shift < width) shift++;
+    index = kept(t, cast_to(t, index, ULONG));
+    integer units = literal(t, shift, INT), size = variable(o->part_size, ULONG, true);
+    integer count = binary(t, SHIFT_RIGHT, size, units, ULONG);
+    integer first = binary(t, SHIFT_RIGHT, variable(o->part_origin, ULONG, true), units, ULONG);
+    integer sum = cast_to(t, binary(t, ADD, index, first, ULONG), LONG);
+    integer test = binary(t, LESS, exactly(t, index, ULONG), count, ULONG);
+    return kept(t, choice(t, test, sum, variable(o->outside, LONG, true), LONG));
+}
+
+static integer element_at(translator *t, const object *o, accessed_array array, linear at, const place *place) {
+    integer index = index_in(t, o, at, width_of(array.element));
     integer v = variable(format(t, "%s%s[%s]", mark_here(t, place), array.name, index.text), array.element, false);
     v.depth = (unsigned char)(index.depth + 2);
     v.has_effect = true;
     return v;
+}
+
+// In place of an access that is held back: one of no element. Of its index nothing is evaluated, since it is a fault
+// anyway.
+static const char *held_access(translator *t, const accessed_array *array, const place *at) {
+    return format(t, "%s%s[" HELD_ELEMENT "]", mark_here(t, at), array->name);
+}
+
+static bool is_held(object *o, unsigned accesses) {
+    o->accesses |= accesses;
+    return o->held & accesses;
 }
 
 // ---- loading ----
@@ -169,8 +194,13 @@ static integer load_pieces(translator *t, object *o, pieces p, integer_type type
     unsigned count = p.count * p.width / step;
     integer whole = {.text = NULL};
     if (!array.name || p.width < element) return unknown(t, type);
+    if (is_held(o, LOADS)) {
+        integer v = variable(held_access(t, &array, at), array.element, false);
+        v.has_effect = true;
+        return cast_to(t, v, type);
+    }
     for (unsigned i = 0; i < count; i++) {
-        integer piece = element_at(t, array, plus(p.at, (int64_t)i * step), at);
+        integer piece = element_at(t, o, array, plus(p.at, (int64_t)i * step), at);
         if (count == 1) return cast_to(t, piece, type);
         whole = with_piece(t, i ? &whole : NULL, piece, i * step, width_of(type));
     }
@@ -268,9 +298,13 @@ static void store_pieces(translator *t, object *o, pieces p, integer_type type, 
         return;
     }
     v = cast_to(t, v, type);
+    if (is_held(o, STORES)) {
+        emit(t, "%s=%s;", held_access(t, &array, at), assigned(t, cast_to(t, v, array.element), array.element));
+        return;
+    }
     if (count > 1) v = kept(t, v);
     for (unsigned i = 0; i < count; i++) {
-        integer index = in_units(t, plus(p.at, (int64_t)i * step), element), piece = v;
+        integer index = index_in(t, o, plus(p.at, (int64_t)i * step), element), piece = v;
         if (count > 1) piece = binary(t, SHIFT_RIGHT, cast_to(t, v, whole), literal(t, 8 * i * step, INT), whole);
         emit(t, "%s%s[%s]=%s;", mark_here(t, at), array.name, index.text, assigned(t, piece, array.element));
     }

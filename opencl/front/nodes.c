@@ -286,6 +286,8 @@ static void open_object(builder *b, const rule *r, const dump_line *line) {
     n->name = read_name(b, line->own, &s, &is_complete);
     n->type = need_type(b, &s);
     n->is_static = has_word(s, "static");
+    n->is_extern = has_word(s, "extern");
+    n->is_inline = has_word(s, "inline");
     put_id(b->arena, &b->nodes, line->id, n);
     frame *f = push(b, r, line, n);
     f->last_attribute = (attribute **)&n->attributes;
@@ -616,9 +618,22 @@ static void read_unit(builder *b) {
 
 // ---- the whole ----
 
+// Whether a declaration is one of what another source may define.
+static bool is_open(const node *d) {
+    return d && ((d->kind == FUNCTION_DECLARATION && !d->body && !d->is_static) ||
+                 (d->kind == VARIABLE_DECLARATION && !d->part_count && d->is_extern));
+}
+
 static void choose_declarations(builder *b) {
-    for (reference *r = b->names; r; r = r->next)
+    tree *t = b->tree;
+    for (reference *r = b->names; r; r = r->next) {
         if (r->to->chosen) r->node->declaration = r->to->chosen;
+        t->open_count += is_open(r->node->declaration);
+    }
+    t->open = take(b->arena, (t->open_count + 1) * sizeof *t->open);
+    unsigned n = 0;
+    for (reference *r = b->names; r; r = r->next)
+        if (is_open(r->node->declaration)) t->open[n++] = r->node;
 }
 
 static void list_declarations(builder *b, tree *t) {

@@ -139,6 +139,8 @@ object *new_object(translator *t, object *o, object_space space, const type *typ
     o->judged = NULL;
     o->element = element_of(type);
     o->is_fixed = o->is_const = false;
+    o->accesses = o->held = 0;
+    o->part_origin = o->part_size = o->outside = NULL;
     memset(o->views, 0, sizeof o->views);
     o->alias = NULL;
     o->bytes = NULL;

@@ -28,7 +28,8 @@ struct rows {
     const char *text;
     row *rows;
     unsigned count;
-    unsigned first;     // the first one of the client's text
+    unsigned first; // the first one of the client's text
+    const client_source *source;
     listing *listings;  // of the files that were asked for
     bool is_renumbered; // the client's text names lines itself, so that its lines aren't found by their numbers
 };
@@ -299,6 +300,15 @@ static const char *name_in_quotes(arena *a, const char *s, const char *end) {
     return name;
 }
 
+// A file as places name it: the source and its headers by the very texts of their names.
+static const char *shown_file(const rows *r, const char *file) {
+    const client_source *s = r->source;
+    if (!strcmp(file, own_name)) return s->source.name;
+    for (unsigned i = 0; i < s->header_count; i++)
+        if (!strcmp(file, s->headers[i].name)) return s->headers[i].name;
+    return file;
+}
+
 typedef struct {
     const char *file;
     unsigned line;
@@ -312,14 +322,15 @@ static bool read_marker(rows *r, char *s, char *end, origin *o) {
     for (; at < end && is_digit(*at); at++) line = line * 10 + (unsigned)(*at - '0');
     if (at + 1 >= end || at[0] != ' ' || at[1] != '"') return false;
     const char *file = name_in_quotes(r->arena, at + 1, end);
+    file = shown_file(r, file);
     *o = (origin){o->file && !strcmp(o->file, file) ? o->file : file, line};
     memset(s, ' ', (size_t)(end - s));
     return true;
 }
 
-rows *read_rows(arena *a, char *text, size_t length, const char *source) {
+rows *read_rows(arena *a, char *text, size_t length, const client_source *source) {
     rows *r = take(a, sizeof *r);
-    *r = (rows){.arena = a, .text = text};
+    *r = (rows){.arena = a, .text = text, .source = source};
     for (size_t i = 0; i < length; i++) r->count += text[i] == '\n';
     r->rows = take(a, (r->count + 2) * sizeof *r->rows);
     unsigned n = 0;
@@ -329,14 +340,15 @@ rows *read_rows(arena *a, char *text, size_t length, const char *source) {
         if (!end) end = text + length;
         bool is_marker = read_marker(r, s, end, &next);
         if (!is_marker && next.file) read_definition(r, s, end);
-        if (!r->first && next.file && !strcmp(next.file, own_name)) r->first = n + 1;
+        if (!r->first && next.file == source->source.name) r->first = n + 1;
         r->rows[n++] = (row){(size_t)(s - text), (size_t)(end - text), r->first ? next.file : NULL, next.line, NULL, 0};
         if (!is_marker) next.line++;
     }
     r->count = n;
     if (!r->first) r->first = n + 1;
-    add_listing(r, own_name, source);
-    r->is_renumbered = has_named_lines(source);
+    add_listing(r, source->source.name, source->source.text);
+    for (unsigned i = source->header_count; i-- > 0;) add_listing(r, source->headers[i].name, source->headers[i].text);
+    r->is_renumbered = has_named_lines(source->source.text);
     return r;
 }
 
@@ -359,7 +371,7 @@ const word *word_at(rows *r, unsigned number, unsigned column) {
 
 place client_place(rows *r, unsigned number, unsigned column) {
     const row *w = row_at(r, number);
-    if (!w || !w->file) return (place){own_name, 0, 0};
+    if (!w || !w->file) return (place){r->source->source.name, 0, 0};
     const word *at = word_at(r, number, column);
     return (place){w->file, w->line, at ? at->client_column : column};
 }

@@ -21,12 +21,12 @@ typedef struct {
 
 typedef struct rows rows;
 
-// Takes apart what `clang -E -dD` writes of a source whose name is "source". The lines that name places, and those that
-// define macros, become empty in `text`, which keeps its length.
-rows *read_rows(arena *a, char *text, size_t length, const char *source);
+// Takes apart what `clang -E -dD` writes of a source that names itself "source"; places have the name that it has here.
+// The lines that name places, and those that define macros, become empty in `text`, which keeps its length.
+rows *read_rows(arena *a, char *text, size_t length, const client_source *source);
 // The row of a number, from 1 on. NULL where there is none.
 row *row_at(const rows *r, unsigned number);
-// Where the word that begins at a row and column comes from. Its file is "source" and its line 0 where that isn't
+// Where the word that begins at a row and column comes from. Its file is the source and its line 0 where that isn't
 // known.
 place client_place(rows *r, unsigned number, unsigned column);
 // The word that begins there. NULL where there is none.

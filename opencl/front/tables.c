@@ -66,12 +66,12 @@ static void fill(translator *t, memory m, uint64_t offset, const type *type, con
 // The number of a node's table, which is made where there is none yet.
 static unsigned table_number(translator *t, const node *n, const char *name, const node *initial) {
     judged_source *to = t->to;
-    unsigned *number = &t->table_numbers[n->number];
+    unsigned *number = &to->table_numbers[n->number];
     if (*number) return *number - 1;
     memory m = {.size = size_of_type(t, n->type, &n->place)};
     m.bytes = take(t->result, m.size + 1);
     fill(t, m, 0, n->type, initial);
-    to->tables = grown(t->result, to->tables, to->table_count, &t->table_room, sizeof *to->tables);
+    to->tables = grown(t->result, to->tables, to->table_count, &to->table_room, sizeof *to->tables);
     to->tables[to->table_count] =
         (constant_table){copy_text(t->result, name, strlen(name)), m.bytes, m.size, width_of(element_of(n->type))};
     *number = ++to->table_count;

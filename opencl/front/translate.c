@@ -103,7 +103,7 @@ static void translate_all(translator *t) {
         const node *n = t->tree->declarations[i];
         bool is_kernel = false;
         for (const attribute *a = n->attributes; a; a = a->next) is_kernel = is_kernel || a->kind == KERNEL_ATTRIBUTE;
-        if (n->kind != FUNCTION_DECLARATION || !n->body || !is_kernel) continue;
+        if (n->kind != FUNCTION_DECLARATION || !n->body || !is_kernel || (t->only && n != t->only)) continue;
         translate_kernel(t, n, &to->kernels[kernels++], &whole);
         free_arena(&t->kernel);
     }
@@ -125,13 +125,13 @@ static void end(translator *t) {
     free_arena(&t->pass);
 }
 
-bool translate(arena *a, const tree *tree, judged_source *to, refusal *wrong) {
+// Translates with what `to` has of tables already. Where memory is refused, nothing of the translator's own stays.
+static bool translate_with(arena *a, const translator *begin, refusal *wrong) {
     translator *t = take(a, sizeof *t);
-    *to = (judged_source){NULL, 0, NULL, 0, NULL, 0, NULL, 0, NULL};
-    *t = (translator){.tree = tree, .result = a, .to = to};
-    t->is_modified = take(a, tree->node_count * sizeof *t->is_modified + 1);
-    t->return_count = take(a, tree->node_count * sizeof *t->return_count + 1);
-    t->table_numbers = take(a, tree->node_count * sizeof *t->table_numbers + 1);
+    *t = *begin;
+    t->result = a;
+    t->is_modified = take(a, t->tree->node_count * sizeof *t->is_modified + 1);
+    t->return_count = take(a, t->tree->node_count * sizeof *t->return_count + 1);
     jmp_buf *outer = take(a, sizeof *outer);
     memcpy(outer, &a->failed, sizeof *outer);
     if (setjmp(a->failed)) {
@@ -146,4 +146,23 @@ bool translate(arena *a, const tree *tree, judged_source *to, refusal *wrong) {
     end(t);
     memcpy(&a->failed, outer, sizeof *outer);
     return done;
+}
+
+bool translate(arena *a, const tree *tree, judged_source *to, refusal *wrong) {
+    translator *begin = take(a, sizeof *begin);
+    *begin = (translator){.tree = tree, .to = to};
+    *to = (judged_source){.table_numbers = take(a, tree->node_count * sizeof *to->table_numbers + 1)};
+    return translate_with(a, begin, wrong);
+}
+
+bool translate_held(arena *a, const tree *tree, const node *kernel, const unsigned char *held, judged_source *to,
+                    refusal *wrong) {
+    translator *begin = take(a, sizeof *begin);
+    *begin = (translator){.tree = tree, .to = to, .only = kernel, .held = held};
+    *to = (judged_source){.tables = to->tables,
+                          .table_count = to->table_count,
+                          .table_numbers = to->table_numbers,
+                          .table_room = to->table_room};
+    if (!to->table_numbers) to->table_numbers = take(a, tree->node_count * sizeof *to->table_numbers + 1);
+    return translate_with(a, begin, wrong);
 }

@@ -4,7 +4,14 @@
 #include "ast.h"
 #include "integers.h"
 
-typedef enum { BUFFER_PARAMETER, LOCAL_PARAMETER, VALUE_PARAMETER, TABLE_PARAMETER } parameter_kind;
+typedef enum {
+    BUFFER_PARAMETER,
+    LOCAL_PARAMETER,
+    VALUE_PARAMETER,
+    TABLE_PARAMETER,
+    ORIGIN_PARAMETER, // of an argument that is a part of its buffer: where that begins, in bytes
+    SIZE_PARAMETER    // and how many bytes it has
+} parameter_kind;
 
 // A parameter of a kernel as it is judged. A client's buffer has one for each type that it is accessed by, a struct or
 // a vector one for each number in it.
@@ -40,7 +47,15 @@ typedef struct {
     unsigned name_count;
     local_object *locals;
     unsigned local_count;
+    unsigned char *accesses; // of each of the client's arguments: which accesses of its buffer are written
 } judged_kernel;
+
+// Accesses of a buffer, a bit for each; and what else an argument may be: a part of its buffer, or NULL.
+enum { LOADS = 1, STORES = 2, IS_PART = 4, IS_NULL = 8 };
+// Where an access goes that is held back: an element that no object has.
+#define HELD_ELEMENT "-2305843009213693952"
+// And one outside of the part that an argument is: that many elements behind this one, as the argument has the number.
+#define OUTSIDE_ELEMENT (-(INT64_C(1) << 59))
 
 // Constant memory that the source fills itself: the driver makes a buffer of it.
 typedef struct {
@@ -81,6 +96,8 @@ typedef struct {
     unsigned kernel_count;
     constant_table *tables;
     unsigned table_count;
+    unsigned *table_numbers; // of each declaration and text 1 above the number of its table, 0 where it has none
+    unsigned table_room;
     judged_place *places; // in the order of their offsets
     size_t place_count;
     const char *notes; // what is left out, a line each; empty where nothing is
@@ -94,4 +111,8 @@ typedef struct {
 // Writes the kernels of a tree in Clsim's language. False where there is something without a rule: then `wrong` says
 // what and where. Where memory is refused it goes on behind `a->failed`.
 bool translate(arena *a, const tree *tree, judged_source *to, refusal *wrong);
+// Writes one kernel of a tree that is translated once more, over the same tables, for arguments of which a set for each
+// is known: accesses in it are held back, which makes them the fault bounds at HELD_ELEMENT.
+bool translate_held(arena *a, const tree *tree, const node *kernel, const unsigned char *held, judged_source *to,
+                    refusal *wrong);
 #endif

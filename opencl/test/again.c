@@ -49,6 +49,18 @@ static cl_program built(cl_context c) {
     return p;
 }
 
+// A program in Clsim's language, compiled and linked apart.
+static cl_program linked(cl_context c) {
+    static const char *own =
+        "__kernel void g(__global int *a)\n{\n    a[get_global_id(0)] = a[get_global_id(0)] + 1;\n}\n";
+    cl_program p, whole;
+    MAKE(p, clCreateProgramWithSource(c, 1, &own, NULL, fault));
+    AGAIN(clCompileProgram(p, 0, NULL, "", 0, NULL, NULL, NULL, NULL));
+    MAKE(whole, clLinkProgram(c, 0, NULL, "", 1, &p, NULL, NULL, fault));
+    OK(clReleaseProgram(p));
+    return whole;
+}
+
 static void launch(cl_command_queue q, cl_kernel k, cl_int wanted) {
     size_t global = N - 1, local = N - 1;
     cl_event event = NULL;
@@ -76,6 +88,32 @@ static void read_much(cl_context c, cl_command_queue q) {
     OK(clReleaseMemObject(m));
 }
 
+// A launch on a part of a buffer, and one that stores into a buffer that may only be read.
+static void launch_parts(host *h, cl_program p) {
+    static int32_t numbers[2 * N + N];
+    cl_buffer_region region = {128, N * sizeof *numbers};
+    cl_program other = linked(h->context);
+    cl_mem m, part, fixed;
+    cl_kernel kernels[2];
+    cl_int n = 1;
+    MAKE(m, clCreateBuffer(h->context, CL_MEM_COPY_HOST_PTR, sizeof numbers, numbers, fault));
+    MAKE(part, clCreateSubBuffer(m, 0, CL_BUFFER_CREATE_TYPE_REGION, &region, fault));
+    MAKE(fixed, clCreateBuffer(h->context, CL_MEM_COPY_HOST_PTR | CL_MEM_READ_ONLY, sizeof numbers, numbers, fault));
+    MAKE(kernels[0], clCreateKernel(other, "g", fault));
+    MAKE(kernels[1], clCreateKernel(p, "f", fault));
+    AGAIN(clSetKernelArg(kernels[0], 0, sizeof part, &part));
+    launch(h->queue, kernels[0], CL_SUCCESS);
+    AGAIN(clEnqueueReadBuffer(h->queue, m, CL_TRUE, 128, 4, &n, 0, NULL, NULL));
+    if (n != 1) exit(6);
+    AGAIN(clSetKernelArg(kernels[1], 0, sizeof fixed, &fixed));
+    AGAIN(clSetKernelArg(kernels[1], 1, sizeof n, &n));
+    launch(h->queue, kernels[1], CL_INVALID_OPERATION);
+    for (int i = 0; i < 2; i++) OK(clReleaseKernel(kernels[i]));
+    cl_mem all[] = {m, part, fixed};
+    for (int i = 0; i < 3; i++) OK(clReleaseMemObject(all[i]));
+    OK(clReleaseProgram(other));
+}
+
 int main(void) {
     host h;
     cl_platform_id platform;
@@ -99,6 +137,7 @@ int main(void) {
     launch(h.queue, kernels[1], CL_INVALID_OPERATION);
     compare(h.queue, m, 10);
     read_much(h.context, h.queue);
+    launch_parts(&h, p);
     for (int i = 0; i < 2; i++) OK(clReleaseKernel(kernels[i]));
     OK(clReleaseProgram(p));
     OK(clReleaseMemObject(m));
