@@ -6,8 +6,8 @@
 Writes TO, a copy of FROM in which each symbol of the C library is asked for in the version that the older one has:
 since 2.34 the functions of threads and the start of programs carry a new version, though the older one is still there
 and does the same. What runs before `main` is run by the loader, since the older start of a program leaves it to code
-that a newer link doesn't hold. Only tables for the loader change; no byte of code or data does. A version that weak
-symbols alone ask for is marked as one that may be missing. Where a symbol is asked for that the older C library hasn't,
+that a newer link doesn't hold. A newer symbol that may be missing (a weak one) is asked for without a version. Only
+tables for the loader change; no byte of code or data does. Where a symbol is asked for that the older C library hasn't,
 nothing is written. Status 0, or 2 with a line on standard error.
 """
 import os
@@ -26,7 +26,7 @@ NULL, NEEDED, HASH, STRTAB, STRSZ, SONAME, RPATH, RUNPATH, GNU_HASH = 0, 1, 4, 5
 # What the start of a program runs before `main`, and what the loader runs in its place.
 BEFORE_MAIN = {25: 32, 27: 33}
 PROGBITS, DYNAMIC, DYNSYM, VERSYM, VERNEED = 1, 6, 11, 0x6FFFFFFF, 0x6FFFFFFE
-WEAK = 2
+WEAK, UNVERSIONED = 2, 1
 
 
 def fail(text):
@@ -173,15 +173,11 @@ class File:
 
 
 def rename(file, version, first):
-    """Has the symbols of a newer version ask for the first one, but for weak ones."""
+    """Has the symbols of a newer version ask for the first one, and weak ones for none."""
     for symbol in version.symbols:
-        if not symbol.weak:
-            file.put("<H", symbol.version_at, first.number)
-    if any(it.weak for it in version.symbols):
-        file.put("<H", version.at + 4, file.at("<H", version.at + 4)[0] | WEAK)
-    else:
-        file.put("<I", version.at, hash_of(FIRST))
-        file.put("<I", version.at + 8, file.at("<I", first.at + 8)[0])
+        file.put("<H", symbol.version_at, UNVERSIONED if symbol.weak else first.number)
+    file.put("<I", version.at, hash_of(FIRST))
+    file.put("<I", version.at + 8, file.at("<I", first.at + 8)[0])
 
 
 def make_older(file):
