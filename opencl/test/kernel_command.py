@@ -116,7 +116,7 @@ FILES = {"add.cl": ADD, "shift.cl": SHIFT, "nothing.cl": NOTHING, "tile.cl": TIL
          "values.cl": VALUES, "many.cl": MANY, "help.h": "#define TOUCH(p) (p)[0] = 1\n", "vectors.cl": VECTORS,
          "structs.cl": STRUCTS, "headed.cl": HEADED, "part.h": PART, "floats.cl": FLOATS, "empty.cl": "",
          "no_kernel.cl": "void f() {\n}\n", "add.sim": SIMULATION, "a.bin": "abcdefgh", "odd.bin": "abc",
-         "zero.cl": "__kernel void f(__global int *a) {\n}\n\0"}
+         "zero.cl": "__kernel void f(__global int *a) {\n\0}\n"}
 
 SHIFT_FAULT = """\
 fault 1 race item 0 load item 1 store buffer b3 byte 4 schedule 0*2 1*2
@@ -487,7 +487,7 @@ def simulations(bench):
         else:  # (a buffer without a content has zeros)
             want("left[0]: 0x00000001 0x00000001" in command.run("bad.sim"), f"{old} by {new}")
     command.write("tile.sim", "tile.cl tile 8 1 1 4 1 1 <size=32 short range=0:1:15 dump> <size=16>")
-    command.writes("tile.sim", "clean\n0[0]: 6 7 4 5 2 3 0 1\n0[8]: 14 15 12 13 10 11 8 9\n")
+    command.writes("tile.sim", "clean\na[0]: 6 7 4 5 2 3 0 1\na[8]: 14 15 12 13 10 11 8 9\n")
     command.write("tile.sim", "tile.cl tile 8 1 1 4 1 1 <size=32 noinit dump> <size=16> 4")
     told = command.run("tile.sim", 2)
     want("__local int *t is in local memory, whose bytes are given: <size=BYTES>" in told, told)
