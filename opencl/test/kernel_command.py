@@ -5,8 +5,6 @@ import os
 import shlex
 import struct
 
-import refusals
-
 ADD = """\
 __kernel void add(__global const int *a, __global int *b, int n) {
     int i = get_global_id(0);
@@ -590,25 +588,6 @@ def bad_words(bench):
     want(written == "clsim-kernel: cannot write: No space left on device\n", written)
 
 
-def refused_memory(bench):
-    """Each request for memory refused in turn: the verdict is that of the run with none refused, or it is told that
-    memory is missing. No run says that a launch is clean which has a fault."""
-    command = Command(bench, "refused memory")
-    report = command.path("report")
-    plain = os.path.join(bench.opencl, "clsim-kernel")
-    words = "shift.cl shift --global 4 --arg data=int[4]:range --dump data"
-    # (not for `env` itself)
-    preloaded = [f"LD_PRELOAD={refusals.library(command.folder)}", "REFUSE=each", f"REPORT={report}", "MOST=2000"]
-    done = bench.run(["env", "-C", command.folder, *preloaded, plain, *shlex.split(words)], None, CLSIM_EXPLAIN="")
-    with open(report, "rb") as file:
-        whole, *runs = refusals.runs_of(file.read())
-    head = SHIFT_FAULT.encode().split(b"\n")[0]
-    want(whole.status == 1 and whole.output.startswith(head) and len(runs) > 20, f"{len(runs)} runs, {whole}\n{done}")
-    for run in runs:
-        is_whole = run.status == 1 and run.output.startswith(head) and run.output.endswith(b"data[0]: 0 1 2 3\n")
-        want(is_whole or (run.status == 2 and run.error and b"clean" not in run.output), f"{run}")
-
-
 # ---- what the page shows ------------------------------------------------------------------------
 
 def as_shown(bench, sessions, compare):
@@ -624,7 +603,7 @@ def as_shown(bench, sessions, compare):
 
 def tests(bench, is_with_clang):
     calls = [buffers, by_chance, values, local_memory, told_at_its_line, settings, beside, listing, dumps, scripts,
-             simulations, bad_words, refused_memory]
+             simulations, bad_words]
     if is_with_clang:
         calls += [vectors, told_in_headers, refused_sources, listing_by_clang]
     for call in calls:
