@@ -127,5 +127,6 @@ void read_argument(request *r, const char *argument) {
         add_numbers(r->arena, g, value);
     } else if (*behind == ':') read_content(r->arena, g, behind + 1);
     else if (*behind) stop("%s: behind ] stands a :, and not %s", g->from, behind);
-    else if (!g->has_count) stop("%s: how many elements are there? %s[COUNT]", g->from, value);
+    else if (!g->has_count)
+        stop("%s: how many elements are there? %.*s[COUNT]", g->from, (int)strcspn(value, "["), value);
 }

@@ -100,6 +100,7 @@ const char *form_of(arena *a, const parameter_form *p) {
 
 void show_kernel(arena *a, const kernel_form *k) {
     size_t width = 0;
+    int digits = k->count > 100 ? 3 : k->count > 10 ? 2 : 1;
     for (cl_uint i = 0; i < k->count; i++) {
         size_t n = strlen(declared(a, &k->parameters[i]));
         if (n > width) width = n;
@@ -108,5 +109,6 @@ void show_kernel(arena *a, const kernel_form *k) {
     if (*k->attributes) printf("  %s\n", k->attributes);
     if (k->local_bytes) printf("  %llu bytes of local memory of its own\n", (unsigned long long)k->local_bytes);
     for (cl_uint i = 0; i < k->count; i++)
-        printf("  %u  %-*s  --arg %s\n", i, (int)width, declared(a, &k->parameters[i]), form_of(a, &k->parameters[i]));
+        printf("  %-*u  %-*s  --arg %s\n", digits, i, (int)width, declared(a, &k->parameters[i]),
+               form_of(a, &k->parameters[i]));
 }

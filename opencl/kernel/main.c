@@ -199,7 +199,7 @@ static void give_buffer(run *r, cl_uint index) {
         give(r, index, sizeof none, &none);
         return;
     }
-    if (g->is_local || (g->content == LIST_CONTENT && !g->has_type && !g->is_of_file))
+    if (g->is_local || (g->content == LIST_CONTENT && !g->has_type && !g->has_count && !g->is_of_file))
         stop("%s: %s is a pointer to a buffer: %s", g->from, declared(r->arena, p), form_of(r->arena, p));
     contents c = contents_of(r->arena, g, p->has_element ? &p->element : NULL, 0,
                              device_size(r, CL_DEVICE_MAX_MEM_ALLOC_SIZE), index);
@@ -342,7 +342,8 @@ static int judge(run *r, int count, char **words) {
     bool has_fault = launch(r);
     for (size_t i = 0; i < q->dump_count; i++) dump(r, &q->dumps[i]);
     close_all(r);
-    if (tell_errors()) stop("%s isn't whole", q->script);
+    tell_errors();
+    if (is_script_lost()) stop("%s isn't whole", q->script);
     keep_script();
     if (fflush(stdout) || ferror(stdout)) stop("cannot write: %s", strerror(errno));
     return has_fault;

@@ -17,6 +17,7 @@ static const char driver_source[] = "source:", driver_head[] = "clsim: ";
 static const char *path_of_source = "source", *text_of_source = "";
 static int log_file = -1;
 static off_t log_seen;
+static bool script_is_lost;
 
 void stop(const char *format, ...) {
     va_list values;
@@ -67,6 +68,7 @@ static char *new_lines(void) {
         at += (size_t)got;
     lines[at] = 0;
     log_seen += (off_t)at;
+    script_is_lost |= strstr(lines, "the script is not whole") != NULL;
     return lines;
 }
 
@@ -90,9 +92,8 @@ static const char *behind_head(const char *line) {
     return strncmp(line, driver_head, n) ? line : line + n;
 }
 
-bool tell_errors(void) {
+void tell_errors(void) {
     char *lines = new_lines();
-    bool is_lost = lines && strstr(lines, "the script is not whole");
     for (const char *at = lines; at && *at;) {
         size_t n = strcspn(at, "\n");
         const char *line = behind_head(at);
@@ -101,8 +102,9 @@ bool tell_errors(void) {
         at += n + (at[n] != 0);
     }
     free(lines);
-    return is_lost;
 }
+
+bool is_script_lost(void) { return script_is_lost; }
 
 void tell_log(const char *log, const char *in_front) {
     fflush(stdout);

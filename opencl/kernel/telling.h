@@ -12,8 +12,10 @@ char *read_file(arena *a, const char *path, const char *from, size_t *n);
 
 // Has the driver's lines kept from here on, for the functions below. The source is named by the path of its file.
 void keep_lines(const char *path, const char *source);
-// Tells what the driver said since the last look. Whether it lost a part of the script.
-bool tell_errors(void);
+// Tells what the driver said since the last look.
+void tell_errors(void);
+// Whether it said at any time that it lost a part of the script.
+bool is_script_lost(void);
 // Tells on standard output what it said of a launch that faulted. False where it didn't say of a fault.
 bool tell_verdict(arena *a);
 // Tells the log of a build on standard error, each line with words in front.

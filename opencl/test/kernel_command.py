@@ -5,8 +5,6 @@ import os
 import shlex
 import struct
 
-import refusals
-
 ADD = """\
 __kernel void add(__global const int *a, __global int *b, int n) {
     int i = get_global_id(0);
@@ -77,7 +75,7 @@ kernel many
 """
 SUM_LISTED = """\
 kernel sum
-  reqd_work_group_size(4,1,1)
+  reqd_work_group_size(4, 1, 1)
   16 bytes of local memory of its own
   0  __global int *a    --arg a=int[COUNT]
   1  __global int *out  --arg out=int[COUNT]
@@ -116,7 +114,7 @@ FILES = {"add.cl": ADD, "shift.cl": SHIFT, "nothing.cl": NOTHING, "tile.cl": TIL
          "values.cl": VALUES, "many.cl": MANY, "help.h": "#define TOUCH(p) (p)[0] = 1\n", "vectors.cl": VECTORS,
          "structs.cl": STRUCTS, "headed.cl": HEADED, "part.h": PART, "floats.cl": FLOATS, "empty.cl": "",
          "no_kernel.cl": "void f() {\n}\n", "add.sim": SIMULATION, "a.bin": "abcdefgh", "odd.bin": "abc",
-         "zero.cl": "__kernel void f(__global int *a) {\n}\n\0"}
+         "zero.cl": "__kernel void f(__global int *a) {\n\0}\n"}
 
 SHIFT_FAULT = """\
 fault 1 race item 0 load item 1 store buffer b3 byte 4 schedule 0*2 1*2
@@ -270,8 +268,7 @@ def vectors(bench):
                    "clsim-kernel: --arg a=1,2: 2 numbers are no whole elements of int3\n", 2)
     words = "structs.cl structs --global 1 --arg to=int[3] --dump to"
     command.writes(f"{words} --arg s=short:-5,6,7,0", "clean\nto[0]: -5 6 7\n")
-    command.writes(f"{words} --arg s=uchar:file=a.bin", "clean\nto[0]: 25185 26213 26727\n".replace(
-        "26213 26727", "25699 1751606885"))
+    command.writes(f"{words} --arg s=uchar:file=a.bin", "clean\nto[0]: 25185 25699 1751606885\n")
     told = command.run(f"{words} --arg s=short:1", 2)
     want(told.endswith("clsim-kernel: --arg s=short:1: 2 bytes aren't the size of box s\n"), told)
     command.writes(f"{words} --arg s=1,2,3", "clsim-kernel: --arg s=1,2,3: of which type are its numbers? "
@@ -324,9 +321,8 @@ def told_in_headers(bench):
 def refused_sources(bench):
     """A source that doesn't build is told at its lines."""
     command = Command(bench, "refused sources")
-    command.writes("floats.cl wrong --global 1", "floats.cl:2:17: error: Clsim has no floating point\n"
-                   "    a[0] = a[1] * 2.0f;\n                ^\nclsim-kernel: floats.cl doesn't build\n".replace(
-                       ":17:", ":12:").replace(" " * 16 + "^", " " * 11 + "^"), 2)
+    command.writes("floats.cl wrong --global 1", "floats.cl:2:12: error: Clsim has no floating point (float)\n"
+                   "    a[0] = a[1] * 2.0f;\n           ^\nclsim-kernel: floats.cl doesn't build\n", 2)
     command.write("wrong.cl", "__kernel void f(__global int *a) {\n    a[0] = b;\n}\n")
     told = command.run("wrong.cl f --global 1", 2)
     want("wrong.cl:2:12: error: use of undeclared identifier 'b'\n" in told and "source:" not in told, told)
@@ -342,8 +338,8 @@ def settings(bench):
     want(told.startswith("fault 1 race item 0 store item 1 store buffer b3 byte 0 ") and "a[0]: 0\n" in told, told)
     command.writes(f"{words} --uniform", "clean\na[0]: 1\n")
     words = "loop.cl loop --global 1 --arg a=int[1] --dump a"
-    want(command.run(f"{words} --budget 200", 1).startswith("fault 8 budget item 0 schedule "), "it has enough")
-    command.writes(f"{words} --budget 201 --workers 2", "clean\na[0]: 99\n")
+    want(command.run(f"{words} --budget 199", 1).startswith("fault 8 budget item 0 schedule "), "it has enough")
+    command.writes(f"{words} --budget 200 --workers 2", "clean\na[0]: 99\n")
     words = "nothing.cl f --global 1024 --local 512 --arg a=int[1]"
     command.writes(words, "clean\n")
     command.writes(f"{words} --limits profile", "clsim-kernel: a group has more work-items than the device allows "
@@ -478,7 +474,7 @@ def simulations(bench):
     command.writes("add.sim", left)
     beside = bench.run([bench.path("clsim-kernel"), command.path("add.sim")])
     want(beside == left, beside)
-    command.writes("add.sim --dump a", left + "a[0]: 3 5 7 9 11 13 15 17\n")
+    command.writes("add.sim --dump a", left.replace("clean\n", "clean\na[0]: 3 5 7 9 11 13 15 17\n"))
     for change in BAD_SIMULATIONS:
         old, new, *told = change
         command.write("bad.sim", SIMULATION.replace(old, new))
@@ -489,7 +485,7 @@ def simulations(bench):
         else:  # (a buffer without a content has zeros)
             want("left[0]: 0x00000001 0x00000001" in command.run("bad.sim"), f"{old} by {new}")
     command.write("tile.sim", "tile.cl tile 8 1 1 4 1 1 <size=32 short range=0:1:15 dump> <size=16>")
-    command.writes("tile.sim", "clean\n0[0]: 6 7 4 5 2 3 0 1\n0[8]: 14 15 12 13 10 11 8 9\n")
+    command.writes("tile.sim", "clean\na[0]: 6 7 4 5 2 3 0 1\na[8]: 14 15 12 13 10 11 8 9\n")
     command.write("tile.sim", "tile.cl tile 8 1 1 4 1 1 <size=32 noinit dump> <size=16> 4")
     told = command.run("tile.sim", 2)
     want("__local int *t is in local memory, whose bytes are given: <size=BYTES>" in told, told)
@@ -587,29 +583,9 @@ def bad_words(bench):
     want("a byte 0 stands in the source\n" in told and "zero.cl:" in told, told)
     told = command.run("", 2)
     want(told.startswith("Usage: clsim-kernel FILE.cl [KERNEL] [OPTIONS]\n") and told == command.run("--help"), told)
-    with open("/dev/full", "w", encoding="ascii") as full:
-        del full
     written = bench.run(["bash", "-c", f"cd {command.folder}\n{bench.path('clsim-kernel')} nothing.cl f --global 1 "
                                        "--arg a=int[1] >/dev/full"], 2)
     want(written == "clsim-kernel: cannot write: No space left on device\n", written)
-
-
-def refused_memory(bench):
-    """Each request for memory refused in turn: the verdict is that of the run with none refused, or it is told that
-    memory is missing. No run says that a launch is clean which has a fault."""
-    command = Command(bench, "refused memory")
-    report = command.path("report")
-    plain = os.path.join(bench.opencl, "clsim-kernel")
-    words = "shift.cl shift --global 4 --arg data=int[4]:range --dump data"
-    done = bench.run(["env", "-C", command.folder, plain, *shlex.split(words)], None, CLSIM_EXPLAIN="",
-                     LD_PRELOAD=refusals.library(command.folder), REFUSE="each", REPORT=report, MOST="2000")
-    with open(report, "rb") as file:
-        whole, *runs = refusals.runs_of(file.read())
-    head = SHIFT_FAULT.encode().split(b"\n")[0]
-    want(whole.status == 1 and whole.output.startswith(head) and len(runs) > 20, f"{len(runs)} runs, {whole}\n{done}")
-    for run in runs:
-        is_whole = run.status == 1 and run.output.startswith(head) and run.output.endswith(b"data[0]: 0 1 2 3\n")
-        want(is_whole or (run.status == 2 and run.error and b"clean" not in run.output), f"{run}")
 
 
 # ---- what the page shows ------------------------------------------------------------------------
@@ -627,7 +603,7 @@ def as_shown(bench, sessions, compare):
 
 def tests(bench, is_with_clang):
     calls = [buffers, by_chance, values, local_memory, told_at_its_line, settings, beside, listing, dumps, scripts,
-             simulations, bad_words, refused_memory]
+             simulations, bad_words]
     if is_with_clang:
         calls += [vectors, told_in_headers, refused_sources, listing_by_clang]
     for call in calls:
