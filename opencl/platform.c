@@ -8,7 +8,8 @@
 struct _cl_platform_id the_platform = {&dispatch_table};
 struct _cl_device_id the_device = {&dispatch_table};
 
-// All at once, so that any choice of a client finds the device.
+// By which of them a client asks for a device, it finds this one. It says that it is a GPU: clients compare with one
+// type, and libraries choose kernels without floating point for those.
 #define DEVICE_TYPES (CL_DEVICE_TYPE_CPU | CL_DEVICE_TYPE_GPU | CL_DEVICE_TYPE_ACCELERATOR | CL_DEVICE_TYPE_DEFAULT)
 #define EXTENSIONS \
     "cl_khr_byte_addressable_store cl_khr_global_int32_base_atomics cl_khr_global_int32_extended_atomics " \
@@ -68,7 +69,7 @@ CL_API_ENTRY cl_int CL_API_CALL clGetDeviceInfo(cl_device_id d, cl_device_info n
     const device_limits *limits = limits_of_device();
     if (d != &the_device) return CL_INVALID_DEVICE;
     switch (name) {
-    case CL_DEVICE_TYPE: GIVE(cl_device_type, DEVICE_TYPES);
+    case CL_DEVICE_TYPE: GIVE(cl_device_type, CL_DEVICE_TYPE_GPU);
     case CL_DEVICE_VENDOR_ID: GIVE(cl_uint, 0);
     case CL_DEVICE_MAX_COMPUTE_UNITS: GIVE(cl_uint, 1);
     case CL_DEVICE_MAX_WORK_ITEM_DIMENSIONS: GIVE(cl_uint, 3);

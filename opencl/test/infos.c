@@ -267,6 +267,8 @@ static void made_of_nothing(void) {
     OK(fault);
     OK(clReleaseContext(c));
     WANT(!clCreateContext(wrong, 1, &h.device, NULL, NULL, &fault) && fault == CL_INVALID_PROPERTY);
+    cl_context_properties twice[] = {CL_CONTEXT_INTEROP_USER_SYNC, 1, CL_CONTEXT_INTEROP_USER_SYNC, 1, 0};
+    WANT(!clCreateContext(twice, 1, &h.device, NULL, NULL, &fault) && fault == CL_INVALID_PROPERTY);
     WANT(!clCreateProgramWithBinary(h.context, 1, &h.device, &none, &binary, &state, &fault));
     WANT(fault == CL_INVALID_VALUE && state == CL_INVALID_VALUE);
 }
@@ -458,6 +460,22 @@ static void options_of_builds(void) {
     WANT(linked_by("-cl-mad-enable") == CL_INVALID_LINKER_OPTIONS && linked_by("-DA") == CL_INVALID_LINKER_OPTIONS);
 }
 
+// The device is a GPU, and found by each type but that of custom ones (tables 4.2, 4.3).
+static void device_types(void) {
+    static const cl_device_type types[] = {CL_DEVICE_TYPE_CPU, CL_DEVICE_TYPE_GPU, CL_DEVICE_TYPE_ACCELERATOR,
+                                           CL_DEVICE_TYPE_DEFAULT, CL_DEVICE_TYPE_ALL};
+    cl_device_type type = 0;
+    OK(clGetDeviceInfo(h.device, CL_DEVICE_TYPE, sizeof type, &type, NULL));
+    WANT(type == CL_DEVICE_TYPE_GPU);
+    for (size_t i = 0; i < sizeof types / sizeof *types; i++) {
+        cl_device_id found = NULL;
+        OK(clGetDeviceIDs(NULL, types[i], 1, &found, NULL));
+        WANT(found == h.device);
+    }
+    WANT(clGetDeviceIDs(NULL, CL_DEVICE_TYPE_CUSTOM, 1, &(cl_device_id){NULL}, NULL) == CL_DEVICE_NOT_FOUND);
+    WANT(clGetDeviceIDs(NULL, 0, 1, &(cl_device_id){NULL}, NULL) == CL_INVALID_DEVICE_TYPE);
+}
+
 // What the device hasn't: parts of a device (4.3), samplers (5.5.1), built-in kernels (5.6.1) and functions of the host
 // as commands (5.9). Each call answers its error, and hands out nothing.
 static void refused_calls(void) {
@@ -491,6 +509,7 @@ int main(int count, char **words) {
                {"binaries", binaries},
                {"lists", lists_of_binaries},
                {"options", options_of_builds},
+               {"types", device_types},
                {"refused", refused_calls}};
     h = open_host();
     for (size_t i = 0; i < sizeof all / sizeof *all; i++)
