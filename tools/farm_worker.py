@@ -72,6 +72,29 @@ class Program:
             # (it has just ended)
             pass
 
+    def start(self, words, moves):
+        """Starts the program in a group of its own, with its limit of memory: its number."""
+        how = {"file_actions": moves, "setpgroup": 0, "setsigdef": [signal.SIGPIPE, signal.SIGXFSZ]}
+        limit, number = self.options.memory << 20, None
+        if not limit:
+            return os.posix_spawn(words[0], words, os.environ, **how)
+        before = resource.getrlimit(resource.RLIMIT_AS)
+        resource.setrlimit(resource.RLIMIT_AS, (limit, before[1]))
+        try:
+            number = os.posix_spawn(words[0], words, os.environ, **how)
+        except (OSError, MemoryError):
+            # (the worker itself has more than the limit: the program gets it once it runs)
+            pass
+        finally:
+            resource.setrlimit(resource.RLIMIT_AS, before)
+        number = number or os.posix_spawn(words[0], words, os.environ, **how)
+        try:
+            resource.prlimit(number, resource.RLIMIT_AS, (limit, limit))
+        except ProcessLookupError:
+            # (it has ended)
+            pass
+        return number
+
     def run(self, words):
         """Runs the program with these words: its two outputs, its status, negative for a signal or None for too long,
         its seconds, its most memory in MB, and whether it took no more than that, or just that."""
@@ -82,11 +105,7 @@ class Program:
         begun = time.monotonic()
         self.end = begun + self.options.seconds
         moves = [(os.POSIX_SPAWN_DUP2, file, to) for to, file in enumerate([self.nothing, *self.outputs])]
-        self.number = os.posix_spawn(words[0], words, os.environ, file_actions=moves, setpgroup=0,
-                                     setsigdef=[signal.SIGPIPE, signal.SIGXFSZ])
-        if self.options.memory:
-            limit = self.options.memory << 20
-            resource.prlimit(self.number, resource.RLIMIT_AS, (limit, limit))
+        self.number = self.start(words, moves)
         signal.setitimer(signal.ITIMER_REAL, FIRST_LOOK, NEXT_LOOK)
         _, ended, used = os.wait4(self.number, 0)
         signal.setitimer(signal.ITIMER_REAL, 0)
