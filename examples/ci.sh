@@ -87,6 +87,6 @@ for script in "$@"; do
 done
 if [ -n "${SARIF:-}" ]; then
     : >>"$folder/explained"
-    python3 "$(dirname "$0")/../tools/explain/sarif.py" "$folder/explained" >"$SARIF" || exit 2
+    python3 -B "$(dirname "$0")/../tools/explain/sarif.py" "$folder/explained" >"$SARIF" || exit 2
 fi
 exit $failed

@@ -1,5 +1,5 @@
-// For a build of the driver that starts over a C library as old as Debian 11's too: what newer headers make of two calls
-// is asked for in a form that the older one has. packaging/older.py does the rest on what was linked.
+// For a build of the driver that starts over a C library as old as Debian 11's too: what newer headers make of some
+// calls is asked for in a form that the older one has. packaging/older.py does the rest on what was linked.
 #ifndef CLSIM_OLDER_H
 #define CLSIM_OLDER_H
 #ifndef _GNU_SOURCE
@@ -8,11 +8,16 @@
 #include <spawn.h>
 #include <sys/stat.h>
 
-// `fstat` was no symbol of the library before 2.33; `__fxstat` is one in all.
+// `fstat`, `stat` and `lstat` were no symbols of the library before 2.33; these are in all.
 int clsim_fxstat(int version, int fd, struct stat *about);
+int clsim_xstat(int version, const char *path, struct stat *about);
+int clsim_lxstat(int version, const char *path, struct stat *about);
 __asm__(".symver clsim_fxstat, __fxstat@GLIBC_2.2.5");
-static inline int clsim_fstat(int fd, struct stat *about) { return clsim_fxstat(1, fd, about); }
-#define fstat clsim_fstat
+__asm__(".symver clsim_xstat, __xstat@GLIBC_2.2.5");
+__asm__(".symver clsim_lxstat, __lxstat@GLIBC_2.2.5");
+#define fstat(fd, about) clsim_fxstat(1, fd, about)
+#define stat(path, about) clsim_xstat(1, path, about)
+#define lstat(path, about) clsim_lxstat(1, path, about)
 
 // Since 2.34: a child then gets no descriptor of the client. Before, it gets those that aren't closed by themselves.
 #if __GLIBC_PREREQ(2, 34)

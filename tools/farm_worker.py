@@ -1,0 +1,226 @@
+#!/usr/bin/env python3
+"""Judges scripts one after another in the folder of a farm's results, as an engine of tools/farm calls it.
+
+    farm_worker.py judge|chunk SECONDS MEMORY WORKERS BUDGET LIMITS KEY..
+
+`judge` judges the scripts of keys and writes a result of each, `chunk` those of chunks, whose results go into one file.
+SECONDS and MEMORY (MB, 0 for no limit) are of each script, the others the options of the program (BUDGET is - for its
+own). It loads few modules, and starts programs without copying itself, since a small script takes few milliseconds.
+Status 0, or 2 with a line on standard error.
+"""
+import json
+import os
+import resource
+import signal
+import sys
+import time
+
+PASSED, FAULTY = "clean", "fault"
+# How long a program has run when its memory is looked at first, and how long is waited for each look behind it.
+FIRST_LOOK, NEXT_LOOK = 0.02, 0.1
+
+
+def write_whole(path, text):
+    """Writes a file, whole or not at all; a machine that stops may leave an empty one, which counts as none."""
+    new = f"{path}.{os.getpid()}.new"
+    try:
+        with open(new, "w", encoding="utf-8") as file:
+            file.write(text)
+        os.replace(new, path)
+    except OSError:
+        if os.path.exists(new):
+            os.remove(new)
+        raise
+
+
+class Options:
+    """What the engine asks for."""
+
+    def __init__(self, words):
+        self.seconds, self.memory, self.workers = (int(it) for it in words[:3])
+        budget, limits = words[3:5]
+        self.device = [] if budget == "-" else ["--budget", budget]
+        self.device += [] if limits == "profile" else ["--limits", limits]
+
+
+def peak_of(number):
+    """The most memory that a running process has had, in KB."""
+    with open(f"/proc/{number}/status", "rb") as file:
+        words = file.read().split()
+    return int(words[words.index(b"VmHWM:") + 1])
+
+
+class Program:
+    """Runs the program, with its two outputs in files that are used again, and looks at its memory meanwhile."""
+
+    def __init__(self, options):
+        self.options, self.number, self.late, self.peak = options, 0, False, 0
+        self.outputs = [os.memfd_create(name) for name in ("said", "told")]
+        self.nothing = os.open("/dev/null", os.O_RDONLY)
+        resource.setrlimit(resource.RLIMIT_CORE, (0, 0))
+        signal.signal(signal.SIGALRM, self.look)
+
+    def look(self, *_):
+        """Looks at the memory of the program, and ends it where it is too late."""
+        try:
+            if time.monotonic() >= self.end:
+                os.killpg(self.number, signal.SIGKILL)
+                self.late = True
+                return
+            self.peak = peak_of(self.number)
+        except (OSError, ValueError):
+            # (it has just ended)
+            pass
+
+    def start(self, words, moves):
+        """Starts the program in a group of its own, with its limit of memory: its number."""
+        how = {"file_actions": moves, "setpgroup": 0, "setsigdef": [signal.SIGPIPE, signal.SIGXFSZ]}
+        limit, number = self.options.memory << 20, None
+        if not limit:
+            return os.posix_spawn(words[0], words, os.environ, **how)
+        before = resource.getrlimit(resource.RLIMIT_AS)
+        resource.setrlimit(resource.RLIMIT_AS, (limit, before[1]))
+        try:
+            number = os.posix_spawn(words[0], words, os.environ, **how)
+        except (OSError, MemoryError):
+            # (the worker itself has more than the limit: the program gets it once it runs)
+            pass
+        finally:
+            resource.setrlimit(resource.RLIMIT_AS, before)
+        number = number or os.posix_spawn(words[0], words, os.environ, **how)
+        try:
+            resource.prlimit(number, resource.RLIMIT_AS, (limit, limit))
+        except ProcessLookupError:
+            # (it has ended)
+            pass
+        return number
+
+    def run(self, words):
+        """Runs the program with these words: its two outputs, its status, negative for a signal or None for too long,
+        its seconds, its most memory in MB, and whether it took no more than that, or just that."""
+        for file in self.outputs:
+            os.ftruncate(file, 0)
+            os.lseek(file, 0, os.SEEK_SET)
+        self.late, self.peak = False, 0
+        begun = time.monotonic()
+        self.end = begun + self.options.seconds
+        moves = [(os.POSIX_SPAWN_DUP2, file, to) for to, file in enumerate([self.nothing, *self.outputs])]
+        self.number = self.start(words, moves)
+        signal.setitimer(signal.ITIMER_REAL, FIRST_LOOK, NEXT_LOOK)
+        _, ended, used = os.wait4(self.number, 0)
+        signal.setitimer(signal.ITIMER_REAL, 0)
+        passed = time.monotonic() - begun
+        # (what the system notes begins with the memory of the one who started it)
+        own = peak_of("self")
+        small = used.ru_maxrss <= own
+        memory = used.ru_maxrss if not small else self.peak or own
+        texts = [os.pread(file, os.fstat(file).st_size, 0).decode(errors="replace") for file in self.outputs]
+        status = None if self.late else os.waitstatus_to_exitcode(ended)
+        return *texts, status, passed, memory / 1024, small and not self.peak
+
+
+def verdict_of(status, lines):
+    """The verdict on a script, by the status of its run and its replies."""
+    if status is None:
+        return "timeout"
+    if status < 0:
+        return "killed"
+    if status == 0:
+        return PASSED
+    if status == 1 and any(line.startswith("fault ") for line in lines):
+        return FAULTY
+    if status == 2:
+        return "refused" if any(line.startswith("refused ") for line in lines) else "bad"
+    return "crashed"
+
+
+def explanation_of(program, script, verdict, shown):
+    """What `clsim explain` says of the line that is shown of a script with a fault, or with a source that doesn't
+    build; None of other lines, and where it says nothing."""
+    unbuilt = verdict == "refused" and shown.startswith("refused 10 ")
+    if verdict != FAULTY and not unbuilt:
+        return None
+    words = ["./bin/clsim", "explain", script, "--format", "json", *program.options.device]
+    text, _, ended, _, _, _ = program.run(words)
+    try:
+        explanation = json.loads(text) if ended == 0 else None
+    except ValueError:
+        return None
+    # (of a script that has a fault before it, the explanation is that of the fault)
+    return explanation if not unbuilt or (explanation or {}).get("kind") == "refusal" else None
+
+
+def line_of(script, lines, told, shown):
+    """The line of the script whose command got the reply that is shown, or that is a bad line; None of others."""
+    words = told.split(": ")
+    if words[0] == "clsim" and words[1:2] and words[1].startswith("line ") and words[1][5:].isdigit():
+        return int(words[1][5:])
+    if shown not in lines:
+        return None
+    with open(script, encoding="latin-1", newline="") as file:
+        text = file.read().split("\n")
+    command, left = lines.index(shown) + 1, 0
+    for number, line in enumerate(text, 1):
+        if left > 0:
+            left -= 1
+            continue
+        if number == 1 and line == "clsim 2":
+            continue
+        command -= 1
+        if command == 0:
+            return number
+        words = line.split(" ")
+        if words[0] == "program" and words[2:3] and words[2].isdigit():
+            left = int(words[2])
+    return None
+
+
+def judge(program, key):
+    """Judges the script of a key: its result."""
+    script = f"scripts/{key}.txt"
+    words = ["./bin/clsim", "run", script, "--workers", str(program.options.workers), *program.options.device]
+    said, told, status, seconds, memory, at_most = program.run(words)
+    lines = said.split("\n") if status != 0 else []
+    verdict = verdict_of(status, lines)
+    wanted = {FAULTY: "fault ", "refused": "refused "}.get(verdict)
+    shown = next((line for line in lines if wanted and line.startswith(wanted)), told.strip().split("\n")[0])
+    line = None
+    if verdict in (FAULTY, "refused", "bad"):
+        line = line_of(script, lines, told.strip().split("\n")[0], shown)
+    return {"key": key, "verdict": verdict, "status": status, "line": shown[:2000], "script_line": line,
+            "seconds": round(seconds, 3), "mb": round(memory, 1), "mb_at_most": at_most, "host": os.uname().nodename,
+            "explanation": explanation_of(program, script, verdict, shown)}
+
+
+def judge_key(program, key):
+    """Judges the script of a key, and writes its result."""
+    write_whole(f"cases/{key}.json", json.dumps(judge(program, key)))
+
+
+def judge_chunk(program, name):
+    """Judges the scripts of a chunk, and writes their results as one file."""
+    results = []
+    os.makedirs("scripts", exist_ok=True)
+    with open(f"chunks/{name}.in", encoding="utf-8") as file:
+        texts = json.load(file)
+    for key, text in texts.items():
+        with open(f"scripts/{key}.txt", "w", encoding="latin-1", newline="") as file:
+            file.write(text)
+        results.append(judge(program, key))
+        os.remove(f"scripts/{key}.txt")
+    write_whole(f"chunks/{name}.out", json.dumps(results))
+
+
+def main():
+    form, program = sys.argv[1], Program(Options(sys.argv[2:7]))
+    try:
+        for name in sys.argv[7:]:
+            (judge_key if form == "judge" else judge_chunk)(program, name)
+    except OSError as fault:
+        print(f"tools/farm: {fault.filename or sys.argv[7]}: {fault.strerror}", file=sys.stderr)
+        return 2
+    return 0
+
+
+if __name__ == "__main__":
+    sys.exit(main())
