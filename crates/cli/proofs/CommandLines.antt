@@ -1,11 +1,13 @@
 -- What the proofs of the command line cite.
 use Rattle.std.proofs.Common.{◌≡◌, ◌≤◌, ◌<◌, ◌+◌, ◌^◌, ◌∙◌, ◌⊎◌, ◌↔◌, ◌==◌, IsSome, subst, sym, ap, refl, inl, inr, arith, false, Box, ℕ, Bool, List, [], ◌∷◌, Option, Some, None, Result, Ok, Err, option_map, codes, slice_index}
 use Rattle.std.proofs.lemmas.Bool.{false≢true}
+use Rattle.std.specs.Prelude.{IfOk}
 use Rattle.std.specs.Str.{bytes_eq}
 use Rattle.std.specs.Str.Parse.{ParsesUnsigned}
 use Rattle.std.specs.Box.{box_value}
 use Rattle.clap.specs.Kinds.{Kinds, HasKind, IsAmong, or_else}
-use Rattle.clap.specs.Words.{Row, Text, TriesOne, first_of, fault_of, found_of, kind_of, rows_of, subcommand_of, subcommand_name_of, subcommand_rows, subcommand_rows_of}
+use Rattle.clap.specs.Words.{App, Rule, Row, Text, TriesOne, with_rule, first_of, fault_of, found_of, kind_of, rows_of, subcommand_of, subcommand_name_of, subcommand_rows, subcommand_rows_of}
+use Rattle.clap.specs.declared.builder.command.Command.{Command}
 use Rattle.clap.specs.declared.error.Error.{Error}
 use Rattle.clap.specs.declared.error.kind.ErrorKind.{ErrorKind}
 use Rattle.clap.specs.declared.error.kind.ErrorKind.TheVariants as kind
@@ -16,7 +18,11 @@ use Rattle.cli.specs.declared.command_line.Invocation.{Invocation}
 use Rattle.cli.specs.declared.command_line.Invocation.TheVariants as invocation
 use Rattle.limits.specs.declared.Configuration.{Configuration}
 use Rattle.limits.specs.declared.Limits.{Limits}
-use Rattle.cli.specs.CommandLine.{AreLimits, GivesBudget, GivesConfiguration, GivesFormat, GivesLimits, GivesWorkers, IsFormat, IsNumber, IsRun, IsCheck, IsDump, IsReplay, IsServe, IsExplain, IsRefused, Reads, Holds, program}
+use Rattle.cli.specs.CommandLine.{IsForm, AreLimits, GivesBudget, GivesConfiguration, GivesFormat, GivesLimits, GivesWorkers, IsFormat, IsNumber, IsRun, IsCheck, IsDump, IsReplay, IsServe, IsExplain, IsRefused, Reads, Holds, program}
+
+-- a form with one more argument, by the rule of that one
+pub by_rule : {E : Type 0} {a b : Rule} (old : App) (made : Result Command E) → a ≡ b → IfOk made (IsForm (with_rule old a)) → IfOk made (IsForm (with_rule old b))
+by_rule {E} old made same h = subst (λ (r : Rule). IfOk made (IsForm (with_rule old r))) same h
 
 -- no option was read where it isn't there
 pub no_option : {E : Type 0} (absent most : ℕ) (G : List ℕ → Result ℕ E → Type 0) (o : Option Text) (read : Option ℕ) → read ≡ None
@@ -166,25 +172,26 @@ no_budget rows limits named none configuration is =
 pub run_parts : (rows : List Row) (asked : Invocation) → IsRun rows asked
     → (path : Text) × (w : ℕ) × (configuration : Configuration) × (first_of (codes "FILE") rows ≡ Some path) × GivesWorkers rows w × GivesConfiguration rows configuration
 run_parts rows (invocation.Run path options) is = (path.now, options.workers, options.configuration, is.0, is.1, is.2)
-run_parts rows (invocation.Check path) is = absurd is
-run_parts rows (invocation.Dump path name) is = absurd is
+run_parts rows (invocation.Check path limits) is = absurd is
+run_parts rows (invocation.Dump path name limits) is = absurd is
 run_parts rows (invocation.Replay script schedule configuration) is = absurd is
 run_parts rows (invocation.Serve options) is = absurd is
 run_parts rows (invocation.Explain script schedule wish) is = absurd is
 
-pub check_parts : (rows : List Row) (asked : Invocation) → IsCheck rows asked → (path : Text) × (first_of (codes "FILE") rows ≡ Some path)
+pub check_parts : (rows : List Row) (asked : Invocation) → IsCheck rows asked
+    → (path : Text) × (limits : Limits) × (first_of (codes "FILE") rows ≡ Some path) × GivesLimits rows limits
 check_parts rows (invocation.Run path options) is = absurd is
-check_parts rows (invocation.Check path) is = (path.now, is)
-check_parts rows (invocation.Dump path name) is = absurd is
+check_parts rows (invocation.Check path limits) is = (path.now, limits, is.0, is.1)
+check_parts rows (invocation.Dump path name limits) is = absurd is
 check_parts rows (invocation.Replay script schedule configuration) is = absurd is
 check_parts rows (invocation.Serve options) is = absurd is
 check_parts rows (invocation.Explain script schedule wish) is = absurd is
 
 pub dump_parts : (rows : List Row) (asked : Invocation) → IsDump rows asked
-    → (path name : Text) × (first_of (codes "FILE") rows ≡ Some path) × (first_of (codes "KERNEL") rows ≡ Some name)
+    → (path name : Text) × (limits : Limits) × (first_of (codes "FILE") rows ≡ Some path) × (first_of (codes "KERNEL") rows ≡ Some name) × GivesLimits rows limits
 dump_parts rows (invocation.Run path options) is = absurd is
-dump_parts rows (invocation.Check path) is = absurd is
-dump_parts rows (invocation.Dump path name) is = (path.now, name.now, is.0, is.1)
+dump_parts rows (invocation.Check path limits) is = absurd is
+dump_parts rows (invocation.Dump path name limits) is = (path.now, name.now, limits, is.0, is.1, is.2)
 dump_parts rows (invocation.Replay script schedule configuration) is = absurd is
 dump_parts rows (invocation.Serve options) is = absurd is
 dump_parts rows (invocation.Explain script schedule wish) is = absurd is
@@ -192,16 +199,16 @@ dump_parts rows (invocation.Explain script schedule wish) is = absurd is
 pub replay_parts : (rows : List Row) (asked : Invocation) → IsReplay rows asked
     → (script schedule : Text) × (limits : Limits) × (first_of (codes "SCRIPT") rows ≡ Some script) × (first_of (codes "SCHEDULE") rows ≡ Some schedule) × GivesLimits rows limits
 replay_parts rows (invocation.Run path options) is = absurd is
-replay_parts rows (invocation.Check path) is = absurd is
-replay_parts rows (invocation.Dump path name) is = absurd is
+replay_parts rows (invocation.Check path limits) is = absurd is
+replay_parts rows (invocation.Dump path name limits) is = absurd is
 replay_parts rows (invocation.Replay script schedule configuration) is = (script.now, schedule.now, configuration.limits, is.0, is.1, is.2.0)
 replay_parts rows (invocation.Serve options) is = absurd is
 replay_parts rows (invocation.Explain script schedule wish) is = absurd is
 
 pub serve_parts : (rows : List Row) (asked : Invocation) → IsServe rows asked → (w : ℕ) × (configuration : Configuration) × GivesWorkers rows w × GivesConfiguration rows configuration
 serve_parts rows (invocation.Run path options) is = absurd is
-serve_parts rows (invocation.Check path) is = absurd is
-serve_parts rows (invocation.Dump path name) is = absurd is
+serve_parts rows (invocation.Check path limits) is = absurd is
+serve_parts rows (invocation.Dump path name limits) is = absurd is
 serve_parts rows (invocation.Replay script schedule configuration) is = absurd is
 serve_parts rows (invocation.Serve options) is = (options.workers, options.configuration, is.0, is.1)
 serve_parts rows (invocation.Explain script schedule wish) is = absurd is
@@ -209,8 +216,8 @@ serve_parts rows (invocation.Explain script schedule wish) is = absurd is
 pub explain_parts : (rows : List Row) (asked : Invocation) → IsExplain rows asked
     → (script : Text) × (configuration : Configuration) × (json : Bool) × (first_of (codes "SCRIPT") rows ≡ Some script) × GivesConfiguration rows configuration × GivesFormat rows json
 explain_parts rows (invocation.Run path options) is = absurd is
-explain_parts rows (invocation.Check path) is = absurd is
-explain_parts rows (invocation.Dump path name) is = absurd is
+explain_parts rows (invocation.Check path limits) is = absurd is
+explain_parts rows (invocation.Dump path name limits) is = absurd is
 explain_parts rows (invocation.Replay script schedule configuration) is = absurd is
 explain_parts rows (invocation.Serve options) is = absurd is
 explain_parts rows (invocation.Explain script schedule wish) is = (script.now, wish.configuration, wish.json, is.0, is.2, is.3)
