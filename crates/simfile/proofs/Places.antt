@@ -23,6 +23,16 @@ feeds_between bytes from at h =
     ap line_feeds (drop_split bytes from at h) ∙ feeds_append (slice_range bytes from at) (drop at bytes) in
     omega (arith, all from, all at, more)
 
+-- the bytes between two places
+pub few_between : (bytes : List ℕ) (from at : ℕ) → from ≤ at → at ≤ length bytes → length (slice_range bytes from at) + from ≡ at
+few_between bytes from at h k =
+    let split = ap length (drop_split bytes from at h) ∙ length-append (slice_range bytes from at) (drop at bytes) in
+    omega (arith, split, h, k)
+
+-- the place of a byte is the place of its own byte
+pub at_itself : (bytes : List ℕ) (byte : ℕ) (place : CommandPlace) → Locates bytes byte place → Locates bytes place.at place
+at_itself bytes byte place h = subst (λ (n : ℕ). Locates bytes n place) (sym h.at) h
+
 -- elements of a list with one more
 
 front_get : {A : Type 0} (xs ys : List A) (k : ℕ) (x : A) → slice_get xs k ≡ Some x → slice_get (xs ++ ys) k ≡ Some x
