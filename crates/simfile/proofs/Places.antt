@@ -27,7 +27,7 @@ feeds_between bytes from at h =
 pub few_between : (bytes : List ℕ) (from at : ℕ) → from ≤ at → at ≤ length bytes → length (slice_range bytes from at) + from ≡ at
 few_between bytes from at h k =
     let split = ap length (drop_split bytes from at h) ∙ length-append (slice_range bytes from at) (drop at bytes) in
-    omega (arith, split, length-drop at bytes, h, k)
+    omega (arith, split, length-drop from bytes, length-drop at bytes, h, k)
 
 -- the place of a byte is the place of its own byte
 pub at_itself : (bytes : List ℕ) (byte : ℕ) (place : CommandPlace) → Locates bytes byte place → Locates bytes place.at place
