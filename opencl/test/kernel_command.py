@@ -342,8 +342,9 @@ def settings(bench):
     command.writes(f"{words} --budget 200 --workers 2", "clean\na[0]: 99\n")
     words = "nothing.cl f --global 1024 --local 512 --arg a=int[1]"
     command.writes(words, "clean\n")
-    command.writes(f"{words} --limits profile", "clsim-kernel: a group has more work-items than the device allows "
-                                                "(error -55)\n", 2)
+    command.writes(f"{words} --limits profile",
+                   "clsim-kernel: kernel f: the local size is too large (limits: profile, groups of at most 256)\n"
+                   "clsim-kernel: a group has more work-items than the device allows (error -55)\n", 2)
     command.writes("nothing.cl f --global 1 --arg a=int[262145] --limits profile",
                    "clsim-kernel: --arg a=int[262145]: 1048580 bytes are more than a buffer may have: 1048576\n", 2)
     words = "add.cl add --global 2,3 --offset 1,0 --arg a=int[8]:range --arg b=int[8] --arg n=8 --dump b --uniform"
