@@ -124,7 +124,8 @@ static void explain_outcome(text *log, const char *clang, const outcome *o) {
 
 #define EXTENSIONS \
     "-cl-ext=-all,+cl_khr_byte_addressable_store,+cl_khr_global_int32_base_atomics," \
-    "+cl_khr_global_int32_extended_atomics,+cl_khr_local_int32_base_atomics,+cl_khr_local_int32_extended_atomics"
+    "+cl_khr_global_int32_extended_atomics,+cl_khr_local_int32_base_atomics,+cl_khr_local_int32_extended_atomics," \
+    "+cl_khr_fp64"
 
 // (clang's dump doesn't tell what `__builtin_offsetof` comes to; it tells the length of an array)
 static const char *const for_all[] = {"-target",
@@ -321,7 +322,8 @@ static const char in_front[] = "#define __opencl_c_int64 1\n"
                                "#define cl_khr_global_int32_base_atomics 1\n"
                                "#define cl_khr_global_int32_extended_atomics 1\n"
                                "#define cl_khr_local_int32_base_atomics 1\n"
-                               "#define cl_khr_local_int32_extended_atomics 1\n";
+                               "#define cl_khr_local_int32_extended_atomics 1\n"
+                               "#define cl_khr_fp64 1\n";
 static const char behind[] = "\ntypedef int " LAST_NAME ";\n";
 
 // Reads what a source is after its preprocessing. Without `named` its own text isn't read again.

@@ -1,0 +1,192 @@
+"""Operators, conversions and functions of floating-point numbers, against numpy and Python's own.
+
+    floats.py        the last line is `N results agree`
+
+Each kernel gives one result of each pair of chosen and random numbers.
+"""
+import math
+import random
+import sys
+import warnings
+
+import numpy as np
+import pyopencl as cl
+
+warnings.simplefilter("ignore")
+np.seterr(all="ignore")
+FORMATS = {"float": (np.float32, np.uint32), "double": (np.float64, np.uint64)}
+WHOLE = {"char": np.int8, "uchar": np.uint8, "short": np.int16, "ushort": np.uint16, "int": np.int32,
+         "uint": np.uint32, "long": np.int64, "ulong": np.uint64}
+COUNT = 48
+
+context = cl.Context([cl.get_platforms()[0].get_devices()[0]])
+queue = cl.CommandQueue(context)
+agreed = 0
+wrong = []
+
+
+def numbers(format_name, seed):
+    """Chosen and random numbers of a format."""
+    kind, bits = FORMATS[format_name]
+    chance = random.Random(seed)
+    chosen = [0.0, -0.0, 1.0, -1.0, 0.5, 1.5, 2.5, -2.5, 3.0, 100.25, -7.75, 1e-3, 1e10, -3e9, math.inf, -math.inf,
+              math.nan, float(np.finfo(kind).max), float(np.finfo(kind).tiny), float(np.finfo(kind).tiny) / 4]
+    chance.shuffle(chosen)
+    width = 8 * np.dtype(kind).itemsize
+    made = np.array([chance.getrandbits(width) for _ in range(12)], dtype=bits).view(kind).astype(kind)
+    usual = np.array([chance.uniform(-9, 9) for _ in range(COUNT - 12 - len(chosen))], dtype=kind)
+    return np.concatenate([np.array(chosen, dtype=kind), made, usual])
+
+
+jobs = []  # a kernel's source without its head, its arguments, the name and what it has to leave, and in which ulps
+
+
+def agree(name, head, body, arguments, wanted, ulps=0):
+    """Has a kernel with these parameters and this body run with the others, and its last argument compared."""
+    jobs.append((f"__kernel void f{len(jobs)}({head}) {{ int i = get_global_id(0); {body} }}\n", arguments, name, wanted,
+                 ulps))
+
+
+def run_all():
+    """Builds all kernels as one program, launches them and compares."""
+    program = cl.Program(context, "".join(job[0] for job in jobs)).build()
+    for n, (_, arguments, name, wanted, ulps) in enumerate(jobs):
+        made = np.zeros_like(wanted)
+        buffers = [cl.Buffer(context, cl.mem_flags.COPY_HOST_PTR, hostbuf=a) for a in [*arguments, made]]
+        getattr(program, f"f{n}")(queue, (wanted.shape[0],), None, *buffers)
+        cl.enqueue_copy(queue, made, buffers[-1])
+        compare(name, made, wanted, ulps)
+
+
+def compare(name, made, wanted, ulps):
+    """Notes whether all numbers are those that are wanted, any NaN being like another one."""
+    global agreed
+    for i, (x, y) in enumerate(zip(made.ravel(), wanted.ravel())):
+        same = x == y and (made.dtype.kind != "f" or np.signbit(x) == np.signbit(y))
+        same = same or (x != x and y != y)
+        if not same and ulps and np.isfinite(x) and np.isfinite(y):
+            same = abs(float(x) - float(y)) <= ulps * abs(float(np.spacing(y)))
+        if not same:
+            wrong.append(f"{name}: number {i} is {x!r} in place of {y!r}")
+            return
+    agreed += 1
+
+
+def operator(name, text, wanted, result=None, ulps=0):
+    """One expression of x, y and z in both formats."""
+    for format_name, (kind, _) in FORMATS.items():
+        x, y, z = (numbers(format_name, f"{name}{i}") for i in range(3))
+        word = format_name if result is None else next(w for w, k in WHOLE.items() if k == result)
+        head = ", ".join(f"__global const {format_name} *{n}" for n in "abc") + f", __global {word} *d"
+        body = (f"{format_name} x = a[i], y = b[i], z = c[i]; d[i] = {text.replace('T', format_name)};")
+        values = np.array(wanted(x, y, z)).astype(kind if result is None else result)
+        agree(f"{name} of {format_name}", head, body, [x, y, z], values, ulps)
+
+
+def operators():
+    operator("sum", "x + y", lambda x, y, z: x + y)
+    operator("difference", "x - y", lambda x, y, z: x - y)
+    operator("product", "x * y", lambda x, y, z: x * y)
+    operator("quotient", "x / y", lambda x, y, z: x / y)
+    operator("minus", "-x", lambda x, y, z: -x)
+    operator("plus", "+x", lambda x, y, z: x)
+    operator("two roundings", "x * y + z", lambda x, y, z: x * y + z)
+    operator("with whole numbers", "x * 2 + i - 1u", lambda x, y, z: x * x.dtype.type(2)
+             + np.arange(COUNT).astype(x.dtype) - x.dtype.type(1))
+    operator("literals", "x * (T)1.1 + (T)(0.1f * 3)", lambda x, y, z: x * x.dtype.type(1.1)
+             + x.dtype.type(np.float32(0.1) * np.float32(3)))
+    for name, compare in [("==", np.equal), ("!=", np.not_equal), ("<", np.less), (">", np.greater),
+                          ("<=", np.less_equal), (">=", np.greater_equal)]:
+        operator(name, f"x {name} y", lambda x, y, z, compare=compare: compare(x, y), np.int32)
+    operator("not", "!x", lambda x, y, z: x == 0, np.int32)
+    operator("and", "x && y", lambda x, y, z: (x != 0) & (y != 0), np.int32)
+    operator("or", "x || y < z", lambda x, y, z: (x != 0) | (y < z), np.int32)
+    operator("choice", "x < y ? x : z", lambda x, y, z: np.where(x < y, x, z))
+    operator("bool", "(bool)x", lambda x, y, z: x != 0, np.int32)
+    operator("assignments", "(x += y, x -= z, x *= y, x /= z, x)", lambda x, y, z: (x + y - z) * y / z)
+    operator("assignments of the other type", "(x += 0.1, x *= 3, x -= 2.5f, x)",
+             lambda x, y, z: (((x.astype(np.float64) + 0.1).astype(x.dtype) * x.dtype.type(3))
+                              - x.dtype.type(2.5)))
+    operator("steps", "(y = x++, y += --z, y + x)", lambda x, y, z: (x + (z - x.dtype.type(1)))
+             + (x + x.dtype.type(1)))
+    operator("condition", "({ T w = 0; if (x) w = y; if (!z) w = 1; w; })",
+             lambda x, y, z: np.where(z == 0, x.dtype.type(1), np.where(x != 0, y, x.dtype.type(0))))
+    operator("loop", "({ T w = 0; for (T s = 0; s < 3; s += 0.5f) w += s * y; w; })", lambda x, y, z: loop(y))
+    operator("the same bits", "as_T(x)", lambda x, y, z: x)
+
+
+def loop(y):
+    w = np.zeros_like(y)
+    for s in range(6):
+        w = w + y.dtype.type(s / 2) * y
+    return w
+
+
+def in_range(x, kind, rounded):
+    """What a conversion gives: rounded, in the range of the type, 0 of what is no number."""
+    ends = np.iinfo(kind)
+    made = []
+    for number in x:
+        if math.isnan(number):
+            made.append(0)
+        elif math.isinf(number):
+            made.append(ends.max if number > 0 else ends.min)
+        else:
+            made.append(min(max(rounded(float(number)), ends.min), ends.max))
+    return np.array(made, dtype=kind)
+
+
+def nearest(number):
+    return round(number)
+
+
+ROUNDINGS = {"": math.trunc, "_rte": nearest, "_rtz": math.trunc, "_rtp": math.ceil, "_rtn": math.floor}
+
+
+def conversions():
+    for format_name, (kind, _) in FORMATS.items():
+        x = numbers(format_name, "conversions")
+        for word, whole in WHOLE.items():
+            head = f"__global const {format_name} *a, __global {word} *b"
+            for mode, rounded in ROUNDINGS.items():
+                agree(f"convert_{word}_sat{mode} of {format_name}", head, f"b[i] = convert_{word}_sat{mode}(a[i]);", [x],
+                      in_range(x, whole, rounded))
+            agree(f"a cast of {format_name} to {word}", head, f"b[i] = ({word})a[i];", [x],
+                  in_range(x, whole, math.trunc))
+            chance, ends = random.Random(word), np.iinfo(whole)
+            n = np.array([ends.min, ends.max, ends.max - 1, 0, 1]
+                         + [chance.randint(ends.min, ends.max) for _ in range(COUNT - 5)], dtype=whole)
+            head = f"__global const {word} *a, __global {format_name} *b"
+            agree(f"{word} to {format_name}", head, "b[i] = a[i];", [n], n.astype(kind))
+            agree(f"convert_{format_name}_rte of {word}", head, f"b[i] = convert_{format_name}_rte(a[i]);", [n],
+                  n.astype(kind))
+    x, y = numbers("float", "between"), numbers("double", "between")
+    y[:20] = np.array([1 + 2.0**-24, 1 + 3 * 2.0**-24, 1e-40, 1e-46, 3.5e38, 1e300, -1e300, 0.1, -0.1, 1 / 3] * 2)
+    agree("float to double", "__global const float *a, __global double *b", "b[i] = a[i];", [x], x.astype(np.float64))
+    head = "__global const double *a, __global float *b"
+    agree("double to float", head, "b[i] = a[i];", [y], y.astype(np.float32))
+    for mode in ["_rte", "_rtz", "_rtp", "_rtn"]:
+        agree(f"convert_float{mode} of double", head, f"b[i] = convert_float{mode}(a[i]);", [y],
+              np.array([directed(n, mode) for n in y], dtype=np.float32))
+
+
+def directed(number, mode):
+    near = np.float32(number)
+    if mode == "_rte" or math.isnan(number) or math.isinf(number) or float(near) == number:
+        return near
+    up = {"_rtp": True, "_rtn": False, "_rtz": number < 0}[mode]
+    if up:
+        return near if float(near) > number else np.nextafter(near, np.float32(math.inf))
+    return near if float(near) < number else np.nextafter(near, np.float32(-math.inf))
+
+
+if __name__ == "__main__":
+    parts = [operators, conversions]
+    for part in parts:
+        if len(sys.argv) < 2 or part.__name__ in sys.argv[1:]:
+            part()
+    run_all()
+    for line in wrong:
+        print(line)
+    print(f"{agreed} results agree" + (f", {len(wrong)} don't" if wrong else ""))
+    sys.exit(bool(wrong))
