@@ -323,7 +323,8 @@ static const char in_front[] = "#define __opencl_c_int64 1\n"
                                "#define cl_khr_global_int32_extended_atomics 1\n"
                                "#define cl_khr_local_int32_base_atomics 1\n"
                                "#define cl_khr_local_int32_extended_atomics 1\n"
-                               "#define cl_khr_fp64 1\n";
+                               "#define cl_khr_fp64 1\n"
+                               "#define cl_khr_fp16 1\n"; // (by which it knows vload_half and its like; arithmetic of half it refuses)
 static const char behind[] = "\ntypedef int " LAST_NAME ";\n";
 
 // Reads what a source is after its preprocessing. Without `named` its own text isn't read again.

@@ -8,6 +8,7 @@ import math
 import random
 import sys
 import warnings
+from fractions import Fraction
 
 import numpy as np
 import pyopencl as cl
@@ -65,16 +66,17 @@ def compare(name, made, wanted, ulps):
         same = x == y and (made.dtype.kind != "f" or np.signbit(x) == np.signbit(y))
         same = same or (x != x and y != y)
         if not same and ulps and np.isfinite(x) and np.isfinite(y):
-            same = abs(float(x) - float(y)) <= ulps * abs(float(np.spacing(y)))
+            same = abs(float(x) - float(y)) <= max(ulps * abs(float(np.spacing(y))), 4e-16)
         if not same:
             wrong.append(f"{name}: number {i} is {x!r} in place of {y!r}")
             return
     agreed += 1
 
 
-def operator(name, text, wanted, result=None, ulps=0):
+def operator(name, text, wanted, result=None, ulps=0, formats=("float", "double")):
     """One expression of x, y and z in both formats."""
-    for format_name, (kind, _) in FORMATS.items():
+    for format_name in formats:
+        kind = FORMATS[format_name][0]
         x, y, z = (numbers(format_name, f"{name}{i}") for i in range(3))
         word = format_name if result is None else next(w for w, k in WHOLE.items() if k == result)
         head = ", ".join(f"__global const {format_name} *{n}" for n in "abc") + f", __global {word} *d"
@@ -180,8 +182,137 @@ def directed(number, mode):
     return near if float(near) < number else np.nextafter(near, np.float32(-math.inf))
 
 
+def wide(function):
+    """A function computed in double, one number at a time."""
+    def whole(x, y, z):
+        made = []
+        for one in zip(x.astype(np.float64), y.astype(np.float64), z.astype(np.float64)):
+            try:
+                made.append(function(*one))
+            except OverflowError:
+                made.append(math.inf)
+            except (ValueError, ZeroDivisionError):
+                made.append(math.nan)
+        return np.array(made)
+    return whole
+
+
+def of_one(function):
+    return lambda x, y, z: function(x.astype(np.float64))
+
+
+def of_pi(function):
+    return lambda x, y, z: function(np.pi * np.fmod(x.astype(np.float64), 2))
+
+
+def functions():
+    one = {"exp": np.exp, "exp2": np.exp2, "expm1": np.expm1, "log": np.log, "log2": np.log2, "log10": np.log10,
+           "log1p": np.log1p, "sin": np.sin, "cos": np.cos, "tan": np.tan, "asin": np.arcsin, "acos": np.arccos,
+           "atan": np.arctan, "sinh": np.sinh, "cosh": np.cosh, "tanh": np.tanh, "asinh": np.arcsinh,
+           "acosh": np.arccosh, "atanh": np.arctanh, "cbrt": np.cbrt, "exp10": lambda x: np.power(10.0, x),
+           "rsqrt": lambda x: 1 / np.sqrt(x), "asinpi": lambda x: np.arcsin(x) / np.pi,
+           "acospi": lambda x: np.arccos(x) / np.pi, "atanpi": lambda x: np.arctan(x) / np.pi,
+           "degrees": np.degrees, "radians": np.radians}
+    for name, function in one.items():
+        operator(name, f"{name}(x)", of_one(function), ulps=16)
+    for name in ["cos", "exp", "exp2", "exp10", "log", "log2", "log10", "rsqrt", "sin", "tan"]:
+        operator(f"half_{name}", f"half_{name}(x)", of_one(one[name]), ulps=16, formats=["float"])
+        operator(f"native_{name}", f"native_{name}(x)", of_one(one[name]), ulps=16, formats=["float"])
+    for form in ["half", "native"]:
+        for name, text, wanted in [("divide", "(x, y)", lambda x, y, z: x / y), ("recip", "(x)", lambda x, y, z: 1 / x),
+                                   ("sqrt", "(x)", lambda x, y, z: np.sqrt(x)),
+                                   ("powr", "(fabs(x), 1.5f)", lambda x, y, z: np.power(np.abs(x), np.float64(1.5)))]:
+            operator(f"{form}_{name}", f"{form}_{name}{text}", wanted, ulps=16, formats=["float"])
+    for name, function in [("sinpi", np.sin), ("cospi", np.cos)]:
+        operator(name, f"{name}(fmod(x, 8))", lambda x, y, z, function=function: function(
+            np.pi * np.fmod(np.fmod(x, 8).astype(np.float64), 2)), ulps=64)
+    operator("tanpi", "tanpi((T)0.125 + (T)0 * i)", lambda x, y, z: np.tan(np.pi * 0.125) + 0 * np.arange(COUNT), ulps=16)
+    two = {"atan2": np.arctan2, "hypot": np.hypot, "pow": np.power}
+    for name, function in two.items():
+        operator(name, f"{name}(x, y)", lambda x, y, z, function=function: function(
+            x.astype(np.float64), y.astype(np.float64)), ulps=16)
+    operator("atan2pi", "atan2pi(x, y)", lambda x, y, z: np.arctan2(x.astype(np.float64), y) / np.pi, ulps=16)
+    operator("powr", "powr(fabs(x), y)", lambda x, y, z: np.where(
+        ((x == 0) & (y == 0)) | ((np.abs(x) == np.inf) & (y == 0)) | ((np.abs(x) == 1) & np.isinf(y)) | np.isnan(x)
+        | np.isnan(y), np.nan, np.power(np.abs(x).astype(np.float64), y.astype(np.float64))), ulps=16)
+    operator("pown", "pown(x, i % 7 - 3)", lambda x, y, z: np.power(x.astype(np.float64), np.arange(COUNT) % 7 - 3.0),
+             ulps=16)
+    operator("rootn", "rootn(fabs(x), i % 2 + 1)", lambda x, y, z: np.power(
+        np.abs(x).astype(np.float64), 1 / (np.arange(COUNT) % 2 + 1.0)), ulps=16)
+    for name, function in [("erf", math.erf), ("erfc", math.erfc), ("tgamma", math.gamma), ("lgamma", math.lgamma)]:
+        operator(name, f"{name}(fmin(fabs(x) + (T)0.5, (T)9))",
+                 lambda x, y, z, function=function: wide(lambda a, b, c: function(a))(
+                     np.fmin(np.abs(x) + x.dtype.type(0.5), x.dtype.type(9)), y, z), ulps=4096 if name == "lgamma" else 32)
+    exact = [("sqrt(x)", lambda x, y, z: np.sqrt(x)), ("fabs(x)", lambda x, y, z: np.abs(x)),
+             ("ceil(x)", lambda x, y, z: np.ceil(x)), ("floor(x)", lambda x, y, z: np.floor(x)),
+             ("trunc(x)", lambda x, y, z: np.trunc(x)), ("rint(x)", lambda x, y, z: np.rint(x)),
+             ("round(x)", lambda x, y, z: np.copysign(np.where(np.abs(x) < 1e15, np.trunc(
+                 np.abs(x) + np.where(np.abs(x) - np.trunc(np.abs(x)) >= 0.5, 0.5, 0).astype(x.dtype)), np.abs(x)), x)),
+             ("copysign(x, y)", lambda x, y, z: np.copysign(x, y)), ("fmin(x, y) + 1", lambda x, y, z: np.fmin(x, y) + x.dtype.type(1)),
+             ("fmax(x, y) + 1", lambda x, y, z: np.fmax(x, y) + x.dtype.type(1)), ("fmod(x, y)", lambda x, y, z: np.fmod(x, y)),
+             ("fdim(x, y)", lambda x, y, z: np.where(np.isnan(x) | np.isnan(y), np.nan, np.where(x > y, x - y, 0))),
+             ("nextafter(x, y)", lambda x, y, z: np.nextafter(x, y)),
+             ("remainder(x, y)", lambda x, y, z: wide(lambda a, b, c: math.remainder(a, b))(x, y, z)),
+             ("ldexp(x, i - 9)", lambda x, y, z: np.ldexp(x, np.arange(COUNT) - 9)),
+             ("sign(x)", lambda x, y, z: np.where(np.isnan(x), 0, np.where(x == 0, x, np.sign(x)))),
+             ("step(x, y)", lambda x, y, z: np.where(y < x, 0, 1)),
+             ("maxmag(x, y)", lambda x, y, z: np.where(np.abs(x) > np.abs(y), x, np.where(np.abs(y) > np.abs(x), y,
+                                                                                          np.fmax(x, y)))),
+             ("minmag(x, y)", lambda x, y, z: np.where(np.abs(x) < np.abs(y), x, np.where(np.abs(y) < np.abs(x), y,
+                                                                                          np.fmin(x, y)))),
+             ("fma((T)3, (T)i, (T)1)", lambda x, y, z: 3 * np.arange(COUNT) + 1),
+             ("mad((T)3, (T)i, (T)1)", lambda x, y, z: 3 * np.arange(COUNT) + 1),
+             ("fma(1 + (T)1e-4f, 1 - (T)1e-4f, (T)-1)", lambda x, y, z: np.full(COUNT, fused(x.dtype.type))),
+             ("max((T)i, (T)9)", lambda x, y, z: np.maximum(np.arange(COUNT), 9)),
+             ("min((T)i, (T)9)", lambda x, y, z: np.minimum(np.arange(COUNT), 9)),
+             ("clamp((T)i, (T)5, (T)9)", lambda x, y, z: np.clip(np.arange(COUNT), 5, 9)),
+             ("mix((T)1, (T)3, (T)i)", lambda x, y, z: 1 + 2 * np.arange(COUNT)),
+             ("smoothstep((T)0, (T)4, (T)1) + (T)0 * i", lambda x, y, z: np.full(COUNT, 0.15625)),
+             ("logb((T)(i + 1))", lambda x, y, z: np.floor(np.log2(np.arange(COUNT) + 1))),
+             ("nan(0u) + x", lambda x, y, z: np.full(COUNT, np.nan)),
+             ("select(x, y, i % 2)", lambda x, y, z: np.where(np.arange(COUNT) % 2 != 0, y, x)),
+             ("bitselect(x, y, (T)-0.0)", lambda x, y, z: np.copysign(x, y)),
+             ("fract(x, &w) + w + 0", lambda x, y, z: np.where(np.isfinite(x), np.fmin(
+                 x - np.floor(x), np.nextafter(x.dtype.type(1), x.dtype.type(0))) + np.floor(x),
+                                                         np.where(np.isnan(x), np.nan, x)) + 0),
+             ("modf(x, &w) + w", lambda x, y, z: x), ("frexp(x, &n) + n", lambda x, y, z: np.where(
+                 np.isfinite(x), np.frexp(x)[0] + np.frexp(x)[1].astype(x.dtype), x)),
+             ("remquo((T)i, (T)5, &n) + n", lambda x, y, z: np.array(
+                 [math.remainder(k, 5) + round((k - math.remainder(k, 5)) / 5) for k in range(COUNT)])),
+             ("lgamma_r((T)1, &n) + n + i", lambda x, y, z: 1 + np.arange(COUNT))]
+    for text, wanted in exact:
+        one_format(text, text, wanted, "float")
+        one_format(text, text.replace("i % 2)", "(long)(i % 2))").replace("0u", "0ul"), wanted, "double")
+    operator("sincos", "({ T c, s = sincos(x, &c); s + c; })", of_one(lambda x: np.sin(x) + np.cos(x)), ulps=4096)
+    for name, wanted in [("isequal", np.equal), ("isnotequal", np.not_equal), ("isgreater", np.greater),
+                         ("isgreaterequal", np.greater_equal), ("isless", np.less), ("islessequal", np.less_equal),
+                         ("islessgreater", lambda x, y: (x < y) | (x > y)),
+                         ("isordered", lambda x, y: ~(np.isnan(x) | np.isnan(y))),
+                         ("isunordered", lambda x, y: np.isnan(x) | np.isnan(y))]:
+        operator(name, f"{name}(x, y)", lambda x, y, z, wanted=wanted: wanted(x, y), np.int32)
+    for name, wanted in [("isnan", np.isnan), ("isinf", np.isinf), ("isfinite", np.isfinite), ("signbit", np.signbit),
+                         ("isnormal", lambda x: np.isfinite(x) & (np.abs(x) >= np.finfo(x.dtype).tiny))]:
+        operator(name, f"{name}(x)", lambda x, y, z, wanted=wanted: wanted(x), np.int32)
+    operator("ilogb", "ilogb((T)(i + 1))", lambda x, y, z: np.floor(np.log2(np.arange(COUNT) + 1)), np.int32)
+
+
+def fused(kind):
+    """(1 + d)(1 - d) - 1, rounded once; d is a float."""
+    d = kind(np.float32(1e-4))
+    whole = Fraction(float(kind(1) + d)) * Fraction(float(kind(1) - d)) - 1
+    return kind(float(whole))
+
+
+def one_format(name, text, wanted, format_name):
+    kind = FORMATS[format_name][0]
+    x, y, z = (numbers(format_name, f"{name}{i}") for i in range(3))
+    head = ", ".join(f"__global const {format_name} *{n}" for n in "abc") + f", __global {format_name} *d"
+    body = (f"{format_name} x = a[i], y = b[i], z = c[i], w = 0; int n = 0; d[i] = {text.replace('T', format_name)};")
+    agree(f"{name} of {format_name}", head, body, [x, y, z], np.array(wanted(x, y, z)).astype(kind))
+
+
 if __name__ == "__main__":
-    parts = [operators, conversions]
+    parts = [operators, conversions, functions]
     for part in parts:
         if len(sys.argv) < 2 or part.__name__ in sys.argv[1:]:
             part()
