@@ -311,8 +311,41 @@ def one_format(name, text, wanted, format_name):
     agree(f"{name} of {format_name}", head, body, [x, y, z], np.array(wanted(x, y, z)).astype(kind))
 
 
+def programs():
+    """A product of matrices, a step of bodies and Mandelbrot's set, by the same operations in the same order here."""
+    side, chance = 8, np.random.RandomState(1)
+    a, b = (chance.uniform(-1, 1, (side, side)).astype(np.float32) for _ in range(2))
+    made = np.zeros((side, side), dtype=np.float32)
+    for k in range(side):
+        made = made + a[:, k:k + 1] * b[k:k + 1, :]
+    agree("product of matrices", "__global const float *a, __global const float *b, __global float *c",
+          "int y = i / 8, x = i % 8; float s = 0; for (int k = 0; k < 8; k++) s += a[y * 8 + k] * b[k * 8 + x]; "
+          "c[i] = s;", [a.ravel(), b.ravel()], made.ravel())
+    place = chance.uniform(-1, 1, (16, 4)).astype(np.float32)
+    force = np.zeros((16, 4), dtype=np.float32)
+    for j in range(16):
+        away = place[j] - place
+        square = away[:, 0] * away[:, 0]
+        for k in range(1, 4):
+            square = square + away[:, k] * away[:, k]
+        square = square + np.float32(0.01)
+        force = force + away / (np.sqrt(square) * square)[:, None]
+    agree("a step of bodies", "__global const float4 *p, __global float4 *f",
+          "float4 s = 0; for (int j = 0; j < 16; j++) { float4 d = p[j] - p[i]; float q = dot(d, d) + 0.01f; "
+          "s += d / (sqrt(q) * q); } f[i] = s;", [place], force)
+    turns = np.zeros(64, dtype=np.int32)
+    for i in range(64):
+        x = y = 0.0
+        while turns[i] < 20 and x * x + y * y <= 4:
+            x, y = x * x - y * y + (i % 8 / 4.0 - 1.5), 2 * x * y + (i // 8 / 4.0 - 1)
+            turns[i] += 1
+    agree("Mandelbrot's set", "__global int *n", "double x = 0, y = 0, a = i % 8 / 4.0 - 1.5, b = i / 8 / 4.0 - 1; "
+          "int k = 0; while (k < 20 && x * x + y * y <= 4) { double t = x * x - y * y + a; y = 2 * x * y + b; x = t; k++; }"
+          " n[i] = k;", [], turns)
+
+
 if __name__ == "__main__":
-    parts = [operators, conversions, functions]
+    parts = [operators, conversions, functions, programs]
     for part in parts:
         if len(sys.argv) < 2 or part.__name__ in sys.argv[1:]:
             part()
