@@ -335,16 +335,17 @@ static void explain_refusal(const request *q, const text *named, const outcome *
 }
 
 // What clang looks for where it knows a built-in function by an extension: the preprocessed text has no macros any
-// more.
-static const char in_front[] = "#define __opencl_c_int64 1\n"
-                               "#define __opencl_c_named_address_space_builtins 1\n"
-                               "#define cl_khr_byte_addressable_store 1\n"
-                               "#define cl_khr_global_int32_base_atomics 1\n"
-                               "#define cl_khr_global_int32_extended_atomics 1\n"
-                               "#define cl_khr_local_int32_base_atomics 1\n"
-                               "#define cl_khr_local_int32_extended_atomics 1\n"
-                               "#define cl_khr_fp64 1\n"
-                               "#define cl_khr_fp16 1\n"; // (by which it knows vload_half and its like; arithmetic of half it refuses)
+// more. By cl_khr_fp16 it knows vload_half and its like; arithmetic of half it refuses all the same.
+static const char in_front[] =
+    "#define __opencl_c_int64 1\n"
+    "#define __opencl_c_named_address_space_builtins 1\n"
+    "#define cl_khr_byte_addressable_store 1\n"
+    "#define cl_khr_global_int32_base_atomics 1\n"
+    "#define cl_khr_global_int32_extended_atomics 1\n"
+    "#define cl_khr_local_int32_base_atomics 1\n"
+    "#define cl_khr_local_int32_extended_atomics 1\n"
+    "#define cl_khr_fp64 1\n"
+    "#define cl_khr_fp16 1\n";
 static const char behind[] = "\ntypedef int " LAST_NAME ";\n";
 
 // Reads what a source is after its preprocessing. Without `named` its own text isn't read again.

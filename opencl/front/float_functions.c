@@ -181,8 +181,8 @@ static bool is_half_access(const char *name, half_access *h) {
 }
 
 static value half_value(translator *t, const node *n, half_access h) {
-    static const type half = {.kind = FLOATING_TYPE, .width = 2, .size = 2, .align = 2, .is_signed = true,
-                              .name = "half"};
+    static const type half = {
+        .kind = FLOATING_TYPE, .width = 2, .size = 2, .align = 2, .is_signed = true, .name = "half"};
     operand given[3];
     unsigned at_pointer = h.loads ? 1 : 2, step = h.is_aligned && h.count == 3 ? 4 : h.count;
     evaluate_kept(t, n, given, at_pointer + 1);

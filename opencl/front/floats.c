@@ -38,8 +38,7 @@ static integer call_helper(translator *t, const char *name, const integer *argum
     if (are_known(t, arguments, types, count, known) && known_result((unsigned)number, known, &result))
         return literal(t, result, h->result);
     text call = {.arena = &t->pass};
-    for (unsigned i = 0; i < count; i++)
-        addf(&call, "%s%s", i ? "," : "", exactly(t, arguments[i], types[i]).text);
+    for (unsigned i = 0; i < count; i++) addf(&call, "%s%s", i ? "," : "", exactly(t, arguments[i], types[i]).text);
     const char *variable_name = temporary_name(t);
     use_helper(t, (unsigned)number);
     emit(t, "%s %s=%s(%s);", name_of(h->result), variable_name, name, call.at);
@@ -97,8 +96,8 @@ unsigned operand_count(const float_operation *f) {
     return count;
 }
 
-static integer helper_result(translator *t, unsigned width, const char *helper, const char *letters,
-                             result_kind result, const integer *operands) {
+static integer helper_result(translator *t, unsigned width, const char *helper, const char *letters, result_kind result,
+                             const integer *operands) {
     integer arguments[MOST_PARAMETERS], first = operands[0];
     unsigned count = 0;
     if (*letters == 'b' && first.has_effect) first = kept(t, first); // it is evaluated first
@@ -205,7 +204,6 @@ value converted_numbers(translator *t, value v, const type *from, const type *to
     if (v.kind != VECTOR_VALUE) return v;
     integer *components = take(&t->pass, v.count * sizeof *components);
     if (is_floating(number) || is_floating(result)) v = kept_value(t, v);
-    for (unsigned i = 0; i < v.count; i++)
-        components[i] = converted_number(t, v.components[i], number, result, mode);
+    for (unsigned i = 0; i < v.count; i++) components[i] = converted_number(t, v.components[i], number, result, mode);
     return vector_value(components, v.count);
 }

@@ -164,10 +164,10 @@ struct object {
     integer_type element; // where no access says otherwise
     bool is_fixed;        // it is never assigned
     bool is_const;
-    unsigned char accesses, held;        // of a buffer: which accesses are written, and which of them are held back
+    unsigned char accesses, held; // of a buffer: which accesses are written, and which of them are held back
     // of a part of a buffer: its parameters, and the element that stands for all outside of it
     const char *part_origin, *part_size, *outside;
-    const char *views[INTEGER_TYPES];    // of a buffer: the parameters by the types of their elements
+    const char *views[INTEGER_TYPES]; // of a buffer: the parameters by the types of their elements
     integer_type array_element;
     const value *alias;         // what it always holds
     const unsigned char *bytes; // of a table

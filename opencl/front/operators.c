@@ -111,7 +111,7 @@ static integer unary_component(translator *t, operation op, integer v, const typ
     integer_type wide = promoted(type_of(&v));
     if (op == LOGICAL_NOT) {
         integer is_zero = is_floating(number) ? unary(t, LOGICAL_NOT, is_not_zero_float(t, v, number->width), INT)
-                                            : binary(t, EQUAL, v, literal(t, 0, type_of(&v)), type_of(&v));
+                                              : binary(t, EQUAL, v, literal(t, 0, type_of(&v)), type_of(&v));
         return cast_to(t, unary(t, MINUS, is_zero, INT), core_type(result));
     }
     if (is_floating(number)) return op == PLUS ? v : float_operator(t, op, v, v, number->width);

@@ -44,8 +44,8 @@ jobs = []  # a kernel's source without its head, its arguments, the name and wha
 
 def agree(name, head, body, arguments, wanted, ulps=0):
     """Has a kernel with these parameters and this body run with the others, and its last argument compared."""
-    jobs.append((f"__kernel void f{len(jobs)}({head}) {{ int i = get_global_id(0); {body} }}\n", arguments, name, wanted,
-                 ulps))
+    source = f"__kernel void f{len(jobs)}({head}) {{ int i = get_global_id(0); {body} }}\n"
+    jobs.append((source, arguments, name, wanted, ulps))
 
 
 def run_all():
@@ -163,7 +163,7 @@ def conversions():
             agree(f"convert_{format_name}_rte of {word}", head, f"b[i] = convert_{format_name}_rte(a[i]);", [n],
                   n.astype(kind))
     x, y = numbers("float", "between"), numbers("double", "between")
-    y[:20] = np.array([1 + 2.0**-24, 1 + 3 * 2.0**-24, 1e-40, 1e-46, 3.5e38, 1e300, -1e300, 0.1, -0.1, 1 / 3] * 2)
+    y[:10] = np.array([1 + 2.0**-24, 1 + 3 * 2.0**-24, 1e-40, 1e-46, 3.5e38, 1e300, -1e300, 0.1, -0.1, 1 / 3])
     agree("float to double", "__global const float *a, __global double *b", "b[i] = a[i];", [x], x.astype(np.float64))
     head = "__global const double *a, __global float *b"
     agree("double to float", head, "b[i] = a[i];", [y], y.astype(np.float32))
