@@ -151,8 +151,8 @@ def conversions():
         for word, whole in WHOLE.items():
             head = f"__global const {format_name} *a, __global {word} *b"
             for mode, rounded in ROUNDINGS.items():
-                agree(f"convert_{word}_sat{mode} of {format_name}", head, f"b[i] = convert_{word}_sat{mode}(a[i]);", [x],
-                      in_range(x, whole, rounded))
+                agree(f"convert_{word}_sat{mode} of {format_name}", head, f"b[i] = convert_{word}_sat{mode}(a[i]);",
+                      [x], in_range(x, whole, rounded))
             agree(f"a cast of {format_name} to {word}", head, f"b[i] = ({word})a[i];", [x],
                   in_range(x, whole, math.trunc))
             chance, ends = random.Random(word), np.iinfo(whole)
@@ -219,14 +219,15 @@ def functions():
         operator(f"half_{name}", f"half_{name}(x)", of_one(one[name]), ulps=16, formats=["float"])
         operator(f"native_{name}", f"native_{name}(x)", of_one(one[name]), ulps=16, formats=["float"])
     for form in ["half", "native"]:
-        for name, text, wanted in [("divide", "(x, y)", lambda x, y, z: x / y), ("recip", "(x)", lambda x, y, z: 1 / x),
+        for name, text, wanted in [("divide", "(x, y)", lambda x, y, z: x / y),
+                                   ("recip", "(x)", lambda x, y, z: 1 / x),
                                    ("sqrt", "(x)", lambda x, y, z: np.sqrt(x)),
                                    ("powr", "(fabs(x), 1.5f)", lambda x, y, z: np.power(np.abs(x), np.float64(1.5)))]:
             operator(f"{form}_{name}", f"{form}_{name}{text}", wanted, ulps=16, formats=["float"])
     for name, function in [("sinpi", np.sin), ("cospi", np.cos)]:
         operator(name, f"{name}(fmod(x, 8))", lambda x, y, z, function=function: function(
             np.pi * np.fmod(np.fmod(x, 8).astype(np.float64), 2)), ulps=64)
-    operator("tanpi", "tanpi((T)0.125 + (T)0 * i)", lambda x, y, z: np.tan(np.pi * 0.125) + 0 * np.arange(COUNT), ulps=16)
+    operator("tanpi", "tanpi((T)0.125 + (T)0 * i)", lambda x, y, z: np.full(COUNT, np.tan(np.pi * 0.125)), ulps=16)
     two = {"atan2": np.arctan2, "hypot": np.hypot, "pow": np.power}
     for name, function in two.items():
         operator(name, f"{name}(x, y)", lambda x, y, z, function=function: function(
@@ -242,14 +243,17 @@ def functions():
     for name, function in [("erf", math.erf), ("erfc", math.erfc), ("tgamma", math.gamma), ("lgamma", math.lgamma)]:
         operator(name, f"{name}(fmin(fabs(x) + (T)0.5, (T)9))",
                  lambda x, y, z, function=function: wide(lambda a, b, c: function(a))(
-                     np.fmin(np.abs(x) + x.dtype.type(0.5), x.dtype.type(9)), y, z), ulps=4096 if name == "lgamma" else 32)
+                     np.fmin(np.abs(x) + x.dtype.type(0.5), x.dtype.type(9)), y, z),
+                 ulps=4096 if name == "lgamma" else 32)
     exact = [("sqrt(x)", lambda x, y, z: np.sqrt(x)), ("fabs(x)", lambda x, y, z: np.abs(x)),
              ("ceil(x)", lambda x, y, z: np.ceil(x)), ("floor(x)", lambda x, y, z: np.floor(x)),
              ("trunc(x)", lambda x, y, z: np.trunc(x)), ("rint(x)", lambda x, y, z: np.rint(x)),
              ("round(x)", lambda x, y, z: np.copysign(np.where(np.abs(x) < 1e15, np.trunc(
                  np.abs(x) + np.where(np.abs(x) - np.trunc(np.abs(x)) >= 0.5, 0.5, 0).astype(x.dtype)), np.abs(x)), x)),
-             ("copysign(x, y)", lambda x, y, z: np.copysign(x, y)), ("fmin(x, y) + 1", lambda x, y, z: np.fmin(x, y) + x.dtype.type(1)),
-             ("fmax(x, y) + 1", lambda x, y, z: np.fmax(x, y) + x.dtype.type(1)), ("fmod(x, y)", lambda x, y, z: np.fmod(x, y)),
+             ("copysign(x, y)", lambda x, y, z: np.copysign(x, y)),
+             ("fmin(x, y) + 1", lambda x, y, z: np.fmin(x, y) + x.dtype.type(1)),
+             ("fmax(x, y) + 1", lambda x, y, z: np.fmax(x, y) + x.dtype.type(1)),
+             ("fmod(x, y)", lambda x, y, z: np.fmod(x, y)),
              ("fdim(x, y)", lambda x, y, z: np.where(np.isnan(x) | np.isnan(y), np.nan, np.where(x > y, x - y, 0))),
              ("nextafter(x, y)", lambda x, y, z: np.nextafter(x, y)),
              ("remainder(x, y)", lambda x, y, z: wide(lambda a, b, c: math.remainder(a, b))(x, y, z)),
@@ -340,8 +344,8 @@ def programs():
             x, y = x * x - y * y + (i % 8 / 4.0 - 1.5), 2 * x * y + (i // 8 / 4.0 - 1)
             turns[i] += 1
     agree("Mandelbrot's set", "__global int *n", "double x = 0, y = 0, a = i % 8 / 4.0 - 1.5, b = i / 8 / 4.0 - 1; "
-          "int k = 0; while (k < 20 && x * x + y * y <= 4) { double t = x * x - y * y + a; y = 2 * x * y + b; x = t; k++; }"
-          " n[i] = k;", [], turns)
+          "int k = 0; while (k < 20 && x * x + y * y <= 4) { double t = x * x - y * y + a; y = 2 * x * y + b; x = t; "
+          "k++; } n[i] = k;", [], turns)
 
 
 if __name__ == "__main__":
