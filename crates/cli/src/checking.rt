@@ -24,8 +24,8 @@ pub(crate) fn tell<W: Write>(fault: Option<BuildFault>, writer: &mut W) -> Resul
     writer.flush()
 }
 
-/// Reads a source and checks it within limits, as a program is built: `read`, then `check`. Writes `ok`, or the fault with its number,
-/// name and place in the source, as a line. Answers whether the source builds.
+/// Reads a source and checks it within limits, as a program is built: `read`, then `check`. Writes `ok`, or the fault
+/// with its number, name and place in the source, as a line. Answers whether the source builds.
 ///
 /// No fault is a `BadLine`; after `Read` and `OutOfMemory` nothing was written, after `Write` a beginning of the line.
 pub fn check_file<R: Read, W: Write>(

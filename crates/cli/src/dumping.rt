@@ -48,8 +48,9 @@ fn tell_kernel<W: Write>(
     Ok(writer.flush()?)
 }
 
-/// Reads a source, builds it within limits, as a program is built, and writes the register code of a kernel, a line for each
-/// instruction. Of a source that doesn't build it writes the line of `check_file`. Answers whether the source builds.
+/// Reads a source, builds it within limits, as a program is built, and writes the register code of a kernel, a line for
+/// each instruction. Of a source that doesn't build it writes the line of `check_file`. Answers whether the source
+/// builds.
 ///
 /// No fault is a `BadLine`; after `Read`, `OutOfMemory` and `NoSuchKernel` nothing was written, after `Write` a
 /// beginning of the text.

@@ -88,7 +88,8 @@ fn check_source<R: Files + Print + AllocGlobal>(
     check_file(rt.alloc(), limits, &mut reader, &mut writer)
 }
 
-/// Writes the code of a kernel of the source of a file, which is built within limits, on standard output, or the line of the source's fault.
+/// Writes the code of a kernel of the source of a file, which is built within limits, on standard output, or the line of
+/// the source's fault.
 fn dump_kernel<R: Files + Print + AllocGlobal>(
     rt: &R,
     file: &str,

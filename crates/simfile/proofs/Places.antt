@@ -2,7 +2,7 @@
 use Rattle.std.proofs.Common.{◌≡◌, ℕ, ◌+◌, ◌-◌, ◌≤◌, zero, suc, List, [], ◌∷◌, ◌++◌, length, take, drop, Option, None, Some, ◌⊎◌, inl, inr, refl, ap, sym, ◌∙◌, subst, arith, append_assoc, length-append}
 use Rattle.std.specs.Prelude.{slice_get, slice_range}
 use Rattle.std.proofs.Math.Seq.{take-append_seam}
-use Rattle.std.proofs.lemmas.List.{take-append-drop, take-append-le}
+use Rattle.std.proofs.lemmas.List.{length-drop, take-append-drop, take-append-le}
 use Rattle.std.proofs.lemmas.List.Folds.{drop_split}
 use Rattle.std.proofs.lemmas.Option.{same_Some, slice_get_past, slice_get_within}
 use Rattle.host_commands.specs.declared.command.Command.{Command}
@@ -22,6 +22,16 @@ feeds_between bytes from at h =
     let more : line_feeds (drop from bytes) ≡ line_feeds (slice_range bytes from at) + line_feeds (drop at bytes) =
     ap line_feeds (drop_split bytes from at h) ∙ feeds_append (slice_range bytes from at) (drop at bytes) in
     omega (arith, all from, all at, more)
+
+-- the bytes between two places
+pub few_between : (bytes : List ℕ) (from at : ℕ) → from ≤ at → at ≤ length bytes → length (slice_range bytes from at) + from ≡ at
+few_between bytes from at h k =
+    let split = ap length (drop_split bytes from at h) ∙ length-append (slice_range bytes from at) (drop at bytes) in
+    omega (arith, split, length-drop from bytes, length-drop at bytes, h, k)
+
+-- the place of a byte is the place of its own byte
+pub at_itself : (bytes : List ℕ) (byte : ℕ) (place : CommandPlace) → Locates bytes byte place → Locates bytes place.at place
+at_itself bytes byte place h = subst (λ (n : ℕ). Locates bytes n place) (sym h.at) h
 
 -- elements of a list with one more
 
