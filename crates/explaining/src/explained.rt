@@ -40,7 +40,7 @@ fn told_at(
     requires placed { AreAt given.script.now commands.now places.now }
     requires within { ticket ≤ length commands.now }
     ensures told { IfOk result (λ found. IsTold options.configuration commands.now ticket fault.now schedule (is_some found)) }
-    ensures whole { IfOk result (λ found. IfSome found (IsToldThere options.configuration options.as_given given.script.now commands.now ticket fault.now schedule)) }
+    ensures whole { IfOk result (λ found. IfSome found (IsToldThere options.configuration options.as_given given.entry.script.now commands.now ticket fault.now schedule)) }
     ensures failed { IfErr result (Unled options.configuration commands.now ticket) }
 {
     let (first, _) = commands.split_at(ticket);
