@@ -1,5 +1,5 @@
 -- Tables of buffers that are one, but for the bytes of some.
-use Rattle.std.proofs.Common.{◌≡◌, ℕ, zero, suc, ◌+◌, ◌-◌, min, Bool, true, false, not, cond, ◌&&◌, ◌||◌, Option, None, Some, is_some, List, [], ◌∷◌, ◌++◌, length, map, take, drop, slice_get, slice_index_or, refl, ap, ap₂, sym, ◌∙◌, subst, arith}
+use Rattle.std.proofs.Common.{◌≡◌, ℕ, zero, suc, ◌+◌, ◌-◌, ◌%◌, min, Bool, true, false, not, cond, ◌&&◌, ◌||◌, Option, None, Some, is_some, List, [], ◌∷◌, ◌++◌, length, map, take, drop, get_or, slice_get, slice_index_or, refl, ap, ap₂, sym, ◌∙◌, subst, arith}
 use Rattle.std.proofs.lemmas.Bool.{false≢true, and_parts, and_from, or_left, or_right, or_parts}
 use Rattle.std.proofs.lemmas.List.{length-append, length-take, length-drop, length-map}
 use Rattle.std.specs.List.{list_any, range_with_len}
@@ -35,19 +35,20 @@ part false xs ys at count h = ap (λ zs. take count (drop at zs)) h
 
 -- patterns again and again
 pub again : (b : Bool) (xs ys : List ℕ) (count : ℕ) → AlikeBytes b xs ys → AlikeBytes b (repeated xs count) (repeated ys count)
-again true xs ys count h = length-map _ (range_with_len 0 count) ∙ sym (length-map _ (range_with_len 0 count))
+again true xs ys count h =
+    length-map (range_with_len 0 count) (λ byte. get_or xs (byte % length xs) 0) ∙ sym (length-map (range_with_len 0 count) (λ byte. get_or ys (byte % length ys) 0))
 again false xs ys count h = ap (λ zs. repeated zs count) h
 
-length_with : (xs ps : List ℕ) (at : ℕ) → length (with_bytes xs at ps) ≡ min at (length xs) + (length ps + (length xs - (at + length ps)))
+length_with : (xs ps : List ℕ) (at : ℕ) → length (with_bytes xs at ps) ≡ min at (length xs) + length ps + (length xs - (at + length ps))
 length_with xs ps at =
-    length-append (take at xs) (ps ++ drop (at + length ps) xs)
-    ∙ ap₂ (λ a b. a + b) (length-take at xs) (length-append ps (drop (at + length ps) xs) ∙ ap (λ n. length ps + n) (length-drop (at + length ps) xs))
+    length-append (take at xs ++ ps) (drop (at + length ps) xs)
+    ∙ ap₂ (λ a b. a + b) (length-append (take at xs) ps ∙ ap (λ n. n + length ps) (length-take at xs)) (length-drop (at + length ps) xs)
 
 -- alike bytes with alike ones in place of some
 pub put_into : (a f b : Bool) (xs ys ps qs : List ℕ) (at : ℕ) → (a ≡ true → b ≡ true) → (f ≡ true → b ≡ true) → AlikeBytes a xs ys → AlikeBytes f ps qs
     → AlikeBytes b (with_bytes xs at ps) (with_bytes ys at qs)
 put_into a f true xs ys ps qs at old put h k =
-    length_with xs ps at ∙ ap₂ (λ m n. min at m + (n + (m - (at + n)))) (as_long a xs ys h) (as_long f ps qs k) ∙ sym (length_with ys qs at)
+    length_with xs ps at ∙ ap₂ (λ m n. min at m + n + (m - (at + n))) (as_long a xs ys h) (as_long f ps qs k) ∙ sym (length_with ys qs at)
 put_into true f false xs ys ps qs at old put h k = absurd (false≢true (old refl))
 put_into false true false xs ys ps qs at old put h k = absurd (false≢true (put refl))
 put_into false false false xs ys ps qs at old put h k = ap₂ (λ zs rs. with_bytes zs at rs) h k
@@ -138,12 +139,13 @@ pub unmarked : (taint : Taint) (es fs : Table (List ℕ)) (name : List ℕ) → 
 unmarked taint [] [] name none h = tt
 unmarked taint [] (f ∷ fs) name none h = absurd h
 unmarked taint (e ∷ es) [] name none h = absurd h
-unmarked taint (e ∷ es) (f ∷ fs) name none h = by (is name e.0) refl none
+unmarked taint (e ∷ es) (f ∷ fs) name none h = by (is name e.0) refl none (λ apart. unmarked taint es fs name apart h.2)
   where
-    by : (b : Bool) → is name e.0 ≡ b → is_some (cond b (Some e.1) (find es name)) ≡ false → AlikeTables (λ other. not (is name other) && taint other) (e ∷ es) (f ∷ fs)
-    by true here found = absurd (false≢true (sym found))
-    by false apart found =
-        (h.0, weaker (taint e.0) (not (is name e.0) && taint e.0) e.1 f.1 (λ t. and_from (not (is name e.0)) (taint e.0) (ap not apart) t) h.1, unmarked taint es fs name found h.2)
+    by : (b : Bool) → is name e.0 ≡ b → is_some (cond b (Some e.1) (find es name)) ≡ false
+        → (is_some (find es name) ≡ false → AlikeTables (λ other. not (is name other) && taint other) es fs) → AlikeTables (λ other. not (is name other) && taint other) (e ∷ es) (f ∷ fs)
+    by true here found rest = absurd (false≢true (sym found))
+    by false apart found rest =
+        (h.0, weaker (taint e.0) (not (is name e.0) && taint e.0) e.1 f.1 (λ t. and_from (not (is name e.0)) (taint e.0) (ap not apart) t) h.1, rest found)
 
 -- alike bytes in the places of several names'
 pub both_with_values : (taint : Taint) (es fs : Table (List ℕ)) (names contents others : List (List ℕ)) → AlikeTables taint es fs → length contents ≡ length others

@@ -1,1 +1,3 @@
 mod AlikeTables
+mod AlikeSteps
+mod AlikeRuns

@@ -1,5 +1,5 @@
-use Rattle.wide_scripts.proofs.AlikeTables.{both_with_values, free_there, free_named, none_marked, unmarked, both_added, both_removed}
+use Rattle.wide_scripts.proofs.AlikeRuns.{walks_are_wide}
 use Rattle.wide_scripts.proofs.laws.walks_are_wide.Goals as goal
 
 pub returns : goal.returns
-returns c = ?
+returns c = walks_are_wide
