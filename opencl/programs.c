@@ -148,9 +148,11 @@ static cl_int send_program(cl_program p, size_t begin, size_t length, unsigned l
     if (!command) return CL_OUT_OF_HOST_MEMORY;
     size_t at = (size_t)snprintf(command, 64, "program p%u %u\n", number, lines);
     memcpy(command + at, p->form.text + begin, length);
-    // more lines than a script can say are more bytes than a source can have
-    const char *reply = lines > MAX_LINES ? "refused 10 BuildFailed syntax 5 TooLong at 65536"
-                                          : session_ask(p->context->session, command, at + length);
+    // more lines than a script can say, which by the profile are more bytes than a source can have
+    const char *reply = lines <= MAX_LINES ? session_ask(p->context->session, command, at + length)
+                        : limits_of_device()->source_bytes <= MAX_LINES
+                            ? "refused 10 BuildFailed syntax 5 TooLong at 65536"
+                            : "refused 10 BuildFailed: a program has more than 65536 lines";
     free(command);
     if (is_ok(reply)) p->numbers[p->count++] = number;
     else if (error_of(reply) == CL_BUILD_PROGRAM_FAILURE) build_log(&p->form, begin, reply);

@@ -97,7 +97,9 @@ static const device_limits profile = {.name = "profile",
                                       .buffers = 64,
                                       .bytes = 1 << 20,
                                       .global_bytes = 64 << 20,
-                                      .local_bytes = 32768};
+                                      .local_bytes = 32768,
+                                      .source_bytes = 65536,
+                                      .nesting = 64};
 // (The largest buffer is at least a quarter of the memory that a device tells of, by table 4.3: so that is four of
 // them. 4,096 would be 4 TiB.)
 static const device_limits large = {.name = "large",
@@ -106,7 +108,9 @@ static const device_limits large = {.name = "large",
                                     .buffers = 4096,
                                     .bytes = 1 << 30,
                                     .global_bytes = (size_t)4 << 30,
-                                    .local_bytes = 32768};
+                                    .local_bytes = 65536,
+                                    .source_bytes = 1 << 22,
+                                    .nesting = 256};
 
 const device_limits *limits_of_device(void) {
     const char *serve = setting("CLSIM_SERVE"), *word = setting("CLSIM_LIMITS");

@@ -31,6 +31,8 @@ typedef struct {
     size_t bytes;        // of a buffer
     size_t global_bytes; // what is told of the device's whole memory
     size_t local_bytes;  // of local memory of a work-group
+    size_t source_bytes; // of a source, as it is judged
+    size_t nesting;      // of blocks, brackets and operators of a source
 } device_limits;
 // Those that the device is asked for: `large`, or `profile` by CLSIM_LIMITS. A `--limits` in CLSIM_SERVE goes before.
 const device_limits *limits_of_device(void);

@@ -132,13 +132,16 @@ void put_part(char *room, size_t n, const type *type, uint64_t offset) {
 
 // ---- what a refusal means ----
 
-static const char *meaning(const char *name) {
+static const char *meaning(arena *a, const char *name) {
     static const struct {
         const char *name, *words;
     } of[] = {{"TooManyLoops", "loops are nested more than 8 deep"},
-              {"TooLarge", "an array is too large, or the kernel has too many parts"},
-              {"TooDeep", "this is nested more than 64 deep"},
-              {"TooLong", "the source has more than 65536 bytes"}};
+              {"TooLarge", "an array is too large, or the kernel has too many parts"}};
+    const device_limits *limits = limits_of_device();
+    text words = {.arena = a};
+    if (!strcmp(name, "TooDeep")) addf(&words, "this is nested more than %zu deep", limits->nesting);
+    if (!strcmp(name, "TooLong")) addf(&words, "the source has more than %zu bytes", limits->source_bytes);
+    if (words.length) return words.at;
     for (size_t i = 0; i < sizeof of / sizeof *of; i++)
         if (!strcmp(name, of[i].name)) return of[i].words;
     return name;
@@ -152,7 +155,7 @@ const char *build_log(prepared *p, size_t begin, const char *reply) {
     if (setjmp(p->arena.failed)) return NULL;
     bool known = sscanf(reply, "refused 10 BuildFailed %*s %*u %63s at %lu", name, &offset) == 2;
     offset += begin;
-    if (known && find_place(p, offset, &at)) add_message(p, &log, &at, meaning(name));
+    if (known && find_place(p, offset, &at)) add_message(p, &log, &at, meaning(&p->arena, name));
     if (known && offset <= p->length) {
         size_t line = offset;
         while (line && p->text[line - 1] != '\n') line--;

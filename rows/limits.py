@@ -7,22 +7,26 @@ import os
 # launch and of a group, the side of a square of as many items as a launch has, and the bytes of a buffer
 PROFILE = (" --limits profile", 1 << 16, 1 << 8, 1 << 8, 1 << 20)
 LARGE = (" --limits large", 1 << 26, 1 << 10, 1 << 13, 1 << 30)
+# of the same limits what a source and local memory may be: the bytes of a source, how deep it is nested, the nodes of a
+# kernel, the bytes of its private arrays, the elements of an array, and the bytes of the local memory of a group
+PROFILE_SOURCES = (" --limits profile", 1 << 16, 64, 20_000, 1 << 12, 1 << 15, 1 << 15)
+LARGE_SOURCES = (" --limits large", 1 << 22, 256, 1_000_000, 1 << 16, 1 << 16, 1 << 16)
 # sizes and offsets that only 64 bits hold
 HUGE, MOST = 1 << 63, (1 << 64) - 1
 
 
-def built(title, source, fault=""):
+def built(title, source, fault="", option=""):
     """The row of a source of one line in a script: it builds, or is refused for a fault."""
-    script = f"program p 1\n{source}\n"
+    row = dict(title=title, text=f"program p 1\n{source}\n", command=f"clsim run FILE{option}")
     if fault:
-        return dict(title=title, text=script, output=f"refused 10 BuildFailed {fault}\n", status=2)
-    return dict(title=title, text=script, output="ok\n")
+        return dict(row, output=f"refused 10 BuildFailed {fault}\n", status=2)
+    return dict(row, output="ok\n")
 
 
-def checked(title, source, line):
+def checked(title, source, line, option=""):
     """The row of a source that is checked."""
     return dict(title=title, text=source, output=line + "\n", status=0 if line == "ok" else 2,
-                command="clsim check FILE")
+                command=f"clsim check FILE{option}")
 
 
 def nesting():
@@ -56,6 +60,42 @@ def sizes():
     yield checked("65,536 bytes of white space", " " * 65_536, "syntax 3 Unexpected at 65536")
     yield checked("65,537 bytes, of which the first is a bad one: a source that is too long is so whatever it holds",
                   "#" + " " * 65_536, "syntax 5 TooLong at 65536")
+
+
+def sources(option, most, deepest, nodes, private, elements, _):
+    """Sources at the limits by both words, in a script and checked, with their neighbours."""
+    empty, head, local = "__kernel void f() { }", "__kernel void f() ", "__kernel void f() { __local char t["
+    # a source in a script has a line feed at its end; the token in the innermost block stands behind all brackets
+    for more, fault in [(0, ""), (1, f"syntax 5 TooLong at {most}")]:
+        yield built(f"a source of {most + more} bytes:{option}", empty + " " * (most + more - 1 - len(empty)), fault,
+                    option)
+    kinds = [(f"{most} bytes", lambda more: empty + " " * (most + more - len(empty)), f"syntax 5 TooLong at {most}"),
+             (f"{deepest} blocks inside one another",
+              lambda more: head + "{" * (deepest + more) + ";" + "}" * (deepest + more),
+              f"syntax 4 TooDeep at {len(head) + deepest + 1}"),
+             (f"{nodes} nodes", lambda more: head + "{" + ";" * (nodes + more) + "}", "type 11 TooLarge at 14"),
+             (f"{private} bytes of two private arrays",
+              lambda more: head + f"{{ uchar t[{private - 1}]; uchar u[{1 + more}]; }}", "type 11 TooLarge at 14"),
+             (f"{elements} elements of an array", lambda more: f"{local}{elements + more}]; }}",
+              f"type 11 TooLarge at {len(local)}")]
+    for title, source, fault in kinds:
+        yield checked(f"a source at a limit, {title}:{option}", source(0), "ok", option)
+        yield checked(f"a source behind a limit, {title} and one more:{option}", source(1), fault, option)
+
+
+def local_memory(option, _, __, ___, ____, _____, local):
+    """The most local memory of an argument, of arguments together and of a declared array, with their neighbours."""
+    head = "program p 2\n__kernel void f(__local char *t, __local char *u) { }\n" \
+           f"__kernel void g() {{ __local int t[{local // 4}]; }}\nkernel k p f\nkernel l p g\n" \
+           f"program q 1\n__kernel void g(__local char *u) {{ __local int t[{local // 4}]; }}\nkernel m q g\n"
+    bad, large = "refused 12 BadArgument", "refused 14 LocalTooLarge"
+    answers = [
+        ("arg k 0 local 0", bad), (f"arg k 0 local {local}", "ok"), (f"arg k 0 local {local + 1}", bad),
+        (f"arg k 0 local {HUGE}", bad), (f"arg k 0 local {MOST}", bad),
+        ("arg k 1 local 1", "ok"), ("launch k 1 1", large), (f"arg k 0 local {local - 1}", "ok"),
+        ("launch k 1 1", "clean"), ("arg k 1 local 2", "ok"), ("launch k 1 1", large), ("launch l 1 1", "clean"),
+        ("arg m 0 local 1", "ok"), ("launch m 1 1", large)]
+    return answered(f"bytes of local memory:{option}", answers, option, head, 5)
 
 
 def scripts():
@@ -216,6 +256,9 @@ def rows():
     yield from nesting()
     yield from sizes()
     yield from scripts()
+    for limits in (PROFILE_SOURCES, LARGE_SOURCES):
+        yield from sources(*limits)
+        yield local_memory(*limits)
     for limits in (PROFILE, LARGE):
         yield launches(*limits)
         if limits == PROFILE or "ROWS_OF_A_GIB" in os.environ:

@@ -205,12 +205,12 @@ static void pieces(char **words) {
 // What is wanted of a device (docs/use/script.md, "Limits").
 typedef struct {
     const char *name;
-    size_t items, group, buffers, bytes, memory;
+    size_t items, group, buffers, bytes, memory, local;
     cl_uint constants;
 } bounds;
 static const bounds all_bounds[] = {
-    {"profile", 65536, 256, 64, MIB, 64 * (size_t)MIB, 64},
-    {"large", 67108864, 1024, 4096, 1024 * (size_t)MIB, 4096 * (size_t)MIB, 128},
+    {"profile", 65536, 256, 64, MIB, 64 * (size_t)MIB, 32768, 64},
+    {"large", 67108864, 1024, 4096, 1024 * (size_t)MIB, 4096 * (size_t)MIB, 65536, 128},
 };
 static const bounds *bounds_of(const char *name) {
     for (size_t i = 0; i < 2; i++)
@@ -240,7 +240,7 @@ static void infos(char **words) {
     WANT(number_of(CL_DEVICE_MAX_CONSTANT_BUFFER_SIZE) == b->bytes);
     WANT(number_of(CL_DEVICE_MAX_CONSTANT_ARGS) == b->constants);
     WANT(number_of(CL_DEVICE_GLOBAL_MEM_SIZE) == b->memory);
-    WANT(number_of(CL_DEVICE_LOCAL_MEM_SIZE) == 32768);
+    WANT(number_of(CL_DEVICE_LOCAL_MEM_SIZE) == b->local);
     WANT(number_of(CL_DEVICE_MAX_PARAMETER_SIZE) == 1024);
     OK(clGetKernelWorkGroupInfo(k, h.device, CL_KERNEL_WORK_GROUP_SIZE, sizeof group, &group, NULL));
     WANT(group == b->group);
@@ -299,6 +299,22 @@ static void buffers_at(const bounds *b, size_t n) {
     free(all);
 }
 
+// The most local memory of one argument, and of a launch, each with its neighbour behind the limit.
+static void local_at(const bounds *b) {
+    cl_program p = build_program(&h, "__kernel void g(__local char *t, __local char *u) { }\n", "");
+    cl_kernel k = kernel_of(p, "g");
+    size_t one[3] = {1, 1, 1};
+    WANT(clSetKernelArg(k, 0, b->local + 1, NULL) == CL_INVALID_ARG_SIZE);
+    OK(clSetKernelArg(k, 0, b->local, NULL));
+    OK(clSetKernelArg(k, 0, b->local - 1, NULL));
+    OK(clSetKernelArg(k, 1, 1, NULL));
+    OK(launch(k, 1, one, one));
+    OK(clSetKernelArg(k, 1, 2, NULL));
+    WANT(launch(k, 1, one, one) == CL_OUT_OF_RESOURCES);
+    OK(clReleaseKernel(k));
+    OK(clReleaseProgram(p));
+}
+
 // bounds LIMITS BYTES: what the device does at its bounds, with a buffer of so many bytes. (The largest one of a large
 // device takes 1 GiB of memory.)
 static void at_bounds(char **words) {
@@ -310,6 +326,7 @@ static void at_bounds(char **words) {
     groups_at(b, k);
     launches_at(b, k);
     buffers_at(b, strtoul(words[1], NULL, 10));
+    local_at(b);
     OK(clReleaseKernel(k));
     OK(clReleaseProgram(p));
 }

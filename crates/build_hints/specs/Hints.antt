@@ -8,6 +8,7 @@ use Rattle.clsyntax_lex.specs.declared.token.SyntaxFault.{SyntaxFault}
 use Rattle.clsyntax_lex.specs.declared.token.SyntaxFault.TheVariants as syntax
 use Rattle.clsyntax_lex.specs.Lexing.{lexing}
 use Rattle.clsyntax_lex.specs.Tokens.{Text}
+use Rattle.limits.specs.Limits.{large}
 use Rattle.hint_rules.specs.Callee.{callee, is_open_round}
 use Rattle.hint_rules.specs.Marks.{mark_at}
 use Rattle.hint_rules.specs.Near.{Near, near_in, nth_last, word_of}
@@ -145,8 +146,9 @@ abbrev pub said_in : List ℕ → Hinted → ℕ → Result Text SyntaxFault →
 said_in source h at (Ok text) = said_at h (near_in source text.tokens at)
 said_in source h at (Err fault) = None
 
+-- by the tokens of a source, which are the same within all limits that it doesn't pass
 abbrev pub said_by_tokens : List ℕ → Hinted → ℕ → Option (List ℕ)
-said_by_tokens source h at = said_in source h at (lexing source)
+said_by_tokens source h at = said_in source h at (lexing large source)
 
 -- what is looked at for a fault of types
 abbrev pub hinted_of : TypeFault → Option Hinted

@@ -55,8 +55,8 @@ abbrev pub syntax_title : SyntaxFault → List ℕ
 syntax_title (syntax.BadByte at) = codes "syntax 1 BadByte: no token begins with this byte, or it can't follow a number"
 syntax_title (syntax.NumberTooLarge at) = codes "syntax 2 NumberTooLarge: no integer type holds this number"
 syntax_title (syntax.Unexpected at) = codes "syntax 3 Unexpected: no program goes on like this"
-syntax_title (syntax.TooDeep at) = codes "syntax 4 TooDeep: more than 64 brackets, blocks and operators are open here"
-syntax_title (syntax.TooLong at) = codes "syntax 5 TooLong: a source has at most 65,536 bytes"
+syntax_title (syntax.TooDeep at) = codes "syntax 4 TooDeep: more brackets, blocks and operators are open here than the limits allow (64, or 256 where they are large)"
+syntax_title (syntax.TooLong at) = codes "syntax 5 TooLong: the source has more bytes than the limits allow (65,536, or 4,194,304 where they are large)"
 syntax_title syntax.OutOfMemory = codes "out of memory"
 
 abbrev pub type_title : TypeFault → List ℕ
@@ -69,7 +69,7 @@ type_title (types.WrongArgumentCount at) = codes "type 6 WrongArgumentCount: the
 type_title (types.WrongSpace at) = codes "type 7 WrongSpace: a pointer to another address space is wanted"
 type_title (types.BadBarrierFlags at) = codes "type 8 BadBarrierFlags: write CLK_LOCAL_MEM_FENCE, CLK_GLOBAL_MEM_FENCE, or both with | between"
 type_title (types.TooManyLoops at) = codes "type 10 TooManyLoops: at most 8 loops stand in one another, with those of the functions that are called"
-type_title (types.TooLarge at) = codes "type 11 TooLarge: an array of 1 to 32,768 elements, private arrays of 4,096 bytes, and 20,000 nodes a kernel are the most"
+type_title (types.TooLarge at) = codes "type 11 TooLarge: an array without elements, or more elements of an array, private bytes or nodes of a kernel than the limits allow (32,768, 4,096 and 20,000, or 65,536, 65,536 and 1,000,000 where they are large)"
 type_title (types.MissingReturn at) = codes "type 12 MissingReturn: a function with a value has to end in a return on each way"
 type_title types.OutOfMemory = codes "out of memory"
 

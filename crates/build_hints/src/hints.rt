@@ -12,6 +12,7 @@ use clsyntax_lex::token::SyntaxFault;
 use hint_rules::{
     Mark, TokensAround, callee, mark_at, nth, nth_last, place_in, token_hint, word_of,
 };
+use limits::Limits;
 use opencl_words::{
     UNDECLARED, argument_hint, byte_hint, first_said, function_hint, is_built_in, is_one_of,
     said_or, value_hint, word_hint,
@@ -306,7 +307,7 @@ fn hint_by_tokens(
 ) -> Result<Option<&'static str>, AllocError>
     ensures { IfOk result (λ hint. option_copied hint ≡ hints.said_by_tokens source.now hinted at) }
 {
-    let tokens = match lex(alloc, source) {
+    let tokens = match lex(alloc, Limits::large(), source) {
         Ok(tokens) => tokens,
         Err(fault) => {
             unless_memory(fault)?;

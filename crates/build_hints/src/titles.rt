@@ -19,8 +19,9 @@ fn syntax_title(fault: SyntaxFault) -> &'static str
             "syntax 2 NumberTooLarge: no integer type holds this number",
         SyntaxFault::Unexpected { .. } => "syntax 3 Unexpected: no program goes on like this",
         SyntaxFault::TooDeep { .. } =>
-            "syntax 4 TooDeep: more than 64 brackets, blocks and operators are open here",
-        SyntaxFault::TooLong { .. } => "syntax 5 TooLong: a source has at most 65,536 bytes",
+            "syntax 4 TooDeep: more brackets, blocks and operators are open here than the limits allow (64, or 256 where they are large)",
+        SyntaxFault::TooLong { .. } =>
+            "syntax 5 TooLong: the source has more bytes than the limits allow (65,536, or 4,194,304 where they are large)",
         SyntaxFault::OutOfMemory => "out of memory",
     }
 }
@@ -47,7 +48,7 @@ fn type_title(fault: TypeFault) -> &'static str
         TypeFault::TooManyLoops { .. } =>
             "type 10 TooManyLoops: at most 8 loops stand in one another, with those of the functions that are called",
         TypeFault::TooLarge { .. } =>
-            "type 11 TooLarge: an array of 1 to 32,768 elements, private arrays of 4,096 bytes, and 20,000 nodes a kernel are the most",
+            "type 11 TooLarge: an array without elements, or more elements of an array, private bytes or nodes of a kernel than the limits allow (32,768, 4,096 and 20,000, or 65,536, 65,536 and 1,000,000 where they are large)",
         TypeFault::MissingReturn { .. } =>
             "type 12 MissingReturn: a function with a value has to end in a return on each way",
         TypeFault::OutOfMemory => "out of memory",

@@ -166,25 +166,26 @@ no_budget rows limits named none configuration is =
 pub run_parts : (rows : List Row) (asked : Invocation) → IsRun rows asked
     → (path : Text) × (w : ℕ) × (configuration : Configuration) × (first_of (codes "FILE") rows ≡ Some path) × GivesWorkers rows w × GivesConfiguration rows configuration
 run_parts rows (invocation.Run path options) is = (path.now, options.workers, options.configuration, is.0, is.1, is.2)
-run_parts rows (invocation.Check path) is = absurd is
-run_parts rows (invocation.Dump path name) is = absurd is
+run_parts rows (invocation.Check path limits) is = absurd is
+run_parts rows (invocation.Dump path name limits) is = absurd is
 run_parts rows (invocation.Replay script schedule configuration) is = absurd is
 run_parts rows (invocation.Serve options) is = absurd is
 run_parts rows (invocation.Explain script schedule wish) is = absurd is
 
-pub check_parts : (rows : List Row) (asked : Invocation) → IsCheck rows asked → (path : Text) × (first_of (codes "FILE") rows ≡ Some path)
+pub check_parts : (rows : List Row) (asked : Invocation) → IsCheck rows asked
+    → (path : Text) × (limits : Limits) × (first_of (codes "FILE") rows ≡ Some path) × GivesLimits rows limits
 check_parts rows (invocation.Run path options) is = absurd is
-check_parts rows (invocation.Check path) is = (path.now, is)
-check_parts rows (invocation.Dump path name) is = absurd is
+check_parts rows (invocation.Check path limits) is = (path.now, limits, is.0, is.1)
+check_parts rows (invocation.Dump path name limits) is = absurd is
 check_parts rows (invocation.Replay script schedule configuration) is = absurd is
 check_parts rows (invocation.Serve options) is = absurd is
 check_parts rows (invocation.Explain script schedule wish) is = absurd is
 
 pub dump_parts : (rows : List Row) (asked : Invocation) → IsDump rows asked
-    → (path name : Text) × (first_of (codes "FILE") rows ≡ Some path) × (first_of (codes "KERNEL") rows ≡ Some name)
+    → (path name : Text) × (limits : Limits) × (first_of (codes "FILE") rows ≡ Some path) × (first_of (codes "KERNEL") rows ≡ Some name) × GivesLimits rows limits
 dump_parts rows (invocation.Run path options) is = absurd is
-dump_parts rows (invocation.Check path) is = absurd is
-dump_parts rows (invocation.Dump path name) is = (path.now, name.now, is.0, is.1)
+dump_parts rows (invocation.Check path limits) is = absurd is
+dump_parts rows (invocation.Dump path name limits) is = (path.now, name.now, limits, is.0, is.1, is.2)
 dump_parts rows (invocation.Replay script schedule configuration) is = absurd is
 dump_parts rows (invocation.Serve options) is = absurd is
 dump_parts rows (invocation.Explain script schedule wish) is = absurd is
@@ -192,16 +193,16 @@ dump_parts rows (invocation.Explain script schedule wish) is = absurd is
 pub replay_parts : (rows : List Row) (asked : Invocation) → IsReplay rows asked
     → (script schedule : Text) × (limits : Limits) × (first_of (codes "SCRIPT") rows ≡ Some script) × (first_of (codes "SCHEDULE") rows ≡ Some schedule) × GivesLimits rows limits
 replay_parts rows (invocation.Run path options) is = absurd is
-replay_parts rows (invocation.Check path) is = absurd is
-replay_parts rows (invocation.Dump path name) is = absurd is
+replay_parts rows (invocation.Check path limits) is = absurd is
+replay_parts rows (invocation.Dump path name limits) is = absurd is
 replay_parts rows (invocation.Replay script schedule configuration) is = (script.now, schedule.now, configuration.limits, is.0, is.1, is.2.0)
 replay_parts rows (invocation.Serve options) is = absurd is
 replay_parts rows (invocation.Explain script schedule wish) is = absurd is
 
 pub serve_parts : (rows : List Row) (asked : Invocation) → IsServe rows asked → (w : ℕ) × (configuration : Configuration) × GivesWorkers rows w × GivesConfiguration rows configuration
 serve_parts rows (invocation.Run path options) is = absurd is
-serve_parts rows (invocation.Check path) is = absurd is
-serve_parts rows (invocation.Dump path name) is = absurd is
+serve_parts rows (invocation.Check path limits) is = absurd is
+serve_parts rows (invocation.Dump path name limits) is = absurd is
 serve_parts rows (invocation.Replay script schedule configuration) is = absurd is
 serve_parts rows (invocation.Serve options) is = (options.workers, options.configuration, is.0, is.1)
 serve_parts rows (invocation.Explain script schedule wish) is = absurd is
@@ -209,8 +210,8 @@ serve_parts rows (invocation.Explain script schedule wish) is = absurd is
 pub explain_parts : (rows : List Row) (asked : Invocation) → IsExplain rows asked
     → (script : Text) × (configuration : Configuration) × (json : Bool) × (first_of (codes "SCRIPT") rows ≡ Some script) × GivesConfiguration rows configuration × GivesFormat rows json
 explain_parts rows (invocation.Run path options) is = absurd is
-explain_parts rows (invocation.Check path) is = absurd is
-explain_parts rows (invocation.Dump path name) is = absurd is
+explain_parts rows (invocation.Check path limits) is = absurd is
+explain_parts rows (invocation.Dump path name limits) is = absurd is
 explain_parts rows (invocation.Replay script schedule configuration) is = absurd is
 explain_parts rows (invocation.Serve options) is = absurd is
 explain_parts rows (invocation.Explain script schedule wish) is = (script.now, wish.configuration, wish.json, is.0, is.2, is.3)

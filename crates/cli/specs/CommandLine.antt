@@ -43,14 +43,14 @@ abbrev pub run_form : App
 run_form = with_rule (with_rule (with_rule (with_rule (new_app (codes "run")) file) workers) budget) limits
 
 abbrev pub check_form : App
-check_form = with_rule (new_app (codes "check")) file
+check_form = with_rule (with_rule (new_app (codes "check")) file) limits
 
 -- `KERNEL`
 abbrev pub kernel : Rule
 kernel = record (new_rule (codes "KERNEL")) { required = true }
 
 abbrev pub dump_form : App
-dump_form = with_rule (with_rule (new_app (codes "dump")) file) kernel
+dump_form = with_rule (with_rule (with_rule (new_app (codes "dump")) file) kernel) limits
 
 -- `SCRIPT`
 abbrev pub script : Rule
@@ -85,7 +85,8 @@ explain_form = with_rule (with_rule (with_rule (with_rule (with_rule (with_rule 
 abbrev pub runs : App
 runs = with_subcommand (on_top (λ top. record top { subcommand_required = true }) (new_app (codes "clsim"))) run_form.top
 
--- `clsim run FILE [--workers N] [--budget N] [--limits LIMITS]`, `clsim check FILE`, `clsim dump FILE KERNEL`,
+-- `clsim run FILE [--workers N] [--budget N] [--limits LIMITS]`, `clsim check FILE [--limits LIMITS]`,
+-- `clsim dump FILE KERNEL [--limits LIMITS]`,
 -- `clsim replay SCRIPT SCHEDULE [--limits LIMITS]`, `clsim serve [--workers N] [--budget N] [--limits LIMITS]` or
 -- `clsim explain SCRIPT [SCHEDULE] [--format text|json] [--budget N] [--limits LIMITS] [--as-given]`
 abbrev pub program : App
@@ -146,26 +147,27 @@ GivesFlag rows given = IsFlag (one_of (codes "as-given") rows) given
 abbrev pub IsRun : List Row → Invocation → Type 0
 IsRun rows (invocation.Run path options) =
     (first_of (codes "FILE") rows ≡ Some path.now) × GivesWorkers rows options.workers × GivesConfiguration rows options.configuration
-IsRun rows (invocation.Check path) = ⊥
-IsRun rows (invocation.Dump path name) = ⊥
+IsRun rows (invocation.Check path limits) = ⊥
+IsRun rows (invocation.Dump path name limits) = ⊥
 IsRun rows (invocation.Replay script schedule configuration) = ⊥
 IsRun rows (invocation.Serve options) = ⊥
 IsRun rows (invocation.Explain script schedule wish) = ⊥
 
--- a check of the file of these matches
+-- a check of the file of these matches, within their limits
 abbrev pub IsCheck : List Row → Invocation → Type 0
 IsCheck rows (invocation.Run path options) = ⊥
-IsCheck rows (invocation.Check path) = first_of (codes "FILE") rows ≡ Some path.now
-IsCheck rows (invocation.Dump path name) = ⊥
+IsCheck rows (invocation.Check path limits) = (first_of (codes "FILE") rows ≡ Some path.now) × GivesLimits rows limits
+IsCheck rows (invocation.Dump path name limits) = ⊥
 IsCheck rows (invocation.Replay script schedule configuration) = ⊥
 IsCheck rows (invocation.Serve options) = ⊥
 IsCheck rows (invocation.Explain script schedule wish) = ⊥
 
--- a dump of the kernel and of the file of these matches
+-- a dump of the kernel and of the file of these matches, within their limits
 abbrev pub IsDump : List Row → Invocation → Type 0
 IsDump rows (invocation.Run path options) = ⊥
-IsDump rows (invocation.Check path) = ⊥
-IsDump rows (invocation.Dump path name) = (first_of (codes "FILE") rows ≡ Some path.now) × (first_of (codes "KERNEL") rows ≡ Some name.now)
+IsDump rows (invocation.Check path limits) = ⊥
+IsDump rows (invocation.Dump path name limits) =
+    (first_of (codes "FILE") rows ≡ Some path.now) × (first_of (codes "KERNEL") rows ≡ Some name.now) × GivesLimits rows limits
 IsDump rows (invocation.Replay script schedule configuration) = ⊥
 IsDump rows (invocation.Serve options) = ⊥
 IsDump rows (invocation.Explain script schedule wish) = ⊥
@@ -173,8 +175,8 @@ IsDump rows (invocation.Explain script schedule wish) = ⊥
 -- a replay of the schedule file on the script of these matches, under their limits
 abbrev pub IsReplay : List Row → Invocation → Type 0
 IsReplay rows (invocation.Run path options) = ⊥
-IsReplay rows (invocation.Check path) = ⊥
-IsReplay rows (invocation.Dump path name) = ⊥
+IsReplay rows (invocation.Check path limits) = ⊥
+IsReplay rows (invocation.Dump path name limits) = ⊥
 IsReplay rows (invocation.Replay script schedule configuration) =
     (first_of (codes "SCRIPT") rows ≡ Some script.now) × (first_of (codes "SCHEDULE") rows ≡ Some schedule.now) × GivesDefault rows configuration
 IsReplay rows (invocation.Serve options) = ⊥
@@ -183,8 +185,8 @@ IsReplay rows (invocation.Explain script schedule wish) = ⊥
 -- serving, by these matches' workers and under their limits and budget
 abbrev pub IsServe : List Row → Invocation → Type 0
 IsServe rows (invocation.Run path options) = ⊥
-IsServe rows (invocation.Check path) = ⊥
-IsServe rows (invocation.Dump path name) = ⊥
+IsServe rows (invocation.Check path limits) = ⊥
+IsServe rows (invocation.Dump path name limits) = ⊥
 IsServe rows (invocation.Replay script schedule configuration) = ⊥
 IsServe rows (invocation.Serve options) = GivesWorkers rows options.workers × GivesConfiguration rows options.configuration
 IsServe rows (invocation.Explain script schedule wish) = ⊥
@@ -192,8 +194,8 @@ IsServe rows (invocation.Explain script schedule wish) = ⊥
 -- an explanation of the script and of the schedule file of these matches, if one is named
 abbrev pub IsExplain : List Row → Invocation → Type 0
 IsExplain rows (invocation.Run path options) = ⊥
-IsExplain rows (invocation.Check path) = ⊥
-IsExplain rows (invocation.Dump path name) = ⊥
+IsExplain rows (invocation.Check path limits) = ⊥
+IsExplain rows (invocation.Dump path name limits) = ⊥
 IsExplain rows (invocation.Replay script schedule configuration) = ⊥
 IsExplain rows (invocation.Serve options) = ⊥
 IsExplain rows (invocation.Explain script schedule wish) =

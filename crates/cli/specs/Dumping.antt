@@ -2,6 +2,7 @@
 use Rattle.std.specs.Prelude.{◌≡◌, ℕ, Bool, true, false, Option, None, Some, Result, Ok, Err, List, []}
 use Rattle.clmodel.specs.Setup.{kernel_number}
 use Rattle.clmodel.specs.Tree.{Program}
+use Rattle.limits.specs.declared.Limits.{Limits}
 use Rattle.host_commands.specs.Builds.{Builds}
 use Rattle.host_commands.specs.declared.command.BuildFault.{BuildFault}
 use Rattle.byte_io.specs.Sink.{Sink, Wrote, Stopped, CountsUp}
@@ -49,11 +50,11 @@ Tells (Ok program) kernel old new good = CodeWritten program kernel old new × (
 Tells (Err fault) kernel old new good = Wrote old new (check_line (Some fault)) × (new.held ≡ []) × (good ≡ false)
 
 -- what the source builds to was told, and nothing of it is held back
-pub record Dumped (rest : Option (List ℕ)) (kernel : List ℕ) (old new : Sink) (good : Bool) : Type 0 where
+pub record Dumped (limits : Limits) (rest : Option (List ℕ)) (kernel : List ℕ) (old new : Sink) (good : Bool) : Type 0 where
   pub source : List ℕ
   pub built : Result Program BuildFault
   pub read : Are rest source
-  pub builds : Builds source built
+  pub builds : Builds limits source built
   pub tells : Tells built kernel old new good
 
 -- a write failed at the code of the kernel, or at the line of the source's fault
@@ -61,29 +62,29 @@ abbrev pub Breaks : Result Program BuildFault → List ℕ → Sink → Sink →
 Breaks (Ok program) kernel old new = Broke program kernel old new
 Breaks (Err fault) kernel old new = Stopped old new (check_line (Some fault))
 
-pub record Broken (rest : Option (List ℕ)) (kernel : List ℕ) (old new : Sink) : Type 0 where
+pub record Broken (limits : Limits) (rest : Option (List ℕ)) (kernel : List ℕ) (old new : Sink) : Type 0 where
   pub source : List ℕ
   pub built : Result Program BuildFault
   pub read : Are rest source
-  pub builds : Builds source built
+  pub builds : Builds limits source built
   pub breaks : Breaks built kernel old new
 
 -- the source builds to a program without such a kernel, and nothing was written
-pub record Missed (rest : Option (List ℕ)) (kernel : List ℕ) (old new : Sink) : Type 0 where
+pub record Missed (limits : Limits) (rest : Option (List ℕ)) (kernel : List ℕ) (old new : Sink) : Type 0 where
   pub source : List ℕ
   pub program : Program
   pub read : Are rest source
-  pub builds : Builds source (Ok program)
+  pub builds : Builds limits source (Ok program)
   pub lacks : Lacks program kernel old new
 
 -- why a dump came to no end, and what it left
-abbrev pub Undumped : Option (List ℕ) → List ℕ → ℕ → ℕ → Sink → Sink → RunFault → Type 0
-Undumped rest kernel failures failures' old new (fault.Read reader.First) = CountsUp failures failures' × (new ≡ old)
-Undumped rest kernel failures failures' old new (fault.Read reader.Second) = ⊥
-Undumped rest kernel failures failures' old new fault.OutOfMemory = new ≡ old
-Undumped rest kernel failures failures' old new fault.Write = Broken rest kernel old new
-Undumped rest kernel failures failures' old new fault.NoSuchKernel = Missed rest kernel old new
-Undumped rest kernel failures failures' old new (fault.BadLine n) = ⊥
-Undumped rest kernel failures failures' old new fault.BadSchedule = ⊥
-Undumped rest kernel failures failures' old new (fault.NotALaunch ticket) = ⊥
-Undumped rest kernel failures failures' old new (fault.CommandRefused ticket) = ⊥
+abbrev pub Undumped : Limits → Option (List ℕ) → List ℕ → ℕ → ℕ → Sink → Sink → RunFault → Type 0
+Undumped limits rest kernel failures failures' old new (fault.Read reader.First) = CountsUp failures failures' × (new ≡ old)
+Undumped limits rest kernel failures failures' old new (fault.Read reader.Second) = ⊥
+Undumped limits rest kernel failures failures' old new fault.OutOfMemory = new ≡ old
+Undumped limits rest kernel failures failures' old new fault.Write = Broken limits rest kernel old new
+Undumped limits rest kernel failures failures' old new fault.NoSuchKernel = Missed limits rest kernel old new
+Undumped limits rest kernel failures failures' old new (fault.BadLine n) = ⊥
+Undumped limits rest kernel failures failures' old new fault.BadSchedule = ⊥
+Undumped limits rest kernel failures failures' old new (fault.NotALaunch ticket) = ⊥
+Undumped limits rest kernel failures failures' old new (fault.CommandRefused ticket) = ⊥

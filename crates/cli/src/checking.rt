@@ -11,6 +11,7 @@ use crate::session::{Reader, RunFault};
 use byte_io::{Read, Write, WriteFailed};
 use host_commands::build::{NotBuilt, build};
 use host_commands::command::BuildFault;
+use limits::Limits;
 use simfile::replies::write_check;
 use std::alloc::Global;
 
@@ -23,21 +24,22 @@ pub(crate) fn tell<W: Write>(fault: Option<BuildFault>, writer: &mut W) -> Resul
     writer.flush()
 }
 
-/// Reads a source and checks it as a program is built: `read`, then `check`. Writes `ok`, or the fault with its number,
+/// Reads a source and checks it within limits, as a program is built: `read`, then `check`. Writes `ok`, or the fault with its number,
 /// name and place in the source, as a line. Answers whether the source builds.
 ///
 /// No fault is a `BadLine`; after `Read` and `OutOfMemory` nothing was written, after `Write` a beginning of the line.
 pub fn check_file<R: Read, W: Write>(
     alloc: Global,
+    limits: Limits,
     reader: &mut R,
     writer: &mut W,
 ) -> Result<bool, RunFault>
-    ensures checked { IfOk result (Checked (R.rest reader.old) (W.sink writer.old) (W.sink writer.new)) }
+    ensures checked { IfOk result (Checked limits (R.rest reader.old) (W.sink writer.old) (W.sink writer.new)) }
     ensures failed { IfErr result
-        (Unchecked (R.rest reader.old) (R.failures reader.old) (R.failures reader.new) (W.sink writer.old) (W.sink writer.new)) }
+        (Unchecked limits (R.rest reader.old) (R.failures reader.old) (R.failures reader.new) (W.sink writer.old) (W.sink writer.new)) }
 {
     let source = bytes_of(alloc, reader, Reader::First)?;
-    let fault = match build(alloc, source.as_slice()) {
+    let fault = match build(alloc, limits, source.as_slice()) {
         Ok(_) => None,
         Err(NotBuilt::Fault(fault)) => Some(fault),
         Err(NotBuilt::OutOfMemory) => return Err(RunFault::OutOfMemory),

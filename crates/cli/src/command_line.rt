@@ -23,14 +23,16 @@ pub enum Invocation<'a> {
         file: &'a str,
         options: Options,
     },
-    /// Checks the source of a file
+    /// Checks the source of a file within limits
     Check {
         file: &'a str,
+        limits: Limits,
     },
-    /// Writes the code of a kernel of the source of a file
+    /// Writes the code of a kernel of the source of a file, which is built within limits
     Dump {
         file: &'a str,
         kernel: &'a str,
+        limits: Limits,
     },
     /// Replays a schedule file on the script of a file
     Replay {
@@ -181,20 +183,21 @@ fn run_form<'a>(alloc: Global) -> Result<Command<'a>, AllocError>
     with_budget.arg(limits(alloc))
 }
 
-/// The form `check FILE`.
+/// The form `check FILE [--limits LIMITS]`.
 fn check_form<'a>(alloc: Global) -> Result<Command<'a>, AllocError>
     ensures form { IfOk result (λ form. app_of form ≡ check_form) }
     ensures local { IfOk result (λ form. (out-Command form).has_globals ≡ false) }
 {
-    named(
+    let form = named(
         alloc,
         "check",
         "Checks a source and prints ok or its first fault",
     )
-    .arg(file(alloc, "The source, in OpenCL C"))
+    .arg(file(alloc, "The source, in OpenCL C"))?;
+    form.arg(limits(alloc))
 }
 
-/// The form `dump FILE KERNEL`.
+/// The form `dump FILE KERNEL [--limits LIMITS]`.
 fn dump_form<'a>(alloc: Global) -> Result<Command<'a>, AllocError>
     ensures form { IfOk result (λ form. app_of form ≡ dump_form) }
     ensures local { IfOk result (λ form. (out-Command form).has_globals ≡ false) }
@@ -203,7 +206,8 @@ fn dump_form<'a>(alloc: Global) -> Result<Command<'a>, AllocError>
         alloc,
         "The source, in OpenCL C",
     ))?;
-    form.arg(kernel(alloc))
+    let with_kernel = form.arg(kernel(alloc))?;
+    with_kernel.arg(limits(alloc))
 }
 
 /// The form `replay SCRIPT SCHEDULE [--limits LIMITS]`.
@@ -326,7 +330,8 @@ fn check_of<'a>(check: &ArgMatches<'a>) -> Option<Invocation<'a>>
     ensures { Reads (IsCheck (rows_of (found_of check.now))) result }
 {
     let file = check.get_str("FILE")?;
-    Some(Invocation::Check { file })
+    let limits = limits_of(check)?;
+    Some(Invocation::Check { file, limits })
 }
 
 /// What the matches of `dump` ask for.
@@ -335,7 +340,12 @@ fn dump_of<'a>(dump: &ArgMatches<'a>) -> Option<Invocation<'a>>
 {
     let file = dump.get_str("FILE")?;
     let kernel = dump.get_str("KERNEL")?;
-    Some(Invocation::Dump { file, kernel })
+    let limits = limits_of(dump)?;
+    Some(Invocation::Dump {
+        file,
+        kernel,
+        limits,
+    })
 }
 
 /// What the matches of `replay` ask for.
@@ -473,7 +483,8 @@ fn command_by<'a>(forms: &mut Command<'a>, words: &'a [&'a str]) -> Result<Invoc
 }
 
 /// Reads the words of a command line, the program's name first. The forms are
-/// `clsim run FILE [--workers N] [--budget N] [--limits LIMITS]`, `clsim check FILE`, `clsim dump FILE KERNEL`,
+/// `clsim run FILE [--workers N] [--budget N] [--limits LIMITS]`, `clsim check FILE [--limits LIMITS]`,
+/// `clsim dump FILE KERNEL [--limits LIMITS]`,
 /// `clsim replay SCRIPT SCHEDULE [--limits LIMITS]`, `clsim serve [--workers N] [--budget N] [--limits LIMITS]` and
 /// `clsim explain SCRIPT [SCHEDULE] [--format text|json] [--budget N] [--limits LIMITS] [--as-given]`.
 pub fn command<'a>(alloc: Global, words: &'a [&'a str]) -> Result<Invocation<'a>, Error>

@@ -12,6 +12,7 @@ use byte_io::{Read, Write};
 use cltypes::Checked;
 use code_text::dump;
 use host_commands::build::{NotBuilt, build};
+use limits::Limits;
 use lower::lower;
 use std::alloc::Global;
 
@@ -30,23 +31,24 @@ fn tell_kernel<W: Write>(
     Ok(writer.flush()?)
 }
 
-/// Reads a source, builds it as a program is built, and writes the register code of a kernel, a line for each
+/// Reads a source, builds it within limits, as a program is built, and writes the register code of a kernel, a line for each
 /// instruction. Of a source that doesn't build it writes the line of `check_file`. Answers whether the source builds.
 ///
 /// No fault is a `BadLine`; after `Read`, `OutOfMemory` and `NoSuchKernel` nothing was written, after `Write` a
 /// beginning of the text.
 pub fn dump_file<R: Read, W: Write>(
     alloc: Global,
+    limits: Limits,
     reader: &mut R,
     kernel: &str,
     writer: &mut W,
 ) -> Result<bool, RunFault>
-    ensures dumped { IfOk result (Dumped (R.rest reader.old) kernel.now (W.sink writer.old) (W.sink writer.new)) }
+    ensures dumped { IfOk result (Dumped limits (R.rest reader.old) kernel.now (W.sink writer.old) (W.sink writer.new)) }
     ensures failed { IfErr result
-        (Undumped (R.rest reader.old) kernel.now (R.failures reader.old) (R.failures reader.new) (W.sink writer.old) (W.sink writer.new)) }
+        (Undumped limits (R.rest reader.old) kernel.now (R.failures reader.old) (R.failures reader.new) (W.sink writer.old) (W.sink writer.new)) }
 {
     let source = bytes_of(alloc, reader, Reader::First)?;
-    match build(alloc, source.as_slice()) {
+    match build(alloc, limits, source.as_slice()) {
         Ok(checked) => {
             tell_kernel(alloc, &checked, kernel, writer)?;
             Ok(true)

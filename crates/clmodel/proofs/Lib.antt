@@ -16,3 +16,4 @@ pub mod Products
 pub mod Sameness
 pub mod Turns
 pub mod Logs
+pub mod Limits

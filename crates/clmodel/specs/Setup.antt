@@ -88,10 +88,6 @@ names_among names (None ∷ arguments) = names_among names arguments
 abbrev pub buffer_names : Setup → List (List ℕ)
 buffer_names setup = names_among [] setup.arguments
 
--- the most bytes of local memory that a group may have (4.2; the number is this project's own)
-abbrev pub local_limit : ℕ
-local_limit = 32768
-
 -- A place for an object in the local memory of a group: the number of its name, and its size in bytes (6.5.2). There is
 -- one for each parameter and for each variable and array, private ones too, of the outermost block: most are of no
 -- bytes, and are there for the numbers alone: that of a local array's object is the number of variables in scope before

@@ -13,6 +13,7 @@ pub mod barrier;
 pub mod declaration;
 pub mod determinacy;
 pub mod fault;
+pub mod limit_laws;
 pub mod lookup;
 pub mod operand;
 pub mod outcome;

@@ -15,9 +15,6 @@ use crate::setup::WorkItemFunction::{
 use crate::text::{Name, Numbers};
 use clnum::Builtin;
 
-/// The most bytes of local memory that a work-group may have (OpenCL 1.2, section 4.2, `CL_DEVICE_LOCAL_MEM_SIZE`).
-pub const LOCAL_LIMIT: u64 = 32768;
-
 /// An index space (OpenCL 1.2, section 3.2): in each dimension the number of work-items, the number in a work-group,
 /// and the offset that is added to the global ids. And whether the launch is uniform: two stores of different items
 /// that leave the same byte don't conflict there.

@@ -25,7 +25,7 @@ use cli::session::{Options, Reader, RunEnd, RunFault};
 use cli::wish::ExplainWish;
 use cli::{run, status};
 use explaining::{ExplainOptions, Format};
-use limits::Configuration;
+use limits::{Configuration, Limits};
 use std::env::Env;
 use std::io::{BufReader, BufWriter, Printer};
 use std::marker::Sync;
@@ -77,20 +77,25 @@ fn serve_input<R: io::Input + Print + AllocGlobal + Threads + Wait + Sync>(
     serve(rt, rt.alloc(), &mut peer, options)
 }
 
-/// Checks the source of a file, with the line that tells what was found on standard output.
-fn check_source<R: Files + Print + AllocGlobal>(rt: &R, file: &str) -> Result<bool, RunFault> {
+/// Checks the source of a file within limits, with the line that tells what was found on standard output.
+fn check_source<R: Files + Print + AllocGlobal>(
+    rt: &R,
+    file: &str,
+    limits: Limits,
+) -> Result<bool, RunFault> {
     let (mut reader, mut writer) = open(rt, file)?;
-    check_file(rt.alloc(), &mut reader, &mut writer)
+    check_file(rt.alloc(), limits, &mut reader, &mut writer)
 }
 
-/// Writes the code of a kernel of the source of a file on standard output, or the line of the source's fault.
+/// Writes the code of a kernel of the source of a file, which is built within limits, on standard output, or the line of the source's fault.
 fn dump_kernel<R: Files + Print + AllocGlobal>(
     rt: &R,
     file: &str,
     kernel: &str,
+    limits: Limits,
 ) -> Result<bool, RunFault> {
     let (mut reader, mut writer) = open(rt, file)?;
-    dump_file(rt.alloc(), &mut reader, kernel, &mut writer)
+    dump_file(rt.alloc(), limits, &mut reader, kernel, &mut writer)
 }
 
 /// Replays a schedule file on the script of a file, with the answer on standard output. The schedule file is opened
@@ -198,10 +203,16 @@ fn perform<R: Files + io::Input + Print + Eprint + AllocGlobal + Threads + Wait 
 {
     match command(rt.alloc(), words) {
         Ok(Invocation::Run { file, options }) => end_run(rt, run_script(rt, file, options), file),
-        Ok(Invocation::Check { file }) => end_source(rt, check_source(rt, file), file),
-        Ok(Invocation::Dump { file, kernel }) => {
-            end_source(rt, dump_kernel(rt, file, kernel), file)
+        Ok(Invocation::Check { file, limits }) => {
+            end_source(rt, check_source(rt, file, limits), file)
         }
+        Ok(
+            Invocation::Dump {
+                file,
+                kernel,
+                limits,
+            },
+        ) => end_source(rt, dump_kernel(rt, file, kernel, limits), file),
         Ok(
             Invocation::Replay {
                 script,

@@ -217,7 +217,7 @@ printed-ReadsAs ps tokens good writable same =
       read = whole;
       tokens_are = ap (λ names. kinds_of (map (token_of names) back.lexemes)) names_same ∙ back.tokens_are;
       names_are = names_same;
-      lexes = λ short. lexing-short (text_of table tokens) short ∙ whole;
+      lexes = λ limits short. lexing-short limits (text_of table tokens) short ∙ whole;
     }
   where
     table : List (List ℕ)

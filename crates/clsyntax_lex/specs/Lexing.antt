@@ -1,6 +1,7 @@
 -- From the bytes of a source to its tokens and names.
 use Rattle.std.specs.Prelude.{bytes_eq, ◌≡◌, ◌≢◌, ℕ, zero, suc, ◌+◌, ◌-◌, nat_lt, List, [], ◌∷◌, ◌++◌, length, take, map, Result, Ok, Err, if◌then◌else◌}
 use Rattle.std.specs.List.{list_any, position_or_len}
+use Rattle.limits.specs.declared.Limits.{Limits}
 use Rattle.clsyntax_lex.specs.declared.token.TokenKind.{TokenKind}
 use Rattle.clsyntax_lex.specs.declared.token.TokenKind.TheVariants as kinds
 use Rattle.clsyntax_lex.specs.declared.token.Token.{Token}
@@ -79,19 +80,19 @@ completed bytes tokens names (Err fault) = Err fault
 abbrev pub lexing_at_any_length : List ℕ → Result Text SyntaxFault
 lexing_at_any_length bytes = completed (length bytes) [] built_in_names (lexemes_from 0 0 bytes)
 
--- A source has at most 65,536 bytes.
-unfoldable pub lexing : List ℕ → Result Text SyntaxFault
-lexing source = if nat_lt 65536 (length source) then Err (TooLong 65536) else lexing_at_any_length source
+-- A source has at most the bytes that the device allows.
+unfoldable pub lexing : Limits → List ℕ → Result Text SyntaxFault
+lexing limits source = if nat_lt limits.source_bytes (length source) then Err (TooLong limits.source_bytes) else lexing_at_any_length source
 
 -- the bytes, however many, are read as this text, or have this fault
 abbrev pub LexesAtAnyLength : List ℕ → Result Text SyntaxFault → Type 0
 LexesAtAnyLength bytes result = lexing_at_any_length bytes ≡ result
 
--- the source is read as this text, or has this fault
-abbrev pub Lexes : List ℕ → Result Text SyntaxFault → Type 0
-Lexes source result = lexing source ≡ result
+-- the source is read as this text within the limits of a device, or has this fault
+abbrev pub Lexes : Limits → List ℕ → Result Text SyntaxFault → Type 0
+Lexes limits source result = lexing limits source ≡ result
 
 -- what a caller learns of an answer: out of memory says nothing of the source
-abbrev pub LexesUnlessMemory : List ℕ → Result Text SyntaxFault → Type 0
-LexesUnlessMemory source (Ok text) = Lexes source (Ok text)
-LexesUnlessMemory source (Err fault) = fault ≢ OutOfMemory → Lexes source (Err fault)
+abbrev pub LexesUnlessMemory : Limits → List ℕ → Result Text SyntaxFault → Type 0
+LexesUnlessMemory limits source (Ok text) = Lexes limits source (Ok text)
+LexesUnlessMemory limits source (Err fault) = fault ≢ OutOfMemory → Lexes limits source (Err fault)

@@ -1,6 +1,7 @@
 -- The bytes that tokens are printed as, and what it means that they are read back.
 use Rattle.std.specs.Prelude.{◌≡◌, ℕ, ◌≤◌, List, [], ◌∷◌, ◌++◌, length, map, filter_map, codes, decimal, nat_abs, slice_get, Option, None, Some, Ok}
 use Rattle.std.specs.Option.{unwrap_or}
+use Rattle.limits.specs.declared.Limits.{Limits}
 use Rattle.clnum.specs.declared.int_type.IntType.{IntType}
 use Rattle.clnum.specs.declared.int_type.IntType.TheVariants as types
 use Rattle.clmodel.specs.declared.tree.AddressSpace.TheVariants as spaces
@@ -118,5 +119,5 @@ pub record ReadsAs (bytes : List ℕ) (tokens : List TokenKind) (names : List (L
   pub read : LexesAtAnyLength bytes (Ok text)
   pub tokens_are : kinds_of text.tokens ≡ tokens
   pub names_are : text.names ≡ names
-  -- so they are as a source, unless they are too long for one
-  pub lexes : length bytes ≤ 65536 → Lexes bytes (Ok text)
+  -- so they are as a source, unless they are too long for one on a device
+  pub lexes : (limits : Limits) → length bytes ≤ limits.source_bytes → Lexes limits bytes (Ok text)

@@ -15,7 +15,7 @@ abbrev pub IsNumberedBelow : ℕ → TokenKind → Type 0
 IsNumberedBelow count (kinds.Name number) = number < count
 IsNumberedBelow count _ = Unit {0}
 
--- a source has at most 65,536 bytes, and each name in it stands in the table
+-- a source has at most 4,194,304 bytes under the limits of any device, and each name in it stands in the table
 pub record IsWithinLimits (text : Text) : Type 0 where
-  pub short : text.length ≤ 65536
+  pub short : text.length ≤ 4194304
   pub named : All (λ token. IsNumberedBelow (length text.names) token.kind) text.tokens

@@ -2,6 +2,7 @@
 #![tactic(auto)]
 
 ghost use Rattle.std.specs.Prelude.{◌≡◌, ℕ, List, Result, All};
+ghost use Rattle.limits.specs.declared.Limits.{Limits};
 ghost use Rattle.clsyntax_lex.specs.declared.token.SyntaxFault.{SyntaxFault};
 ghost use Rattle.clsyntax_lex.specs.declared.token.TokenKind.{TokenKind};
 ghost use Rattle.clsyntax_lex.specs.Tokens.{Text};
@@ -9,15 +10,15 @@ ghost use Rattle.clsyntax_lex.specs.Lexing.{Lexes, LexesAtAnyLength};
 ghost use Rattle.clsyntax_lex.specs.Spelling.{IsReading};
 ghost use Rattle.clsyntax_lex.specs.Printed.{text_of, names_in, kinds_of, IsWritable, ReadsAs};
 
-/// A source has one reading, or one fault.
+/// On a device, a source has one reading, or one fault.
 pub fn one_lexing()
-    ensures { (source : List ℕ) (a b : Result Text SyntaxFault) → Lexes source a → Lexes source b → a ≡ b }
+    ensures { (limits : Limits) (source : List ℕ) (a b : Result Text SyntaxFault) → Lexes limits source a → Lexes limits source b → a ≡ b }
 {}
 
-/// The limit of length changes nothing of what is read: a source's tokens and names are those that it has as bytes of
+/// No limit of length changes anything of what is read: a source's tokens and names are those that it has as bytes of
 /// any length.
 pub fn length_changes_nothing()
-    ensures { (source : List ℕ) (text : Text) → Lexes source (Ok text) → LexesAtAnyLength source (Ok text) }
+    ensures { (limits : Limits) (source : List ℕ) (text : Text) → Lexes limits source (Ok text) → LexesAtAnyLength source (Ok text) }
 {}
 
 /// A source without a fault, however long, is its tokens with white space and comments round them. The bytes of each

@@ -10,10 +10,8 @@ use crate::names::NameTable;
 use crate::pieces::{Piece, front_piece};
 use crate::token::{SyntaxFault, Token, TokenKind};
 use crate::tokens::Tokens;
+use limits::Limits;
 use std::alloc::{AllocError, AllocFailed, Global};
-
-/// The most bytes that a source may have.
-const MAX_LENGTH: usize = 65_536;
 
 /// What a source was read as so far.
 #[derive(Drop)]
@@ -26,7 +24,7 @@ impl<'a> Progress<'a> {
     /// Takes a piece from the front of the rest, which begins at this offset, and answers how many bytes it has.
     fn take_piece(&mut self, rest: &'a [u8], at: usize) -> Result<usize, SyntaxFault>
         requires nonempty { 0 < length rest.now }
-        requires short { at + length rest.now ≤ 65536 }
+        requires short { at + length rest.now ≤ 4194304 }
         requires few { length self.old.names ≤ length built_in_names + at }
         ensures taken { IfOk result (Advances at rest.now self.old.tokens.items self.old.names self.new.tokens.items self.new.names) }
         ensures fault { IfErr result (Stops at rest.now self.old.tokens.items self.old.names) }
@@ -56,16 +54,16 @@ impl<'a> Progress<'a> {
     }
 }
 
-/// The tokens of a source of at most 65,536 bytes (OpenCL 1.2, section 6; C99 6.4).
+/// The tokens of a source of at most `limits.source_bytes` bytes (OpenCL 1.2, section 6; C99 6.4).
 ///
 /// A longer source is TooLong at that offset. Else the fault is the first in text order: BadByte at a byte that begins
 /// no token or can't follow a number, NumberTooLarge at the beginning of a number that no type can hold.
-pub fn lex(alloc: Global, source: &[u8]) -> Result<Tokens, SyntaxFault>
-    ensures exact { LexesUnlessMemory source.now result }
+pub fn lex(alloc: Global, limits: Limits, source: &[u8]) -> Result<Tokens, SyntaxFault>
+    ensures exact { LexesUnlessMemory limits source.now result }
 {
-    if source.len() > MAX_LENGTH {
+    if source.len() > limits.source_bytes {
         return Err(SyntaxFault::TooLong {
-            at: MAX_LENGTH as u32,
+            at: limits.source_bytes as u32,
         });
     }
     let mut progress = Progress {

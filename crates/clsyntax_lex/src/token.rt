@@ -132,9 +132,9 @@ pub enum SyntaxFault {
     NumberTooLarge { at: u32 },
     /// 3: the first token with which no program begins, or the end where it comes too early
     Unexpected { at: u32 },
-    /// 4: a token nested more than 64 deep
+    /// 4: a token nested deeper than the device allows
     TooDeep { at: u32 },
-    /// 5: a source of more than 65,536 bytes
+    /// 5: a source of more bytes than the device allows, with that number of bytes
     TooLong { at: u32 },
     /// 6
     OutOfMemory,

@@ -49,7 +49,7 @@ impl Tokens {
         self.tokens.as_slice()
     }
 
-    /// How many bytes the source has, at most 65,536.
+    /// How many bytes the source has, at most 4,194,304.
     pub fn length(&self) -> u32
         ensures value { result ≡ self.now.length }
         ensures limits { IsWithinLimits self.now }

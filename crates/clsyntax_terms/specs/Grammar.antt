@@ -21,9 +21,9 @@ use Rattle.clsyntax_lex.specs.declared.token.Token.{Token}
 use Rattle.clsyntax_lex.specs.declared.token.TokenKind.{TokenKind}
 use Rattle.clsyntax_lex.specs.declared.token.TokenKind.TheVariants as kinds
 
--- how deep tokens may be nested (own)
-abbrev pub limit : ℕ
-limit = 64
+-- how deep tokens may be nested on the device that allows most (own)
+abbrev pub greatest_limit : ℕ
+greatest_limit = 256
 
 -- A token in its place in a program, with its nesting there: how many brackets, blocks and controlled statements are
 -- open at it, and operators already read in the open expressions outside their inner brackets.

@@ -9,7 +9,7 @@ use Rattle.clmodel.specs.declared.tree.Function as rust_function
 use Rattle.clmodel.specs.declared.tree.Statement.{Statement}
 use Rattle.clmodel.specs.Tree.{term, terms, tree_target, maybe_term, Stmts, NoStmt, stmt, then_stmts, MaybeStmt, Without, With, Funcs, NoFunc, func, then_funcs}
 use Rattle.clsyntax_terms.specs.Grammar as grammar
-use Rattle.clsyntax_terms.specs.Grammar.{limit, level}
+use Rattle.clsyntax_terms.specs.Grammar.{greatest_limit, level}
 use Rattle.clsyntax_terms.specs.Machine as machine
 use Rattle.clsyntax_terms.specs.Machine.{Moved}
 use Rattle.clsyntax_terms.specs.declared.state.Head.{Head}
@@ -190,10 +190,10 @@ abbrev pub is_behind : List machine.Frame → Bool
 is_behind (machine.InBehind is_step a n ∷ fs) = true
 is_behind _ = false
 
--- a move, at a token that is nested too deep
+-- a move, at a token that is nested too deep on every device
 abbrev pub IsDeep : Moved → Type 0
 IsDeep None = ⊥
-IsDeep (Some x) = limit < x.0
+IsDeep (Some x) = greatest_limit < x.0
 
 -- a step is the machine's
 abbrev pub IsStep : TokenStep → Moved → Type 0

@@ -449,7 +449,7 @@ pub struct State {
 pub enum TokenStep {
     /// No source goes on with this token here.
     Refused,
-    /// The token is nested too deep.
+    /// The token is nested too deep on every device.
     Deep,
     /// The token has this nesting, and leads to this state.
     To { nesting: Nesting, state: Box<State> },

@@ -12,7 +12,7 @@ use Rattle.clmodel.specs.declared.declaration.Declaration.TheVariants.{Single}
 use Rattle.clmodel.specs.Typing.Context.{Context, meaning, Bound, is_outermost, is_free, bind, enter, turning, for_context, after_all}
 use Rattle.clmodel.specs.Typing.Least.{least, first, node}
 use Rattle.clmodel.specs.Typing.Rules as rule
-use Rattle.clmodel.specs.Typing.Rules.{is_stored, length_limit, Types, TypesTarget, IsCondition, IsTyped, IsTypedPart, AreTyped}
+use Rattle.clmodel.specs.Typing.Rules.{is_stored, Types, TypesTarget, IsCondition, IsTyped, IsTypedPart, AreTyped}
 use Rattle.clmodel.specs.Typing.Faults.{unless, start, target_start, integer_faults, pointer_faults, passing_faults, whole_faults, front_faults, assigning_faults, WholeStatement, wanted, name_kind, number_or_int, front_kind, element_kind, kind_of, arguments_faults, inside_call, barrier_faults, call_faults, term_faults, terms_faults, store_faults, stored_faults, element_target_faults, target_faults, target_kind, value_faults, void_faults, declared_faults, array_faults, initial_faults, assignment_faults, condition_parts, condition_faults, return_faults, faults, part_faults, row_faults}
 use Rattle.clmodel.proofs.Conflicts.{or_at, or_made}
 use Rattle.cltypes_scope.proofs.Least.{earlier_none}
@@ -85,24 +85,24 @@ array_sound : (c : Context) (a : ℕ) (is_local : Bool) (t : IntType) (b x d : �
     → IsTyped c (tree.DeclareArray a is_local t b x d m)
 array_sound c a is_local t b x d m n =
     let n1 = nat_le 1 (array_length m) in
-    let n2 = nat_le (array_length m) length_limit in
+    let n2 = nat_le (array_length m) c.limits.elements in
     let stands = not is_local || is_outermost c in
     let r = none_split (declared_faults c b x ++ unless stands (fault.WrongSpace b)) (unless (n1 && n2) (fault.TooLarge d)) n in
     let s = none_split (declared_faults c b x) (unless stands (fault.WrongSpace b)) r.0 in
     let w = unless_none (n1 && n2) (fault.TooLarge d) r.1 in
     rule.declare_array (unless_none (is_free c x) (fault.Redeclared b) s.0) (or_at is_local (is_outermost c) (unless_none stands (fault.WrongSpace b) s.1))
-    (same_le 1 (array_length m) (and_left n1 n2 w)) (same_le (array_length m) length_limit (and_right n1 n2 w))
+    (same_le 1 (array_length m) (and_left n1 n2 w)) (same_le (array_length m) c.limits.elements (and_right n1 n2 w))
 
 array_complete : (c : Context) (is_local : Bool) (b x d : ℕ) (m : Integer) → is_free c x ≡ true → (is_local ≡ true → is_outermost c ≡ true) → 1 ≤ array_length m
-    → array_length m ≤ length_limit → least (array_faults c is_local b x d m) ≡ None
+    → array_length m ≤ c.limits.elements → least (array_faults c is_local b x d m) ≡ None
 array_complete c is_local b x d m f o l u =
     let n1 = nat_le 1 (array_length m) in
-    let n2 = nat_le (array_length m) length_limit in
+    let n2 = nat_le (array_length m) c.limits.elements in
     let stands = not is_local || is_outermost c in
     none_joined (declared_faults c b x ++ unless stands (fault.WrongSpace b)) (unless (n1 && n2) (fault.TooLarge d))
     (none_joined (declared_faults c b x) (unless stands (fault.WrongSpace b)) (unless_true (is_free c x) (fault.Redeclared b) f)
     (unless_true stands (fault.WrongSpace b) (or_made is_local (is_outermost c) o)))
-    (unless_true (n1 && n2) (fault.TooLarge d) (and_true n1 n2 (le_test 1 (array_length m) l) (le_test (array_length m) length_limit u)))
+    (unless_true (n1 && n2) (fault.TooLarge d) (and_true n1 n2 (le_test 1 (array_length m) l) (le_test (array_length m) c.limits.elements u)))
 
 no_type : (o : Option IntType) → not (is_some o) ≡ true → o ≡ None
 no_type None h = refl

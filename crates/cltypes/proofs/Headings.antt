@@ -3,6 +3,7 @@ use Rattle.std.proofs.Common.{◌≡◌, ℕ, ◌+◌, ◌<◌, Bool, true, fals
 use Rattle.std.specs.Prelude.{IfOk}
 use Prim.Native.Nat.{zero, suc}
 use Rattle.std.proofs.lemmas.List.{take_more}
+use Rattle.limits.specs.declared.Limits.{Limits}
 use Rattle.clmodel.specs.declared.tree.Parameter.{Parameter}
 use Rattle.clnum.specs.declared.int_type.IntType.TheVariants.{Char}
 use Rattle.clmodel.specs.declared.tree.VariableType.TheVariants as kind
@@ -110,10 +111,10 @@ none_of (Some s) h = absurd (cc)
 pub not_before : (before : List (ℕ × Signature)) (x : ℕ) → (not (is_reserved x) && not (is_some (signature_of before x))) ≡ true → signature_of before x ≡ None
 not_before before x h = none_of (signature_of before x) (new_not (is_reserved x) (is_some (signature_of before x)) h)
 
-pub begun_context : (c s : Context) (fs : Funcs) (f : Func) (g : Signature) → signatures fs ≡ c.before → g ≡ signature f → s ≡ begun c f.name g → s ≡ begin c.all fs f
+pub begun_context : (c s : Context) (fs : Funcs) (f : Func) (g : Signature) → signatures fs ≡ c.before → g ≡ signature f → s ≡ begun c f.name g → s ≡ begin c.limits c.all fs f
 begun_context c s fs f g n e h =
     h ∙ ap (begun c f.name) e
-    ∙ ap (λ z. record { all = c.all; before = z; current = f.name; signature = signature f; in_loop = false; inner = []; outer = [] }) (sym n)
+    ∙ ap (λ z. record { limits = c.limits; all = c.all; before = z; current = f.name; signature = signature f; in_loop = false; inner = []; outer = [] }) (sym n)
 
 pub heading_of : (before : List (ℕ × Signature)) (fs : Funcs) (f : Func) (b : Bool) → signatures fs ≡ before → b ≡ (not (is_reserved f.name) && not (is_some (signature_of before f.name)))
     → heading_faults fs f ≡ unless b (fault.Redeclared f.name_at)
@@ -121,43 +122,43 @@ heading_of before fs f b n e =
     ap (λ z. unless (not (is_reserved f.name) && not (is_some (signature_of z f.name))) (fault.Redeclared f.name_at)) n ∙ ap (λ z. unless z (fault.Redeclared f.name_at)) (sym e)
 
 -- the places behind the heading
-abbrev pub behind : List ℕ → Funcs → Func → Places
-behind all fs f = params_faults (begin all fs f) f.parameters ++ row_faults (with_params (begin all fs f) f.parameters) f.body ++ end_faults f (size_of fs f)
+abbrev pub behind : Limits → List ℕ → Funcs → Func → Places
+behind limits all fs f = params_faults (begin limits all fs f) f.parameters ++ row_faults (with_params (begin limits all fs f) f.parameters) f.body ++ end_faults limits f (size_of fs f)
 
-after_heading : (all : List ℕ) (fs : Funcs) (f : Func) (o : Option TypeFault) → heading_faults fs f ≡ unless true (fault.Redeclared f.name_at) → first (behind all fs f) ≡ o
-    → first (function_faults all fs f) ≡ o
-after_heading all fs f o e h = ap (λ z. earlier (least z) (first (behind all fs f))) e ∙ h
+after_heading : (limits : Limits) (all : List ℕ) (fs : Funcs) (f : Func) (o : Option TypeFault) → heading_faults fs f ≡ unless true (fault.Redeclared f.name_at) → first (behind limits all fs f) ≡ o
+    → first (function_faults limits all fs f) ≡ o
+after_heading limits all fs f o e h = ap (λ z. earlier (least z) (first (behind limits all fs f))) e ∙ h
 
 same_none : (ps qs : Places) (o : Option TypeFault) → first ps ≡ None → first qs ≡ o → first (ps ++ qs) ≡ o
 same_none ps qs None h k = neither_of ps qs h k
 same_none ps qs (Some f) h k = inside_second ps qs f h k
 
-pub in_parameters : (all : List ℕ) (s : Context) (fs : Funcs) (f : Func) (g : TypeFault) → heading_faults fs f ≡ unless true (fault.Redeclared f.name_at) → s ≡ begin all fs f
-    → first (params_faults s f.parameters) ≡ Some g → first (function_faults all fs f) ≡ Some g
-in_parameters all s fs f g n w p =
-    let params = params_faults (begin all fs f) f.parameters in
-    let body = row_faults (with_params (begin all fs f) f.parameters) f.body in
-    after_heading all fs f (Some g) n
-    (inside_first (params ++ body) (end_faults f (size_of fs f)) g (inside_first params body g (ap (λ z. first (params_faults z f.parameters)) (sym w) ∙ p)))
+pub in_parameters : (limits : Limits) (all : List ℕ) (s : Context) (fs : Funcs) (f : Func) (g : TypeFault) → heading_faults fs f ≡ unless true (fault.Redeclared f.name_at) → s ≡ begin limits all fs f
+    → first (params_faults s f.parameters) ≡ Some g → first (function_faults limits all fs f) ≡ Some g
+in_parameters limits all s fs f g n w p =
+    let params = params_faults (begin limits all fs f) f.parameters in
+    let body = row_faults (with_params (begin limits all fs f) f.parameters) f.body in
+    after_heading limits all fs f (Some g) n
+    (inside_first (params ++ body) (end_faults limits f (size_of fs f)) g (inside_first params body g (ap (λ z. first (params_faults z f.parameters)) (sym w) ∙ p)))
 
-pub in_body : (all : List ℕ) (s t : Context) (fs : Funcs) (f : Func) (g : TypeFault) → heading_faults fs f ≡ unless true (fault.Redeclared f.name_at) → s ≡ begin all fs f
-    → first (params_faults s f.parameters) ≡ None → t ≡ with_params s f.parameters → first (row_faults t f.body) ≡ Some g → first (function_faults all fs f) ≡ Some g
-in_body all s t fs f g n w p v q =
-    let params = params_faults (begin all fs f) f.parameters in
-    let body = row_faults (with_params (begin all fs f) f.parameters) f.body in
-    after_heading all fs f (Some g) n
-    (inside_first (params ++ body) (end_faults f (size_of fs f)) g
+pub in_body : (limits : Limits) (all : List ℕ) (s t : Context) (fs : Funcs) (f : Func) (g : TypeFault) → heading_faults fs f ≡ unless true (fault.Redeclared f.name_at) → s ≡ begin limits all fs f
+    → first (params_faults s f.parameters) ≡ None → t ≡ with_params s f.parameters → first (row_faults t f.body) ≡ Some g → first (function_faults limits all fs f) ≡ Some g
+in_body limits all s t fs f g n w p v q =
+    let params = params_faults (begin limits all fs f) f.parameters in
+    let body = row_faults (with_params (begin limits all fs f) f.parameters) f.body in
+    after_heading limits all fs f (Some g) n
+    (inside_first (params ++ body) (end_faults limits f (size_of fs f)) g
     (inside_second params body g (ap (λ z. first (params_faults z f.parameters)) (sym w) ∙ p)
     (ap (λ z. first (row_faults (with_params z f.parameters) f.body)) (sym w) ∙ ap (λ z. first (row_faults z f.body)) (sym v) ∙ q)))
 
-pub in_end : (all : List ℕ) (s t : Context) (fs : Funcs) (f : Func) → heading_faults fs f ≡ unless true (fault.Redeclared f.name_at) → s ≡ begin all fs f
+pub in_end : (limits : Limits) (all : List ℕ) (s t : Context) (fs : Funcs) (f : Func) → heading_faults fs f ≡ unless true (fault.Redeclared f.name_at) → s ≡ begin limits all fs f
     → first (params_faults s f.parameters) ≡ None → t ≡ with_params s f.parameters → first (row_faults t f.body) ≡ None
-    → first (function_faults all fs f) ≡ first (end_faults f (size_of fs f))
-in_end all s t fs f n w p v q =
-    let params = params_faults (begin all fs f) f.parameters in
-    let body = row_faults (with_params (begin all fs f) f.parameters) f.body in
-    let end = end_faults f (size_of fs f) in
-    after_heading all fs f (first end) n
+    → first (function_faults limits all fs f) ≡ first (end_faults limits f (size_of fs f))
+in_end limits all s t fs f n w p v q =
+    let params = params_faults (begin limits all fs f) f.parameters in
+    let body = row_faults (with_params (begin limits all fs f) f.parameters) f.body in
+    let end = end_faults limits f (size_of fs f) in
+    after_heading limits all fs f (first end) n
     (same_none (params ++ body) end (first end)
     (neither_of params body (ap (λ z. first (params_faults z f.parameters)) (sym w) ∙ p)
     (ap (λ z. first (row_faults (with_params z f.parameters) f.body)) (sym w) ∙ ap (λ z. first (row_faults z f.body)) (sym v) ∙ q)) refl)

@@ -29,7 +29,7 @@ for_view table at (Some s) None condition body = refl
 for_view table at (Some s) (Some t) condition body = refl
 
 -- bytes up to a limit, of a number of elements up to it
-pub capped_bytes : (t : IntType) (n : ℕ) → min (bits t / 8 * min n 4097) 4097 ≡ min (bits t / 8 * n) 4097
+pub capped_bytes : (t : IntType) (n : ℕ) → min (bits t / 8 * min n 65537) 65537 ≡ min (bits t / 8 * n) 65537
 capped_bytes Char n = omega arith
 capped_bytes Uchar n = omega arith
 capped_bytes Short n = omega arith

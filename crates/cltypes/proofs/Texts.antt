@@ -3,12 +3,13 @@ use Rattle.std.proofs.Common.{◌≡◌, ℕ, ◌+◌, ◌<◌, ◌⊎◌, inl, 
 use Rattle.std.specs.Prelude.{IfErr}
 use Prim.Native.Nat.{zero, suc}
 use Rattle.std.proofs.lemmas.List.{take_more}
+use Rattle.limits.specs.declared.Limits.{Limits}
 use Rattle.clmodel.specs.declared.tree.Function.{Function}
 use Rattle.clmodel.specs.declared.tree.Tree.{Tree}
 use Rattle.clmodel.specs.declared.type_fault.TypeFault.{TypeFault}
 use Rattle.clmodel.specs.declared.type_fault.TypeFault.TheVariants as fault
 use Rattle.clmodel.specs.Tree.{Funcs, NoFunc, ThenFunc, then_funcs, func, Program, program}
-use Rattle.clmodel.specs.Typing.{IsTypedProgram, IsTypeFault}
+use Rattle.clmodel.specs.Typing.{IsTypedWithin, IsTypedProgram, IsTypeFault}
 use Rattle.clmodel.specs.Typing.Context.{Context, Signature}
 use Rattle.clmodel.specs.Typing.Sizes.{Sizes}
 use Rattle.cltypes.specs.Limits.{IsSummary}
@@ -35,81 +36,88 @@ pub summary_more : (fs : List Function) (i : ℕ) (f : Function) (table : Sizes)
     → IsSummary table (functions_of (take (i + 1) fs))
 summary_more fs i f table h g s = subst (λ z. IsSummary table z) (sym (next_function fs i f h g)) s
 
-pub known_more : (c d : Context) (fs : List Function) (i : ℕ) (f : Function) → i < length fs → f ≡ get_or fs i f → c ≡ known (names (functions_of (take i fs)))
-    → d ≡ with_function c f.name → d ≡ known (names (functions_of (take (i + 1) fs)))
-known_more c d fs i f h g n e = e ∙ ap (λ z. with_function z f.name) n ∙ ap (λ z. known (names z)) (sym (next_function fs i f h g))
+pub known_more : (limits : Limits) (c d : Context) (fs : List Function) (i : ℕ) (f : Function) → i < length fs → f ≡ get_or fs i f → c ≡ known limits (names (functions_of (take i fs)))
+    → d ≡ with_function c f.name → d ≡ known limits (names (functions_of (take (i + 1) fs)))
+known_more limits c d fs i f h g n e = e ∙ ap (λ z. with_function z f.name) n ∙ ap (λ z. known limits (names z)) (sym (next_function fs i f h g))
 
 -- their faults
 
-ahead : (all : List ℕ) (gs : Funcs) (fs : List Function) (f : TypeFault) → first (functions_faults all gs) ≡ Some f → first (functions_faults all (then_funcs gs (map func fs))) ≡ Some f
-ahead all gs [] f h = h
-ahead all gs (g ∷ fs) f h = ahead all (ThenFunc gs (func g)) fs f (inside_first (functions_faults all gs) (function_faults all gs (func g)) f h)
+ahead : (limits : Limits) (all : List ℕ) (gs : Funcs) (fs : List Function) (f : TypeFault) → first (functions_faults limits all gs) ≡ Some f → first (functions_faults limits all (then_funcs gs (map func fs))) ≡ Some f
+ahead limits all gs [] f h = h
+ahead limits all gs (g ∷ fs) f h = ahead limits all (ThenFunc gs (func g)) fs f (inside_first (functions_faults limits all gs) (function_faults limits all gs (func g)) f h)
 
 then_rest : (gs : Funcs) (fs : List Function) (i : ℕ) → then_funcs gs (map func fs) ≡ then_funcs (then_funcs gs (map func (take i fs))) (map func (drop i fs))
 then_rest gs fs zero = refl
 then_rest gs [] (suc i) = refl
 then_rest gs (f ∷ fs) (suc i) = then_rest (ThenFunc gs (func f)) fs i
 
-pub function_inside : (all known : List ℕ) (fs : List Function) (i : ℕ) (f : Function) (g : TypeFault) → i < length fs → f ≡ get_or fs i f → known ≡ all
-    → first (functions_faults all (functions_of (take i fs))) ≡ None → first (function_faults known (functions_of (take i fs)) (func f)) ≡ Some g
-    → first (functions_faults all (functions_of fs)) ≡ Some g
-function_inside all known fs i f g h e k n s =
-    ap (λ z. first (functions_faults all z)) (then_rest NoFunc fs (i + 1))
-    ∙ ahead all (functions_of (take (i + 1) fs)) (drop (i + 1) fs) g
-    (ap (λ z. first (functions_faults all z)) (next_function fs i f h e)
-    ∙ inside_second (functions_faults all (functions_of (take i fs))) (function_faults all (functions_of (take i fs)) (func f)) g n
-    (ap (λ z. first (function_faults z (functions_of (take i fs)) (func f))) (sym k) ∙ s))
+pub function_inside : (limits given : Limits) (all known : List ℕ) (fs : List Function) (i : ℕ) (f : Function) (g : TypeFault) → i < length fs → f ≡ get_or fs i f → given ≡ limits → known ≡ all
+    → first (functions_faults limits all (functions_of (take i fs))) ≡ None → first (function_faults given known (functions_of (take i fs)) (func f)) ≡ Some g
+    → first (functions_faults limits all (functions_of fs)) ≡ Some g
+function_inside limits given all known fs i f g h e l k n s =
+    ap (λ z. first (functions_faults limits all z)) (then_rest NoFunc fs (i + 1))
+    ∙ ahead limits all (functions_of (take (i + 1) fs)) (drop (i + 1) fs) g
+    (ap (λ z. first (functions_faults limits all z)) (next_function fs i f h e)
+    ∙ inside_second (functions_faults limits all (functions_of (take i fs))) (function_faults limits all (functions_of (take i fs)) (func f)) g n
+    (ap (λ z. first (function_faults limits z (functions_of (take i fs)) (func f))) (sym k)
+    ∙ ap (λ z. first (function_faults z known (functions_of (take i fs)) (func f))) (sym l) ∙ s))
 
-pub functions_more : (all known : List ℕ) (fs : List Function) (i : ℕ) (f : Function) → i < length fs → f ≡ get_or fs i f → known ≡ all
-    → first (functions_faults all (functions_of (take i fs))) ≡ None → first (function_faults known (functions_of (take i fs)) (func f)) ≡ None
-    → first (functions_faults all (functions_of (take (i + 1) fs))) ≡ None
-functions_more all known fs i f h e k n s =
-    ap (λ z. first (functions_faults all z)) (next_function fs i f h e)
-    ∙ neither_of (functions_faults all (functions_of (take i fs))) (function_faults all (functions_of (take i fs)) (func f)) n
-    (ap (λ z. first (function_faults z (functions_of (take i fs)) (func f))) (sym k) ∙ s)
+pub functions_more : (limits given : Limits) (all known : List ℕ) (fs : List Function) (i : ℕ) (f : Function) → i < length fs → f ≡ get_or fs i f → given ≡ limits → known ≡ all
+    → first (functions_faults limits all (functions_of (take i fs))) ≡ None → first (function_faults given known (functions_of (take i fs)) (func f)) ≡ None
+    → first (functions_faults limits all (functions_of (take (i + 1) fs))) ≡ None
+functions_more limits given all known fs i f h e l k n s =
+    ap (λ z. first (functions_faults limits all z)) (next_function fs i f h e)
+    ∙ neither_of (functions_faults limits all (functions_of (take i fs))) (function_faults limits all (functions_of (take i fs)) (func f)) n
+    (ap (λ z. first (function_faults limits z (functions_of (take i fs)) (func f))) (sym k)
+    ∙ ap (λ z. first (function_faults z known (functions_of (take i fs)) (func f))) (sym l) ∙ s)
 
 -- what is answered
 
-is_fault : (p : Program) (f : TypeFault) → IsTypeFault p f → IsFaultOf p f
-is_fault p fault.OutOfMemory h = tt
-is_fault p (fault.UnknownName at) h = h
-is_fault p (fault.Redeclared at) h = h
-is_fault p (fault.TypeMismatch at) h = h
-is_fault p (fault.NotAssignable at) h = h
-is_fault p (fault.Recursion at) h = h
-is_fault p (fault.WrongArgumentCount at) h = h
-is_fault p (fault.WrongSpace at) h = h
-is_fault p (fault.BadBarrierFlags at) h = h
-is_fault p (fault.TooManyLoops at) h = h
-is_fault p (fault.TooLarge at) h = h
-is_fault p (fault.MissingReturn at) h = h
+is_fault : (limits : Limits) (p : Program) (f : TypeFault) → IsTypeFault limits p f → IsFaultOf limits p f
+is_fault limits p fault.OutOfMemory h = tt
+is_fault limits p (fault.UnknownName at) h = h
+is_fault limits p (fault.Redeclared at) h = h
+is_fault limits p (fault.TypeMismatch at) h = h
+is_fault limits p (fault.NotAssignable at) h = h
+is_fault limits p (fault.Recursion at) h = h
+is_fault limits p (fault.WrongArgumentCount at) h = h
+is_fault limits p (fault.WrongSpace at) h = h
+is_fault limits p (fault.BadBarrierFlags at) h = h
+is_fault limits p (fault.TooManyLoops at) h = h
+is_fault limits p (fault.TooLarge at) h = h
+is_fault limits p (fault.MissingReturn at) h = h
 
-answered_fault : (p : Program) (f : TypeFault) → (f ≡ fault.OutOfMemory) ⊎ (first (program_faults p) ≡ Some f) → IsFaultOf p f
-answered_fault p f (inl e) = subst (λ g. IsFaultOf p g) (sym e) tt
-answered_fault p f (inr e) = is_fault p f (program_fault p f e)
+answered_fault : (limits : Limits) (p : Program) (f : TypeFault) → (f ≡ fault.OutOfMemory) ⊎ (first (program_faults limits p) ≡ Some f) → IsFaultOf limits p f
+answered_fault limits p f (inl e) = subst (λ g. IsFaultOf limits p g) (sym e) tt
+answered_fault limits p f (inr e) = is_fault limits p f (program_fault limits p f e)
 
-typed_answer : (p : Program) (f : TypeFault) → IsTypedProgram p → (f ≡ fault.OutOfMemory) ⊎ (first (program_faults p) ≡ Some f) → f ≡ fault.OutOfMemory
-typed_answer p f h (inl e) = e
-typed_answer p f h (inr e) = absurd (typed_has_none p h f (program_fault p f e))
+typed_answer : (limits : Limits) (p : Program) (f : TypeFault) → IsTypedWithin limits p → (f ≡ fault.OutOfMemory) ⊎ (first (program_faults limits p) ≡ Some f) → f ≡ fault.OutOfMemory
+typed_answer limits p f h (inl e) = e
+typed_answer limits p f h (inr e) = absurd (typed_has_none limits p h f (program_fault limits p f e))
 
 -- the first fault of functions in their text
-abbrev pub first_of : List Function → Option TypeFault
-first_of fs = first (functions_faults (names (functions_of fs)) (functions_of fs))
+abbrev pub first_of : Limits → List Function → Option TypeFault
+first_of limits fs = first (functions_faults limits (names (functions_of fs)) (functions_of fs))
 
-along : (t : Tree) (fs : List Function) (f : TypeFault) → fs ≡ t.functions.items → (f ≡ fault.OutOfMemory) ⊎ (first_of fs ≡ Some f)
-    → (f ≡ fault.OutOfMemory) ⊎ (first (program_faults (program t)) ≡ Some f)
-along t fs f e (inl h) = inl h
-along t fs f e (inr h) = inr (ap first_of (sym e) ∙ h)
+along : (limits : Limits) (t : Tree) (fs : List Function) (f : TypeFault) → fs ≡ t.functions.items → (f ≡ fault.OutOfMemory) ⊎ (first_of limits fs ≡ Some f)
+    → (f ≡ fault.OutOfMemory) ⊎ (first (program_faults limits (program t)) ≡ Some f)
+along limits t fs f e (inl h) = inl h
+along limits t fs f e (inr h) = inr (ap (first_of limits) (sym e) ∙ h)
 
-pub answered : (t : Tree) (fs : List Function) (f : TypeFault) → fs ≡ t.functions.items → (f ≡ fault.OutOfMemory) ⊎ (first_of fs ≡ Some f) → IsFaultOf (program t) f
-answered t fs f e h = answered_fault (program t) f (along t fs f e h)
+pub answered : (limits : Limits) (t : Tree) (fs : List Function) (f : TypeFault) → fs ≡ t.functions.items → (f ≡ fault.OutOfMemory) ⊎ (first_of limits fs ≡ Some f) → IsFaultOf limits (program t) f
+answered limits t fs f e h = answered_fault limits (program t) f (along limits t fs f e h)
 
-pub answered_typed : (t : Tree) (fs : List Function) (f : TypeFault) → fs ≡ t.functions.items → (f ≡ fault.OutOfMemory) ⊎ (first_of fs ≡ Some f)
-    → IsTypedProgram (program t) → f ≡ fault.OutOfMemory
-answered_typed t fs f e h typed = typed_answer (program t) f typed (along t fs f e h)
+pub answered_typed : (limits : Limits) (t : Tree) (fs : List Function) (f : TypeFault) → fs ≡ t.functions.items → (f ≡ fault.OutOfMemory) ⊎ (first_of limits fs ≡ Some f)
+    → IsTypedWithin limits (program t) → f ≡ fault.OutOfMemory
+answered_typed limits t fs f e h typed = typed_answer limits (program t) f typed (along limits t fs f e h)
 
-pub answered_well : (t : Tree) (fs : List Function) → fs ≡ t.functions.items → first_of fs ≡ None → IsTypedProgram (program t)
-answered_well t fs e h = program_sound (program t) (ap first_of (sym e) ∙ h)
+pub answered_well : (limits : Limits) (t : Tree) (fs : List Function) → fs ≡ t.functions.items → first_of limits fs ≡ None → IsTypedWithin limits (program t)
+answered_well limits t fs e h = program_sound limits (program t) (ap (first_of limits) (sym e) ∙ h)
+
+-- typed within these limits, and so within those of some device
+pub typed_somewhere : (limits : Limits) (p : Program) → IsTypedWithin limits p → IsTypedProgram p
+unfolding IsTypedProgram
+typed_somewhere limits p h = (limits, h)
 
 -- what `?` hands on is the fault that it met
 

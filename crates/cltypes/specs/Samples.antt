@@ -1,7 +1,8 @@
--- Statements in a kernel and whole texts, each with its first fault; the offsets of statements count from the first
--- one's start.
+-- Statements in a kernel and whole texts, each with its first fault within the limits of the profile, and some texts
+-- within the large limits; the offsets of statements count from the first one's start.
 use Prim.Native.Nat.{zero, suc}
 use Rattle.std.specs.Prelude.{◌≡◌, ℕ, ◌+◌, pos, Bool, true, false, List, [], ◌∷◌, map, Option, None, Some}
+use Rattle.limits.specs.Limits.{profile, large}
 use Rattle.clnum.specs.declared.int_type.IntType.{IntType}
 use Rattle.clnum.specs.declared.int_type.IntType.TheVariants.{Char, Uchar, Int, Uint, Long}
 use Rattle.clnum.specs.declared.operators.BinaryOperator.TheVariants.{Add, Subtract, Multiply, BitOr, Equal}
@@ -30,6 +31,7 @@ helper result parameters = record { is_kernel = false; result = result; paramete
 -- the parameters: __global int *a, __global const int *c, __constant int *t, __global long *w, int n, char b
 abbrev here : Context
 here = record {
+  limits = profile;
   all = 100 ∷ 116 ∷ 117 ∷ 118 ∷ 119 ∷ [];
   before = (116, helper (Some Int) (kind.Integer Int ∷ []))
       ∷ (117, helper None [])
@@ -533,8 +535,29 @@ texts =
     ∷ (then_funcs NoFunc (function None 5 101 [] (array false Long 11 16 103 18 32768 ∷ []) ∷ kernel 42 100 [] [] ∷ []), None)
     ∷ []
 
+-- texts within the large limits
+abbrev pub large_texts : List (Funcs × Option TypeFault)
+large_texts =
+    -- __kernel void f() { uchar t[4097]; }
+    (then_funcs NoFunc (kernel 14 100 [] (array false Uchar 20 26 103 28 4097 ∷ []) ∷ []), None)
+    -- __kernel void f() { uchar t[65536]; }
+    ∷ (then_funcs NoFunc (kernel 14 100 [] (array false Uchar 20 26 103 28 65536 ∷ []) ∷ []), None)
+    -- __kernel void f() { uchar t[65536]; uchar u[1]; }  A kernel's private arrays have 65536 bytes at most.
+    ∷ (then_funcs NoFunc (kernel 14 100 [] (array false Uchar 20 26 103 28 65536 ∷ array false Uchar 36 42 104 44 1 ∷ []) ∷ []), Some (TooLarge 14))
+    -- __kernel void f() { uchar t[65537]; }
+    ∷ (then_funcs NoFunc (kernel 14 100 [] (array false Uchar 20 26 103 28 65537 ∷ []) ∷ []), Some (TooLarge 28))
+    -- __kernel void f() { __local char t[65536]; }
+    ∷ (then_funcs NoFunc (kernel 14 100 [] (array true Char 20 33 103 35 65536 ∷ []) ∷ []), None)
+    -- __kernel void f() { __local char t[65537]; }
+    ∷ (then_funcs NoFunc (kernel 14 100 [] (array true Char 20 33 103 35 65537 ∷ []) ∷ []), Some (TooLarge 35))
+    -- the body of the helper has 3 · 2¹⁸ - 2 = 786430 nodes, and the kernel one more a call
+    ∷ (ThenFunc (doubling 200 18) (kernel 40 101 [] (CallOnly 50 218 NoTerm ∷ [])), None)
+    ∷ (ThenFunc (doubling 200 18) (kernel 40 101 [] (CallOnly 50 218 NoTerm ∷ CallOnly 50 218 NoTerm ∷ [])), Some (TooLarge 40))
+    ∷ []
+
 -- each sample has that fault, or that size
 pub record AreSampled : Type 0 where
   pub faults : map (λ s. first (row_faults here s.0)) samples ≡ map (λ s. s.1) samples
-  pub texts : map (λ s. first (functions_faults (names s.0) s.0)) texts ≡ map (λ s. s.1) texts
+  pub texts : map (λ s. first (functions_faults profile (names s.0) s.0)) texts ≡ map (λ s. s.1) texts
+  pub large_texts : map (λ s. first (functions_faults large (names s.0) s.0)) large_texts ≡ map (λ s. s.1) large_texts
   pub sizes : map (λ s. ((size bodies s.0).nodes, (size bodies s.0).loops)) counted ≡ map (λ s. s.1) counted

@@ -1,6 +1,7 @@
 -- What the checker's values stand for.
 use Rattle.std.specs.Prelude.{ℕ, List, ◌++◌, map, Option, None, Some, Box}
 use Rattle.std.specs.declared.alloc.Global.{Global}
+use Rattle.limits.specs.declared.Limits.{Limits}
 use Rattle.clmodel.specs.Tree.{Target, Stmt, stmt, MaybeStmt, Without, With, MaybeTerm, Funcs, NoFunc, then_funcs, func}
 use Rattle.clmodel.specs.declared.tree.Function.{Function}
 use Rattle.clmodel.specs.declared.tree.Statement.{Statement}
@@ -27,6 +28,6 @@ turns_faults c e third s = node (condition_parts c e ++ part_faults (enter c) th
 abbrev pub functions_of : List Function → Funcs
 functions_of fs = then_funcs NoFunc (map func fs)
 
--- before the first function, where the text's functions have these names
-abbrev pub known : List ℕ → Context
-known all = record nowhere { all = all }
+-- before the first function, on a device of these limits, where the text's functions have these names
+abbrev pub known : Limits → List ℕ → Context
+known limits all = record (nowhere limits) { all = all }

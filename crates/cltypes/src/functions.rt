@@ -59,13 +59,16 @@ fn end_function(
     function: &Function,
 ) -> Result<(), TypeFault>
     requires { typing.signature_of context.old.before context.old.current ≡ None }
-    ensures first { (fs : Funcs) → IsSummary summaries.old fs → Ends result (first (end_faults (func function.now) (size_of fs (func function.now)))) }
+    ensures first { (fs : Funcs)
+        → IsSummary summaries.old fs
+        → Ends result (first (end_faults context.old.limits (func function.now) (size_of fs (func function.now)))) }
     ensures ended { IfOk result (λ _. context.new ≡ ended context.old) }
     ensures summed { IfOk result (λ _. (fs : Funcs) → IsSummary summaries.old fs → IsSummary summaries.new (ThenFunc fs (func function.now))) }
 {
     let size = summaries.add(function)?;
+    let limits = context.limits();
     context.end()?;
-    ended(end_fault(function, size))
+    ended(end_fault(limits, function, size))
 }
 
 /// Checks a function which those of the context and of the summaries stand before: the first of its faults is the
@@ -79,7 +82,8 @@ pub(crate) fn check_function(
     ensures first { (fs : Funcs)
         → signatures fs ≡ context.old.before
         → IsSummary summaries.old fs
-        → Ends result (first (function_faults context.old.all fs (func function.now))) }
+        → Ends result (first (function_faults context.old.limits context.old.all fs (func function.now))) }
+    ensures limits { IfOk result (λ _. context.new.limits ≡ context.old.limits) }
     ensures all { IfOk result (λ _. context.new.all ≡ context.old.all) }
     ensures before { IfOk result (λ _. context.new.before ≡ context.old.before ++ (function.now.name, signature (func function.now)) ∷ []) }
     ensures summed { IfOk result (λ _. (fs : Funcs) → IsSummary summaries.old fs → IsSummary summaries.new (ThenFunc fs (func function.now))) }

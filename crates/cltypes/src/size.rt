@@ -1,4 +1,4 @@
-//! Sizes, counted up to one more than a kernel may have.
+//! Sizes, counted up to one more than a kernel may have on any device.
 #![tactic(auto)]
 
 ghost use Rattle.std.specs.Prelude.{◌≡◌, suc, min};
@@ -10,21 +10,22 @@ ghost use Rattle.cltypes.specs.Limits.{capped, plain};
 use clnum::{IntType, Value};
 use std::cmp::max;
 
-/// How deep the loops of a kernel may be nested.
-pub(crate) const LOOP_LIMIT: u32 = 8;
+/// How deep the loops of a kernel may be nested at most, whatever the device.
+const LOOP_LIMIT: u32 = 8;
 
-/// How many bytes the private arrays of a kernel may have (OpenCL 1.2, section 6.5.4; the limit is this project's own).
-pub(crate) const BYTE_LIMIT: u32 = 4096;
+/// How many bytes the private arrays of a kernel may have at most, whatever the device (OpenCL 1.2, section 6.5.4; the
+/// limit is this project's own).
+const BYTE_LIMIT: u32 = 65_536;
 
-/// How many nodes the body of a kernel may have.
-pub const NODE_LIMIT: u32 = 20_000;
+/// How many nodes the body of a kernel may have at most, whatever the device.
+pub const NODE_LIMIT: u32 = 1_000_000;
 
 /// How many parameters a function may have (OpenCL 1.2, table 4.3, bounds their bytes; the limit is this project's
 /// own).
 pub(crate) const PARAMETER_LIMIT: usize = 13_000;
 
 /// How deep the loops of a body are nested, how many bytes its private arrays have, and how many nodes it has; a count
-/// above its limit is one more than the limit.
+/// above the greatest limit is one more than that limit.
 #[derive(Clone, Copy)]
 pub struct Size {
     pub loops: u32,
@@ -32,7 +33,8 @@ pub struct Size {
     pub nodes: u32,
 }
 
-/// How many bytes an array has (OpenCL 1.2, section 6.1.1), up to one more than a kernel's private arrays may have.
+/// How many bytes an array has (OpenCL 1.2, section 6.1.1), up to one more than the private arrays of a
+/// kernel may have on any device.
 #[tactic(auto, using(crate::proofs::Sums::capped_bytes))]
 fn array_bytes(element: IntType, length: Value) -> u32
     ensures { result ≡ min (array_bytes element length) (suc byte_limit) }
@@ -79,7 +81,7 @@ impl Size {
         }
     }
 
-    /// This size, with numbers above the limits one more than these.
+    /// This size, with numbers above the greatest limits one more than these.
     pub(crate) fn capped(self) -> Size
         ensures { result ≡ capped (plain self) }
     {

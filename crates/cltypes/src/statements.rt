@@ -21,9 +21,6 @@ use cltypes_scope::{
     CallPlace, Context, Identifier, check_call, check_expression, integer_fault, lesser,
 };
 
-/// How many elements an array may have.
-const LENGTH_LIMIT: u64 = 32_768;
-
 /// What the statement of a condition that may be left out has against it, or the first fault inside.
 fn check_condition(
     context: &Context,
@@ -125,7 +122,8 @@ fn array(is_local: bool, element: IntType) -> Declaration
     }
 }
 
-/// The declaration of an array: its name, where it is local the block that it stands in, and how many elements it has.
+/// The declaration of an array: its name, where it is local the block that it stands in, and how many elements it has,
+/// by the limits of the device.
 fn array_fault(
     context: &Context,
     is_local: bool,
@@ -140,7 +138,7 @@ fn array_fault(
         Some(TypeFault::Redeclared { at: array.at })
     } else if is_local && !context.is_outermost() {
         Some(TypeFault::WrongSpace { at: array.at })
-    } else if count < 1 || count > LENGTH_LIMIT {
+    } else if count < 1 || count > context.limits().elements {
         Some(TypeFault::TooLarge { at: length_at })
     } else {
         None

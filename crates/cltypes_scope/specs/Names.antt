@@ -1,5 +1,6 @@
 -- What the values of this crate stand for, and what leaving a block does.
 use Rattle.std.specs.Prelude.{ℕ, Bool, false, List, [], ◌∷◌, ◌++◌, None}
+use Rattle.limits.specs.declared.Limits.{Limits}
 use Rattle.clmodel.specs.Typing.Context as typing
 use Rattle.clmodel.specs.Typing.Context.{Context, Scope, with_name}
 use Rattle.cltypes_scope.specs.declared.meaning.Signature.{Signature}
@@ -21,9 +22,9 @@ meaning_of Unknown = typing.Unknown
 abbrev pub no_signature : typing.Signature
 no_signature = record { is_kernel = false; result = None; parameters = [] }
 
--- with no function and no variable
-abbrev pub nowhere : Context
-nowhere = record { all = []; before = []; current = 0; signature = no_signature; in_loop = false; inner = []; outer = [] }
+-- on a device of these limits, with no function and no variable
+abbrev pub nowhere : Limits → Context
+nowhere limits = record { limits = limits; all = []; before = []; current = 0; signature = no_signature; in_loop = false; inner = []; outer = [] }
 
 -- with one more function of the text
 abbrev pub with_function : Context → ℕ → Context

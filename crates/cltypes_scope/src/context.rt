@@ -15,6 +15,7 @@ use clmodel::declaration::Declaration;
 use clmodel::setup::{built_in_named, is_reserved};
 use clnum::IntType;
 use indexmap::{IndexMap, IndexSet};
+use limits::Limits;
 use std::alloc::{AllocError, Global};
 use std::marker::Model;
 use std::mem::replace;
@@ -29,12 +30,13 @@ fn last_holder(scopes: &[Scope], name: u32) -> Option<&Scope>
     scopes.iter().rev().find(|scope| scope.contains_key(&name))
 }
 
-/// What is known at a place of a program: the names of all its functions, the functions before this one, this function,
-/// whether the place is in a loop, and the variables of each scope around it. Names are their places in a tree's table
-/// of names.
+/// What is known at a place of a program: the limits of the device, the names of all its functions, the functions before
+/// this one, this function, whether the place is in a loop, and the variables of each scope around it. Names are their
+/// places in a tree's table of names.
 #[derive(Drop)]
 pub struct Context {
     alloc: Global,
+    limits: Limits,
     all: IndexSet<u32>,
     before: IndexMap<u32, Signature>,
     current: u32,
@@ -52,6 +54,7 @@ impl Model for Context {
     ghost Value = { Context };
 
     ghost view = { λ c. record {
+      limits = c.limits;
       all = c.all.keys;
       before = map (λ e. (e.0, signature_of e.1)) c.before.entries;
       current = c.current;
@@ -74,12 +77,13 @@ fn no_signature(alloc: Global) -> Signature
 }
 
 impl Context {
-    /// Before the first function, where nothing is known.
-    pub fn new(alloc: Global) -> Context
-        ensures { result ≡ nowhere }
+    /// Before the first function, where nothing is known but the limits of the device.
+    pub fn new(alloc: Global, limits: Limits) -> Context
+        ensures { result ≡ nowhere limits }
     {
         Context {
             alloc,
+            limits,
             all: IndexSet::new(alloc),
             before: IndexMap::new(alloc),
             current: 0,
@@ -120,6 +124,13 @@ impl Context {
         let signature = replace(&mut self.signature, no_signature(self.alloc));
         self.before.insert(self.current, signature)?;
         Ok(())
+    }
+
+    /// The limits of the device.
+    pub fn limits(&self) -> Limits
+        ensures { result ≡ self.now.limits }
+    {
+        self.limits
     }
 
     /// The type of the value that the function gives, if it gives one.

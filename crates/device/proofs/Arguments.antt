@@ -26,13 +26,13 @@ none_of_three true true false x y z D R p q r d = cc
 -- an argument that suits a kernel's parameter
 pub suits_there : (m : Machine) (name : List ℕ) (p : Program) (kernel : KernelState) (number index : ℕ) (parameters : List Parameter) (parameter : Parameter) (argument : Argument)
     → p ≡ program_of m (kernel_of m name).program → kernel ≡ kernel_of m name → number ≡ kernel.function → parameters ≡ parameters_of p number
-    → slice_get parameters index ≡ Some parameter → suits parameter.kind argument ≡ true → fits m (kernel_of m name) index argument ≡ true
+    → slice_get parameters index ≡ Some parameter → suits m.configuration.limits parameter.kind argument ≡ true → fits m (kernel_of m name) index argument ≡ true
 suits_there m name p kernel number index parameters parameter argument of_program of_kernel of_function of_parameters found suiting =
     let same : parameters ≡ parameters_of (program_of m (kernel_of m name).program) (kernel_of m name).function =
     of_parameters ∙ ap (λ q. parameters_of q number) of_program
     ∙ ap (parameters_of (program_of m (kernel_of m name).program)) (of_function ∙ ap (λ k. k.function) of_kernel) in
-    ap (λ ps. option_map_or (λ p. suits p.kind argument) (slice_get ps index) false) (sym same)
-    ∙ ap (λ o. option_map_or (λ p. suits p.kind argument) o false) found ∙ suiting
+    ap (λ ps. option_map_or (λ p. suits m.configuration.limits p.kind argument) (slice_get ps index) false) (sym same)
+    ∙ ap (λ o. option_map_or (λ p. suits m.configuration.limits p.kind argument) o false) found ∙ suiting
 
 pub set_answers : (old new : Machine) (name : List ℕ) (index : ℕ) (argument : Argument) → has_kernel old name ≡ true → fits old (kernel_of old name) index argument ≡ true
     → is_there old argument ≡ true → new ≡ record old { kernels = set_value (is name) old.kernels (with_argument (kernel_of old name) index argument) }

@@ -9,7 +9,7 @@ use Rattle.clmodel.specs.Run.{Events, State}
 use Rattle.clmodel.specs.declared.fault.Fault.{Fault}
 use Rattle.clmodel.specs.Next.{launch_of}
 use Rattle.clmodel.specs.Outcome.{events_of, IsMerged}
-use Rattle.clmodel.specs.Setup.{Setup, buffer_names, kernel_number, local_limit, local_objects}
+use Rattle.clmodel.specs.Setup.{Setup, buffer_names, kernel_number, local_objects}
 use Rattle.clmodel.specs.Tree.{Program, NoFunc, program}
 use Rattle.clmodel.specs.declared.setup.Argument.{Argument}
 use Rattle.clmodel.specs.declared.setup.Argument.TheVariants as argument
@@ -75,7 +75,7 @@ has_kernel m name = is_some (find m.kernels name) && is_some (find m.programs (k
 -- a kernel has a parameter of this index, and the argument suits it
 abbrev pub fits : Machine → KernelState → ℕ → Argument → Bool
 fits m kernel index argument =
-    option_map_or (λ p. suits p.kind argument) (slice_get (parameters_of (program_of m kernel.program) kernel.function) index) false
+    option_map_or (λ p. suits m.configuration.limits p.kind argument) (slice_get (parameters_of (program_of m kernel.program) kernel.function) index) false
 
 -- an argument names no buffer that isn't there
 abbrev pub is_there : Machine → Argument → Bool
@@ -159,7 +159,7 @@ row m (command.Launch kernel range) =
     ∷ (is_bad_group m.configuration.limits range, BadGroupSize)
     ∷ (is_too_many m.configuration.limits range, TooManyItems)
     ∷ (list_any (λ a. not (is_some a)) (kernel_of m kernel).arguments, ArgumentsMissing)
-    ∷ (nat_lt local_limit (sum_by (λ o. o.size) (local_objects (setup_of m (kernel_of m kernel) range))), LocalTooLarge)
+    ∷ (nat_lt m.configuration.limits.local_bytes (sum_by (λ o. o.size) (local_objects (setup_of m (kernel_of m kernel) range))), LocalTooLarge)
     ∷ []
 
 -- A program that is built is there from then on. A source that isn't built is refused.
@@ -204,7 +204,7 @@ Does old (command.Read name at count) r new = (r ≡ reply.Data (take count (dro
 Does old (command.Release name) r new =
     (r ≡ reply.Done)
     × (new ≡ record old { buffers = remove_entry (is name) old.buffers; programs = remove_entry (is name) old.programs; kernels = remove_entry (is name) old.kernels })
-Does old (command.Program name source) r new = (built : Result Program BuildFault) × Builds source built × Built old name built r new
+Does old (command.Program name source) r new = (built : Result Program BuildFault) × Builds old.configuration.limits source built × Built old name built r new
 Does old (command.Kernel name program function) r new =
     (r ≡ reply.Done) × (new ≡ record old { kernels = old.kernels ++ (name, named_kernel (program_of old program) program function) ∷ [] })
 Does old (command.Arg kernel index argument) r new =

@@ -50,7 +50,13 @@ impl Device {
         if kernel.lacks_argument() {
             return Err(Refusal::ArgumentsMissing);
         }
-        if is_local_too_large(&checked.tree, kernel.function(), kernel.arguments()) {
+        let local_bytes = self.configuration.limits.local_bytes;
+        if is_local_too_large(
+            local_bytes,
+            &checked.tree,
+            kernel.function(),
+            kernel.arguments(),
+        ) {
             return Err(Refusal::LocalTooLarge);
         }
         Ok(Prepared {

@@ -306,7 +306,7 @@ impl Device {
         if self.is_used(&name) {
             return Err(Refusal::NameInUse);
         }
-        let checked = build(self.alloc, source.as_slice())?;
+        let checked = build(self.alloc, self.configuration.limits, source.as_slice())?;
         self.programs.insert(name, checked)?;
         Ok(Reply::Done)
     }
@@ -354,7 +354,7 @@ impl Device {
         let Some(parameter) = parameters.get(index as usize) else {
             return Err(Refusal::BadArgument);
         };
-        if !suits(parameter.kind, &argument) {
+        if !suits(&self.configuration.limits, parameter.kind, &argument) {
             return Err(Refusal::BadArgument);
         }
         if !self.is_there(&argument) {

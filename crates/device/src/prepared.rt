@@ -1,8 +1,8 @@
 //! Launches that weren't refused.
 #![tactic(auto)]
 
-ghost use Rattle.std.specs.Prelude.{◌≡◌, ◌≤◌, false, length, IfOk};
-ghost use Rattle.item_step.specs.Objects.{are_too_large};
+ghost use Rattle.std.specs.Prelude.{◌≡◌, ◌≤◌, length, IfOk};
+ghost use Rattle.item_step.specs.Objects.{all_sizes, most_local_bytes};
 ghost use Rattle.item_step.specs.Setups.{plain};
 ghost use Rattle.clmodel.specs.Setup.{kernel_in, objects_of};
 ghost use Rattle.clmodel.specs.Tree.{program};
@@ -31,7 +31,7 @@ pub(crate) struct Prepared<'a> {
     pub(crate) ghost faithful: { ActsAs (program checked.now.tree) kernel.now.function code.now },
     pub(crate) ghost listed: { IsCodeOf (program checked.now.tree) kernel.now.function code.now },
     pub(crate) ghost few: { length kernel.now.arguments ≤ parameter_limit },
-    pub(crate) ghost fits: { are_too_large (objects_of (kernel_in (program checked.now.tree).functions kernel.now.function) kernel.now.arguments) ≡ false },
+    pub(crate) ghost fits: { all_sizes (objects_of (kernel_in (program checked.now.tree).functions kernel.now.function) kernel.now.arguments) ≤ most_local_bytes },
 }
 
 /// A launch that may run, with the names of its buffers.

@@ -25,6 +25,7 @@ use Rattle.explaining.specs.declared.facts.Given.{Given}
 use Rattle.explaining.specs.declared.faults.ExplainFault.{ExplainFault}
 use Rattle.explaining.specs.declared.faults.ExplainFault.TheVariants as fault
 use Rattle.limits.specs.declared.Configuration.{Configuration}
+use Rattle.limits.specs.declared.Limits.{Limits}
 
 -- the command of a ticket launches nothing, or there is none
 abbrev pub NoLaunch : List Command → ℕ → Type 0
@@ -149,10 +150,10 @@ Unread script fault.BadSchedule = ⊥
 Unread script (fault.NotALaunch ticket) = ⊥
 Unread script (fault.CommandRefused ticket) = ⊥
 
--- true exactly where a source isn't built
-abbrev pub IsRefused : List ℕ → Bool → Type 0
-IsRefused source true = (f : BuildFault) × Builds source (Err f)
-IsRefused source false = (p : Program) × Builds source (Ok p)
+-- true exactly where a source isn't built within limits
+abbrev pub IsRefused : Limits → List ℕ → Bool → Type 0
+IsRefused limits source true = (f : BuildFault) × Builds limits source (Err f)
+IsRefused limits source false = (p : Program) × Builds limits source (Ok p)
 
 -- a name that ends as that of a source does
 abbrev pub is_source : List ℕ → Bool
@@ -161,7 +162,7 @@ is_source name = ends_with nat_eq name (codes ".cl")
 -- the answer to what is given
 abbrev pub Explains : Configuration → Given → Bool → Type 0
 Explains configuration given answer =
-    MatchBool (is_source given.name.now) (IsRefused given.script.now answer)
+    MatchBool (is_source given.name.now) (IsRefused configuration.limits given.script.now answer)
     (MatchOption given.schedule (Found configuration given.script.now answer) (λ schedule. Explained configuration given.script.now schedule.now answer))
 
 -- why there is none

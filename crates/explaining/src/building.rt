@@ -13,6 +13,7 @@ use build_hints::{Refused, refusal_text};
 use device::{BuildFault, Command};
 use explain_json::refused_json;
 use host_commands::build::{NotBuilt, build};
+use limits::Limits;
 use std::alloc::{AllocError, Global};
 
 /// Turns the fault of a build into the one that a refusal is written for.
@@ -63,18 +64,19 @@ pub(crate) fn explain_unbuilt(
     )
 }
 
-/// The fault of a source that isn't built, in a format; or `ok`.
+/// The fault of a source that isn't built within limits, in a format; or `ok`.
 pub(crate) fn explain_source(
     alloc: Global,
+    limits: Limits,
     format: Format,
     name: &[u8],
     source: &[u8],
 ) -> Result<Answer, ExplainFault>
-    ensures refused { IfOk result (λ answer. IsRefused source.now answer.yes) }
+    ensures refused { IfOk result (λ answer. IsRefused limits source.now answer.yes) }
     ensures says { IfOk result (λ answer. SaysSource answer.yes (string_bytes answer.text)) }
     ensures failed { IfErr result (λ why. why ≡ ExplainFault.OutOfMemory) }
 {
-    let fault = match build(alloc, source) {
+    let fault = match build(alloc, limits, source) {
         Ok(_) => return Ok(word_answer(alloc, "ok\n")?),
         Err(NotBuilt::OutOfMemory) => return Err(ExplainFault::OutOfMemory),
         Err(NotBuilt::Fault(fault)) => fault,

@@ -201,7 +201,8 @@ fn answer_to(
     ensures failed { IfErr result (Unanswered options.configuration given.entry) }
 {
     if given.name.ends_with(b".cl") {
-        return explain_source(alloc, options.format, given.name, given.script);
+        let limits = options.configuration.limits;
+        return explain_source(alloc, limits, options.format, given.name, given.script);
     }
     match given.schedule {
         Some(schedule) => explain_schedule(alloc, given, schedule, options),

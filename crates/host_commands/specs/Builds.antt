@@ -1,12 +1,13 @@
--- What a source builds to (OpenCL 1.2, 5.6.2).
+-- What a source builds to on a device (OpenCL 1.2, 5.6.2).
 use Rattle.std.specs.Prelude.{ℕ, ⊤, List, Result, Ok, Err}
 use Rattle.clmodel.specs.Tree.{Program}
-use Rattle.clmodel.specs.Typing.{IsTypedProgram, IsTypeFault}
+use Rattle.clmodel.specs.Typing.{IsTypedWithin, IsTypeFault}
 use Rattle.clmodel.specs.declared.type_fault.TypeFault.{TypeFault}
 use Rattle.clmodel.specs.declared.type_fault.TypeFault.TheVariants as type_fault
 use Rattle.clsyntax.specs.Source.{IsSource}
 use Rattle.clsyntax_lex.specs.declared.token.SyntaxFault.{SyntaxFault}
 use Rattle.clsyntax_lex.specs.declared.token.SyntaxFault.TheVariants as syntax_fault
+use Rattle.limits.specs.declared.Limits.{Limits}
 use Rattle.host_commands.specs.declared.build.NotBuilt.{NotBuilt}
 use Rattle.host_commands.specs.declared.build.NotBuilt.TheVariants as not_built
 use Rattle.host_commands.specs.declared.command.BuildFault.{BuildFault}
@@ -14,16 +15,16 @@ use Rattle.host_commands.specs.declared.command.BuildFault.TheVariants as build_
 use Rattle.host_commands.specs.declared.command.Refusal.{Refusal}
 use Rattle.host_commands.specs.declared.command.Refusal.TheVariants as refusal
 
--- a source is read as a program, which is typed, or it has a fault
-unfoldable pub Builds : List ℕ → Result Program BuildFault → Type 0
-Builds source (Ok p) = IsSource source (Ok p) × IsTypedProgram p
-Builds source (Err (build_fault.Syntax f)) = IsSource source (Err f)
-Builds source (Err (build_fault.Type f)) = (p : Program) × IsSource source (Ok p) × IsTypeFault p f
+-- within the limits of a device a source is read as a program, which is typed, or it has a fault
+unfoldable pub Builds : Limits → List ℕ → Result Program BuildFault → Type 0
+Builds limits source (Ok p) = IsSource limits source (Ok p) × IsTypedWithin limits p
+Builds limits source (Err (build_fault.Syntax f)) = IsSource limits source (Err f)
+Builds limits source (Err (build_fault.Type f)) = (p : Program) × IsSource limits source (Ok p) × IsTypeFault limits p f
 
 -- why no program was made of a source: its fault, or want of memory, which says nothing of it
-abbrev pub IsUnbuilt : List ℕ → NotBuilt → Type 0
-IsUnbuilt source (not_built.Fault f) = Builds source (Err f)
-IsUnbuilt source not_built.OutOfMemory = ⊤
+abbrev pub IsUnbuilt : Limits → List ℕ → NotBuilt → Type 0
+IsUnbuilt limits source (not_built.Fault f) = Builds limits source (Err f)
+IsUnbuilt limits source not_built.OutOfMemory = ⊤
 
 -- what a fault of reading means for building
 abbrev pub syntax_reason : SyntaxFault → NotBuilt

@@ -4,7 +4,7 @@ use Rattle.std.specs.Option.{option_map_or}
 use Rattle.clnum.specs.Integer.{least, greatest}
 use Rattle.clnum.specs.declared.int_type.IntType.{IntType}
 use Rattle.clmodel.specs.Tree.{Program}
-use Rattle.clmodel.specs.Setup.{kernel_in, local_limit}
+use Rattle.clmodel.specs.Setup.{kernel_in}
 use Rattle.clmodel.specs.declared.setup.Argument.{Argument}
 use Rattle.clmodel.specs.declared.setup.Argument.TheVariants as argument
 use Rattle.clmodel.specs.declared.tree.Parameter.{Parameter}
@@ -12,6 +12,7 @@ use Rattle.clmodel.specs.declared.tree.VariableType.{VariableType}
 use Rattle.clmodel.specs.declared.tree.VariableType.TheVariants as variable_type
 use Rattle.clmodel.specs.declared.tree.AddressSpace.{AddressSpace}
 use Rattle.clmodel.specs.declared.tree.AddressSpace.TheVariants as space
+use Rattle.limits.specs.declared.Limits.{Limits}
 use Rattle.spaces.specs.Tables.{is}
 
 -- A kernel: the name of its program, its function by the number of its name, and an argument for each parameter, or
@@ -52,12 +53,12 @@ is_local space.Constant = false
 abbrev pub is_in_range : IntType → ℤ → Bool
 is_in_range kind n = int_le (least kind) n && int_le n (greatest kind)
 
--- an argument is of the kind that a parameter wants: a buffer for a pointer to global or constant memory, a size of 1
--- to 32,768 for one to local memory, a number of its type for an integer
-abbrev pub suits : VariableType → Argument → Bool
-suits (variable_type.Pointer p) (argument.Buffer name) = not (is_local p.space)
-suits (variable_type.Pointer p) (argument.Local size) = is_local p.space && nat_le 1 size && nat_le size local_limit
-suits (variable_type.Pointer p) (argument.Value n) = false
-suits (variable_type.Integer kind) (argument.Value n) = is_in_range kind n
-suits (variable_type.Integer kind) (argument.Buffer name) = false
-suits (variable_type.Integer kind) (argument.Local size) = false
+-- an argument is of the kind that a parameter wants: a buffer for a pointer to global or constant memory, a size of at
+-- least 1 and within the device's limit for one to local memory, a number of its type for an integer
+abbrev pub suits : Limits → VariableType → Argument → Bool
+suits limits (variable_type.Pointer p) (argument.Buffer name) = not (is_local p.space)
+suits limits (variable_type.Pointer p) (argument.Local size) = is_local p.space && nat_le 1 size && nat_le size limits.local_bytes
+suits limits (variable_type.Pointer p) (argument.Value n) = false
+suits limits (variable_type.Integer kind) (argument.Value n) = is_in_range kind n
+suits limits (variable_type.Integer kind) (argument.Buffer name) = false
+suits limits (variable_type.Integer kind) (argument.Local size) = false

@@ -8,6 +8,7 @@ ghost use Rattle.host_commands.specs.Builds.{Builds, IsUnbuilt};
 use crate::command::{BuildFault, Refusal};
 use clsyntax_lex::token::SyntaxFault;
 use cltypes::{Checked, TypeFault};
+use limits::Limits;
 use std::alloc::Global;
 use thiserror::Error;
 
@@ -64,12 +65,12 @@ impl From<NotBuilt> for Refusal {
     }
 }
 
-/// Builds a source: reads it and checks its types.
+/// Builds a source within the limits of a device: reads it and checks its types.
 #[tactic(auto, unfolding(crate::specs::Builds::Builds))]
-pub fn build(alloc: Global, source: &[u8]) -> Result<Checked, NotBuilt>
-    ensures built { IfOk result (λ checked. Builds source.now (Ok (program checked.tree))) }
-    ensures unbuilt { IfErr result (IsUnbuilt source.now) }
+pub fn build(alloc: Global, limits: Limits, source: &[u8]) -> Result<Checked, NotBuilt>
+    ensures built { IfOk result (λ checked. Builds limits source.now (Ok (program checked.tree))) }
+    ensures unbuilt { IfErr result (IsUnbuilt limits source.now) }
 {
-    let tree = clsyntax::read(alloc, source)?;
-    Ok(cltypes::check(alloc, tree)?)
+    let tree = clsyntax::read(alloc, limits, source)?;
+    Ok(cltypes::check(alloc, limits, tree)?)
 }

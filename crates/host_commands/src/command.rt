@@ -116,7 +116,7 @@ pub enum Refusal {
     BadArgument,
     /// 13: a parameter wasn't given an argument
     ArgumentsMissing,
-    /// 14: more than 32,768 bytes of local memory a group
+    /// 14: more bytes of local memory a group than the device allows
     LocalTooLarge,
     /// 15: a buffer that a kernel's argument names, or a program with a kernel
     InUse,

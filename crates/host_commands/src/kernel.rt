@@ -6,10 +6,11 @@ ghost use Rattle.std.specs.List.{list_any};
 ghost use Rattle.clmodel.specs.Tree.{program};
 ghost use Rattle.host_commands.specs.Kernels.{parameters_of, with_argument, new_kernel, names_buffer, is_in_range, suits};
 
-use clmodel::setup::{Argument, LOCAL_LIMIT};
+use clmodel::setup::Argument;
 use clmodel::text::Name;
 use clmodel::tree::{AddressSpace, Parameter, Tree, VariableType};
 use clnum::{IntType, Value};
+use limits::Limits;
 use std::alloc::{AllocError, Global};
 use std::marker::Model;
 
@@ -132,14 +133,14 @@ fn is_in_range(kind: IntType, number: i128) -> bool
 }
 
 /// Whether an argument is of the kind that a parameter wants: a buffer for a pointer to global or constant memory, a
-/// size for one to local memory, a number of its type for an integer.
-pub fn suits(kind: VariableType, argument: &Argument) -> bool
-    ensures { result ≡ suits kind argument.now }
+/// size that a device of these limits allows for one to local memory, a number of its type for an integer.
+pub fn suits(limits: &Limits, kind: VariableType, argument: &Argument) -> bool
+    ensures { result ≡ suits limits.now kind argument.now }
 {
     match (kind, argument) {
         (VariableType::Pointer(p), Argument::Buffer(_)) => p.space != AddressSpace::Local,
         (VariableType::Pointer(p), Argument::Local(size)) => {
-            p.space == AddressSpace::Local && *size >= 1 && *size <= LOCAL_LIMIT
+            p.space == AddressSpace::Local && *size >= 1 && *size <= limits.local_bytes
         }
         (VariableType::Integer(kind), Argument::Value(n)) => is_in_range(kind, *n),
         _ => false,

@@ -1,14 +1,14 @@
 -- One declaration more.
-use Rattle.std.proofs.Common.{◌≡◌, ℕ, ◌+◌, ◌-◌, ◌^◌, ◌<◌, ◌≤◌, min, nat_lt, Option, None, Some, List, [], ◌∷◌, ◌++◌, length, take, drop, get_or, map, refl, ap, sym, ◌∙◌, arith}
+use Rattle.std.proofs.Common.{◌≡◌, ℕ, ◌+◌, ◌-◌, ◌^◌, ◌<◌, ◌≤◌, min, false, nat_lt, Option, None, Some, List, [], ◌∷◌, ◌++◌, length, take, drop, get_or, map, refl, ap, sym, ◌∙◌, arith}
 use Rattle.std.proofs.lemmas.List.{take_more, take-append-drop, map-append, append-nil}
 use Rattle.std.proofs.lemmas.List.Sums.{sum_by-append, sum_by-cons}
 use Rattle.std.proofs.lemmas.Bool.Decides.{nat_tests}
-use Rattle.clmodel.specs.Setup.{LocalObject, declared_object, body_objects, parameter_objects, local_size, local_limit}
+use Rattle.clmodel.specs.Setup.{LocalObject, declared_object, body_objects, parameter_objects, local_size}
 use Rattle.clmodel.specs.Tree.{Stmt, Stmts, stmt, then_stmts, NoStmt, ThenStmt}
 use Rattle.clmodel.specs.declared.setup.Argument.{Argument}
 use Rattle.clmodel.specs.declared.tree.Parameter.{Parameter}
 use Rattle.clmodel.specs.declared.tree.Statement.{Statement}
-use Rattle.item_step.specs.Objects.{all_sizes, capped, listed}
+use Rattle.item_step.specs.Objects.{all_sizes, capped, listed, most_local_bytes}
 use Rattle.item_step.proofs.Objects.{object_at, objects_more_at}
 
 then_more : (ss : Stmts) (ts us : List Stmt) → then_stmts ss (ts ++ us) ≡ then_stmts (then_stmts ss ts) us
@@ -127,9 +127,15 @@ parameter_more ps arguments i d below =
     ∙ ap (λ n. min n (2 ^ 64 - 1)) (sym (ap all_sizes (objects_more_at ps arguments i d below) ∙ sum_by-append (λ (o : LocalObject). o.size) (parameter_objects (take i ps) arguments) (object_at arguments i (get_or ps i d) ∷ [])))
 
 -- sums that are cut off, against a smaller number
-pub above : (p d : ℕ) → nat_lt local_limit (min (min p (2 ^ 64 - 1) + min d (2 ^ 64 - 1)) (2 ^ 64 - 1)) ≡ nat_lt local_limit (p + d)
-above p d = grind (arith, nat_tests)
+above : (limit p d : ℕ) → limit ≤ most_local_bytes → nat_lt limit (min (min p (2 ^ 64 - 1) + min d (2 ^ 64 - 1)) (2 ^ 64 - 1)) ≡ nat_lt limit (p + d)
+above limit p d small = grind (arith, nat_tests, small)
 
 -- the bytes of a kernel's local objects
-pub all_above : (parameters declared : List LocalObject) → nat_lt local_limit (min (min (all_sizes parameters) (2 ^ 64 - 1) + min (all_sizes declared) (2 ^ 64 - 1)) (2 ^ 64 - 1)) ≡ nat_lt local_limit (all_sizes (parameters ++ declared))
-all_above parameters declared = above (all_sizes parameters) (all_sizes declared) ∙ ap (nat_lt local_limit) (sym (sum_by-append (λ (o : LocalObject). o.size) parameters declared))
+pub all_above : (limit : ℕ) (parameters declared : List LocalObject) → limit ≤ most_local_bytes
+    → nat_lt limit (min (min (all_sizes parameters) (2 ^ 64 - 1) + min (all_sizes declared) (2 ^ 64 - 1)) (2 ^ 64 - 1)) ≡ nat_lt limit (all_sizes (parameters ++ declared))
+all_above limit parameters declared small =
+    above limit (all_sizes parameters) (all_sizes declared) small ∙ ap (nat_lt limit) (sym (sum_by-append (λ (o : LocalObject). o.size) parameters declared))
+
+-- bytes that aren't above the limit of a device are no more than some device has
+pub has_room : (limit bytes : ℕ) → limit ≤ most_local_bytes → nat_lt limit bytes ≡ false → bytes ≤ most_local_bytes
+has_room limit bytes small within = grind (arith, nat_tests, small, within)

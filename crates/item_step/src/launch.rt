@@ -1,7 +1,7 @@
 //! A launch: a setup with the code of its kernel.
 #![tactic(auto)]
 
-ghost use Rattle.std.specs.Prelude.{◌≡◌, ◌<◌, ◌^◌, [], false, length, map, IfOk, List};
+ghost use Rattle.std.specs.Prelude.{◌≡◌, ◌<◌, ◌≤◌, ◌^◌, [], length, map, IfOk, List};
 ghost use Rattle.std.specs.List.{list_any};
 ghost use Rattle.clmodel.specs.Next.{next};
 ghost use Rattle.clmodel.specs.Setup as model;
@@ -9,7 +9,7 @@ ghost use Rattle.clmodel.specs.Setup.{names_among, same_text, group_items};
 ghost use Rattle.clmodel.specs.declared.action.Answer.{Answer};
 ghost use Rattle.item_value.specs.Arguments.{buffer_place};
 ghost use Rattle.item_step.specs.Setups.{plain, ActsAsNext};
-ghost use Rattle.item_step.specs.Objects.{Lists, are_too_large};
+ghost use Rattle.item_step.specs.Objects.{Lists, all_sizes, most_local_bytes};
 ghost use Rattle.item_step.specs.Running.{action_of};
 ghost use Rattle.steps.specs.Steps.{Prepared, Prepared-prop};
 
@@ -77,7 +77,7 @@ impl<'a> Launch<'a> {
     ghost use Rattle.item_step.specs.Launches.{code_of, setup_of, started};
 
     /// A launch of code that acts as the setup's program. The group's size is that of the range, and isn't 0. The
-    /// buffers have numbers of 32 bits, and the local objects are no more than a group may have. Err if out of memory.
+    /// buffers have numbers of 32 bits, and some device has room for the local objects. Err if out of memory.
     pub fn new(
         alloc: Global,
         setup: Setup<'a>,
@@ -88,7 +88,7 @@ impl<'a> Launch<'a> {
         requires grouped { group_size ≡ group_items setup.range.now }
         requires some { 0 < group_size }
         requires few { length (buffer_names (plain setup)) < 2 ^ 32 }
-        requires fits { are_too_large (model.local_objects (plain setup)) ≡ false }
+        requires fits { all_sizes (model.local_objects (plain setup)) ≤ most_local_bytes }
         ensures setup { IfOk result (λ launch. setup_of launch ≡ plain setup.entry) }
         ensures code { IfOk result (λ launch. code_of launch ≡ code.entry.now) }
     {
@@ -149,6 +149,20 @@ impl<'a> Launch<'a> {
         ensures { result.now ≡ (setup_of self.now).program.names }
     {
         self.setup.tree.names.as_slice()
+    }
+
+    /// The arguments, by the places of its kernel's parameters.
+    pub fn arguments(&self) -> &'a [Option<Argument>]
+        ensures { result.now ≡ (setup_of self.now).arguments }
+    {
+        self.setup.arguments
+    }
+
+    /// The code that it runs.
+    pub fn code(&self) -> &'a Code
+        ensures { result.now ≡ code_of self.now }
+    {
+        self.code
     }
 
     /// The index space, split into work-groups.

@@ -5,8 +5,8 @@
 //! makes, for each list of answers, the action of the old item for that answer followed by the list. It begins at its
 //! launch's code with the ids and arguments of its number, and comes where it stands by instructions and answers alone.
 //! It goes by prepared steps. The crate knows no memory: an item hands out an access as an action, and takes its
-//! answer. Sizes and names of local objects are those defined, and so is whether they pass 32,768 bytes together. A
-//! launch asks for fewer than 2^32 buffers, and tests no count.
+//! answer. Sizes and names of local objects are those defined, and so is whether they pass the limit of a device
+//! together. A launch asks for fewer than 2^32 buffers, and for local objects for which some device has room.
 #![tactic(auto)]
 
 mod accessing;

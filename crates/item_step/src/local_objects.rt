@@ -1,13 +1,13 @@
 //! The objects in the local memory of a group (OpenCL 1.2, section 6.5.2).
 #![tactic(auto)]
 
-ghost use Rattle.std.specs.Prelude.{◌≡◌, ◌<◌, ◌-◌, ◌^◌, None, false, get_or, map, min, IfOk};
+ghost use Rattle.std.specs.Prelude.{◌≡◌, ◌<◌, ◌≤◌, ◌-◌, ◌^◌, None, false, get_or, map, min, IfOk};
 ghost use Rattle.clmodel.specs.Setup as model;
 ghost use Rattle.clmodel.specs.Tree as tree;
 ghost use Rattle.clmodel.specs.Tree.{program, stmt, then_stmts, NoStmt};
-ghost use Rattle.item_step.specs.Objects.{Lists, all_sizes, are_too_large, capped, listed};
+ghost use Rattle.item_step.specs.Objects.{Lists, all_sizes, are_too_large, capped, listed, most_local_bytes};
 
-use clmodel::setup::{Argument, LOCAL_LIMIT};
+use clmodel::setup::Argument;
 use clmodel::tree::{Parameter, Statement, Tree};
 use clnum::{IntType, Value};
 use std::alloc::{AllocError, Global};
@@ -102,14 +102,14 @@ fn declared_objects(alloc: Global, body: &[Statement]) -> Result<LocalObjects, A
     Ok(LocalObjects { names, sizes })
 }
 
-/// The local objects of the kernel of a name's number, with these arguments, if they are no more than a group may have.
+/// The local objects of the kernel of a name's number, with these arguments, if some device has room for them.
 pub(crate) fn local_objects(
     alloc: Global,
     tree: &Tree,
     number: u32,
     arguments: &[Option<Argument>],
 ) -> Result<LocalObjects, AllocError>
-    requires { are_too_large (model.objects_of (model.kernel_in (program tree.now).functions number) arguments.now) ≡ false }
+    requires { all_sizes (model.objects_of (model.kernel_in (program tree.now).functions number) arguments.now) ≤ most_local_bytes }
     ensures { IfOk result (Lists (model.objects_of (model.kernel_in (program tree.now).functions number) arguments.now)) }
 {
     match tree.kernel(number as usize) {
@@ -152,16 +152,24 @@ fn declared_bytes(body: &[Statement]) -> u64
     bytes
 }
 
-/// Whether the local objects of the kernel of a name's number, with these arguments, are more than a group may have.
-#[tactic(auto, using(crate::proofs::Declarations::all_above))]
-pub fn is_local_too_large(tree: &Tree, number: u32, arguments: &[Option<Argument>]) -> bool
-    ensures { result ≡ are_too_large (model.objects_of (model.kernel_in (program tree.now).functions number) arguments.now) }
+/// Whether the local objects of the kernel of a name's number, with these arguments, have more bytes than a device with
+/// this limit gives a group. Where they haven't, some device has room for them.
+#[tactic(auto, using(crate::proofs::Declarations::all_above, crate::proofs::Declarations::has_room))]
+pub fn is_local_too_large(
+    limit: u64,
+    tree: &Tree,
+    number: u32,
+    arguments: &[Option<Argument>],
+) -> bool
+    requires { limit ≤ most_local_bytes }
+    ensures value { result ≡ are_too_large limit (model.objects_of (model.kernel_in (program tree.now).functions number) arguments.now) }
+    ensures room { result ≡ false → all_sizes (model.objects_of (model.kernel_in (program tree.now).functions number) arguments.now) ≤ most_local_bytes }
 {
     match tree.kernel(number as usize) {
         Some(found) => {
             let kernel = found.function;
             let bytes = parameter_bytes(&kernel.parameters, arguments);
-            bytes.saturating_add(declared_bytes(&kernel.body)) > LOCAL_LIMIT
+            bytes.saturating_add(declared_bytes(&kernel.body)) > limit
         }
         None => false,
     }

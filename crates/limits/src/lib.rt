@@ -4,7 +4,8 @@
 //! ticks of a work-item. There are two values of `Limits` with a name, `profile` and `large`; what is proved of a
 //! device holds for all that `Limits` can be. No sum of a launch passes its type within them: the number of an item has
 //! 32 bits, as has the number of an answer to a group's items, of which there are at most as many as the group has
-//! items times ticks.
+//! items times ticks. So have the places of a source, and those of the code of a kernel, which has some instructions a
+//! node.
 #![tactic(auto)]
 
 ghost use Rattle.std.specs.Prelude.{◌≡◌, ◌≤◌, ◌^◌};
@@ -24,16 +25,37 @@ pub struct Limits {
     pub ticks: u32,
     /// The ticks of a work-item where none are asked for
     pub default_ticks: u32,
+    /// The most bytes of a source, up to 2^22
+    pub source_bytes: usize,
+    /// How deep blocks, brackets and operators of a source may be nested, up to 256
+    pub nesting: u32,
+    /// How deep the loops of a kernel may be nested, up to 8
+    pub loops: u32,
+    /// The most nodes of the body of a kernel, with the bodies of its helpers in place of their calls, up to 1,000,000
+    pub nodes: u32,
+    /// The most bytes of the private arrays of a kernel, up to 65,536
+    pub private_bytes: u32,
+    /// The most elements of an array, up to 65,536
+    pub elements: u64,
+    /// The most bytes of the local objects of a launch (`CL_DEVICE_LOCAL_MEM_SIZE`), up to 65,536
+    pub local_bytes: u64,
     pub ghost few_items: { items ≤ 2 ^ 26 },
     pub ghost small_groups: { group_items ≤ 1024 },
     pub ghost few_ticks: { ticks ≤ 4194303 },
     pub ghost enough_ticks: { default_ticks ≤ ticks },
+    pub ghost short_sources: { source_bytes ≤ 4194304 },
+    pub ghost flat: { nesting ≤ 256 },
+    pub ghost few_loops: { loops ≤ 8 },
+    pub ghost few_nodes: { nodes ≤ 1000000 },
+    pub ghost few_private_bytes: { private_bytes ≤ 65536 },
+    pub ghost few_elements: { elements ≤ 65536 },
+    pub ghost few_local_bytes: { local_bytes ≤ 65536 },
 }
 
 impl Limits {
     ghost use Rattle.limits.specs.Limits.{profile, large};
 
-    /// The limits of the profile, which programs of every size below are tried with: the default.
+    /// The limits of the profile: those of a device for which no others are asked.
     pub fn profile() -> Limits
         ensures { result ≡ profile }
     {
@@ -44,6 +66,13 @@ impl Limits {
             buffer_bytes: 1_048_576,
             ticks: 1_000_000,
             default_ticks: 100_000,
+            source_bytes: 65_536,
+            nesting: 64,
+            loops: 8,
+            nodes: 20_000,
+            private_bytes: 4_096,
+            elements: 32_768,
+            local_bytes: 32_768,
         }
     }
 
@@ -58,6 +87,13 @@ impl Limits {
             buffer_bytes: 1_073_741_824,
             ticks: 1_000_000,
             default_ticks: 1_000_000,
+            source_bytes: 4_194_304,
+            nesting: 256,
+            loops: 8,
+            nodes: 1_000_000,
+            private_bytes: 65_536,
+            elements: 65_536,
+            local_bytes: 65_536,
         }
     }
 }

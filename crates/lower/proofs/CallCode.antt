@@ -14,6 +14,7 @@ use Rattle.clmodel.specs.Typing.Context.{Context, Signature, signature_of, is_re
 use Rattle.clmodel.specs.Typing.Functions.{signature, signatures, begin, with_params, is_new, size_of, IsTypedFunction, AreTypedFunctions}
 use Rattle.clmodel.specs.Typing.Rules.{CallsHelper}
 use Rattle.clmodel.specs.Typing.Sizes.{Size, size_in, or_nothing, sizes_of}
+use Rattle.limits.specs.declared.Limits.{Limits}
 use Rattle.clmodel.specs.declared.tree.VariableType.{VariableType}
 use Rattle.regcode.specs.declared.instruction.Instruction.{Instruction}
 use Rattle.lower_expr.specs.Scope.{Scope, free_level}
@@ -89,9 +90,9 @@ sizes_none (ThenFunc fs f) test e =
     let apart = none_behind test (signatures fs) f.name (signature f) e in
     look_left test (sizes_of fs) f.name (size_of fs f) apart.0 ∙ sizes_none fs test apart.1
 
-pub distinct : (all : List ℕ) (fs : Funcs) → AreTypedFunctions all fs → Distinct fs
-distinct all NoFunc typed = tt
-distinct all (ThenFunc fs f) typed = (distinct all fs typed.0, sizes_none fs (nat_eq f.name) (fresh fs f.name typed.1.name).2)
+pub distinct : (limits : Limits) (all : List ℕ) (fs : Funcs) → AreTypedFunctions limits all fs → Distinct fs
+distinct limits all NoFunc typed = tt
+distinct limits all (ThenFunc fs f) typed = (distinct limits all fs typed.0, sizes_none fs (nat_eq f.name) (fresh fs f.name typed.1.name).2)
 
 -- what holds by the size of the latest function where a name is its own, and by the size that the name had before it
 -- where not, holds by the name's size
@@ -107,21 +108,21 @@ by_name P earlier f new x last other = by_case (nat_eq x f.name) refl
 
 -- Q holds of the code of all calls, by the size of the function that is called, where it holds of each function's code
 -- behind its parameters
-module _ (Q : Size → List VariableType → List ℕ → ℕ → List Instruction → Type 0) (all : List ℕ) where
+module _ (Q : Size → List VariableType → List ℕ → ℕ → List Instruction → Type 0) (limits : Limits) (all : List ℕ) where
   abbrev pub KnownIn : Funcs → Context → Type 0
   KnownIn fs c = AreKnown (λ x. Q (size_in (sizes_of fs) x)) (call_code fs) (result_in fs) c
 
-  within : (earlier : Funcs) (f : Func) → KnownIn earlier (begin all earlier f) → KnownIn earlier (with_params (begin all earlier f) f.parameters)
+  within : (earlier : Funcs) (f : Func) → KnownIn earlier (begin limits all earlier f) → KnownIn earlier (with_params (begin limits all earlier f) f.parameters)
   within earlier f before =
-      let start = begin all earlier f in
+      let start = begin limits all earlier f in
       known_as (λ x. Q (size_in (sizes_of earlier) x)) (call_code earlier) (result_in earlier) start (with_params start f.parameters) (with_params_before start f.parameters) before
 
-  module _ (step : (earlier : Funcs) (f : Func) → IsTypedFunction all earlier f → KnownIn earlier (with_params (begin all earlier f) f.parameters) → (numbers : List ℕ) (level depth site : ℕ)
+  module _ (step : (earlier : Funcs) (f : Func) → IsTypedFunction limits all earlier f → KnownIn earlier (with_params (begin limits all earlier f) f.parameters) → (numbers : List ℕ) (level depth site : ℕ)
       → Q (size_of earlier f) (signature f).parameters numbers level (pass_code f.parameters numbers level ++ body_code (call_code earlier) (result_in earlier) (sites_in earlier) f level depth site)) where
-    calls_known : (fs : Funcs) → AreTypedFunctions all fs → (x : ℕ) (s : Signature) → signature_of (signatures fs) x ≡ Some s → Called (Q (size_in (sizes_of fs) x)) (call_code fs) (result_in fs) x s
+    calls_known : (fs : Funcs) → AreTypedFunctions limits all fs → (x : ℕ) (s : Signature) → signature_of (signatures fs) x ≡ Some s → Called (Q (size_in (sizes_of fs) x)) (call_code fs) (result_in fs) x s
     calls_known NoFunc typed x s is = absurd (cc)
     calls_known (ThenFunc earlier f) typed x s is =
-        let before : KnownIn earlier (begin all earlier f) = calls_known earlier typed.0 in
+        let before : KnownIn earlier (begin limits all earlier f) = calls_known earlier typed.0 in
         let free = fresh earlier f.name typed.1.name in
         let code : List ℕ → ℕ → ℕ → ℕ → List Instruction =
         λ numbers level depth site. pass_code f.parameters numbers level ++ body_code (call_code earlier) (result_in earlier) (sites_in earlier) f level depth site in
@@ -144,5 +145,5 @@ module _ (Q : Size → List VariableType → List ℕ → ℕ → List Instructi
         record { result = r.result; is_helper = r.is_helper; no_barrier = r.no_barrier; code = r.code }
 
     -- the calls in a function's body
-    pub body_known : (earlier : Funcs) (f : Func) → AreTypedFunctions all earlier → KnownIn earlier (with_params (begin all earlier f) f.parameters)
+    pub body_known : (earlier : Funcs) (f : Func) → AreTypedFunctions limits all earlier → KnownIn earlier (with_params (begin limits all earlier f) f.parameters)
     body_known earlier f typed = within earlier f (calls_known earlier typed)

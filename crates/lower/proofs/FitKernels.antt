@@ -2,7 +2,7 @@
 use Rattle.std.proofs.Common.{◌≡◌, ℕ, ◌+◌, ◌*◌, ◌≤◌, Some, length, arith}
 use Rattle.clmodel.specs.Setup.{kernel_in, functions_before}
 use Rattle.clmodel.specs.Tree.{Program, Func}
-use Rattle.clmodel.specs.Typing.{IsTypedProgram}
+use Rattle.clmodel.specs.Typing.{IsTypedWithin, IsTypedProgram}
 use Rattle.clmodel.specs.Typing.Functions.{names}
 use Rattle.clmodel.specs.Typing.Sizes.{node_limit, parameter_limit}
 use Rattle.lower_code.specs.Code.{kernel_code}
@@ -13,8 +13,8 @@ use Rattle.lower.proofs.ShortKernels.{kernels_short}
 use Rattle.lower.proofs.TypedKernels.{kernel_typed}
 
 pub few_parameters : (program : Program) (name : ℕ) (f : Func) → IsTypedProgram program → kernel_in program.functions name ≡ Some f → length f.parameters ≤ parameter_limit
-unfolding IsTypedProgram
-few_parameters program name f typed is = (kernel_typed (names program.functions) program.functions name f typed is).0.1.few
+unfolding IsTypedProgram IsTypedWithin
+few_parameters program name f typed is = (kernel_typed typed.0 (names program.functions) program.functions name f typed.1 is).0.1.few
 
 lengths_fit : (program : Program) (name : ℕ) (f : Func) → TypedKernelsShort → IsTypedProgram program → kernel_in program.functions name ≡ Some f
     → length (kernel_code (functions_before program.functions name) f) ≤ per_node * node_limit + parameter_limit + 2

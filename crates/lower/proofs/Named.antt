@@ -6,7 +6,7 @@ use Rattle.std.proofs.Math.Seq.{take-length}
 use Rattle.std.proofs.lemmas.Bool.{cases_lt}
 use Rattle.clmodel.specs.declared.tree.Function.{Function}
 use Rattle.clmodel.specs.Tree.{Program, Func, Funcs, ThenFunc, func}
-use Rattle.clmodel.specs.Typing.{IsTypedProgram}
+use Rattle.clmodel.specs.Typing.{IsTypedWithin, IsTypedProgram}
 use Rattle.clmodel.specs.Typing.Functions.{names, size_of, AreTypedFunctions}
 use Rattle.clmodel.specs.Typing.Rules.{length_limit}
 use Rattle.clmodel.specs.Typing.Sizes.{Size, or_nothing, sizes_of, parameter_limit}
@@ -75,8 +75,8 @@ distinct_counted gs h count i f below small f_is =
     ∙ ap (λ (o : Option Size). (or_nothing o).nodes) (found_there gs k i f (omega (arith, all, small)) f_is h)
 
 typed_distinct : (p : Program) (gs : List Function) → p.functions ≡ functions_of gs → IsTypedProgram p → Distinct (functions_of gs)
-unfolding IsTypedProgram
-typed_distinct p gs same typed = subst Distinct same (distinct (names p.functions) p.functions typed)
+unfolding IsTypedProgram IsTypedWithin
+typed_distinct p gs same typed = subst Distinct same (distinct typed.0 (names p.functions) p.functions typed.1)
 
 -- so each function of a typed program has no more nodes than are counted for its name
 pub nodes_counted : (p : Program) (gs : List Function) → p.functions ≡ functions_of gs → ∥ IsTypedProgram p ∥₁ → NodesCounted gs
@@ -88,10 +88,10 @@ nodes_counted p gs same typed count i f below small f_is = go (cases_lt (nodes_i
     go (inr le) = le
 
 typed_few : (p : Program) (gs : List Function) → p.functions ≡ functions_of gs → IsTypedProgram p → FewParameters gs
-unfolding IsTypedProgram
+unfolding IsTypedProgram IsTypedWithin
 typed_few p gs same typed i f below f_is =
-    let Typed = AreTypedFunctions (names p.functions) in
-    let first = first_have Typed (λ fs g h. h.0) gs (length gs - (i + 1)) (i + 1) (omega (arith, below)) (subst Typed same typed) in
+    let Typed = AreTypedFunctions typed.0 (names p.functions) in
+    let first = first_have Typed (λ fs g h. h.0) gs (length gs - (i + 1)) (i + 1) (omega (arith, below)) (subst Typed same typed.1) in
     (subst Typed (functions_more gs i f below f_is) first).1.few
 
 -- and few parameters
@@ -103,10 +103,10 @@ few_parameters p gs same typed i f below f_is = go (cases_lt parameter_limit (le
     go (inr few) = few
 
 typed_elements : (p : Program) (gs : List Function) → p.functions ≡ functions_of gs → IsTypedProgram p → FewElements gs
-unfolding IsTypedProgram
+unfolding IsTypedProgram IsTypedWithin
 typed_elements p gs same typed i f below f_is =
-    let Typed = AreTypedFunctions (names p.functions) in
-    let first = first_have Typed (λ fs g h. h.0) gs (length gs - (i + 1)) (i + 1) (omega (arith, below)) (subst Typed same typed) in
+    let Typed = AreTypedFunctions typed.0 (names p.functions) in
+    let first = first_have Typed (λ fs g h. h.0) gs (length gs - (i + 1)) (i + 1) (omega (arith, below)) (subst Typed same typed.1) in
     row_arrays _ _ (subst Typed (functions_more gs i f below f_is) first).1.body
 
 -- and arrays with few elements

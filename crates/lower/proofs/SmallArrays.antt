@@ -1,8 +1,8 @@
--- The arrays of typed programs have no more elements than one may have.
+-- The arrays of typed programs have no more elements than one may have on any device.
 use Rattle.std.proofs.Common.{◌≡◌, ℕ, ◌≤◌, Some, arith}
 use Rattle.clmodel.specs.Setup.{kernel_in}
 use Rattle.clmodel.specs.Tree.{Program, Func, Stmt, Stmts, MaybeStmt}
-use Rattle.clmodel.specs.Typing.{IsTypedProgram}
+use Rattle.clmodel.specs.Typing.{IsTypedWithin, IsTypedProgram}
 use Rattle.clmodel.specs.Typing.Context.{Context}
 use Rattle.clmodel.specs.Typing.Functions.{names}
 use Rattle.clmodel.specs.Typing.Rules as rule
@@ -16,7 +16,7 @@ mutual
   one_arrays _ _ (rule.block body) = row_arrays _ _ body
   one_arrays _ _ (rule.declare free) = omega arith
   one_arrays _ _ (rule.declare_as free gives passes) = omega arith
-  one_arrays _ _ (rule.declare_array free outermost some few) = few
+  one_arrays c _ (rule.declare_array free outermost some few) = let greatest = c.limits.few_elements in omega (arith, few, greatest)
   one_arrays _ _ (rule.assign place gives passes) = omega arith
   one_arrays _ _ (rule.assign_by place gives operates passes) = omega arith
   one_arrays _ _ (rule.step place) = omega arith
@@ -44,5 +44,5 @@ mutual
 
 -- those of a kernel
 pub kernel_arrays : (program : Program) (name : ℕ) (f : Func) → IsTypedProgram program → kernel_in program.functions name ≡ Some f → row_elements f.body ≤ length_limit
-unfolding IsTypedProgram
-kernel_arrays program name f typed is = row_arrays _ _ (kernel_typed (names program.functions) program.functions name f typed is).0.1.body
+unfolding IsTypedProgram IsTypedWithin
+kernel_arrays program name f typed is = row_arrays _ _ (kernel_typed typed.0 (names program.functions) program.functions name f typed.1 is).0.1.body

@@ -8,9 +8,10 @@ use Rattle.clmodel.specs.BuiltIns.{built_in}
 use Rattle.clmodel.specs.Next.{sites_in}
 use Rattle.clmodel.specs.Setup.{kernel_in, functions_before}
 use Rattle.clmodel.specs.Tree.{Func, Funcs, NoFunc, ThenFunc}
-use Rattle.clmodel.specs.Typing.{IsTypedProgram}
+use Rattle.clmodel.specs.Typing.{IsTypedWithin, IsTypedProgram}
 use Rattle.clmodel.specs.Typing.Context.{signature_of}
 use Rattle.clmodel.specs.Typing.Functions.{signature, signatures, begin, with_params, names, IsTypedFunction, AreTypedFunctions}
+use Rattle.limits.specs.declared.Limits.{Limits}
 use Rattle.clmodel.specs.declared.tree.Parameter.{Parameter}
 use Rattle.clmodel.specs.declared.tree.VariableType.{VariableType}
 use Rattle.regcode.specs.declared.instruction.Instruction.{Instruction}
@@ -39,14 +40,14 @@ arguments_suit parameters (p ∷ ps) level at = (
   arguments_suit parameters ps (level + 1) (λ i. ap (slice_get parameters) (let n : level + 1 + i ≡ level + suc i = omega arith in n) ∙ at (suc i)),
 )
 
-module _ (parameters : List VariableType) (all : List ℕ) (earlier : Funcs) (f : Func) (typed : IsTypedFunction all earlier f) (known : KnownIn (λ size. SuitCall parameters) all earlier (with_params (begin all earlier f) f.parameters)) where
+module _ (parameters : List VariableType) (limits : Limits) (all : List ℕ) (earlier : Funcs) (f : Func) (typed : IsTypedFunction limits all earlier f) (known : KnownIn (λ size. SuitCall parameters) limits all earlier (with_params (begin limits all earlier f) f.parameters)) where
   body_suits : (level depth site : ℕ) → Suit parameters (body_code (call_code earlier) (result_in earlier) (sites_in earlier) f level depth site)
   body_suits level depth site =
       let end = no_value_code f.result in
       let empty : Scope = record { base = level; variables = [] } in
       let scope : Scope = record { base = level; variables = parameter_variables f.parameters [] } in
       let inner : Exits = record { broken = 0; continued = 0; returned = length end } in
-      let start = begin all earlier f in
+      let start = begin limits all earlier f in
       let c = with_params start f.parameters in
       let m : Matches start empty = λ name kind is. absurd (function_unbound (nat_eq name f.name) (signature f) (signature_of (signatures earlier) name) (built_in name) (is_barrier name) kind is) in
       suit_both parameters (stmts_code (call_code earlier) (result_in earlier) (sites_in earlier) f.result scope f.body depth site inner) end
@@ -59,32 +60,35 @@ module _ (parameters : List VariableType) (all : List ℕ) (earlier : Funcs) (f 
       suit_both parameters (pass_code f.parameters numbers level) (body_code (call_code earlier) (result_in earlier) (sites_in earlier) f level depth site)
       (pass_suits parameters f.parameters numbers level filled) (body_suits level depth site)
 
-kernel_suits : (all : List ℕ) (earlier : Funcs) (f : Func) → AreTypedFunctions all earlier → IsTypedFunction all earlier f → Suit (map (λ p. p.kind) f.parameters) (kernel_code earlier f)
-kernel_suits all earlier f before typed =
+kernel_suits : (limits : Limits) (all : List ℕ) (earlier : Funcs) (f : Func) → AreTypedFunctions limits all earlier → IsTypedFunction limits all earlier f → Suit (map (λ p. p.kind) f.parameters) (kernel_code earlier f)
+kernel_suits limits all earlier f before typed =
     let parameters = map (λ p. p.kind) f.parameters in
     let body = body_code (call_code earlier) (result_in earlier) (sites_in earlier) f 0 0 0 in
     let last : List Instruction = instruction.End ∷ [] in
     suit_both parameters (arguments_code f.parameters 0) (body ++ last) (arguments_suit parameters f.parameters 0 (λ i. ap (slice_get parameters) (zero-add i)))
-    (suit_both parameters body last (body_suits parameters all earlier f typed (body_known (λ size. SuitCall parameters) all (function_suits parameters all) earlier f before) 0 0 0) ((λ code same wide. tt), tt))
+    (suit_both parameters body last (body_suits parameters limits all earlier f typed (body_known (λ size. SuitCall parameters) limits all (function_suits parameters limits all) earlier f before) 0 0 0) ((λ code same wide. tt), tt))
 
 -- the kernel of a name, with the functions before it
-pub kernel_typed : (all : List ℕ) (fs : Funcs) (name : ℕ) (f : Func) → AreTypedFunctions all fs → kernel_in fs name ≡ Some f
-    → (AreTypedFunctions all (functions_before fs name) × IsTypedFunction all (functions_before fs name) f) × (f.is_kernel ≡ true)
-kernel_typed all NoFunc name f typed is = absurd (cc)
-kernel_typed all (ThenFunc fs g) name f typed is = by_case (kernel_typed all fs name f typed.0) (g.is_kernel && nat_eq g.name name) refl is
+pub kernel_typed : (limits : Limits) (all : List ℕ) (fs : Funcs) (name : ℕ) (f : Func) → AreTypedFunctions limits all fs → kernel_in fs name ≡ Some f
+    → (AreTypedFunctions limits all (functions_before fs name) × IsTypedFunction limits all (functions_before fs name) f) × (f.is_kernel ≡ true)
+kernel_typed limits all NoFunc name f typed is = absurd (cc)
+kernel_typed limits all (ThenFunc fs g) name f typed is = by_case (kernel_typed limits all fs name f typed.0) (g.is_kernel && nat_eq g.name name) refl is
   where
-    by_case : (kernel_in fs name ≡ Some f → (AreTypedFunctions all (functions_before fs name) × IsTypedFunction all (functions_before fs name) f) × (f.is_kernel ≡ true))
+    by_case : (kernel_in fs name ≡ Some f → (AreTypedFunctions limits all (functions_before fs name) × IsTypedFunction limits all (functions_before fs name) f) × (f.is_kernel ≡ true))
         → (b : Bool) → (g.is_kernel && nat_eq g.name name) ≡ b → (if b then Some g else kernel_in fs name) ≡ Some f
-        → (AreTypedFunctions all (if b then fs else functions_before fs name) × IsTypedFunction all (if b then fs else functions_before fs name) f) × (f.is_kernel ≡ true)
+        → (AreTypedFunctions limits all (if b then fs else functions_before fs name) × IsTypedFunction limits all (if b then fs else functions_before fs name) f) × (f.is_kernel ≡ true)
     by_case before true e is =
         let same = same_Some g f is in
-        ((typed.0, subst (IsTypedFunction all fs) same typed.1), ap (λ h. h.is_kernel) (sym same) ∙ (and_parts g.is_kernel (nat_eq g.name name) e).0)
+        ((typed.0, subst (IsTypedFunction limits all fs) same typed.1), ap (λ h. h.is_kernel) (sym same) ∙ (and_parts g.is_kernel (nat_eq g.name name) e).0)
     by_case before false e is = before is
 
 pub typed_kernels_verified : TypedKernelsVerified
-unfolding IsTypedProgram TypedKernelsVerified
+unfolding IsTypedProgram IsTypedWithin TypedKernelsVerified
 typed_kernels_verified program name f typed is =
+    let limits = typed.0 in
     let all = names program.functions in
     let earlier = functions_before program.functions name in
-    let r = kernel_typed all program.functions name f typed is in
-    kernels_verified (map (λ p. p.kind) f.parameters) earlier f (distinct all earlier r.0.0) (r.0.1.loops r.1) (kernel_suits all earlier f r.0.0 r.0.1)
+    let r = kernel_typed limits all program.functions name f typed.1 is in
+    let loops = r.0.1.loops r.1 in
+    let most = limits.few_loops in
+    kernels_verified (map (λ p. p.kind) f.parameters) earlier f (distinct limits all earlier r.0.0) (omega (arith, loops, most)) (kernel_suits limits all earlier f r.0.0 r.0.1)

@@ -19,7 +19,7 @@ abbrev pub per_node : ℕ
 per_node = 7
 
 -- The code of each kernel of a typed program has at most `per_node` instructions for each node of its body, one for
--- each parameter, and two more: so at most 140,002 besides those of its parameters.
+-- each parameter, and two more: so at most 7,000,002 besides those of its parameters.
 unfoldable pub TypedKernelsShort : Type 0
 TypedKernelsShort =
     (program : Program) (name : ℕ) (f : Func) → IsTypedProgram program → kernel_in program.functions name ≡ Some f →
@@ -27,20 +27,20 @@ TypedKernelsShort =
     × ((size_of (functions_before program.functions name) f).nodes ≤ node_limit)
 
 -- Each kernel of a typed program has no more barriers, those in the helpers that it calls among them, than its body has
--- nodes: so at most 20,000.
+-- nodes: so at most 1,000,000.
 unfoldable pub TypedKernelsFewBarriers : Type 0
 TypedKernelsFewBarriers =
     (program : Program) (name : ℕ) (f : Func) → IsTypedProgram program → kernel_in program.functions name ≡ Some f →
     all_sites (sites_in (functions_before program.functions name)) f.body ≤ node_limit
 
 -- Its registers are those of levels below the count of its parameters with that of its nodes and one more: so at most
--- 320,016 besides 16 for each parameter.
+-- 16,000,016 besides 16 for each parameter.
 unfoldable pub TypedKernelsFewRegisters : Type 0
 TypedKernelsFewRegisters =
     (program : Program) (name : ℕ) (f : Func) → IsTypedProgram program → kernel_in program.functions name ≡ Some f →
     register_count (kernel_code (functions_before program.functions name) f) ≤ 16 * (length f.parameters + node_limit + 1)
 
--- So, with the limit of parameters, its code has at most 153,002 instructions and 528,016 registers: each length of a
+-- So, with the limit of parameters, its code has at most 7,013,002 instructions and 16,208,016 registers: each length of a
 -- jump and each register has a number of 32 bits.
 unfoldable pub TypedKernelsFit : Type 0
 TypedKernelsFit =
@@ -50,7 +50,7 @@ TypedKernelsFit =
 
 -- What is wanted of a function, behind these, whose code is made: its barriers, those in the helpers that it calls
 -- among them, have numbers of 32 bits, and it has no more nodes, no more parameters and no array of more elements than
--- typing allows.
+-- typing allows on any device.
 pub record IsWithinLimits (functions : List Function) (function : Function) : Type 0 where
   pub few : all_sites (inside functions) (all_of function.body.items) < 2 ^ 32
   pub small : (row_size (sizes_in functions) (all_of function.body.items)).nodes ≤ node_limit

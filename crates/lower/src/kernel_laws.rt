@@ -4,7 +4,7 @@
 ghost use Rattle.lower.specs.Accepted.{ExpressionsSuit, TargetsSuit, ExpressionsFlat, ExpressionsSound, StatementsSound, KernelsGo, KernelsVerified, SuitFits, TypedKernelsVerified};
 ghost use Rattle.lower.specs.Bounds.{TypedKernelsShort, TypedKernelsFewBarriers, TypedKernelsFewRegisters, TypedKernelsFit};
 
-/// A kernel's code is verified with the tables that are made from it, if its loops are nested no deeper than the limit,
+/// A kernel's code is verified with the tables that are made from it, if its loops are nested at most eight deep,
 /// no two functions before it have one name, and its instructions suit the types of its parameters. Those of typed
 /// expressions, and of targets, do. The jumps and loops of expressions, statements and kernels are sound whether they
 /// are typed or not.
@@ -24,22 +24,23 @@ pub fn typed_kernels_are_verified()
     ensures { TypedKernelsVerified }
 {}
 
-/// Each kernel of a typed program has at most 20,000 barriers, those in the helpers that it calls among them.
+/// Each kernel of a typed program has at most 1,000,000 barriers, those in the helpers that it calls among them.
 pub fn typed_kernels_have_few_barriers()
     ensures { TypedKernelsFewBarriers }
 {}
 
-/// The code of each kernel of a typed program has at most 140,002 instructions besides one for each of its parameters.
+/// The code of each kernel of a typed program has at most 7,000,002 instructions besides one for each of its
+/// parameters.
 pub fn typed_kernels_are_short()
     ensures { TypedKernelsShort }
 {}
 
-/// The registers of each kernel of a typed program are at most 320,016 besides 16 for each of its parameters.
+/// The registers of each kernel of a typed program are at most 16,000,016 besides 16 for each of its parameters.
 pub fn typed_kernels_have_few_registers()
     ensures { TypedKernelsFewRegisters }
 {}
 
-/// With the limit of parameters these are at most 153,002 instructions and 528,016 registers: each jump and each
+/// With the limit of parameters these are at most 7,013,002 instructions and 16,208,016 registers: each jump and each
 /// register has a number of 32 bits.
 pub fn typed_kernels_fit()
     ensures { TypedKernelsFit }

@@ -4,9 +4,9 @@
 //! `lower_kernel` that of a kernel that was found. The law `acts_as_the_tree`: for every program, launch, item and list
 //! of answers the code acts as the tree, whatever its tables are. So it never reads an unset register but as a
 //! variable: another name would show. Kernels of typed programs are verified, short, and have few registers and
-//! barriers, so that no count needs a test: besides what its parameters take, a kernel has at most 140,002
-//! instructions, 320,016 registers and 20,000 barriers. `lower` answers that there is no such kernel exactly where
-//! there is none. The only other error is out of memory.
+//! barriers, so that no count needs a test: besides what its parameters take, a kernel has at most 7,000,002
+//! instructions, 16,000,016 registers and 1,000,000 barriers, whatever the limits of the device. `lower` answers that
+//! there is no such kernel exactly where there is none. The only other error is out of memory.
 #![tactic(auto)]
 
 pub mod code_laws;

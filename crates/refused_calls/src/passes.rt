@@ -8,6 +8,7 @@ use clsyntax_lex::token::SyntaxFault;
 use clsyntax_lex::{Tokens, lex};
 use cltypes::{Checked, TypeFault, check};
 use code_text::dump;
+use limits::Limits;
 use lower::{LowerFault, lower};
 use regcode::Code;
 use std::alloc::Global;
@@ -36,7 +37,7 @@ fn of_syntax(fault: SyntaxFault) -> Came {
 
 /// The tokens of the source.
 fn lexed(alloc: Global) -> Result<Tokens, Came> {
-    lex(alloc, SOURCE.as_bytes()).map_err(of_syntax)
+    lex(alloc, Limits::profile(), SOURCE.as_bytes()).map_err(of_syntax)
 }
 
 /// Whether tokens are those of the source, which is read anew.
@@ -52,7 +53,7 @@ fn are_as_before(alloc: Global, tokens: &Tokens) -> bool {
 
 /// The tree of tokens, which are as before where memory is refused.
 fn parsed(alloc: Global, tokens: &Tokens) -> Result<Tree, Came> {
-    match parse(alloc, tokens) {
+    match parse(alloc, Limits::profile(), tokens) {
         Ok(tree) => Ok(tree),
         Err(SyntaxFault::OutOfMemory) if are_as_before(alloc, tokens) => Err(Came::OutOfMemory),
         Err(_) => Err(Came::Wrong),
@@ -61,7 +62,7 @@ fn parsed(alloc: Global, tokens: &Tokens) -> Result<Tree, Came> {
 
 /// The tree with its types.
 fn checked(alloc: Global, tree: Tree) -> Result<Checked, Came> {
-    match check(alloc, tree) {
+    match check(alloc, Limits::profile(), tree) {
         Ok(checked) => Ok(checked),
         Err(TypeFault::OutOfMemory) => Err(Came::OutOfMemory),
         Err(_) => Err(Came::Wrong),

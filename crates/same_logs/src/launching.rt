@@ -55,7 +55,12 @@ fn compare_code(
         || is_bad_group(&limits, range)
         || is_too_many(&limits, range)
         || arguments.len() > MOST_ARGUMENTS
-        || is_local_too_large(&checked.tree, kernel, arguments.as_slice())
+        || is_local_too_large(
+            limits.local_bytes,
+            &checked.tree,
+            kernel,
+            arguments.as_slice(),
+        )
     {
         return Err(NotRun);
     }
@@ -82,7 +87,7 @@ fn compare_program(
 /// Compares the runs of a row's source.
 fn compare_source(alloc: Global, inputs: &Inputs, row: &Row<'_>) -> Result<Compared, NotRun> {
     let budget = number_of(row.budget).min(MOST_TICKS) as u32;
-    let checked = build(alloc, row.source)?;
+    let checked = build(alloc, Limits::profile(), row.source)?;
     compare_program(alloc, inputs, &checked, budget)
 }
 

@@ -98,7 +98,7 @@ fn merged(
 
 /// A source's program. None where it isn't built.
 pub(crate) fn checked(alloc: Global, source: &str) -> Option<Checked> {
-    build(alloc, source.as_bytes()).ok()
+    build(alloc, Limits::profile(), source.as_bytes()).ok()
 }
 
 /// Whether a run makes this item do so many events.
@@ -192,7 +192,7 @@ fn comes_to(
     }
     let arguments = [Some(Argument::Buffer(buffer))];
     let kernel = found.function.name;
-    if is_local_too_large(&program.tree, kernel, &arguments) {
+    if is_local_too_large(limits.local_bytes, &program.tree, kernel, &arguments) {
         return None;
     }
     let code = lower_kernel(alloc, program, found).ok()?;

@@ -3,6 +3,7 @@
 use byte_io::Output;
 use clsyntax::read;
 use clsyntax_print::print;
+use limits::Limits;
 use std::alloc::Global;
 use std::io::BufWriter;
 
@@ -15,7 +16,7 @@ pub(crate) fn kept_output(alloc: Global) -> Option<Output<Vec<u8>>> {
 /// Whether a source's tree is printed as this text. None where it isn't read.
 fn is_printed(alloc: Global, source: &str, text: &str) -> Option<bool> {
     let mut output = kept_output(alloc)?;
-    let tree = read(alloc, source.as_bytes()).ok()?;
+    let tree = read(alloc, Limits::profile(), source.as_bytes()).ok()?;
     let is_whole = print(&tree, &mut output).is_ok();
     Some(is_whole & (output.into_inner().as_slice() == text.as_bytes()))
 }

@@ -3,6 +3,7 @@
 use clmodel::setup::Argument;
 use clmodel::text::Name;
 use host_commands::build::build;
+use limits::Limits;
 use lower::lower_kernel;
 use regcode::Code;
 use renumbering::renumber;
@@ -11,7 +12,7 @@ use widening::{Source, Why, Wide, widen};
 
 /// The code of the kernel `k` of a source, as a launch runs it. None where it can't be built.
 fn code_of(alloc: Global, source: &str) -> Option<Code> {
-    let program = build(alloc, source.as_bytes()).ok()?;
+    let program = build(alloc, Limits::profile(), source.as_bytes()).ok()?;
     let code = lower_kernel(alloc, &program, program.kernel(b"k")?).ok()?;
     renumber(alloc, code).ok()
 }

@@ -5,6 +5,7 @@ use Rattle.std.specs.Option.{option_or}
 use Rattle.std.specs.Map.{lookup}
 use Rattle.clnum.specs.declared.int_type.IntType.{IntType}
 use Rattle.clnum.specs.declared.int_type.IntType.TheVariants.{Uint}
+use Rattle.limits.specs.declared.Limits.{Limits}
 use Rattle.clmodel.specs.Barrier.{is_barrier}
 use Rattle.clmodel.specs.BuiltIns.{predefined, built_in, local_fence, global_fence}
 use Rattle.clmodel.specs.declared.declaration.Declaration.{Declaration}
@@ -41,6 +42,7 @@ pub record Signature : Type 0 where
   pub parameters : List VariableType
 
 pub record Context : Type 0 where
+  pub limits : Limits  -- the limits of the device
   pub all : List ℕ  -- the names of the functions of the whole text
   pub before : List (ℕ × Signature)  -- the functions before this one, by their names, in the order of the text
   pub current : ℕ  -- this function's name

@@ -28,7 +28,7 @@ use Rattle.clmodel.specs.Tree as tree
 use Rattle.clmodel.specs.Tree.{Term, Terms, NoTerm, ThenTerm, array_length, Target, Stmt, Stmts, NoStmt, ThenStmt, MaybeStmt, Without, With, MaybeTerm, WithoutTerm, WithTerm}
 use Rattle.clmodel.specs.Typing.Context.{Context, Signature, Single, LocalArray, PrivateArray, value_type, element_type, is_outermost, Meaning, meaning, Bound, Callable, Current, BuiltInFunction, Barrier, Unknown, is_free, bind, enter, fenced, turning, for_context, after_all}
 use Rattle.clmodel.specs.Typing.Least.{Places, node}
-use Rattle.clmodel.specs.Typing.Rules.{is_constant, is_writable, is_stored, length_limit, is_atomic, operands, count}
+use Rattle.clmodel.specs.Typing.Rules.{is_constant, is_writable, is_stored, is_atomic, operands, count}
 
 abbrev pub unless : Bool → TypeFault → List TypeFault
 unless true f = []
@@ -384,13 +384,13 @@ void_faults c e = []
 abbrev pub declared_faults : Context → (at name : ℕ) → List TypeFault
 declared_faults c b x = unless (is_free c x) (fault.Redeclared b)
 
--- an array: its name, where it is local the block that it stands in (6.5.2), and how many elements it has (own); all at
--- one place (own)
+-- an array: its name, where it is local the block that it stands in (6.5.2), and how many elements it has, by the
+-- device's limit (own); all at one place (own)
 abbrev pub array_faults : Context → (is_local : Bool) → (at name length_at : ℕ) → Integer → List TypeFault
 array_faults c is_local b x d n =
     declared_faults c b x
     ++ unless (not is_local || is_outermost c) (fault.WrongSpace b)
-    ++ unless (nat_le 1 (array_length n) && nat_le (array_length n) length_limit) (fault.TooLarge d)
+    ++ unless (nat_le 1 (array_length n) && nat_le (array_length n) c.limits.elements) (fault.TooLarge d)
 
 -- an initialiser
 abbrev pub initial_faults : Context → VariableType → Term → Places

@@ -1,5 +1,6 @@
 -- The rules and the faults of functions and of programs (OpenCL 1.2, 6.7.1 and 6.9; C99 6.9).
 use Rattle.std.specs.Prelude.{◌≡◌, ℕ, ◌≤◌, Bool, true, false, not, ◌&&◌, ◌||◌, nat_le, List, [], ◌∷◌, ◌++◌, length, map, is_some}
+use Rattle.limits.specs.declared.Limits.{Limits}
 use Rattle.clmodel.specs.declared.tree.Parameter.{Parameter}
 use Rattle.clmodel.specs.declared.type_fault.TypeFault.{TypeFault}
 use Rattle.clmodel.specs.declared.type_fault.TypeFault.TheVariants as fault
@@ -8,7 +9,7 @@ use Rattle.clmodel.specs.Typing.Context.{Context, Signature, Single, signature_o
 use Rattle.clmodel.specs.Typing.Least.{Places}
 use Rattle.clmodel.specs.Typing.Rules.{AreTyped}
 use Rattle.clmodel.specs.Typing.Faults.{unless, declared_faults, row_faults}
-use Rattle.clmodel.specs.Typing.Sizes.{Size, row_size, sizes_of, loop_limit, byte_limit, node_limit, parameter_limit, row_returns}
+use Rattle.clmodel.specs.Typing.Sizes.{Size, row_size, sizes_of, parameter_limit, row_returns}
 
 -- names of functions, each once, in the order of the text
 abbrev pub names : Funcs → List ℕ
@@ -23,9 +24,9 @@ abbrev pub signatures : Funcs → List (ℕ × Signature)
 signatures NoFunc = []
 signatures (ThenFunc fs f) = signatures fs ++ (f.name, signature f) ∷ []
 
--- where a function's text begins, with these before it
-abbrev pub begin : List ℕ → Funcs → Func → Context
-begin all fs f = record { all = all; before = signatures fs; current = f.name; signature = signature f; in_loop = false; inner = []; outer = [] }
+-- where a function's text begins, on a device of these limits, with these functions before it
+abbrev pub begin : Limits → List ℕ → Funcs → Func → Context
+begin limits all fs f = record { limits = limits; all = all; before = signatures fs; current = f.name; signature = signature f; in_loop = false; inner = []; outer = [] }
 
 abbrev pub with_params : Context → List Parameter → Context
 with_params c [] = c
@@ -44,20 +45,20 @@ is_new fs x = not (is_reserved x) && not (is_some (signature_of (signatures fs) 
 abbrev pub size_of : Funcs → Func → Size
 size_of fs f = row_size (sizes_of fs) f.body
 
--- A function with these before it.
-pub record IsTypedFunction (all : List ℕ) (fs : Funcs) (f : Func) : Type 0 where
+-- A function with these before it, within the limits of a device.
+pub record IsTypedFunction (limits : Limits) (all : List ℕ) (fs : Funcs) (f : Func) : Type 0 where
   pub name : is_new fs f.name ≡ true
-  pub parameters : AreParams (begin all fs f) f.parameters
-  pub body : AreTyped (with_params (begin all fs f) f.parameters) f.body
+  pub parameters : AreParams (begin limits all fs f) f.parameters
+  pub body : AreTyped (with_params (begin limits all fs f) f.parameters) f.body
   pub returns : is_some f.result ≡ true → row_returns f.body ≡ true
-  pub loops : f.is_kernel ≡ true → (size_of fs f).loops ≤ loop_limit
-  pub bytes : f.is_kernel ≡ true → (size_of fs f).bytes ≤ byte_limit
-  pub nodes : f.is_kernel ≡ true → (size_of fs f).nodes ≤ node_limit
+  pub loops : f.is_kernel ≡ true → (size_of fs f).loops ≤ limits.loops
+  pub bytes : f.is_kernel ≡ true → (size_of fs f).bytes ≤ limits.private_bytes
+  pub nodes : f.is_kernel ≡ true → (size_of fs f).nodes ≤ limits.nodes
   pub few : length f.parameters ≤ parameter_limit
 
-abbrev pub AreTypedFunctions : List ℕ → Funcs → Type 0
-AreTypedFunctions all NoFunc = Unit {0}
-AreTypedFunctions all (ThenFunc fs f) = AreTypedFunctions all fs × IsTypedFunction all fs f
+abbrev pub AreTypedFunctions : Limits → List ℕ → Funcs → Type 0
+AreTypedFunctions limits all NoFunc = Unit {0}
+AreTypedFunctions limits all (ThenFunc fs f) = AreTypedFunctions limits all fs × IsTypedFunction limits all fs f
 
 abbrev pub params_faults : Context → List Parameter → Places
 params_faults c [] = []
@@ -67,25 +68,27 @@ abbrev pub heading_faults : Funcs → Func → List TypeFault
 heading_faults fs f = unless (is_new fs f.name) (fault.Redeclared f.name_at)
 
 -- Behind the body, at the function's name: a value that isn't always given, then for a kernel its loops, its private
--- arrays, then its nodes, and then the function's parameters.
-abbrev pub end_faults : Func → Size → Places
-end_faults f s =
+-- arrays, then its nodes, by the device's limits, and then the function's parameters.
+abbrev pub end_faults : Limits → Func → Size → Places
+end_faults limits f s =
     unless (not (is_some f.result) || row_returns f.body) (fault.MissingReturn f.name_at)
-    ∷ unless (not f.is_kernel || nat_le s.loops loop_limit) (fault.TooManyLoops f.name_at)
-    ∷ unless (not f.is_kernel || nat_le s.bytes byte_limit) (fault.TooLarge f.name_at)
-    ∷ unless (not f.is_kernel || nat_le s.nodes node_limit) (fault.TooLarge f.name_at)
+    ∷ unless (not f.is_kernel || nat_le s.loops limits.loops) (fault.TooManyLoops f.name_at)
+    ∷ unless (not f.is_kernel || nat_le s.bytes limits.private_bytes) (fault.TooLarge f.name_at)
+    ∷ unless (not f.is_kernel || nat_le s.nodes limits.nodes) (fault.TooLarge f.name_at)
     ∷ unless (nat_le (length f.parameters) parameter_limit) (fault.TooLarge f.name_at)
     ∷ []
 
 -- a function's name, its parameters, its body, and its end
-abbrev pub function_faults : List ℕ → Funcs → Func → Places
-function_faults all fs f =
+abbrev pub function_faults : Limits → List ℕ → Funcs → Func → Places
+function_faults limits all fs f =
     heading_faults fs f
-    ∷ (params_faults (begin all fs f) f.parameters ++ row_faults (with_params (begin all fs f) f.parameters) f.body ++ end_faults f (size_of fs f))
+    ∷ (params_faults (begin limits all fs f) f.parameters
+    ++ row_faults (with_params (begin limits all fs f) f.parameters) f.body
+    ++ end_faults limits f (size_of fs f))
 
-abbrev pub functions_faults : List ℕ → Funcs → Places
-functions_faults all NoFunc = []
-functions_faults all (ThenFunc fs f) = functions_faults all fs ++ function_faults all fs f
+abbrev pub functions_faults : Limits → List ℕ → Funcs → Places
+functions_faults limits all NoFunc = []
+functions_faults limits all (ThenFunc fs f) = functions_faults limits all fs ++ function_faults limits all fs f
 
-abbrev pub program_faults : Program → Places
-program_faults p = functions_faults (names p.functions) p.functions
+abbrev pub program_faults : Limits → Program → Places
+program_faults limits p = functions_faults limits (names p.functions) p.functions

@@ -45,9 +45,10 @@ is_stored (Single (Pointer p)) = is_writable p
 is_stored (LocalArray t) = true
 is_stored (PrivateArray t) = true
 
--- how many elements an array may have (own); their number is always constant (6.9.d)
+-- The greatest limit that a device may have of the elements of an array (own): each device says its own limit. Their
+-- number is always constant (6.9.d).
 abbrev pub length_limit : ℕ
-length_limit = 32768
+length_limit = 65536
 
 -- whether atomic functions work on this type
 abbrev pub is_atomic : IntType → Bool
@@ -165,7 +166,7 @@ mutual
         → is_free c x ≡ true → Gives (bind c x (Single k)) e j → Passes k j → IsTyped c (tree.DeclareAs a k b x e)
     -- A local array is declared in the outermost block of a kernel alone (6.5.2), a private one in each block (6.5.4).
     declare_array : {c : Context} {a b x d : ℕ} {is_local : Bool} {t : IntType} {n : Integer}
-        → is_free c x ≡ true → (is_local ≡ true → is_outermost c ≡ true) → 1 ≤ array_length n → array_length n ≤ length_limit
+        → is_free c x ≡ true → (is_local ≡ true → is_outermost c ≡ true) → 1 ≤ array_length n → array_length n ≤ c.limits.elements
         → IsTyped c (tree.DeclareArray a is_local t b x d n)
     assign : {c : Context} {a : ℕ} {p : Target} {e : Term} {k j : VariableType}
         → TypesTarget c p k → Gives c e j → Passes k j → IsTyped c (tree.Assign a p None e)

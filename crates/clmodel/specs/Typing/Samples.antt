@@ -2,6 +2,7 @@
 -- the offsets count from the statement's start. Names: 8 `min`, 14 `barrier`, 22 `atomic_inc`, 24 and 25 the fences,
 -- 100 the kernel, 101 `a`, 102 `s`, 103 `t`, 104 `u`, 105 `n`, 106 `p`, 107 `q`; 114 `y` and 115 `z` stand for nothing.
 use Rattle.std.specs.Prelude.{◌≡◌, ℕ, pos, Bool, true, false, List, [], ◌∷◌, map, Option, None, Some}
+use Rattle.limits.specs.Limits.{profile}
 use Rattle.clnum.specs.declared.int_type.IntType.TheVariants.{Int}
 use Rattle.clnum.specs.declared.operators.BinaryOperator.{BinaryOperator}
 use Rattle.clnum.specs.declared.operators.BinaryOperator.TheVariants.{Add, BitOr}
@@ -22,9 +23,10 @@ abbrev pointer : AddressSpace → Bool → VariableType
 pointer space is_const = kind.Pointer (record { space = space; is_const = is_const; element = Int })
 
 -- in `__kernel void f(__global int *a, __local int *s, __constant int *t, __constant const int *u, int n)`, behind `int
--- p[4]; __local int q[4];`
+-- p[4]; __local int q[4];`, on a device with the limits of the profile
 abbrev here : Context
 here = record {
+  limits = profile;
   all = 100 ∷ [];
   before = [];
   current = 100;

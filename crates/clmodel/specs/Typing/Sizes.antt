@@ -111,21 +111,22 @@ abbrev pub sizes_of : Funcs → Sizes
 sizes_of NoFunc = []
 sizes_of (ThenFunc fs f) = sizes_of fs ++ (f.name, row_size (sizes_of fs) f.body) ∷ []
 
+-- The greatest limits that a device may have (own); each device says its own limits, at most these.
+
 -- how deep the loops of a kernel may be nested
 abbrev pub loop_limit : ℕ
 loop_limit = 8
 
 -- how many bytes the private arrays of a kernel may have
 abbrev pub byte_limit : ℕ
-byte_limit = 4096
+byte_limit = 65536
 
 -- how many nodes the body of a kernel may have
 abbrev pub node_limit : ℕ
-node_limit = 20000
+node_limit = 1000000
 
 -- How many parameters a function may have: OpenCL 1.2 bounds their bytes (table 4.3, CL_DEVICE_MAX_PARAMETER_SIZE), the
--- number is this project's own. No source has so many: it has at most 65,536 bytes, and a parameter with its comma at
--- least 6.
+-- number is this project's own, and is the same for each device.
 abbrev pub parameter_limit : ℕ
 parameter_limit = 13000
 

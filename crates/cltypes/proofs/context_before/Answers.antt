@@ -6,5 +6,5 @@ use Rattle.cltypes.proofs.context_before.Goals as goal
 pub loop-function-preserved : goal.loop-function-preserved
 loop-function-preserved c =
     let added : c.add_function.new.self ≡ with_function c.loop-function.context c.function-item.result.name = search (rules, c.in_ok-add_function.ensures) in
-    known_more c.loop-function.context c.add_function.new.self c.args.functions.now c.loop-function.function-index c.function-item.result
+    known_more c.args.limits c.loop-function.context c.add_function.new.self c.args.functions.now c.loop-function.function-index c.function-item.result
     c.loop-function-test.true c.function-item.is c.loop-function.invariant added

@@ -29,8 +29,8 @@ returns-in_err-declare_parameters-clause-first c = λ fs n k.
     let b = begun_context x s fs f (signature_of c.in_ok-signature.signature) n c.in_ok-signature.ensures w in
     let h = heading_of x.before fs f true n (sym (sym c.is_new.ensures ∙ c.if-not-is_new.false)) in
     handed_on c.from_residual-in_err-declare_parameters.result c.in_err-declare_parameters.field-0.0 _ c.from_residual-in_err-declare_parameters.ensures.1
-    (through (first (params_faults s c.deref.result.now)) (first (function_faults x.all fs f)) c.in_err-declare_parameters.field-0.0
-    (λ e. in_parameters x.all s fs f c.in_err-declare_parameters.field-0.0 h b (ap (λ z. first (params_faults s z)) (sym c.deref.ensures.value) ∙ e))
+    (through (first (params_faults s c.deref.result.now)) (first (function_faults x.limits x.all fs f)) c.in_err-declare_parameters.field-0.0
+    (λ e. in_parameters x.limits x.all s fs f c.in_err-declare_parameters.field-0.0 h b (ap (λ z. first (params_faults s z)) (sym c.deref.ensures.value) ∙ e))
     c.in_err-declare_parameters.ensures.first)
 
 pub returns-in_err-check_statements-clause-first : goal.returns-in_err-check_statements-clause-first
@@ -44,8 +44,8 @@ returns-in_err-check_statements-clause-first c = λ fs n k.
     let b = begun_context x s fs f (signature_of c.in_ok-signature.signature) n c.in_ok-signature.ensures w in
     let h = heading_of x.before fs f true n (sym (sym c.is_new.ensures ∙ c.if-not-is_new.false)) in
     handed_on c.from_residual-in_err-check_statements.result g _ c.from_residual-in_err-check_statements.ensures.1
-    (through (first (row_faults t (statements c.deref-2.result.now))) (first (function_faults x.all fs f)) g
-    (λ e. in_body x.all s t fs f g h b
+    (through (first (row_faults t (statements c.deref-2.result.now))) (first (function_faults x.limits x.all fs f)) g
+    (λ e. in_body x.limits x.all s t fs f g h b
     (ap (λ z. first (params_faults s z)) (sym c.deref.ensures.value) ∙ c.in_ok-declare_parameters.ensures.first)
     (c.in_ok-declare_parameters.ensures.declared ∙ ap (with_params s) c.deref.ensures.value)
     (ap (λ z. first (row_faults t (statements z))) (sym c.deref-2.ensures.value) ∙ e))
@@ -60,12 +60,26 @@ returns-clause-first c = λ fs n k.
     let w : s ≡ begun x f.name (signature_of c.in_ok-signature.signature) = search rules in
     let b = begun_context x s fs f (signature_of c.in_ok-signature.signature) n c.in_ok-signature.ensures w in
     let h = heading_of x.before fs f true n (sym (sym c.is_new.ensures ∙ c.if-not-is_new.false)) in
-    ends_along c.end_function.result (first (end_faults f (size_of fs f))) (first (function_faults x.all fs f))
-    (in_end x.all s t fs f h b
+    let y = c.check_statements.new.context in
+    let e = function_fixed x s t y f.name (signature_of c.in_ok-signature.signature) c.deref.result.now
+    (statements c.deref-2.result.now) w c.in_ok-declare_parameters.ensures.declared c.in_ok-check_statements.ensures.after in
+    ends_along c.end_function.result (first (end_faults y.limits f (size_of fs f))) (first (function_faults x.limits x.all fs f))
+    (in_end x.limits x.all s t fs f h b
     (ap (λ z. first (params_faults s z)) (sym c.deref.ensures.value) ∙ c.in_ok-declare_parameters.ensures.first)
     (c.in_ok-declare_parameters.ensures.declared ∙ ap (with_params s) c.deref.ensures.value)
-    (ap (λ z. first (row_faults t (statements z))) (sym c.deref-2.ensures.value) ∙ c.in_ok-check_statements.ensures.first))
+    (ap (λ z. first (row_faults t (statements z))) (sym c.deref-2.ensures.value) ∙ c.in_ok-check_statements.ensures.first)
+    ∙ ap (λ z. first (end_faults z.limits f (size_of fs f))) (sym e))
     (c.end_function.ensures.first fs k)
+
+pub returns-clause-limits : goal.returns-clause-limits
+returns-clause-limits c =
+    let x = c.args.context.now in
+    let f = c.args.function.now in
+    let s = c.begin.new.self in
+    let w : s ≡ begun x f.name (signature_of c.in_ok-signature.signature) = search rules in
+    let e = function_fixed x s c.declare_parameters.new.context c.check_statements.new.context f.name (signature_of c.in_ok-signature.signature) c.deref.result.now
+    (statements c.deref-2.result.now) w c.in_ok-declare_parameters.ensures.declared c.in_ok-check_statements.ensures.after in
+    if_ok_by c.end_function.result (λ h. ap (λ z. z.limits) h ∙ ap (λ z. z.limits) e) c.end_function.ensures.ended
 
 pub returns-clause-all : goal.returns-clause-all
 returns-clause-all c =
