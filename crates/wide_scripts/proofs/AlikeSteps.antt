@@ -31,9 +31,9 @@ use Rattle.host_commands.specs.declared.command.Reply.{Reply}
 use Rattle.host_commands.specs.declared.command.Reply.TheVariants as reply
 use Rattle.device.specs.Machine.{Machine, Answers, Built, Does, IsReported, Launches, bytes_of, do_overlap, fits, first, has_kernel, has_kernels, is_argument, is_there, is_used, kernel_of, program_of, row, setup_of}
 use Rattle.same_launches.specs.Verdicts.{AlikeBytes}
-use Rattle.widening.specs.Widened.{ArgumentsDiffer, BytesDiffer, is_free_at, with_arguments}
+use Rattle.widening.specs.Widened.{ArgumentsDiffer, DifferBy, is_free_at, with_arguments}
 use Rattle.wide_launches.specs.Replies.{IsWideReply, SameReply}
-use Rattle.wide_scripts.specs.Notes.{Taint, Includes, IsNoted, LaunchNoted, are_free, behind, is_free_name, may_pass, may_read}
+use Rattle.wide_scripts.specs.Notes.{Taint, Includes, IsLaunchNote, IsNoted, are_free, behind, is_free_name, may_pass, may_read}
 use Rattle.wide_scripts.specs.Scripts.{AlikeReply, MayDiffer, data_of, with_data}
 use Rattle.wide_scripts.specs.declared.note.Note.{Note}
 use Rattle.wide_scripts.specs.declared.note.Note.TheVariants as note
@@ -318,7 +318,7 @@ module _ (taint after : Taint) (free differs : Bool) (m : Machine) (buffers : Ta
       (ap (λ b. first ((b, NameInUse) ∷ [])) (used name))
       (λ did. ∣ built did.0 did.1 did.2 ∣₁)
     where
-      built : (b : Result Program BuildFault) → Builds source b → Built m name b r new → DoesAlike after differs m buffers (command.Program name source) r new
+      built : (b : Result Program BuildFault) → Builds m.configuration.limits source b → Built m name b r new → DoesAlike after differs m buffers (command.Program name source) r new
       built (Ok p) builds did =
           done after differs m buffers (command.Program name source) r new (record m { programs = m.programs ++ (name, p) ∷ [] }) buffers did.0 did.1 (Ok p, builds, (refl, refl)) (kept more)
       built (Err f) builds did =
@@ -383,12 +383,10 @@ module _ (taint after : Taint) (free differs : Bool) (m : Machine) (buffers : Ta
         same = refl;
       }
 
-  launch_step : (kernel : List ℕ) (range : Range) (r : Reply) (new : Machine) (n : Note) → LaunchNoted m (setup_of m (kernel_of m kernel) range) r n → may_pass taint n ≡ true
+  -- a launch that has a buffer that may differ, and one that has none
+  noted_launch : (kernel : List ℕ) (range : Range) (r : Reply) (new : Machine) (n : Note) → IsLaunchNote m (setup_of m (kernel_of m kernel) range) n → may_pass taint n ≡ true
       → Includes after (behind free n taint) → Answers m (command.Launch kernel range) r new → ∥ AnswersAlike after differs m buffers (command.Launch kernel range) r new ∥₁
-  launch_step kernel range r new n (inl refused) pass includes =
-      answered_more (noted_as taint after free n note.Other refused.2 includes) (command.Launch kernel range) (command.Launch kernel range) r new refl
-      (λ l. absurd (subst (λ s. Launches m (setup_of m (kernel_of m kernel) range) s new) refused.1 l))
-  launch_step kernel range r new n (inr noted) pass includes =
+  noted_launch kernel range r new n noted pass includes =
       answered_more more (command.Launch kernel range) (command.Launch kernel range) r new refl
       (λ l. by (list_any taint names) refl l)
     where
@@ -399,16 +397,16 @@ module _ (taint after : Taint) (free differs : Bool) (m : Machine) (buffers : Ta
       names = noted.0.items
 
       flags : List Bool
-      flags = noted.1.items
+      flags = noted.1.buffers.items
 
       marks : (x : List ℕ) → ((list_any taint names && is_free_name names flags x) || taint x) ≡ true → after x ≡ true
-      marks = noted_as taint after free n (note.Launched noted.0 noted.1) noted.3 includes
+      marks = noted_as taint after free n (note.Launched noted.0 noted.1) noted.2 includes
 
       more : Includes after taint
       more x t = marks x (or_right (list_any taint names && is_free_name names flags x) (taint x) t)
 
       among : (number : ℕ) (name : List ℕ) → slice_get (buffer_names setup) number ≡ Some name → slice_get names number ≡ Some name
-      among number name is_name = ap (λ ns. slice_get ns number) noted.4 ∙ is_name
+      among number name is_name = ap (λ ns. slice_get ns number) noted.3 ∙ is_name
 
       by : (b : Bool) → list_any taint names ≡ b → Launches m setup r new → ∥ DoesAlike after differs m buffers (command.Launch kernel range) r new ∥₁
       by false none l =
@@ -418,16 +416,27 @@ module _ (taint after : Taint) (free differs : Bool) (m : Machine) (buffers : Ta
           r new l ∣₁
       by true some l =
           ∥∥₁_map
-          (noted.5 (with_buffers m buffers) setup.arguments (same_arguments noted.2 setup.arguments)
+          (noted.4 (with_buffers m buffers) setup.arguments (same_arguments noted.1.arguments.items setup.arguments)
            (λ number name is_name.
             weaker (taint name) (is_free_at flags number) (bytes_of m name) (bytes_in buffers name)
-            (free_there taint names flags number name (sym (ap (may_pass taint) noted.3) ∙ pass) (among number name is_name)) (holds name)))
+            (free_there taint names flags number name (sym (ap (may_pass taint) noted.2) ∙ pass) (among number name is_name)) (holds name)))
           (λ same.
            launched kernel range flags more
            (λ number name is_name freed.
             marks name (or_left (list_any taint names && is_free_name names flags name) (taint name)
                         (and_from (list_any taint names) (is_free_name names flags name) some (free_named names flags number name (among number name is_name) freed))))
            same r new l)
+
+  launch_step : (kernel : List ℕ) (range : Range) (r : Reply) (new : Machine) (n : Note) → IsNoted m (command.Launch kernel range) r n → may_pass taint n ≡ true
+      → Includes after (behind free n taint) → Answers m (command.Launch kernel range) r new → ∥ AnswersAlike after differs m buffers (command.Launch kernel range) r new ∥₁
+  launch_step kernel range r new n (inl refused) pass includes =
+      answered after differs m buffers (command.Launch kernel range) (command.Launch kernel range) r new refl (λ why said. kept (noted_as taint after free n note.Other refused.2 includes))
+      (λ none l. absurd (not_both (first (row m (command.Launch kernel range))) refused.0 refused.1 none))
+    where
+      not_both : (o : Option Refusal) (why : Refusal) → o ≡ Some why → o ≡ None → ⊥
+      not_both None why some none = cc
+      not_both (Some other) why some none = cc
+  launch_step kernel range r new n (inr noted) pass includes = noted_launch kernel range r new n noted pass includes
 
   -- ---- all of them
 
@@ -447,3 +456,18 @@ module _ (taint after : Taint) (free differs : Bool) (m : Machine) (buffers : Ta
       by (command.Kernel name program function) put alike noted = kernel_step name program function r new (noted_as taint after free n note.Other noted includes)
       by (command.Arg kernel index given) put alike noted = arg_step kernel index given r new (noted_as taint after free n note.Other noted includes)
       by (command.Launch kernel range) put alike noted = launch_step kernel range r new n noted pass includes
+
+-- where nothing is free, the reply to a launch holds
+pub nothing_free : (m : Machine) (setup : Setup) → IsWideReply [] [] m setup
+nothing_free m setup other given numbers bytes =
+    ∣ subst (λ (given : List (Option Argument)). SameReply [] m other setup (with_arguments setup given)) (same_given setup.arguments given numbers) (same_launch m other setup bytes) ∣₁
+  where
+    same_given : (xs ys : List (Option Argument)) → ArgumentsDiffer [] xs ys → xs ≡ ys
+    same_given [] [] h = refl
+    same_given [] (y ∷ ys) h = absurd h
+    same_given (x ∷ xs) [] h = absurd h
+    same_given (x ∷ xs) (y ∷ ys) h = ap₂ (λ z zs. z ∷ zs) (one h.0) (same_given xs ys h.1)
+      where
+        one : DifferBy false x y → x ≡ y
+        one (inl e) = e
+        one (inr d) = absurd (false≢true d.2)

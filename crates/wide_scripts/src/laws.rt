@@ -1,11 +1,17 @@
-//! The law of wide scripts.
+//! The laws of wide scripts.
 #![tactic(auto)]
 
-ghost use Rattle.wide_scripts.specs.Notes.{WalksAreWide};
+ghost use Rattle.wide_scripts.specs.Notes.{NothingIsFree, WalksAreWide};
 
 /// Where a run of a script has a walk, its replies hold for all bytes of the writes and fills that are free (OpenCL 1.2,
 /// sections 3.2 and 3.3.1).
 pub fn walks_are_wide()
     ensures { WalksAreWide }
+{
+}
+
+/// The reply to a launch holds for the bytes and the numbers that it has (own).
+pub fn nothing_is_free()
+    ensures { NothingIsFree }
 {
 }

@@ -2,6 +2,7 @@
 #![tactic(auto)]
 
 use clmodel::text::Name;
+use wide_launches::Wide;
 
 /// What a walk over a script has to know of a command that was performed: where it puts bytes, and from where.
 #[derive(Drop)]
@@ -16,6 +17,7 @@ pub enum Note {
     Copied { source: Name, target: Name },
     /// It read bytes of a buffer
     Read { buffer: Name },
-    /// It ran a kernel on these buffers; a flag for each says whether the launch's reply is the same for all its bytes
-    Launched { buffers: Vec<Name>, free: Vec<bool> },
+    /// It ran a kernel on these buffers; for which of their bytes and numbers of arguments its reply holds, as far as
+    /// that was found, and where the others decide
+    Launched { buffers: Vec<Name>, wide: Wide },
 }
