@@ -1,3 +1,4 @@
 mod AlikeTables
 mod AlikeSteps
 mod AlikeRuns
+mod Marks

@@ -74,6 +74,13 @@ impl Taint {
         put(self.alloc, &mut self.marks, name, true)
     }
 
+    /// Marks a buffer, where it may hold other bytes now. An error is out of memory.
+    fn mark_if(&mut self, name: &Name, may: bool) -> Result<(), AllocError>
+        ensures { OnOk result ((other : List ℕ) → ((may && is name.now other) || marked self.old.marks other) ≡ true → marked self.new.marks other ≡ true) }
+    {
+        if may { self.mark(name) } else { Ok(()) }
+    }
+
     /// Takes the mark of a buffer away. An error is out of memory.
     fn unmark(&mut self, name: &Name) -> Result<(), AllocError>
         ensures { OnOk result ((other : List ℕ) → (not (is name.now other) && marked self.old.marks other) ≡ true → marked self.new.marks other ≡ true) }
@@ -88,12 +95,19 @@ impl Taint {
         names.iter().any(|name| self.has(name))
     }
 
+    /// Whether a buffer of a launch, which is free or not, has no mark or is free.
+    fn lets(&self, name: &Name, free: bool) -> bool
+        ensures { result ≡ (not (marked self.now.marks name.now) || free) }
+    {
+        !self.has(name) || free
+    }
+
     /// Whether each of a launch's buffers that has a mark is free, by its place.
     fn are_free(&self, names: &[Name], free: &[bool]) -> bool
         ensures { IsTrue result → are_free (marked self.now.marks) names.now free.now ≡ true }
     {
         for number in 0..names.len() {
-            if self.has(&names[number]) && !is_free(free, number) {
+            if !self.lets(&names[number], is_free(free, number)) {
                 return false;
             }
         }
@@ -105,9 +119,7 @@ impl Taint {
         ensures { OnOk result ((other : List ℕ) → (is_free_name names.now free.now other || marked self.old.marks other) ≡ true → marked self.new.marks other ≡ true) }
     {
         for number in 0..names.len() {
-            if is_free(free, number) {
-                self.mark(&names[number])?;
-            }
+            self.mark_if(&names[number], is_free(free, number))?;
         }
         Ok(())
     }
@@ -141,15 +153,12 @@ impl Taint {
                 Ok(true)
             }
             Note::Put { buffer } => {
-                if free {
-                    self.mark(buffer)?;
-                }
+                self.mark_if(buffer, free)?;
                 Ok(true)
             }
             Note::Copied { source, target } => {
-                if self.has(source) {
-                    self.mark(target)?;
-                }
+                let may = self.has(source);
+                self.mark_if(target, may)?;
                 Ok(true)
             }
             Note::Launched { buffers, wide } => {
