@@ -2,3 +2,4 @@ mod AlikeTables
 mod AlikeSteps
 mod AlikeRuns
 mod Marks
+mod Performing

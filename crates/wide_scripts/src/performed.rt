@@ -1,8 +1,11 @@
 //! The commands of a script, performed on a device, and what is noted of each.
 #![tactic(auto)]
 
-ghost use Rattle.std.specs.Prelude.{◌≡◌, IfOk, OnOk, IfNone, IfSome, Some, Decides};
-ghost use Rattle.device.specs.Machine.{Machine as MachineOf, Answers, machine_of, opening, first, row, kernel_of, setup_of};
+ghost use Rattle.std.specs.Prelude.{◌≡◌, [], IfOk, Decides};
+ghost use Rattle.std.specs.Option.{MatchOption};
+ghost use Rattle.item_step.specs.Launches.{code_of, setup_of};
+ghost use Rattle.device.specs.Kept.{IsCodeOf};
+ghost use Rattle.device.specs.Machine.{Machine, Answers, machine_of, opening};
 ghost use Rattle.host_commands.specs.declared.command.Command.{Command as CommandOf};
 ghost use Rattle.host_commands.specs.declared.command.Reply.TheVariants.{Done};
 ghost use Rattle.wide_scripts.specs.Notes.{AreNoted, IsLaunchNote, IsNoted};
@@ -11,7 +14,7 @@ use crate::laws::nothing_is_free;
 use crate::note::Note;
 use clmodel::setup::Range;
 use clmodel::text::Name;
-use device::{Command, Configuration, Device, Refusal, Reply};
+use device::{Command, Configuration, Device, Launch, Refusal, Reply};
 use std::alloc::{AllocError, Global};
 use wide_launches::{Wide, widen_launch};
 
@@ -22,6 +25,13 @@ pub(crate) struct Performed {
     pub(crate) notes: Vec<Note>,
 }
 
+/// Whether a refusal is for want of memory.
+fn is_lack(refusal: &Refusal) -> bool
+    ensures { Decides result (refusal.now ≡ Refusal.OutOfMemory) }
+{
+    matches!(refusal, Refusal::OutOfMemory)
+}
+
 /// Whether a reply is the refusal for want of memory.
 fn lacked_memory(reply: &Reply) -> bool
     ensures { Decides result (reply.now ≡ Reply.Refused Refusal.OutOfMemory) }
@@ -29,8 +39,9 @@ fn lacked_memory(reply: &Reply) -> bool
     matches!(reply, Reply::Refused(Refusal::OutOfMemory))
 }
 
-/// Where nothing was found of a launch: nothing of it is free.
+/// What was found of a launch; where nothing was, nothing of it is free.
 fn or_nothing(alloc: Global, found: Option<Wide>) -> Wide
+    ensures { MatchOption found ((result.buffers.items ≡ []) × (result.arguments.items ≡ [])) (λ wide. result ≡ wide) }
 {
     match found {
         Some(wide) => wide,
@@ -42,30 +53,36 @@ fn or_nothing(alloc: Global, found: Option<Wide>) -> Wide
     }
 }
 
-/// What is noted of a launch of a kernel over a range that isn't refused; Other where its row refuses it. An error is
-/// out of memory.
-fn launch_note(alloc: Global, device: &Device, kernel: &Name, range: &Range) -> Result<Note, AllocError>
-    ensures { IfOk result (λ note. IsNoted (machine_of device.now) (Command.Launch kernel.now range.now) Done note) }
+/// What is noted of a launch that may run. An error is out of memory.
+fn launch_note(alloc: Global, launch: &Launch<'_>) -> Result<Note, AllocError>
+    ensures { IfOk result (λ note. (m : Machine) → IsCodeOf (setup_of launch.now).program (setup_of launch.now).kernel (code_of launch.now) → IsLaunchNote m (setup_of launch.now) note) }
 {
     nothing_is_free();
+    let names = launch.buffer_names();
+    let buffers = Name::copies(alloc, names)?;
+    let uniform = launch.range().uniform;
+    let found = widen_launch(alloc, launch.code(), names, launch.arguments(), uniform)?;
+    let wide = or_nothing(alloc, found);
+    Ok(Note::Launched { buffers, wide })
+}
+
+/// What is noted of a launch of a kernel over a range: nothing, where it is refused. An error is out of memory.
+fn kernel_note(
+    alloc: Global,
+    device: &Device,
+    kernel: &Name,
+    range: &Range,
+) -> Result<Note, AllocError>
+    ensures { IfOk result (λ note. IsNoted (machine_of device.now) (Command.Launch kernel.now range.now) Done note) }
+{
     match device.prepare(kernel, range) {
-        Ok(launch) => {
-            let buffers = Name::copies(alloc, launch.buffer_names())?;
-            let uniform = launch.range().uniform;
-            let found = widen_launch(
-                alloc,
-                launch.code(),
-                launch.buffer_names(),
-                launch.arguments(),
-                uniform,
-            )?;
-            Ok(Note::Launched {
-                buffers,
-                wide: or_nothing(alloc, found),
-            })
+        Ok(launch) => launch_note(alloc, &launch),
+        Err(refusal) => {
+            if is_lack(&refusal) {
+                return Err(AllocError);
+            }
+            Ok(Note::Other)
         }
-        Err(Refusal::OutOfMemory) => Err(AllocError),
-        Err(_) => Ok(Note::Other),
     }
 }
 
@@ -87,7 +104,7 @@ fn note_of(alloc: Global, device: &Device, command: &Command) -> Result<Note, Al
         Command::Read { buffer, .. } => Ok(Note::Read {
             buffer: buffer.copied(alloc)?,
         }),
-        Command::Launch { kernel, range } => launch_note(alloc, device, kernel, range),
+        Command::Launch { kernel, range } => kernel_note(alloc, device, kernel, range),
         Command::Release { .. }
         | Command::Program { .. }
         | Command::Kernel { .. }
@@ -97,14 +114,18 @@ fn note_of(alloc: Global, device: &Device, command: &Command) -> Result<Note, Al
 
 /// What is noted of a command that was answered: nothing of a buffer that wasn't made.
 fn answered_note(note: Note, reply: &Reply) -> Note
-    ensures { (m : MachineOf) (c : CommandOf) → IsNoted m c Done note → IsNoted m c reply.now result }
+    ensures { (m : Machine) (c : CommandOf) → IsNoted m c Done note → IsNoted m c reply.now result }
 {
     match note {
         Note::Made { buffer } => match reply {
             Reply::Done => Note::Made { buffer },
             Reply::Data(_) | Reply::Clean | Reply::Fault { .. } | Reply::Refused(_) => Note::Other,
         },
-        note => note,
+        Note::Other => Note::Other,
+        Note::Put { buffer } => Note::Put { buffer },
+        Note::Copied { source, target } => Note::Copied { source, target },
+        Note::Read { buffer } => Note::Read { buffer },
+        Note::Launched { buffers, wide } => Note::Launched { buffers, wide },
     }
 }
 
@@ -132,7 +153,7 @@ pub(crate) fn perform_all(
     configuration: Configuration,
     commands: Vec<Command>,
 ) -> Result<Performed, AllocError>
-    ensures { IfOk result (λ performed. (new : MachineOf) × AreNoted (opening configuration) commands.items performed.replies.items performed.notes.items new) }
+    ensures { IfOk result (λ performed. (new : Machine) × AreNoted (opening configuration) commands.items performed.replies.items performed.notes.items new) }
 {
     let mut device = Device::new(alloc, configuration);
     let mut replies = Vec::new(alloc);
