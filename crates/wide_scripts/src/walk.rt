@@ -34,9 +34,5 @@ pub fn walk(
 pub(crate) fn plain_walk(alloc: Global, notes: &[Note]) -> Result<Vec<bool>, AllocError>
     ensures { IfOk result (λ reads. IsWalk no_taint notes.now [] reads.items) }
 {
-    let mut reads = Vec::new(alloc);
-    for place in 0..notes.len() {
-        reads.push(false)?;
-    }
-    Ok(reads)
+    vec![in alloc; false; notes.len()]
 }
