@@ -3,11 +3,12 @@ use Rattle.std.proofs.Common.{◌≡◌, ℕ, ◌≤◌, List, [], ◌∷◌, �
 use Rattle.std.proofs.lemmas.Bool.{ltb-true, ltb-false, le-ltb}
 use Rattle.std.proofs.lemmas.List.{append-nil}
 use Rattle.std.specs.Prelude.{nat_lt}
+use Rattle.limits.specs.declared.Limits.{Limits}
 use Rattle.clmodel.specs.Tree.{Funcs, NoFunc, ThenFunc}
 use Rattle.clsyntax_lex.specs.declared.token.Token.{Token}
 use Rattle.clsyntax_lex.specs.declared.token.SyntaxFault.{SyntaxFault}
 use Rattle.clsyntax_lex.specs.declared.token.SyntaxFault.TheVariants.{TooDeep}
-use Rattle.clsyntax_terms.specs.Grammar.{limit, Placed}
+use Rattle.clsyntax_terms.specs.Grammar.{Placed}
 use Rattle.clsyntax_terms.specs.Machine.{Frame, InProgram, Mode, Top, State, in_mode, Moved, step, ended_in, ended, begun}
 use Rattle.clsyntax.specs.Correct.{tokens, IsNonEmpty, IsWithin, IsFront, IsNone, Succeeds, IsFault, IsOne}
 use Rattle.clsyntax.specs.Reading.{at_end, moved, read_from}
@@ -27,9 +28,9 @@ pub behind : {s t u : State} {ps rs : List Placed} → Runs s ps t [] → Runs t
 behind {rs = rs} q r = joined (widened rs q) r
 
 -- the state after some tokens of a program
-pub record Reaches (ps : List Placed) (s : State) : Type 0 where
+pub record Reaches (limits : Limits) (ps : List Placed) (s : State) : Type 0 where
   pub run : Runs begun ps s []
-  pub within : IsWithin ps
+  pub within : IsWithin limits ps
 
 pub front_of : {ps : List Placed} {s : State} → Runs begun ps s [] → IsFront ps
 front_of {ps = ps} {s = s} r =
@@ -120,9 +121,9 @@ ended_is m fs f e = absurd (let h : None ≡ Some f = e in cc)
 
 -- ---- what reading gives
 
-abbrev pub Tells : ℕ → List Token → Result Funcs SyntaxFault → Type 0
-Tells length ts (Ok f) = Succeeds ts f
-Tells length ts (Err fault) = IsFault length ts fault
+abbrev pub Tells : Limits → ℕ → List Token → Result Funcs SyntaxFault → Type 0
+Tells limits length ts (Ok f) = Succeeds limits ts f
+Tells limits length ts (Err fault) = IsFault limits length ts fault
 
 none_ends : (ps : List Placed) (s : State) → Runs begun ps s [] → ended s ≡ None → IsNone (tokens ps)
 none_ends ps s r n = λ qs f e p.
@@ -130,10 +131,10 @@ none_ends ps s r n = λ qs f e p.
     let some : Some f ≡ ended s = sym (ended_of f p.non_empty) ∙ ap ended o.state in
     let clash : Some f ≡ None = some ∙ n in cc
 
-at_end_so : (length : ℕ) (ps : List Placed) (s : State) → Reaches ps s → (o : Option Funcs) → ended s ≡ o → Tells length (tokens ps ++ []) (at_end o length)
-at_end_so length ps s h None e =
+at_end_so : (limits : Limits) (length : ℕ) (ps : List Placed) (s : State) → Reaches limits ps s → (o : Option Funcs) → ended s ≡ o → Tells limits length (tokens ps ++ []) (at_end o length)
+at_end_so limits length ps s h None e =
     record { placed = ps; rest = []; same = refl; where_ = refl; front = front_of h.run; within = h.within; ends = none_ends ps s h.run e }
-at_end_so length ps s h (Some f) e =
+at_end_so limits length ps s h (Some f) e =
     let d : EndedIn s.mode s.frames f = ended_is s.mode s.frames f e in
     let R : State → Type 0 = λ u. Runs begun ps u [] in
     record { placed = ps; same = append-nil (tokens ps); program = record { reads = sound ps f (subst R d.state h.run); non_empty = d.non_empty }; within = h.within }
@@ -142,28 +143,28 @@ shifted : (ps : List Placed) (p : Placed) (ts : List Token) → tokens (ps ++ p 
 shifted [] p ts = refl
 shifted (x ∷ xs) p ts = ap (λ z. x.token ∷ z) (shifted xs p ts)
 
-within_then : (ps : List Placed) (p : Placed) → IsWithin ps → p.nesting ≤ limit → IsWithin (ps ++ p ∷ [])
-within_then [] p h l = (l, h)
-within_then (x ∷ xs) p h l = (h.0, within_then xs p h.1 l)
+within_then : (limits : Limits) (ps : List Placed) (p : Placed) → IsWithin limits ps → p.nesting ≤ limits.nesting → IsWithin limits (ps ++ p ∷ [])
+within_then limits [] p h l = (l, h)
+within_then limits (x ∷ xs) p h l = (h.0, within_then limits xs p h.1 l)
 
-reach_then : (ps : List Placed) (s r : State) (p : Placed) → Reaches ps s → step s p.token ≡ Some (p.nesting, r) → p.nesting ≤ limit → Reaches (ps ++ p ∷ []) r
-reach_then ps s r p h e l = record { run = behind h.run (onward e stop); within = within_then ps p h.within l }
+reach_then : (limits : Limits) (ps : List Placed) (s r : State) (p : Placed) → Reaches limits ps s → step s p.token ≡ Some (p.nesting, r) → p.nesting ≤ limits.nesting → Reaches limits (ps ++ p ∷ []) r
+reach_then limits ps s r p h e l = record { run = behind h.run (onward e stop); within = within_then limits ps p h.within l }
 
-goes_so : (length : ℕ) (t : Token) (ts : List Token) (ps : List Placed) (s : State) → Reaches ps s → (x : ℕ × State) → step s t ≡ Some x
-    → ((qs : List Placed) (r : State) → Reaches qs r → Tells length (tokens qs ++ ts) (read_from length ts r))
-    → (b : Bool) → nat_lt limit x.0 ≡ b → Tells length (tokens ps ++ t ∷ ts) (cond b (Err (TooDeep t.at)) (read_from length ts x.1))
-goes_so length t ts ps s h x e go_on true l =
+goes_so : (limits : Limits) (length : ℕ) (t : Token) (ts : List Token) (ps : List Placed) (s : State) → Reaches limits ps s → (x : ℕ × State) → step s t ≡ Some x
+    → ((qs : List Placed) (r : State) → Reaches limits qs r → Tells limits length (tokens qs ++ ts) (read_from limits length ts r))
+    → (b : Bool) → nat_lt limits.nesting x.0 ≡ b → Tells limits length (tokens ps ++ t ∷ ts) (cond b (Err (TooDeep t.at)) (read_from limits length ts x.1))
+goes_so limits length t ts ps s h x e go_on true l =
     let p : Placed = record { nesting = x.0; token = t } in
-    record { placed = ps; deep = p; rest = ts; same = refl; where_ = refl; front = front_of (behind h.run (onward {p = p} e stop)); within = h.within; above = ltb-true limit x.0 l }
-goes_so length t ts ps s h x e go_on false l =
+    record { placed = ps; deep = p; rest = ts; same = refl; where_ = refl; front = front_of (behind h.run (onward {p = p} e stop)); within = h.within; above = ltb-true limits.nesting x.0 l }
+goes_so limits length t ts ps s h x e go_on false l =
     let p : Placed = record { nesting = x.0; token = t } in
-    let R : List Token → Type 0 = λ us. Tells length us (read_from length ts x.1) in
-    subst R (shifted ps p ts) (go_on (ps ++ p ∷ []) x.1 (reach_then ps s x.1 p h e (ltb-false limit x.0 l)))
+    let R : List Token → Type 0 = λ us. Tells limits length us (read_from limits length ts x.1) in
+    subst R (shifted ps p ts) (go_on (ps ++ p ∷ []) x.1 (reach_then limits ps s x.1 p h e (ltb-false limits.nesting x.0 l)))
 
-moved_so : (length : ℕ) (t : Token) (ts : List Token) (ps : List Placed) (s : State) → Reaches ps s → (x : Moved) → step s t ≡ x
-    → ((qs : List Placed) (r : State) → Reaches qs r → Tells length (tokens qs ++ ts) (read_from length ts r))
-    → Tells length (tokens ps ++ t ∷ ts) (moved x t.at (read_from length ts))
-moved_so length t ts ps s h None e go_on =
+moved_so : (limits : Limits) (length : ℕ) (t : Token) (ts : List Token) (ps : List Placed) (s : State) → Reaches limits ps s → (x : Moved) → step s t ≡ x
+    → ((qs : List Placed) (r : State) → Reaches limits qs r → Tells limits length (tokens qs ++ ts) (read_from limits length ts r))
+    → Tells limits length (tokens ps ++ t ∷ ts) (moved limits x t.at (read_from limits length ts))
+moved_so limits length t ts ps s h None e go_on =
     record {
       placed = ps;
       rest = t ∷ ts;
@@ -173,29 +174,29 @@ moved_so length t ts ps s h None e go_on =
       within = h.within;
       ends = λ qs rest f same p. stuck ps qs begun s _ t rest h.run (complete p.reads) e same;
     }
-moved_so length t ts ps s h (Some x) e go_on = goes_so length t ts ps s h x e go_on (nat_lt limit x.0) refl
+moved_so limits length t ts ps s h (Some x) e go_on = goes_so limits length t ts ps s h x e go_on (nat_lt limits.nesting x.0) refl
 
-reads_from : (length : ℕ) (ts : List Token) (ps : List Placed) (s : State) → Reaches ps s → Tells length (tokens ps ++ ts) (read_from length ts s)
+reads_from : (limits : Limits) (length : ℕ) (ts : List Token) (ps : List Placed) (s : State) → Reaches limits ps s → Tells limits length (tokens ps ++ ts) (read_from limits length ts s)
 unfolding read_from
-reads_from length [] ps s h = at_end_so length ps s h (ended s) refl
-reads_from length (t ∷ ts) ps s h = moved_so length t ts ps s h (step s t) refl (reads_from length ts)
+reads_from limits length [] ps s h = at_end_so limits length ps s h (ended s) refl
+reads_from limits length (t ∷ ts) ps s h = moved_so limits length t ts ps s h (step s t) refl (reads_from limits length ts)
 
-pub reads_so : (length : ℕ) (ts : List Token) → Tells length ts (read_from length ts begun)
-reads_so length ts = reads_from length ts [] begun (record { run = stop; within = tt })
+pub reads_so : (limits : Limits) (length : ℕ) (ts : List Token) → Tells limits length ts (read_from limits length ts begun)
+reads_so limits length ts = reads_from limits length ts [] begun (record { run = stop; within = tt })
 
 -- ---- what the grammar reads is read
 
-read_run : (length : ℕ) (ps : List Placed) (s r : State) → Runs s ps r [] → IsWithin ps → read_from length (tokens ps) s ≡ at_end (ended r) length
+read_run : (limits : Limits) (length : ℕ) (ps : List Placed) (s r : State) → Runs s ps r [] → IsWithin limits ps → read_from limits length (tokens ps) s ≡ at_end (ended r) length
 unfolding read_from
-read_run length [] s r q w = ap (λ u. at_end (ended u) length) (run_nil q)
-read_run length (p ∷ ps) s r q w =
+read_run limits length [] s r q w = ap (λ u. at_end (ended u) length) (run_nil q)
+read_run limits length (p ∷ ps) s r q w =
     let f = run_cons q in
-    let rest : read_from length (tokens ps) f.0 ≡ at_end (ended r) length = read_run length ps f.0 r f.2 w.1 in
-    let below : nat_lt limit p.nesting ≡ false = le-ltb limit p.nesting w.0 in
-    let step_on : moved (step s p.token) p.token.at (read_from length (tokens ps)) ≡ moved (Some (p.nesting, f.0)) p.token.at (read_from length (tokens ps)) = ap (λ x. moved x p.token.at (read_from length (tokens ps))) f.1 in
-    step_on ∙ (ap (λ b. cond b (Err (TooDeep p.token.at)) (read_from length (tokens ps) f.0)) below ∙ rest)
+    let rest : read_from limits length (tokens ps) f.0 ≡ at_end (ended r) length = read_run limits length ps f.0 r f.2 w.1 in
+    let below : nat_lt limits.nesting p.nesting ≡ false = le-ltb limits.nesting p.nesting w.0 in
+    let step_on : moved limits (step s p.token) p.token.at (read_from limits length (tokens ps)) ≡ moved limits (Some (p.nesting, f.0)) p.token.at (read_from limits length (tokens ps)) = ap (λ x. moved limits x p.token.at (read_from limits length (tokens ps))) f.1 in
+    step_on ∙ (ap (λ b. cond b (Err (TooDeep p.token.at)) (read_from limits length (tokens ps) f.0)) below ∙ rest)
 
-pub reads_only : (length : ℕ) (ts : List Token) (f : Funcs) → Succeeds ts f → read_from length ts begun ≡ Ok f
-reads_only length ts f h =
-    let run : read_from length (tokens h.placed) begun ≡ at_end (ended (in_mode Top (InProgram f ∷ []))) length = read_run length h.placed begun _ (complete h.program.reads) h.within in
-    ap (λ us. read_from length us begun) h.same ∙ (run ∙ ap (λ o. at_end o length) (ended_of f h.program.non_empty))
+pub reads_only : (limits : Limits) (length : ℕ) (ts : List Token) (f : Funcs) → Succeeds limits ts f → read_from limits length ts begun ≡ Ok f
+reads_only limits length ts f h =
+    let run : read_from limits length (tokens h.placed) begun ≡ at_end (ended (in_mode Top (InProgram f ∷ []))) length = read_run limits length h.placed begun _ (complete h.program.reads) h.within in
+    ap (λ us. read_from limits length us begun) h.same ∙ (run ∙ ap (λ o. at_end o length) (ended_of f h.program.non_empty))

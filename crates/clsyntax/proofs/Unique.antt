@@ -2,13 +2,14 @@
 use Rattle.std.proofs.Common.{◌≡◌, ℕ, List, [], ◌∷◌, ◌++◌, Option, Some, None, true, false, cond, Result, Ok, Err, refl, sym, ◌∙◌, ap, subst}
 use Rattle.std.proofs.lemmas.Bool.{lt-ltb, le-ltb}
 use Rattle.std.specs.Prelude.{nat_lt}
+use Rattle.limits.specs.declared.Limits.{Limits}
 use Rattle.clmodel.specs.Tree.{Funcs, Program}
 use Rattle.clmodel.specs.declared.tree.Tree as rust_tree
 use Rattle.clsyntax_lex.specs.Tokens.{Text}
 use Rattle.clsyntax_lex.specs.declared.token.Token.{Token}
 use Rattle.clsyntax_lex.specs.declared.token.SyntaxFault.{SyntaxFault}
 use Rattle.clsyntax_lex.specs.declared.token.SyntaxFault.TheVariants.{Unexpected, TooDeep}
-use Rattle.clsyntax_terms.specs.Grammar.{limit, Placed}
+use Rattle.clsyntax_terms.specs.Grammar.{Placed}
 use Rattle.clsyntax_terms.specs.Machine.{InProgram, Top, State, in_mode, Moved, step, ended, begun}
 use Rattle.clsyntax.specs.Correct.{tokens, IsWithin, IsFront, BeginsNone, IsNone, Ends, next_at, IsUnexpected, IsTooDeep, IsFault, IsReading, GivesAs}
 use Rattle.clsyntax.specs.Reading.{at_end, moved, read_from}
@@ -42,16 +43,16 @@ front_state ps h =
     record { state = f.between; run = f.run }
 
 -- tokens that a run passes within the limit are read so
-read_along : (n : ℕ) (ps : List Placed) (rest : List Token) (s r : State) → Runs s ps r [] → IsWithin ps → read_from n (tokens ps ++ rest) s ≡ read_from n rest r
-read_along n [] rest s r q w = ap (λ u. read_from n rest u) (run_nil q)
-read_along n (p ∷ ps) rest s r q w =
+read_along : (limits : Limits) (n : ℕ) (ps : List Placed) (rest : List Token) (s r : State) → Runs s ps r [] → IsWithin limits ps → read_from limits n (tokens ps ++ rest) s ≡ read_from limits n rest r
+read_along limits n [] rest s r q w = ap (λ u. read_from limits n rest u) (run_nil q)
+read_along limits n (p ∷ ps) rest s r q w =
     let f = run_cons q in
     let all : List Token = tokens ps ++ rest in
-    let on : read_from n all f.0 ≡ read_from n rest r = read_along n ps rest f.0 r f.2 w.1 in
-    let below : nat_lt limit p.nesting ≡ false = le-ltb limit p.nesting w.0 in
-    let here : read_from n (p.token ∷ all) s ≡ moved (step s p.token) p.token.at (read_from n all) = read_next n p.token all s in
-    let go_on : moved (step s p.token) p.token.at (read_from n all) ≡ cond (nat_lt limit p.nesting) (Err (TooDeep p.token.at)) (read_from n all f.0) = ap (λ x. moved x p.token.at (read_from n all)) f.1 in
-    here ∙ (go_on ∙ (ap (λ b. cond b (Err (TooDeep p.token.at)) (read_from n all f.0)) below ∙ on))
+    let on : read_from limits n all f.0 ≡ read_from limits n rest r = read_along limits n ps rest f.0 r f.2 w.1 in
+    let below : nat_lt limits.nesting p.nesting ≡ false = le-ltb limits.nesting p.nesting w.0 in
+    let here : read_from limits n (p.token ∷ all) s ≡ moved limits (step s p.token) p.token.at (read_from limits n all) = read_next limits n p.token all s in
+    let go_on : moved limits (step s p.token) p.token.at (read_from limits n all) ≡ cond (nat_lt limits.nesting p.nesting) (Err (TooDeep p.token.at)) (read_from limits n all f.0) = ap (λ x. moved limits x p.token.at (read_from limits n all)) f.1 in
+    here ∙ (go_on ∙ (ap (λ b. cond b (Err (TooDeep p.token.at)) (read_from limits n all f.0)) below ∙ on))
 
 -- where the tokens are no program, the state is no end
 not_ended : (ps : List Placed) (s : State) → Runs begun ps s [] → IsNone (tokens ps) → (o : Option Funcs) → ended s ≡ o → ended s ≡ None
@@ -73,48 +74,48 @@ not_moved ps s t r h (Some x) e =
     let f : IsFront (ps ++ p ∷ []) = front_of (behind r (onward {p = p} e stop)) in
     absurd (h ((ps ++ p ∷ []) ++ f.more) (tokens f.more) f.functions (tokens_front ps p f.more) f.program)
 
-ends_unexpected : (n : ℕ) (ps : List Placed) (s : State) (rest : List Token) → Runs begun ps s [] → Ends (tokens ps) rest → read_from n rest s ≡ Err (Unexpected (next_at n rest))
-ends_unexpected n ps s [] r h = read_nothing n s ∙ ap (λ o. at_end o n) (not_ended ps s r h (ended s) refl)
-ends_unexpected n ps s (t ∷ rest) r h = read_next n t rest s ∙ ap (λ x. moved x t.at (read_from n rest)) (not_moved ps s t r h (step s t) refl)
+ends_unexpected : (limits : Limits) (n : ℕ) (ps : List Placed) (s : State) (rest : List Token) → Runs begun ps s [] → Ends (tokens ps) rest → read_from limits n rest s ≡ Err (Unexpected (next_at n rest))
+ends_unexpected limits n ps s [] r h = read_nothing limits n s ∙ ap (λ o. at_end o n) (not_ended ps s r h (ended s) refl)
+ends_unexpected limits n ps s (t ∷ rest) r h = read_next limits n t rest s ∙ ap (λ x. moved limits x t.at (read_from limits n rest)) (not_moved ps s t r h (step s t) refl)
 
-unexpected_read : (n : ℕ) (ts : List Token) (at : ℕ) → IsUnexpected n ts at → read_from n ts begun ≡ Err (Unexpected at)
-unexpected_read n ts at h =
+unexpected_read : (limits : Limits) (n : ℕ) (ts : List Token) (at : ℕ) → IsUnexpected limits n ts at → read_from limits n ts begun ≡ Err (Unexpected at)
+unexpected_read limits n ts at h =
     let f = front_state h.placed h.front in
-    let along : read_from n (tokens h.placed ++ h.rest) begun ≡ read_from n h.rest f.state = read_along n h.placed h.rest begun f.state f.run h.within in
-    ap (λ us. read_from n us begun) h.same ∙ (along ∙ (ends_unexpected n h.placed f.state h.rest f.run h.ends ∙ ap (λ k. Err (Unexpected k)) (sym h.where_)))
+    let along : read_from limits n (tokens h.placed ++ h.rest) begun ≡ read_from limits n h.rest f.state = read_along limits n h.placed h.rest begun f.state f.run h.within in
+    ap (λ us. read_from limits n us begun) h.same ∙ (along ∙ (ends_unexpected limits n h.placed f.state h.rest f.run h.ends ∙ ap (λ k. Err (Unexpected k)) (sym h.where_)))
 
-too_deep_read : (n : ℕ) (ts : List Token) (at : ℕ) → IsTooDeep ts at → read_from n ts begun ≡ Err (TooDeep at)
-too_deep_read n ts at h =
+too_deep_read : (limits : Limits) (n : ℕ) (ts : List Token) (at : ℕ) → IsTooDeep limits ts at → read_from limits n ts begun ≡ Err (TooDeep at)
+too_deep_read limits n ts at h =
     let last : List Placed = h.deep ∷ [] in
     let whole = front_state (h.placed ++ last) h.front in
     let f = split_run h.placed last begun whole.state whole.run in
     let g = run_cons f.rest in
-    let all = read_from n h.rest in
-    let along : read_from n (tokens h.placed ++ h.deep.token ∷ h.rest) begun ≡ read_from n (h.deep.token ∷ h.rest) f.between = read_along n h.placed (h.deep.token ∷ h.rest) begun f.between f.run h.within in
-    let here : read_from n (h.deep.token ∷ h.rest) f.between ≡ moved (step f.between h.deep.token) h.deep.token.at all = read_next n h.deep.token h.rest f.between in
-    let go_on : moved (step f.between h.deep.token) h.deep.token.at all ≡ cond (nat_lt limit h.deep.nesting) (Err (TooDeep h.deep.token.at)) (all g.0) = ap (λ x. moved x h.deep.token.at all) g.1 in
-    let deep : nat_lt limit h.deep.nesting ≡ true = lt-ltb limit h.deep.nesting h.above in
-    let stop_ : cond (nat_lt limit h.deep.nesting) (Err (TooDeep h.deep.token.at)) (all g.0) ≡ Err (TooDeep h.deep.token.at) = ap (λ b. cond b (Err (TooDeep h.deep.token.at)) (all g.0)) deep in
-    ap (λ us. read_from n us begun) h.same ∙ (along ∙ (here ∙ (go_on ∙ (stop_ ∙ ap (λ k. Err (TooDeep k)) (sym h.where_)))))
+    let all = read_from limits n h.rest in
+    let along : read_from limits n (tokens h.placed ++ h.deep.token ∷ h.rest) begun ≡ read_from limits n (h.deep.token ∷ h.rest) f.between = read_along limits n h.placed (h.deep.token ∷ h.rest) begun f.between f.run h.within in
+    let here : read_from limits n (h.deep.token ∷ h.rest) f.between ≡ moved limits (step f.between h.deep.token) h.deep.token.at all = read_next limits n h.deep.token h.rest f.between in
+    let go_on : moved limits (step f.between h.deep.token) h.deep.token.at all ≡ cond (nat_lt limits.nesting h.deep.nesting) (Err (TooDeep h.deep.token.at)) (all g.0) = ap (λ x. moved limits x h.deep.token.at all) g.1 in
+    let deep : nat_lt limits.nesting h.deep.nesting ≡ true = lt-ltb limits.nesting h.deep.nesting h.above in
+    let stop_ : cond (nat_lt limits.nesting h.deep.nesting) (Err (TooDeep h.deep.token.at)) (all g.0) ≡ Err (TooDeep h.deep.token.at) = ap (λ b. cond b (Err (TooDeep h.deep.token.at)) (all g.0)) deep in
+    ap (λ us. read_from limits n us begun) h.same ∙ (along ∙ (here ∙ (go_on ∙ (stop_ ∙ ap (λ k. Err (TooDeep k)) (sym h.where_)))))
 
-fault_read : (n : ℕ) (ts : List Token) (fault : SyntaxFault) → IsFault n ts fault → read_from n ts begun ≡ Err fault
-fault_read n ts (Unexpected at) h = unexpected_read n ts at h
-fault_read n ts (TooDeep at) h = too_deep_read n ts at h
-fault_read n ts _ h = absurd h
+fault_read : (limits : Limits) (n : ℕ) (ts : List Token) (fault : SyntaxFault) → IsFault limits n ts fault → read_from limits n ts begun ≡ Err fault
+fault_read limits n ts (Unexpected at) h = unexpected_read limits n ts at h
+fault_read limits n ts (TooDeep at) h = too_deep_read limits n ts at h
+fault_read limits n ts _ h = absurd h
 
 -- a text has one reading
-pub one_reading : (text : Text) (a b : Result Program SyntaxFault) → IsReading text a → IsReading text b → a ≡ b
-one_reading text (Ok p) (Ok q) h k =
-    let f : Ok p.functions ≡ Ok q.functions = sym (reads_only text.length text.tokens p.functions h.functions) ∙ reads_only text.length text.tokens q.functions k.functions in
+pub one_reading : (limits : Limits) (text : Text) (a b : Result Program SyntaxFault) → IsReading limits text a → IsReading limits text b → a ≡ b
+one_reading limits text (Ok p) (Ok q) h k =
+    let f : Ok p.functions ≡ Ok q.functions = sym (reads_only limits text.length text.tokens p.functions h.functions) ∙ reads_only limits text.length text.tokens q.functions k.functions in
     let functions : p.functions ≡ q.functions = cc in
     let names : p.names ≡ q.names = h.names ∙ sym k.names in
     ap Ok (ap (λ x. record { functions = x; names = p.names }) functions ∙ ap (λ x. record { functions = q.functions; names = x }) names)
-one_reading text (Ok p) (Err fault) h k =
-    let clash : Ok p.functions ≡ Err fault = sym (reads_only text.length text.tokens p.functions h.functions) ∙ fault_read text.length text.tokens fault k in absurd cc
-one_reading text (Err fault) (Ok q) h k =
-    let clash : Err fault ≡ Ok q.functions = sym (fault_read text.length text.tokens fault h) ∙ reads_only text.length text.tokens q.functions k.functions in absurd cc
-one_reading text (Err fault) (Err other) h k =
-    let f : Err fault ≡ Err other = sym (fault_read text.length text.tokens fault h) ∙ fault_read text.length text.tokens other k in
+one_reading limits text (Ok p) (Err fault) h k =
+    let clash : Ok p.functions ≡ Err fault = sym (reads_only limits text.length text.tokens p.functions h.functions) ∙ fault_read limits text.length text.tokens fault k in absurd cc
+one_reading limits text (Err fault) (Ok q) h k =
+    let clash : Err fault ≡ Ok q.functions = sym (fault_read limits text.length text.tokens fault h) ∙ reads_only limits text.length text.tokens q.functions k.functions in absurd cc
+one_reading limits text (Err fault) (Err other) h k =
+    let f : Err fault ≡ Err other = sym (fault_read limits text.length text.tokens fault h) ∙ fault_read limits text.length text.tokens other k in
     let same : fault ≡ other = cc in ap Err same
 
 -- a consequence of what an answer meets

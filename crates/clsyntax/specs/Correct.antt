@@ -1,13 +1,14 @@
 -- What parsing promises, in terms of the grammar alone.
 use Rattle.std.specs.Prelude.{◌≡◌, ℕ, ◌≤◌, ◌<◌, List, [], ◌∷◌, ◌++◌, map, Result, Ok, Err}
 use Rattle.std.specs.List.{AllByRecursion}
+use Rattle.limits.specs.declared.Limits.{Limits}
 use Rattle.clmodel.specs.Tree.{Funcs, NoFunc, ThenFunc, Program, program}
 use Rattle.clmodel.specs.declared.tree.Tree as rust_tree
 use Rattle.clsyntax_lex.specs.Tokens.{Text}
 use Rattle.clsyntax_lex.specs.declared.token.Token.{Token}
 use Rattle.clsyntax_lex.specs.declared.token.SyntaxFault.{SyntaxFault}
 use Rattle.clsyntax_lex.specs.declared.token.SyntaxFault.TheVariants.{BadByte, NumberTooLarge, Unexpected, TooDeep, TooLong, OutOfMemory}
-use Rattle.clsyntax_terms.specs.Grammar.{Placed, Reads, limit}
+use Rattle.clsyntax_terms.specs.Grammar.{Placed, Reads}
 use Rattle.clsyntax_terms.specs.Grammar as grammar
 
 abbrev pub tokens : List Placed → List Token
@@ -22,8 +23,9 @@ pub record IsProgram (ps : List Placed) (fs : Funcs) : Type 0 where
   pub reads : Reads (grammar.Program fs) ps []
   pub non_empty : IsNonEmpty fs
 
-abbrev pub IsWithin : List Placed → Type 0
-IsWithin ps = AllByRecursion (λ p. p.nesting ≤ limit) ps
+-- no token is nested deeper than the device allows
+abbrev pub IsWithin : Limits → List Placed → Type 0
+IsWithin limits ps = AllByRecursion (λ p. p.nesting ≤ limits.nesting) ps
 
 -- some program begins with these placed tokens
 pub record IsFront (ps : List Placed) : Type 0 where
@@ -39,12 +41,12 @@ BeginsNone ts = (ps : List Placed) (rest : List Token) (fs : Funcs) → tokens p
 abbrev pub IsNone : List Token → Type 0
 IsNone ts = (ps : List Placed) (fs : Funcs) → tokens ps ≡ ts → IsProgram ps fs → ⊥
 
--- The tokens are a program with these functions.
-pub record Succeeds (ts : List Token) (fs : Funcs) : Type 0 where
+-- The tokens are a program with these functions, within the limits of the device.
+pub record Succeeds (limits : Limits) (ts : List Token) (fs : Funcs) : Type 0 where
   pub placed : List Placed
   pub same : ts ≡ tokens placed
   pub program : IsProgram placed fs
-  pub within : IsWithin placed
+  pub within : IsWithin limits placed
 
 -- Where front ends: with the next token no program begins, or the tokens end too early.
 abbrev pub Ends : List Token → List Token → Type 0
@@ -56,43 +58,43 @@ abbrev pub next_at : ℕ → List Token → ℕ
 next_at length [] = length
 next_at length (t ∷ ts) = t.at
 
--- The tokens before the offset begin a program within the limit; with the next one none begins, or they end too early.
-pub record IsUnexpected (length : ℕ) (ts : List Token) (at : ℕ) : Type 0 where
+-- The tokens before the offset begin a program within the device's limit; with the next one none begins, or they end too early.
+pub record IsUnexpected (limits : Limits) (length : ℕ) (ts : List Token) (at : ℕ) : Type 0 where
   pub placed : List Placed
   pub rest : List Token
   pub same : ts ≡ tokens placed ++ rest
   pub where_ : at ≡ next_at length rest
   pub front : IsFront placed
-  pub within : IsWithin placed
+  pub within : IsWithin limits placed
   pub ends : Ends (tokens placed) rest
 
--- The tokens before the offset begin a program within the limit; so they do with the next one, which is nested too
+-- The tokens before the offset begin a program within the device's limit; so they do with the next one, which is nested too
 -- deep.
-pub record IsTooDeep (ts : List Token) (at : ℕ) : Type 0 where
+pub record IsTooDeep (limits : Limits) (ts : List Token) (at : ℕ) : Type 0 where
   pub placed : List Placed
   pub deep : Placed
   pub rest : List Token
   pub same : ts ≡ tokens placed ++ deep.token ∷ rest
   pub where_ : at ≡ deep.token.at
   pub front : IsFront (placed ++ deep ∷ [])
-  pub within : IsWithin placed
-  pub above : limit < deep.nesting
+  pub within : IsWithin limits placed
+  pub above : limits.nesting < deep.nesting
 
 -- a program with the text's names
-pub record IsProgramOf (text : Text) (p : Program) : Type 0 where
-  pub functions : Succeeds text.tokens p.functions
+pub record IsProgramOf (limits : Limits) (text : Text) (p : Program) : Type 0 where
+  pub functions : Succeeds limits text.tokens p.functions
   pub names : p.names ≡ text.names
 
 -- where tokens of a source of this length go wrong
-abbrev pub IsFault : ℕ → List Token → SyntaxFault → Type 0
-IsFault length ts (Unexpected at) = IsUnexpected length ts at
-IsFault length ts (TooDeep at) = IsTooDeep ts at
-IsFault length ts _ = ⊥
+abbrev pub IsFault : Limits → ℕ → List Token → SyntaxFault → Type 0
+IsFault limits length ts (Unexpected at) = IsUnexpected limits length ts at
+IsFault limits length ts (TooDeep at) = IsTooDeep limits ts at
+IsFault limits length ts _ = ⊥
 
--- what the text's tokens stand for, or where they go wrong
-abbrev pub IsReading : Text → Result Program SyntaxFault → Type 0
-IsReading text (Ok p) = IsProgramOf text p
-IsReading text (Err fault) = IsFault text.length text.tokens fault
+-- what the text's tokens stand for on a device, or where they go wrong
+abbrev pub IsReading : Limits → Text → Result Program SyntaxFault → Type 0
+IsReading limits text (Ok p) = IsProgramOf limits text p
+IsReading limits text (Err fault) = IsFault limits text.length text.tokens fault
 
 -- One program, one tree, and one nesting of each token.
 abbrev pub IsOne : Type 0

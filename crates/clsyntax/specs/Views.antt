@@ -2,6 +2,7 @@
 use Rattle.std.specs.Prelude.{◌≡◌, ℕ, Bool, true, false, not, List, ◌∷◌, Result, Ok, Err, Box, Vec}
 use Rattle.std.specs.declared.alloc.Global.{Global}
 use Rattle.clmodel.specs.declared.tree.Function as rust_function
+use Rattle.limits.specs.declared.Limits.{Limits}
 use Rattle.clmodel.specs.Tree.{stmt, Funcs}
 use Rattle.clsyntax_lex.specs.declared.token.SyntaxFault.{SyntaxFault}
 use Rattle.clsyntax_terms.specs.Machine as machine
@@ -23,10 +24,10 @@ ends_front b (machine.ForTurns a i c f ∷ fs) = true
 ends_front b (machine.Then a n e ∷ fs) = not b
 ends_front b _ = false
 
--- the state after a token at the offset, however one goes on
-abbrev pub IsAdvance : Result (Box State Global) SyntaxFault → Moved → ℕ → Type 0
-IsAdvance (Ok s) m at = (go_on : machine.State → Result Funcs SyntaxFault) → moved m at go_on ≡ go_on (state_of s.value)
-IsAdvance (Err fault) m at = UnlessMemory fault ((go_on : machine.State → Result Funcs SyntaxFault) → moved m at go_on ≡ Err fault)
+-- the state after a token at the offset on a device, however one goes on
+abbrev pub IsAdvance : Limits → Result (Box State Global) SyntaxFault → Moved → ℕ → Type 0
+IsAdvance limits (Ok s) m at = (go_on : machine.State → Result Funcs SyntaxFault) → moved limits m at go_on ≡ go_on (state_of s.value)
+IsAdvance limits (Err fault) m at = UnlessMemory fault ((go_on : machine.State → Result Funcs SyntaxFault) → moved limits m at go_on ≡ Err fault)
 
 -- the functions, as reading gives them
 abbrev pub IsRead : Result (Vec rust_function.Function Global) SyntaxFault → Result Funcs SyntaxFault → Type 0

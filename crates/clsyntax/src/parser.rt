@@ -12,8 +12,8 @@ use crate::machine::step;
 use clmodel::text::Name;
 use clmodel::tree::Function;
 use clsyntax_lex::token::{SyntaxFault, Token};
-use clsyntax_terms::nesting::LIMIT;
 use clsyntax_terms::state::{Frame, Frames, HeadMode, Mode, State, TokenStep};
+use limits::Limits;
 use std::alloc::{AllocError, Global};
 
 /// The state before the first token.
@@ -33,16 +33,21 @@ fn begin(alloc: Global) -> Result<Box<State>, AllocError>
     Ok(state)
 }
 
-/// The state after one more token.
-fn advance(alloc: Global, state: Box<State>, token: Token) -> Result<Box<State>, SyntaxFault>
-    ensures { IsAdvance result (machine.step (state_of state.value) token) token.at }
+/// The state after one more token, which may be nested as deep as the device allows.
+fn advance(
+    alloc: Global,
+    limits: Limits,
+    state: Box<State>,
+    token: Token,
+) -> Result<Box<State>, SyntaxFault>
+    ensures { IsAdvance limits result (machine.step (state_of state.value) token) token.at }
 {
     let at = token.at;
     match step(alloc, state, token)? {
         TokenStep::Refused => Err(SyntaxFault::Unexpected { at }),
         TokenStep::Deep => Err(SyntaxFault::TooDeep { at }),
         TokenStep::To { nesting, state } => {
-            if nesting.0 > LIMIT {
+            if nesting.0 > limits.nesting {
                 Err(SyntaxFault::TooDeep { at })
             } else {
                 Ok(state)
@@ -104,16 +109,17 @@ fn finish(state: Box<State>, length: u32) -> Result<Vec<Function>, SyntaxFault>
 /// The functions of a source of this length with these tokens.
 pub(crate) fn functions_of(
     alloc: Global,
+    limits: Limits,
     length: u32,
     tokens: &[Token],
 ) -> Result<Vec<Function>, SyntaxFault>
-    ensures { IsRead result (read_from length tokens.now begun) }
+    ensures { IsRead result (read_from limits length tokens.now begun) }
 {
     let Ok(mut state) = begin(alloc) else {
         return Err(SyntaxFault::OutOfMemory);
     };
     for token in tokens {
-        state = advance(alloc, state, *token)?;
+        state = advance(alloc, limits, state, *token)?;
     }
     finish(state, length)
 }

@@ -26,7 +26,9 @@ pub fn end_fault(limits: Limits, function: &Function, size: Size) -> Option<Type
         Some(TypeFault::MissingReturn { at })
     } else if function.is_kernel && size.loops > limits.loops {
         Some(TypeFault::TooManyLoops { at })
-    } else if function.is_kernel && (size.bytes > limits.private_bytes || size.nodes > limits.nodes) {
+    } else if function.is_kernel
+        && (size.bytes > limits.private_bytes || size.nodes > limits.nodes)
+    {
         Some(TypeFault::TooLarge { at })
     } else if function.parameters.len() > PARAMETER_LIMIT {
         Some(TypeFault::TooLarge { at })

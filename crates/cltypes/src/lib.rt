@@ -40,7 +40,11 @@ use std::alloc::{AllocError, Global};
 pub use summaries::Summaries;
 
 /// What is known before the first function: the limits of the device, and the names of all functions.
-fn context_before(alloc: Global, limits: Limits, functions: &[Function]) -> Result<Context, AllocError>
+fn context_before(
+    alloc: Global,
+    limits: Limits,
+    functions: &[Function],
+) -> Result<Context, AllocError>
     ensures { IfOk result (λ context. context ≡ known limits (names (functions_of functions.now))) }
 {
     let mut context = Context::new(alloc, limits);

@@ -65,7 +65,7 @@ none_of None e = refl
 none_of (Some v) e = absurd (cc)
 
 -- names that are free for functions are those of no built-in function, and of none of these
-fresh : (fs : Funcs) (name : ℕ) → is_new fs name ≡ true → (built_in name ≡ None) × (is_barrier name ≡ false) × (signature_of (signatures fs) name ≡ None)
+pub fresh : (fs : Funcs) (name : ℕ) → is_new fs name ≡ true → (built_in name ≡ None) × (is_barrier name ≡ false) × (signature_of (signatures fs) name ≡ None)
 fresh fs name e =
     let parts = and_parts (not (is_reserved name)) (not (is_some (signature_of (signatures fs) name))) e in
     let none = slice_get_past (meanings predefined) name (ltb-false name (length predefined) (not-true (is_reserved name) parts.0)) in
@@ -76,7 +76,7 @@ cond_none : {V : Type 0} (b : Bool) (v : V) (o : Option V) → cond b (Some v) o
 cond_none true v o e = absurd (cc)
 cond_none false v o e = (refl, e)
 
-none_behind : {V : Type 0} (test : ℕ → Bool) (entries : List (ℕ × V)) (y : ℕ) (v : V) → lookup test (entries ++ (y, v) ∷ []) ≡ None → (test y ≡ false) × (lookup test entries ≡ None)
+pub none_behind : {V : Type 0} (test : ℕ → Bool) (entries : List (ℕ × V)) (y : ℕ) (v : V) → lookup test (entries ++ (y, v) ∷ []) ≡ None → (test y ≡ false) × (lookup test entries ≡ None)
 none_behind test [] y v e = cond_none (test y) v None e
 none_behind test (x ∷ entries) y v e =
     let here = cond_none (test x.0) x.1 (lookup test (entries ++ (y, v) ∷ [])) e in
@@ -84,7 +84,7 @@ none_behind test (x ∷ entries) y v e =
     (rest.0, ap₂ (λ b o. cond b (Some x.1) o) here.0 rest.1)
 
 -- sizes have the names that signatures have
-sizes_none : (fs : Funcs) (test : ℕ → Bool) → lookup test (signatures fs) ≡ None → lookup test (sizes_of fs) ≡ None
+pub sizes_none : (fs : Funcs) (test : ℕ → Bool) → lookup test (signatures fs) ≡ None → lookup test (sizes_of fs) ≡ None
 sizes_none NoFunc test e = refl
 sizes_none (ThenFunc fs f) test e =
     let apart = none_behind test (signatures fs) f.name (signature f) e in

@@ -29,6 +29,7 @@ pub mod LowStatements
 pub mod LowKernels
 pub mod ShortStatements
 pub mod ShortKernels
+pub mod Narrow
 pub mod Named
 pub mod FitKernels
 pub mod Reach

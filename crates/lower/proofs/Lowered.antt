@@ -1,5 +1,5 @@
 -- The kernel of a name, its code with tables, and what is promised of it.
-use Rattle.std.proofs.Common.{◌≡◌, ℕ, ◌<◌, ◌≤◌, ◌^◌, ◌⊎◌, inl, inr, Some, length, take, ap, ap₂, sym, ◌∙◌, subst, arith}
+use Rattle.std.proofs.Common.{◌≡◌, ℕ, ◌*◌, ◌<◌, ◌≤◌, ◌^◌, ◌⊎◌, inl, inr, Some, length, take, ap, ap₂, sym, ◌∙◌, subst, arith}
 use Rattle.std.proofs.Math.Logic.{∥∥₁_elim}
 use Rattle.std.proofs.lemmas.Bool.{cases_lt}
 use Rattle.clmodel.specs.Next.{all_sites, sites_in}
@@ -8,13 +8,14 @@ use Rattle.clmodel.specs.Tree.{Program, Func, program, func}
 use Rattle.clmodel.specs.Typing.{IsTypedProgram}
 use Rattle.clmodel.specs.Typing.Functions.{size_of}
 use Rattle.clmodel.specs.Typing.Rules.{length_limit}
-use Rattle.clmodel.specs.Typing.Sizes.{node_limit, parameter_limit}
+use Rattle.clmodel.specs.Typing.Sizes.{row_size, node_limit, parameter_limit}
 use Rattle.clmodel.specs.declared.tree.Function.{Function}
 use Rattle.clmodel.specs.declared.tree.Tree.{Tree}
 use Rattle.cltypes.specs.Kernels.{IsKernel}
 use Rattle.regcode.specs.Listing.{Listing}
 use Rattle.regcode.specs.Rules.{IsVerified}
 use Rattle.lower_code.specs.Code.{kernel_code}
+use Rattle.lower_code.specs.Helpers.{widths_of}
 use Rattle.lower_code.specs.Variables.{row_elements}
 use Rattle.lower.specs.Accepted.{TypedKernelsVerified}
 use Rattle.lower.specs.Bounds.{IsWithinLimits, TypedKernelsFewBarriers, TypedKernelsShort}
@@ -22,6 +23,7 @@ use Rattle.lower.specs.Correct.{ActsAsTheTree}
 use Rattle.lower.specs.Lists.{Lists}
 use Rattle.lower.specs.Lowers.{IsLowered}
 use Rattle.lower.proofs.FitKernels.{few_parameters}
+use Rattle.lower.proofs.Narrow.{kernel_narrow}
 use Rattle.lower.proofs.SmallArrays.{kernel_arrays}
 
 -- what is made of a typed program's kernel is verified
@@ -52,6 +54,15 @@ few_nodes p number law typed f is = go (cases_lt node_limit (size_of (functions_
     go (inl many) = absurd (∥∥₁_elim typed (λ x y. absurd x) (λ t. let most = (law p number f t is).1 in omega (arith, most, many)))
     go (inr few) = few
 
+-- also with the parameters of helpers
+narrow_kernel : (p : Program) (number : ℕ) → ∥ IsTypedProgram p ∥₁ → (f : Func) → kernel_in p.functions number ≡ Some f → (row_size (widths_of (functions_before p.functions number)) f.body).nodes ≤ 2 * node_limit
+narrow_kernel p number typed f is = go (cases_lt (2 * node_limit) (row_size (widths_of (functions_before p.functions number)) f.body).nodes)
+  where
+    go : (2 * node_limit < (row_size (widths_of (functions_before p.functions number)) f.body).nodes) ⊎ ((row_size (widths_of (functions_before p.functions number)) f.body).nodes ≤ 2 * node_limit)
+        → (row_size (widths_of (functions_before p.functions number)) f.body).nodes ≤ 2 * node_limit
+    go (inl more) = absurd (∥∥₁_elim typed (λ x y. absurd x) (λ t. let most = kernel_narrow p number f t is in omega (arith, most, more)))
+    go (inr few) = few
+
 -- and few parameters
 pub few_arguments : (p : Program) (number : ℕ) → ∥ IsTypedProgram p ∥₁ → (f : Func) → kernel_in p.functions number ≡ Some f → length f.parameters ≤ parameter_limit
 few_arguments p number typed f is = go (cases_lt parameter_limit (length f.parameters))
@@ -77,6 +88,7 @@ within_limits tree place function few short typed found =
     record {
       few = subst (λ fs. all_sites (sites_in fs) f.body < 2 ^ 32) (sym found.before) (few_barriers p function.name few typed f found.there);
       small = subst (λ fs. (size_of fs f).nodes ≤ node_limit) (sym found.before) (few_nodes p function.name short typed f found.there);
+      wide = subst (λ fs. (row_size (widths_of fs) f.body).nodes ≤ 2 * node_limit) (sym found.before) (narrow_kernel p function.name typed f found.there);
       parameters = few_arguments p function.name typed f found.there;
       arrays = small_arrays p function.name typed f found.there;
     }

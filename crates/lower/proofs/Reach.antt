@@ -6,7 +6,7 @@ use Rattle.regcode.specs.declared.instruction.Instruction.{Instruction}
 use Rattle.lower_expr.specs.Scope.{Scope}
 use Rattle.lower_expr.proofs.Short.{Short, both}
 use Rattle.lower_code.specs.Code.{Exits, past, body_exits, condition_code, while_code}
-use Rattle.lower_code.specs.Emission.{sizes_in, exits_of}
+use Rattle.lower_code.specs.Emission.{widths_in, exits_of}
 use Rattle.lower_code.specs.Room.{instructions}
 use Rattle.lower_code.specs.declared.holes.StatementContext.{StatementContext}
 use Rattle.lower_code.specs.declared.positions.Exits as declared
@@ -38,14 +38,14 @@ loop_exits rest exits inner e =
     omega (arith, broken, continued, returned)
 
 module _ (s : StatementContext) (scope : Scope) where
-  pub once_short : (body : Stmt) (p : Position) (n : ℕ) → Short (instructions (size (sizes_in s.helpers.functions.now) body).nodes) (once_code s scope body p n)
+  pub once_short : (body : Stmt) (p : Position) (n : ℕ) → Short (instructions (size (widths_in s.helpers.functions.now) body).nodes) (once_code s scope body p n)
   once_short body p n = statement_short s scope body _ _ _
 
   pub round_short : (third : MaybeStmt) (body : Stmt) (p : Position) (n : ℕ)
-      → Short (instructions (size (sizes_in s.helpers.functions.now) body).nodes + instructions (part_size (sizes_in s.helpers.functions.now) third).nodes) (round_code s scope third body p n)
+      → Short (instructions (size (widths_in s.helpers.functions.now) body).nodes + instructions (part_size (widths_in s.helpers.functions.now) third).nodes) (round_code s scope third body p n)
   round_short third body p n = both (statement_short s scope body _ _ _) (maybe_short s scope third _ _ _)
 
   pub turns_short : (test : MaybeTerm) (third : MaybeStmt) (body : Stmt) (p : Position)
-      → Short (instructions (size (sizes_in s.helpers.functions.now) body).nodes + instructions (part_size (sizes_in s.helpers.functions.now) third).nodes + (6 * (condition_size (sizes_in s.helpers.functions.now) test).nodes + 1) + 4)
+      → Short (instructions (size (widths_in s.helpers.functions.now) body).nodes + instructions (part_size (widths_in s.helpers.functions.now) third).nodes + (6 * (condition_size (widths_in s.helpers.functions.now) test).nodes + 1) + 4)
       (while_code p.depth (round_code s scope third body p (length (condition_code scope test))) (condition_code scope test))
-  turns_short test third body p = while_short p.depth (round_short third body p (length (condition_code scope test))) (condition_short (sizes_in s.helpers.functions.now) scope test)
+  turns_short test third body p = while_short p.depth (round_short third body p (length (condition_code scope test))) (condition_short (widths_in s.helpers.functions.now) scope test)

@@ -9,7 +9,7 @@ use Rattle.clmodel.specs.Typing.Rules.{length_limit}
 use Rattle.clmodel.specs.Typing.Sizes.{row_size, node_limit, parameter_limit}
 use Rattle.clmodel.specs.declared.tree.Function.{Function}
 use Rattle.lower_code.specs.Code.{kernel_code}
-use Rattle.lower_code.specs.Helpers.{inside, sizes_in}
+use Rattle.lower_code.specs.Helpers.{inside, sizes_in, widths_in}
 use Rattle.lower_code.specs.Trees.{all_of}
 use Rattle.lower_code.specs.Variables.{row_elements}
 use Rattle.code_tables.specs.Tables.{register_count}
@@ -50,9 +50,10 @@ TypedKernelsFit =
 
 -- What is wanted of a function, behind these, whose code is made: its barriers, those in the helpers that it calls
 -- among them, have numbers of 32 bits, and it has no more nodes, no more parameters and no array of more elements than
--- typing allows on any device.
+-- typing allows on any device; nor with the parameters of the helpers that it calls more than twice as many nodes.
 pub record IsWithinLimits (functions : List Function) (function : Function) : Type 0 where
   pub few : all_sites (inside functions) (all_of function.body.items) < 2 ^ 32
   pub small : (row_size (sizes_in functions) (all_of function.body.items)).nodes ≤ node_limit
+  pub wide : (row_size (widths_in functions) (all_of function.body.items)).nodes ≤ 2 * node_limit
   pub parameters : length function.parameters.items ≤ parameter_limit
   pub arrays : row_elements (all_of function.body.items) ≤ length_limit

@@ -4,7 +4,7 @@
 ghost use Rattle.std.specs.Prelude.{◌≡◌, ◌≤◌, length, take, IfOk};
 ghost use Rattle.clmodel.specs.Tree.{func};
 ghost use Rattle.lower_code.specs.Code.{kernel_code};
-ghost use Rattle.lower_code.specs.Helpers.{NodesCounted};
+ghost use Rattle.lower_code.specs.Helpers.{NodesCounted, WidthsCounted, AreNarrow};
 ghost use Rattle.lower_code.specs.Emission.{functions_of};
 ghost use Rattle.lower_code.specs.Room.{FewParameters, FewElements};
 ghost use Rattle.lower.specs.Bounds.{IsWithinLimits};
@@ -47,6 +47,8 @@ pub fn emit_kernel(
     requires within { kernel.place ≤ length tree.now.functions.items }
     requires limited { IsWithinLimits (take kernel.place tree.now.functions.items) kernel.function.now }
     requires nodes { NodesCounted tree.now.functions.items }
+    requires widths { WidthsCounted tree.now.functions.items }
+    requires narrow { AreNarrow tree.now.functions.items }
     requires parameters { FewParameters tree.now.functions.items }
     requires elements { FewElements tree.now.functions.items }
     ensures { IfOk result (λ code. code.items ≡ kernel_code (functions_of (take kernel.entry.place tree.now.functions.items)) (func kernel.entry.function.now)) }

@@ -4,14 +4,14 @@
 //! are counted first, and only functions of no more nodes than a kernel may have are measured.
 #![tactic(auto)]
 
-ghost use Rattle.std.specs.Prelude.{◌≡◌, ℕ, suc, ◌<◌, ◌≤◌, ◌^◌, min, None, Some, length, IfOk};
+ghost use Rattle.std.specs.Prelude.{◌≡◌, ℕ, suc, ◌*◌, ◌<◌, ◌≤◌, ◌^◌, min, None, Some, length, IfOk};
 ghost use Rattle.clmodel.specs.Next.{all_sites};
 ghost use Rattle.clmodel.specs.Typing.Rules.{length_limit};
 ghost use Rattle.clmodel.specs.Typing.Sizes.{row_size, node_limit, parameter_limit};
 ghost use Rattle.lower_code.specs.Trees.{all_of};
 ghost use Rattle.lower_code.specs.Variables.{row_elements};
 ghost use Rattle.lower_code.specs.Room.{FewParameters, FewElements};
-ghost use Rattle.lower_code.specs.Helpers.{inside, sizes_in, body_of, BarriersKnown, BarriersCounted, LengthsKnown, LengthsCounted, NodesCounted, EndsKnown};
+ghost use Rattle.lower_code.specs.Helpers.{inside, sizes_in, widths_in, body_of, BarriersKnown, BarriersCounted, LengthsKnown, LengthsCounted, NodesCounted, WidthsCounted, AreNarrow, EndsKnown};
 ghost use Rattle.lower.specs.Bounds.{IsWithinLimits};
 
 use crate::sites::sites_in_all;
@@ -44,6 +44,7 @@ fn measured(
 ) -> Result<Option<usize>, AllocError>
     requires few { all_sites (inside helpers.functions.now) (all_of function.now.body.items) < 2 ^ 32 }
     requires parameters { length function.now.parameters.items ≤ parameter_limit }
+    requires narrow { (row_size (widths_in helpers.functions.now) (all_of function.now.body.items)).nodes ≤ 2 * (row_size (sizes_in helpers.functions.now) (all_of function.now.body.items)).nodes }
     requires arrays { row_elements (all_of function.now.body.items) ≤ length_limit }
     requires counted { nodes ≡ min (row_size (sizes_in helpers.functions.now) (all_of function.now.body.items)).nodes (suc node_limit) }
     ensures length { IfOk result (λ found. (n level depth site : ℕ) → found ≡ Some n → n ≡ length (body_of helpers.entry.functions.now function.now level depth site)) }
@@ -65,6 +66,7 @@ fn known_of(
     nodes: u32,
 ) -> Result<KnownFunction, AllocError>
     requires parameters { length function.now.parameters.items ≤ parameter_limit }
+    requires narrow { (row_size (widths_in helpers.functions.now) (all_of function.now.body.items)).nodes ≤ 2 * (row_size (sizes_in helpers.functions.now) (all_of function.now.body.items)).nodes }
     requires arrays { row_elements (all_of function.now.body.items) ≤ length_limit }
     requires counted { nodes ≡ min (row_size (sizes_in helpers.functions.now) (all_of function.now.body.items)).nodes (suc node_limit) }
     ensures barriers { IfOk result (λ known. (n : ℕ) → known.barriers ≡ Some n → n ≡ all_sites (inside helpers.entry.functions.now) (all_of function.now.body.items)) }
@@ -88,6 +90,8 @@ pub fn known_of_all(
 ) -> Result<Vec<KnownFunction>, AllocError>
     requires ends { EndsKnown functions.now ends.now }
     requires nodes { NodesCounted functions.now }
+    requires widths { WidthsCounted functions.now }
+    requires narrow { AreNarrow functions.now }
     requires parameters { FewParameters functions.now }
     requires elements { FewElements functions.now }
     ensures barriers { IfOk result (λ known. BarriersKnown functions.now known.items) }

@@ -6,7 +6,7 @@ ghost use Rattle.clmodel.specs.Setup.{kernel_number};
 ghost use Rattle.clmodel.specs.Tree.{program};
 ghost use Rattle.cltypes.specs.Kernels.{IsKernel};
 ghost use Rattle.regcode.specs.Listed.{listing};
-ghost use Rattle.lower_code.specs.Helpers.{NodesCounted};
+ghost use Rattle.lower_code.specs.Helpers.{NodesCounted, WidthsCounted, AreNarrow};
 ghost use Rattle.lower_code.specs.Room.{FewParameters, FewElements};
 ghost use Rattle.lower.specs.Bounds.{IsWithinLimits};
 ghost use Rattle.lower.specs.Lists.{Lists};
@@ -69,6 +69,8 @@ fn list_kernel(alloc: Global, tree: &Tree, kernel: PlacedFunction<'_>) -> Result
     requires placed { IsKernel tree.now kernel.place kernel.function.now }
     requires limited { IsWithinLimits (take kernel.place tree.now.functions.items) kernel.function.now }
     requires nodes { NodesCounted tree.now.functions.items }
+    requires widths { WidthsCounted tree.now.functions.items }
+    requires narrow { AreNarrow tree.now.functions.items }
     requires parameters { FewParameters tree.now.functions.items }
     requires elements { FewElements tree.now.functions.items }
     ensures { IfOk result (λ code. Lists (program tree.now).functions kernel.entry.function.now.name (listing code.instructions.items code.tables)) }

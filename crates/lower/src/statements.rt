@@ -17,7 +17,7 @@ ghost use Rattle.clmodel.specs.Typing.Sizes.{size, condition_size, part_size, ro
 ghost use Rattle.lower_expr.specs.Scope.{free_level};
 ghost use Rattle.lower_code.specs.Trees.{all_of, part_of};
 ghost use Rattle.lower_code.specs.Code.{condition_code, while_code};
-ghost use Rattle.lower_code.specs.Emission.{inside, sizes_in, body_of, statement_code, row_code, maybe_code, test_of};
+ghost use Rattle.lower_code.specs.Emission.{inside, sizes_in, widths_in, body_of, statement_code, row_code, maybe_code, test_of};
 ghost use Rattle.lower_code.specs.Growth.{GrowsBefore, KeepsOuter};
 ghost use Rattle.lower_code.specs.Room.{levels, reach, turn_reach};
 ghost use Rattle.lower_code.specs.Variables.{elements, part_elements, row_elements};
@@ -218,7 +218,7 @@ pub fn emit_body<'a>(
 ) -> Result<(), AllocError>
     requires few { position.site + all_sites (inside helpers.functions.now) (all_of function.now.body.items) < 2 ^ 32 }
     requires small { position.depth + (row_size (sizes_in helpers.functions.now) (all_of function.now.body.items)).nodes ≤ node_limit }
-    requires low { position.level.0 + length function.now.parameters.items + levels (row_size (sizes_in helpers.functions.now) (all_of function.now.body.items)).nodes < 2 ^ 28 }
+    requires low { position.level.0 + length function.now.parameters.items + levels (row_size (widths_in helpers.functions.now) (all_of function.now.body.items)).nodes < 2 ^ 28 }
     requires short { length code.old < 2 ^ 31 }
     requires arrays { row_elements (all_of function.now.body.items) ≤ length_limit }
     ensures code { OnOk result (code.new ≡ body_of helpers.entry.functions.now function.now position.level.0 position.depth position.site ++ code.old) }

@@ -1,5 +1,5 @@
--- How many instructions the code of statements has, typed or not: at most 13,007 a node, with the nodes of the helpers
--- that are called.
+-- How many instructions the code of statements has, typed or not: at most 16 a node, with the nodes and the parameters of
+-- the helpers that are called.
 use Rattle.std.proofs.Common.{◌≡◌, ℕ, zero, suc, ◌+◌, ◌*◌, ◌<◌, ◌≤◌, ◌++◌, Bool, true, false, nat_eq, Option, None, Some, List, [], length, take, refl, ap, sym, subst, ◌∙◌, arith, eqb-true}
 use Rattle.std.proofs.Math.Seq.{take-length}
 use Rattle.clnum.specs.declared.int_type.IntType.{IntType}
@@ -8,8 +8,7 @@ use Rattle.clmodel.specs.Barrier.{is_barrier, fences}
 use Rattle.clmodel.specs.BuiltIns.{built_in}
 use Rattle.clmodel.specs.Next.{helper_or, helper_call, step_operator, sites_in}
 use Rattle.clmodel.specs.Tree.{Term, Number, Variable, Element, ElementAddress, Dereference, Call, Unary, Cast, Binary, Choice, Terms, Target, MaybeTerm, WithoutTerm, WithTerm, Stmt, Empty, Block, Declare, DeclareAs, DeclareArray, Assign, Step, CallOnly, If, IfElse, While, DoWhile, For, Break, Continue, Return, ReturnValue, Stmts, NoStmt, ThenStmt, MaybeStmt, Without, With, Func, Funcs, ThenFunc, func, array_length}
-use Rattle.clmodel.specs.Typing.Functions.{size_of}
-use Rattle.clmodel.specs.Typing.Sizes.{Size, Sizes, or_nothing, size_in, term_size, target_size, condition_size, size, part_size, row_size, sizes_of, parameter_limit}
+use Rattle.clmodel.specs.Typing.Sizes.{Size, Sizes, or_nothing, size_in, term_size, target_size, condition_size, size, part_size, row_size}
 use Rattle.clmodel.specs.declared.action.Fences.{Fences}
 use Rattle.clmodel.specs.declared.setup.BuiltIn.{BuiltIn}
 use Rattle.clmodel.specs.declared.tree.Function.{Function}
@@ -18,8 +17,8 @@ use Rattle.lower_expr.specs.Scope.{Scope, free_level}
 use Rattle.lower_expr.specs.Expressions.{registers_for}
 use Rattle.lower_expr.proofs.Short.{Short, none, single, more, both, within, expr_short, terms_short, target_short, call_only_short, fetch_short, put_short, combine_short}
 use Rattle.lower_code.specs.Code.{Exits, Calls, with_variable, scope_after_part, scope_after_all, parameter_variables, array_code, pass_code, needed_code, no_value_code, value_code, wait_code, condition_code, while_code, right_code, step_code, call_only_statement, stmt_code, part_code, stmts_code, body_code, call_code, result_in}
-use Rattle.lower_code.specs.Helpers.{functions_of, inside, sizes_in, body_of, NodesCounted}
-use Rattle.lower_code.specs.Room.{FewParameters, instructions}
+use Rattle.lower_code.specs.Helpers.{functions_of, inside, with_parameters, widths_of, width_of, widths_in, body_of, WidthsCounted}
+use Rattle.lower_code.specs.Room.{instructions}
 use Rattle.lower_code.specs.Trees.{all_of}
 use Rattle.lower_code.specs.declared.holes.StatementContext.{StatementContext}
 use Rattle.lower_code.proofs.Helpers.{function_there}
@@ -64,9 +63,9 @@ while_short depth h k = within (more (more (more (both h (both k single))))) (om
 wider : (n : ℕ) {xs : List Instruction} → Short (6 * n) xs → Short (instructions n) xs
 wider n h = within h (omega arith)
 
--- each helper's code in place of its call: that of its nodes, one instruction for each parameter, and one at its end
+-- each helper's code in place of its call: that of its nodes and its parameters, and one instruction at its end
 abbrev pub AreShort : Sizes → Calls → Type 0
-AreShort sizes calls = (x : ℕ) (numbers : List ℕ) (level depth site : ℕ) → Short (instructions (size_in sizes x).nodes + 13001) (calls x numbers level depth site)
+AreShort sizes calls = (x : ℕ) (numbers : List ℕ) (level depth site : ℕ) → Short (instructions (size_in sizes x).nodes + 1) (calls x numbers level depth site)
 
 module _ (sizes : Sizes) (calls : Calls) (known : AreShort sizes calls) (results : ℕ → Option IntType) (inside : ℕ → ℕ) (result : Option IntType) where
   -- a call that is a right side
@@ -146,60 +145,60 @@ function_short sizes calls known results inside f level depth site =
     both (stmts_short sizes calls known results inside f.result scope f.body depth site _) (no_value_short f.result)
 
 -- a helper of these functions and one more, in place of its call
-case_short : (earlier : Funcs) (f : Func) → AreShort (sizes_of earlier) (call_code earlier)
-    → (size_of earlier f).nodes ≤ (size_in (sizes_of (ThenFunc earlier f)) f.name).nodes → length f.parameters ≤ parameter_limit
+case_short : (earlier : Funcs) (f : Func) → AreShort (widths_of earlier) (call_code earlier)
+    → width_of earlier f ≤ (size_in (widths_of (ThenFunc earlier f)) f.name).nodes
     → (x : ℕ) (b : Bool) → nat_eq x f.name ≡ b → (numbers : List ℕ) (level depth site : ℕ)
-    → Short (instructions (size_in (sizes_of (ThenFunc earlier f)) x).nodes + 13001)
+    → Short (instructions (size_in (widths_of (ThenFunc earlier f)) x).nodes + 1)
     (elim b as (λ _. List Instruction) [
       | true ↦ pass_code f.parameters numbers level ++ body_code (call_code earlier) (result_in earlier) (sites_in earlier) f level depth site
       | false ↦ call_code earlier x numbers level depth site
     ])
-case_short earlier f before counted few x true e numbers level depth site =
-    let there = ap (λ z. (size_in (sizes_of (ThenFunc earlier f)) z).nodes) (eqb-true x f.name e) in
+case_short earlier f before counted x true e numbers level depth site =
+    let there = ap (λ z. (size_in (widths_of (ThenFunc earlier f)) z).nodes) (eqb-true x f.name e) in
     let passed : Short (length f.parameters) (pass_code f.parameters numbers level) = record { most = omega (arith, pass_length f.parameters numbers level) } in
-    within (both passed (function_short (sizes_of earlier) (call_code earlier) before (result_in earlier) (sites_in earlier) f level depth site)) (omega (arith, there, counted, few))
-case_short earlier f before counted few x false e numbers level depth site =
-    let there = ap (λ (o : Option Size). (or_nothing o).nodes) (look_left (nat_eq x) (sizes_of earlier) f.name (row_size (sizes_of earlier) f.body) e) in
+    within (both passed (function_short (widths_of earlier) (call_code earlier) before (result_in earlier) (sites_in earlier) f level depth site)) (omega (arith, there, counted))
+case_short earlier f before counted x false e numbers level depth site =
+    let there = ap (λ (o : Option Size). (or_nothing o).nodes) (look_left (nat_eq x) (widths_of earlier) f.name (with_parameters f (row_size (widths_of earlier) f.body)) e) in
     within (before x numbers level depth site) (omega (arith, there))
 
 -- the first functions
-first_short : (gs : List Function) → NodesCounted gs → FewParameters gs → (n : ℕ) → n ≤ length gs → AreShort (sizes_in (take n gs)) (call_code (functions_of (take n gs)))
-first_short gs counted few zero small = λ x numbers level depth site. within single (omega arith)
-first_short gs counted few (suc n) small =
+first_short : (gs : List Function) → WidthsCounted gs → (n : ℕ) → n ≤ length gs → AreShort (widths_in (take n gs)) (call_code (functions_of (take n gs)))
+first_short gs counted zero small = λ x numbers level depth site. within single (omega arith)
+first_short gs counted (suc n) small =
     let below : n < length gs = omega (arith, small) in
     let g = function_there gs n below in
     let f = func g.0 in
     let earlier = functions_of (take n gs) in
     let next : suc n ≡ n + 1 = omega arith in
     let all : functions_of (take (suc n) gs) ≡ ThenFunc earlier f = ap (λ m. functions_of (take m gs)) next ∙ functions_more gs n g.0 below g.1 in
-    let nodes : (size_of earlier f).nodes ≤ (size_in (sizes_of (ThenFunc earlier f)) f.name).nodes =
-    subst (λ fs. (size_of earlier f).nodes ≤ (size_in (sizes_of fs) f.name).nodes) all (counted (suc n) n g.0 (omega arith) small g.1) in
-    subst (λ fs. AreShort (sizes_of fs) (call_code fs)) (sym all)
+    let widths : width_of earlier f ≤ (size_in (widths_of (ThenFunc earlier f)) f.name).nodes =
+    subst (λ fs. width_of earlier f ≤ (size_in (widths_of fs) f.name).nodes) all (counted (suc n) n g.0 (omega arith) small g.1) in
+    subst (λ fs. AreShort (widths_of fs) (call_code fs)) (sym all)
     (λ x numbers level depth site.
-    case_short earlier f (first_short gs counted few n (omega (arith, small))) nodes (few n g.0 below g.1) x (nat_eq x f.name) refl numbers level depth site)
+    case_short earlier f (first_short gs counted n (omega (arith, small))) widths x (nat_eq x f.name) refl numbers level depth site)
 
 -- all of them
-pub all_short : (gs : List Function) → NodesCounted gs → FewParameters gs → AreShort (sizes_in gs) (call_code (functions_of gs))
-all_short gs counted few = subst (λ hs. AreShort (sizes_in hs) (call_code (functions_of hs))) (take-length gs) (first_short gs counted few (length gs) (omega arith))
+pub all_short : (gs : List Function) → WidthsCounted gs → AreShort (widths_in gs) (call_code (functions_of gs))
+all_short gs counted = subst (λ hs. AreShort (widths_in hs) (call_code (functions_of hs))) (take-length gs) (first_short gs counted (length gs) (omega arith))
 
-pub body_short : (gs : List Function) → NodesCounted gs → FewParameters gs → (f : Function) (level depth site : ℕ)
-    → Short (instructions (row_size (sizes_in gs) (all_of f.body.items)).nodes + 1) (body_of gs f level depth site)
-body_short gs counted few f level depth site =
-    function_short (sizes_in gs) (call_code (functions_of gs)) (all_short gs counted few) (result_in (functions_of gs)) (inside gs) (func f) level depth site
+pub body_short : (gs : List Function) → WidthsCounted gs → (f : Function) (level depth site : ℕ)
+    → Short (instructions (row_size (widths_in gs) (all_of f.body.items)).nodes + 1) (body_of gs f level depth site)
+body_short gs counted f level depth site =
+    function_short (widths_in gs) (call_code (functions_of gs)) (all_short gs counted) (result_in (functions_of gs)) (inside gs) (func f) level depth site
 
 -- what stands in a setting
 module _ (s : StatementContext) where
-  setting_short : AreShort (sizes_in s.helpers.functions.now) (call_code (functions_of s.helpers.functions.now))
-  setting_short = all_short s.helpers.functions.now s.helpers.nodes s.helpers.parameters
+  setting_short : AreShort (widths_in s.helpers.functions.now) (call_code (functions_of s.helpers.functions.now))
+  setting_short = all_short s.helpers.functions.now s.helpers.widths
 
   pub statement_short : (scope : Scope) (x : Stmt) (depth site : ℕ) (exits : Exits)
-      → Short (instructions (size (sizes_in s.helpers.functions.now) x).nodes)
+      → Short (instructions (size (widths_in s.helpers.functions.now) x).nodes)
       (stmt_code (call_code (functions_of s.helpers.functions.now)) (result_in (functions_of s.helpers.functions.now)) (inside s.helpers.functions.now) s.result scope x depth site exits)
-  statement_short scope x depth site exits = stmt_short (sizes_in s.helpers.functions.now) (call_code (functions_of s.helpers.functions.now)) setting_short
+  statement_short scope x depth site exits = stmt_short (widths_in s.helpers.functions.now) (call_code (functions_of s.helpers.functions.now)) setting_short
       (result_in (functions_of s.helpers.functions.now)) (inside s.helpers.functions.now) s.result scope x depth site exits
 
   pub maybe_short : (scope : Scope) (x : MaybeStmt) (depth site : ℕ) (exits : Exits)
-      → Short (instructions (part_size (sizes_in s.helpers.functions.now) x).nodes)
+      → Short (instructions (part_size (widths_in s.helpers.functions.now) x).nodes)
       (part_code (call_code (functions_of s.helpers.functions.now)) (result_in (functions_of s.helpers.functions.now)) (inside s.helpers.functions.now) s.result scope x depth site exits)
-  maybe_short scope x depth site exits = part_short (sizes_in s.helpers.functions.now) (call_code (functions_of s.helpers.functions.now)) setting_short
+  maybe_short scope x depth site exits = part_short (widths_in s.helpers.functions.now) (call_code (functions_of s.helpers.functions.now)) setting_short
       (result_in (functions_of s.helpers.functions.now)) (inside s.helpers.functions.now) s.result scope x depth site exits

@@ -1,5 +1,5 @@
 -- What is known of functions, for fewer functions and for one more.
-use Rattle.std.proofs.Common.{◌≡◌, ℕ, zero, suc, ◌+◌, ◌<◌, ◌≤◌, ◌^◌, ◌⊎◌, inl, inr, Option, None, Some, IfSome, List, [], ◌∷◌, ◌++◌, length, take, get_or, refl, sym, ap, subst, ◌∙◌, arith}
+use Rattle.std.proofs.Common.{◌≡◌, ℕ, zero, suc, ◌+◌, ◌*◌, ◌<◌, ◌≤◌, ◌^◌, ◌⊎◌, inl, inr, Option, None, Some, IfSome, List, [], ◌∷◌, ◌++◌, length, take, get_or, refl, sym, ap, subst, ◌∙◌, arith}
 use Rattle.std.proofs.lemmas.Bool.{cases_lt}
 use Rattle.std.proofs.lemmas.List.{get_or_default, get_or-take, take-take, length-take}
 use Rattle.std.proofs.Math.Seq.{take-length}
@@ -7,9 +7,9 @@ use Rattle.clmodel.specs.Next.{all_sites}
 use Rattle.clmodel.specs.declared.tree.Function.{Function}
 use Rattle.clmodel.specs.Tree.{func}
 use Rattle.clmodel.specs.Typing.Functions.{size_of}
-use Rattle.clmodel.specs.Typing.Sizes.{node_limit}
+use Rattle.clmodel.specs.Typing.Sizes.{row_size, node_limit}
 use Rattle.lower_code.specs.Trees.{all_of}
-use Rattle.lower_code.specs.Helpers.{functions_of, inside, body_of, BarriersKnown, BarriersCounted, LengthsKnown, LengthsCounted, NodesCounted, EndsKnown, nodes_in}
+use Rattle.lower_code.specs.Helpers.{functions_of, inside, body_of, BarriersKnown, BarriersCounted, LengthsKnown, LengthsCounted, NodesCounted, WidthsCounted, AreNarrow, EndsKnown, sizes_in, nodes_in, widths_in, width_of, width_in}
 use Rattle.lower_code.specs.declared.known.KnownFunction.{KnownFunction}
 use Rattle.lower_code.specs.Room.{FewParameters, FewElements}
 use Rattle.lower_code.proofs.Lengths.{function_length}
@@ -64,6 +64,20 @@ nodes_before fs n small h count i f below there f_is =
     subst (λ gs. (size_of (functions_of gs) (func f)).nodes ≤ nodes_in (take count (take n fs)) f.name) (sym (take-take i n fs (omega (arith, inner))))
     (subst (λ gs. (size_of (functions_of (take i fs)) (func f)).nodes ≤ nodes_in gs f.name) (sym (take-take count n fs within)) at)
 
+pub widths_before : (fs : List Function) (n : ℕ) → n ≤ length fs → WidthsCounted fs → WidthsCounted (take n fs)
+widths_before fs n small h count i f below there f_is =
+    let within : count ≤ n = omega (arith, length-take n fs, there, small) in
+    let inner : i < n = omega (arith, within, below) in
+    let at = h count i f below (omega (arith, within, small)) (f_is ∙ get_or-take n fs i f inner) in
+    subst (λ gs. width_of (functions_of gs) (func f) ≤ width_in (take count (take n fs)) f.name) (sym (take-take i n fs (omega (arith, inner))))
+    (subst (λ gs. width_of (functions_of (take i fs)) (func f) ≤ width_in gs f.name) (sym (take-take count n fs within)) at)
+
+pub narrow_before : (fs : List Function) (n : ℕ) → n ≤ length fs → AreNarrow fs → AreNarrow (take n fs)
+narrow_before fs n small h i f below f_is =
+    let inner : i < n = within fs n i small below in
+    subst (λ gs. (row_size (widths_in gs) (all_of f.body.items)).nodes ≤ 2 * (row_size (sizes_in gs) (all_of f.body.items)).nodes) (sym (take-take i n fs (omega (arith, inner))))
+    (h i f (omega (arith, inner, small)) (f_is ∙ get_or-take n fs i f inner))
+
 pub parameters_before : (fs : List Function) (n : ℕ) → n ≤ length fs → FewParameters fs → FewParameters (take n fs)
 parameters_before fs n small h i f below f_is =
     let inner : i < n = within fs n i small below in
@@ -80,6 +94,13 @@ pub nodes_found : (fs : List Function) (i name : ℕ) (f : Function) → NodesCo
 nodes_found fs i name f h below f_is name_is =
     subst (λ gs. (size_of (functions_of (take i fs)) (func f)).nodes ≤ nodes_in gs name) (take-length fs)
     (subst (λ x. (size_of (functions_of (take i fs)) (func f)).nodes ≤ nodes_in (take (length fs) fs) x) name_is (h (length fs) i f below (omega arith) f_is))
+
+-- and no more with the parameters among them
+pub widths_found : (fs : List Function) (i name : ℕ) (f : Function) → WidthsCounted fs → i < length fs → f ≡ get_or fs i f → f.name ≡ name
+    → width_of (functions_of (take i fs)) (func f) ≤ width_in fs name
+widths_found fs i name f h below f_is name_is =
+    subst (λ gs. width_of (functions_of (take i fs)) (func f) ≤ width_in gs name) (take-length fs)
+    (subst (λ x. width_of (functions_of (take i fs)) (func f) ≤ width_in (take (length fs) fs) x) name_is (h (length fs) i f below (omega arith) f_is))
 
 pub ends_before : (fs : List Function) (es : List ℕ) (n : ℕ) → n ≤ length fs → EndsKnown fs es → EndsKnown (take n fs) es
 ends_before fs es n small h i f below f_is =

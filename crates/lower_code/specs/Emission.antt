@@ -13,7 +13,7 @@ use Rattle.lower_expr.specs.Scope.{Scope}
 use Rattle.lower_code.specs.Trees.{all_of}
 use Rattle.lower_code.specs.Code as spec
 use Rattle.lower_code.specs.Code.{Calls, stmt_code, stmts_code, part_code, call_code, pass_code, result_in}
-pub use Rattle.lower_code.specs.Helpers.{functions_of, inside, sizes_in, nodes_in, body_of}
+pub use Rattle.lower_code.specs.Helpers.{functions_of, inside, sizes_in, nodes_in, widths_in, width_in, body_of}
 use Rattle.lower_code.specs.declared.assignments.Call.{Call}
 use Rattle.lower_code.specs.declared.callees.Callee.{Callee}
 use Rattle.lower_code.specs.declared.callees.Callee.TheVariants as callee

@@ -4,8 +4,8 @@ use Rattle.clmodel.specs.Next.{all_sites}
 use Rattle.clmodel.specs.Typing.Rules.{length_limit}
 use Rattle.clmodel.specs.Typing.Sizes.{row_size, node_limit}
 use Rattle.regcode.specs.declared.instruction.Instruction.{Instruction}
-use Rattle.lower_code.specs.Helpers.{inside, sizes_in, body_of, BarriersKnown, BarriersCounted, LengthsKnown, LengthsCounted, NodesCounted, EndsKnown}
-use Rattle.lower_code.specs.Room.{FewParameters, FewElements, levels}
+use Rattle.lower_code.specs.Helpers.{inside, sizes_in, widths_in, body_of, BarriersKnown, BarriersCounted, LengthsKnown, LengthsCounted, NodesCounted, WidthsCounted, EndsKnown}
+use Rattle.lower_code.specs.Room.{FewElements, levels}
 use Rattle.lower_code.specs.Trees.{all_of}
 use Rattle.lower_code.specs.Variables.{row_elements}
 use Rattle.lower_code.specs.declared.holes.Hole.{Hole}
@@ -38,8 +38,8 @@ pub record HoleKnown (h : Hole) : Type 0 where
   pub nodes : NodesCounted h.functions.now
   pub few : h.position.site + all_sites (inside h.functions.now) (all_of h.function.now.body.items) < 2 ^ 32
   pub small : h.position.depth + (row_size (sizes_in h.functions.now) (all_of h.function.now.body.items)).nodes ≤ node_limit
-  pub parameters : FewParameters h.functions.now
-  pub low : h.position.level.0 + length h.function.now.parameters.items + levels (row_size (sizes_in h.functions.now) (all_of h.function.now.body.items)).nodes < 2 ^ 28
+  pub widths : WidthsCounted h.functions.now
+  pub low : h.position.level.0 + length h.function.now.parameters.items + levels (row_size (widths_in h.functions.now) (all_of h.function.now.body.items)).nodes < 2 ^ 28
   pub elements : FewElements h.functions.now
   pub arrays : row_elements (all_of h.function.now.body.items) ≤ length_limit
 

@@ -9,10 +9,10 @@ use Rattle.lower_code.specs.Variables.{row_elements}
 use Rattle.lower_code.specs.declared.assignments.Call.{Call}
 use Rattle.lower_code.specs.declared.positions.Exits.{Exits}
 
--- How many levels above the first that is free code of so many nodes needs at most: a node is a call at the most, which
--- needs one for each parameter.
+-- How many levels above the first that is free code of so many nodes needs at most, with the parameters of helpers that
+-- are called among the nodes.
 abbrev pub levels : ℕ → ℕ
-levels nodes = 13001 * nodes
+levels nodes = 16 * nodes
 
 -- each of these functions has no more parameters
 abbrev pub FewParameters : List Function → Type 0
@@ -27,10 +27,10 @@ abbrev pub called_level : Option Call → ℕ
 called_level None = 0
 called_level (Some c) = c.level.0
 
--- How many instructions code of so many nodes has at most: a node is a call at the most, which has one for each
--- parameter besides seven.
+-- How many instructions code of so many nodes has at most, with the parameters of helpers that are called among the
+-- nodes.
 abbrev pub instructions : ℕ → ℕ
-instructions nodes = 13007 * nodes
+instructions nodes = 16 * nodes
 
 -- The exits of code that is put before other code, with the length of that and what code of so many nodes adds at most:
 -- it grows by its length, and so does each of the three exits that what stands before it has.

@@ -6,7 +6,7 @@ ghost use Rattle.clmodel.specs.Next.{all_sites};
 ghost use Rattle.clmodel.specs.Typing.Sizes.{row_size, node_limit};
 ghost use Rattle.lower_expr.specs.Registers.{numbers};
 ghost use Rattle.lower_code.specs.Code.{call_code};
-ghost use Rattle.lower_code.specs.Emission.{functions_of, inside, sizes_in, nodes_in, body_of, called_sites, split_code};
+ghost use Rattle.lower_code.specs.Emission.{functions_of, inside, sizes_in, nodes_in, widths_in, width_in, body_of, called_sites, split_code};
 ghost use Rattle.lower_code.specs.Trees.{all_of};
 ghost use Rattle.lower_code.specs.Growth.{GrowsBefore};
 ghost use Rattle.lower_code.specs.Room.{levels, called_level};
@@ -30,7 +30,7 @@ pub fn emit_split<'a>(
 ) -> Result<(), AllocError>
     requires few { position.site + called_sites (inside helpers.functions.now) split.call < 2 ^ 32 }
     requires small { position.depth + called_sites (nodes_in helpers.functions.now) split.call ≤ node_limit }
-    requires low { called_level split.call + levels (called_sites (nodes_in helpers.functions.now) split.call + 1) < 2 ^ 28 }
+    requires low { called_level split.call + levels (called_sites (width_in helpers.functions.now) split.call + 1) < 2 ^ 28 }
     ensures code { OnOk result (code.new ≡ split_code (call_code (functions_of helpers.entry.functions.now)) split position.depth position.site ++ code.old) }
     ensures longer { OnErr result (GrowsBefore code.old code.new) }
 {
@@ -61,7 +61,7 @@ fn emit_call<'a>(
 ) -> Result<(), AllocError>
     requires few { position.site + inside helpers.functions.now name < 2 ^ 32 }
     requires small { position.depth + nodes_in helpers.functions.now name ≤ node_limit }
-    requires low { level.0 + levels (nodes_in helpers.functions.now name + 1) < 2 ^ 28 }
+    requires low { level.0 + levels (width_in helpers.functions.now name + 1) < 2 ^ 28 }
     ensures code { OnOk result (code.new ≡ call_code (functions_of helpers.entry.functions.now) name (numbers arguments.now) level.0 position.depth position.site ++ code.old) }
     ensures longer { OnErr result (GrowsBefore code.old code.new) }
 {
@@ -99,7 +99,7 @@ fn leave_body<'a>(
     requires there { found.function.now ≡ get_or helpers.functions.now found.place found.function.now }
     requires few { position.site + all_sites (inside (take found.place helpers.functions.now)) (all_of found.function.now.body.items) < 2 ^ 32 }
     requires small { position.depth + (row_size (sizes_in (take found.place helpers.functions.now)) (all_of found.function.now.body.items)).nodes ≤ node_limit }
-    requires low { level.0 + length found.function.now.parameters.items + levels (row_size (sizes_in (take found.place helpers.functions.now)) (all_of found.function.now.body.items)).nodes < 2 ^ 28 }
+    requires low { level.0 + length found.function.now.parameters.items + levels (row_size (widths_in (take found.place helpers.functions.now)) (all_of found.function.now.body.items)).nodes < 2 ^ 28 }
     ensures code { OnOk result (code.new ≡ body_of (take found.entry.place helpers.entry.functions.now) found.entry.function.now level.0 position.depth position.site ++ code.old) }
     ensures longer { OnErr result (GrowsBefore code.old code.new) }
 {

@@ -2,8 +2,8 @@
 #![tactic(auto)]
 
 ghost use Rattle.std.specs.Prelude.{◌≡◌, ◌≤◌, length, take};
-ghost use Rattle.lower_code.specs.Helpers.{BarriersKnown, BarriersCounted, LengthsKnown, LengthsCounted, NodesCounted, EndsKnown};
-ghost use Rattle.lower_code.specs.Room.{FewParameters, FewElements};
+ghost use Rattle.lower_code.specs.Helpers.{BarriersKnown, BarriersCounted, LengthsKnown, LengthsCounted, NodesCounted, WidthsCounted, EndsKnown};
+ghost use Rattle.lower_code.specs.Room.{FewElements};
 
 use crate::known::KnownFunction;
 use crate::positions::BodyPosition;
@@ -25,7 +25,7 @@ pub struct Helpers<'a> {
     pub ghost measured: { LengthsCounted functions.now known.now },
     pub ghost nodes: { NodesCounted functions.now },
     pub ghost ends_known: { EndsKnown functions.now ends.now },
-    pub ghost parameters: { FewParameters functions.now },
+    pub ghost widths: { WidthsCounted functions.now },
     pub ghost elements: { FewElements functions.now },
 }
 

@@ -8,13 +8,14 @@ use Rattle.cltypes.specs.Limits.{IsSummary}
 use Rattle.cltypes.specs.declared.size.Size.{Size}
 use Rattle.lower_code.specs.Trees.{all_of}
 use Rattle.lower_code.specs.Helpers.{functions_of, inside, body_of, BarriersKnown, BarriersCounted, LengthsKnown, LengthsCounted}
-use Rattle.lower_code.proofs.Tables.{barriers_before, barriers_more, counted_before, counted_more, ends_before, lengths_before, lengths_more, measured_before, measured_more, nodes_before, parameters_before, elements_before}
+use Rattle.lower_code.proofs.Tables.{barriers_before, barriers_more, counted_before, counted_more, ends_before, lengths_before, lengths_more, measured_before, measured_more, nodes_before, widths_before, elements_before}
 use Rattle.lower_code.proofs.Lists.{functions_more}
 use Rattle.lower.proofs.known_functions.known_of_all.Goals as goal
 
 pub known_of-requires : goal.known_of-requires
 known_of-requires c = record {
   parameters = c.requires.parameters c.loop-i.i c.index-functions-i.result c.loop-i-test.true c.index-functions-i.is;
+  narrow = c.requires.narrow c.loop-i.i c.index-functions-i.result c.loop-i-test.true c.index-functions-i.is;
   arrays = c.requires.elements c.loop-i.i c.index-functions-i.result c.loop-i-test.true c.index-functions-i.is;
   counted = ap (λ (z : Size). z.nodes) (c.in_ok-size.ensures.size (functions_of (take c.loop-i.i c.args.functions.now)) c.loop-i.invariant.sizes);
 }
@@ -39,7 +40,7 @@ invariant_of-before c =
       measured = subst (λ xs. LengthsCounted (take i fs) xs) (sym same) (measured_before fs ks i small measured);
       nodes = nodes_before fs i small c.requires.nodes;
       ends_known = ends_before fs c.args.ends.now i small c.requires.ends;
-      parameters = parameters_before fs i small c.requires.parameters;
+      widths = widths_before fs i small c.requires.widths;
       elements = elements_before fs i small c.requires.elements;
     }
 

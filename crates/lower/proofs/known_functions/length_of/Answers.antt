@@ -18,6 +18,6 @@ len-requires c =
     let f = c.args.function.now in
     let p = c.default.result in
     let whole = ap length (begun (body_of fs f p.level.0 p.depth p.site) c.new-code.result c.emit_body.new.code c.new-code.ensures c.in_ok-emit_body.ensures.code) in
-    let most = (body_short fs c.args.helpers.nodes c.args.helpers.parameters f p.level.0 p.depth p.site).most in
-    let small = c.requires.small in
-    omega (arith, whole, most, small)
+    let most = (body_short fs c.args.helpers.widths f p.level.0 p.depth p.site).most in
+    let wide = c.requires.wide in
+    omega (arith, whole, most, wide)

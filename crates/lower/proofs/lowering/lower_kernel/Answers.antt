@@ -2,7 +2,7 @@ use Rattle.std.proofs.Common.{refl}
 use Rattle.std.proofs.lemmas.Bool.{false≢true}
 use Rattle.clmodel.specs.Tree.{program}
 use Rattle.lower.proofs.Lowered.{within_limits, never_rejected, lists_lowered, lists_same}
-use Rattle.lower.proofs.Named.{nodes_counted, few_parameters, few_elements}
+use Rattle.lower.proofs.Named.{nodes_counted, widths_counted, are_narrow, few_parameters, few_elements}
 use Rattle.lower.proofs.lowering.lower_kernel.Goals as goal
 
 pub list_kernel-requires : goal.list_kernel-requires
@@ -15,6 +15,8 @@ list_kernel-requires c =
       placed = c.requires;
       limited = within_limits tree c.args.kernel.place c.args.kernel.function.now c.typed_kernels_have_few_barriers.ensures c.typed_kernels_are_short.ensures typed c.requires;
       nodes = nodes_counted p functions refl typed;
+      widths = widths_counted p functions refl typed;
+      narrow = are_narrow p functions refl typed;
       parameters = few_parameters p functions refl typed;
       elements = few_elements p functions refl typed;
     }

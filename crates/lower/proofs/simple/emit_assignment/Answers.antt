@@ -2,7 +2,7 @@ use Rattle.std.proofs.Common.{◌++◌, ap, ◌∙◌, arith}
 use Rattle.clmodel.specs.Tree.{tree_target, term}
 use Rattle.lower_expr.specs.Scope.{free_level}
 use Rattle.lower_code.specs.Code.{call_code}
-use Rattle.lower_code.specs.Emission.{functions_of, inside, nodes_in, sizes_in, exits_of}
+use Rattle.lower_code.specs.Emission.{functions_of, inside, nodes_in, sizes_in, width_in, widths_in, exits_of}
 use Rattle.lower_code.proofs.Room.{fewer, fewer_there, called_nodes, split_low}
 use Rattle.lower.proofs.simple.emit_assignment.Goals as goal
 
@@ -26,7 +26,7 @@ site_before_call-site-requires c =
 
 pub assignment-requires : goal.assignment-requires
 assignment-requires c =
-    let sizes = sizes_in c.args.context.now.helpers.functions.now in
+    let sizes = widths_in c.args.context.now.helpers.functions.now in
     let to = fewer_there sizes (tree_target c.args.target.now) in
     let less = fewer sizes (term c.args.value.now) in
     let low = c.requires.low in
@@ -41,10 +41,12 @@ emit_split-requires c =
     let called = c.callee_in.ensures (inside functions) in
     let barriers = split.ensures.sites (inside functions) in
     let nodes = split.ensures.sites (nodes_in functions) in
+    let widths = widths_in functions in
+    let width = split.ensures.sites (width_in functions) in
     let more = called_nodes sizes value in
     let small = c.requires.small in
     record {
       few = omega (arith, called, barriers, c.site_before_call-site.ensures);
       small = omega (arith, nodes, more, small);
-      low = split_low sizes value (free_level c.args.scope.now) _ _ _ split.ensures.level nodes (omega arith) c.requires.low;
+      low = split_low widths value (free_level c.args.scope.now) _ _ _ split.ensures.level width (omega arith) c.requires.low;
     }

@@ -1,7 +1,7 @@
 use Rattle.std.proofs.Common.{◌++◌, ap, ◌∙◌, arith}
 use Rattle.clmodel.specs.Tree.{terms}
 use Rattle.lower_code.specs.Code.{call_code, result_in}
-use Rattle.lower_code.specs.Emission.{functions_of, inside, nodes_in, sizes_in}
+use Rattle.lower_code.specs.Emission.{functions_of, inside, nodes_in, width_in, widths_in}
 use Rattle.lower_code.proofs.Room.{fewer_all}
 use Rattle.lower.proofs.simple.emit_call.Goals as goal
 
@@ -25,7 +25,7 @@ site_before_call-site-requires c =
 
 pub call_statement-requires : goal.call_statement-requires
 call_statement-requires c =
-    let less = fewer_all (sizes_in c.args.context.now.helpers.functions.now) (terms c.args.arguments.now) in
+    let less = fewer_all (widths_in c.args.context.now.helpers.functions.now) (terms c.args.arguments.now) in
     let low = c.requires.low in
     omega (arith, less, low)
 
@@ -36,11 +36,12 @@ emit_split-requires c =
     let called = c.callee_of.ensures (inside functions) in
     let barriers = split.ensures.sites (inside functions) in
     let nodes = split.ensures.called (nodes_in functions) in
+    let width = split.ensures.called (width_in functions) in
     let level = split.ensures.level in
     let small = c.requires.small in
     let low = c.requires.low in
     record {
       few = omega (arith, called, barriers, c.site_before_call-site.ensures);
       small = omega (arith, nodes, small);
-      low = omega (arith, level, nodes, low);
+      low = omega (arith, level, width, low);
     }

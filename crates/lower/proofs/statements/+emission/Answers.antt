@@ -17,7 +17,7 @@ use Rattle.lower_expr.specs.Scope.{Scope, free_level}
 use Rattle.lower_code.specs.Variables.{elements, scope_after_all, scope_after_part}
 use Rattle.lower_code.specs.Trees.{all_of, part_of}
 use Rattle.lower_code.specs.Code.{Exits, past, stmt_code, stmts_code, condition_code, call_code, result_in}
-use Rattle.lower_code.specs.Emission.{functions_of, inside, sizes_in, statement_code, row_code, test_of, exits_of}
+use Rattle.lower_code.specs.Emission.{functions_of, inside, sizes_in, widths_in, statement_code, row_code, test_of, exits_of}
 use Rattle.lower_code.proofs.Growth.{before, one_before, both, inner_scope}
 use Rattle.lower_code.proofs.Trees.{row_more, elements_there}
 use Rattle.lower_code.proofs.Rows.{row_laid, longer, choice_placed, begun}
@@ -172,7 +172,7 @@ emit_all-loop-i-preserved t c =
     let emitted : c.emit_statement.new.code ≡ last ++ c.loop-i.code = c.in_ok-behind.ensures.code in
     let length_is = longer last c.loop-i.code c.emit_statement.new.code emitted in
     let behind = length c.emit_statement.new.code - length c.args.code.now in
-    let sizes = sizes_in s.helpers.functions.now in
+    let sizes = widths_in s.helpers.functions.now in
     let most = (statement_short s c.leave.new.scope (stmt x) e.depth first (exits_of c.past.result)).most in
     let nodes : (row_size sizes (all_of (take n ss))).nodes ≡ (row_size sizes front).nodes + (size sizes (stmt x)).nodes = ap (λ r. (row_size sizes r).nodes) more in
     let fewer_left : (row_size sizes (all_of (take (length ss - (c.loop-i.i + 1)) ss))).nodes ≡ (row_size sizes front).nodes = ap (λ m. (row_size sizes (all_of (take m ss))).nodes) (sym next) in
@@ -246,6 +246,8 @@ emit_all-emit_statement-requires t c =
     let smaller : size-Statement x ≤ most size-Statement ss = subst (λ (y : Statement). size-Statement y ≤ most size-Statement ss) (sym c.index-statements-statements.is) (at_most size-Statement ss place x below) in
     let sizes = sizes_in c.args.context.now.helpers.functions.now in
     let nodes = nodes_there sizes ss place x below c.index-statements-statements.is in
+    let widths = widths_in c.args.context.now.helpers.functions.now in
+    let width = nodes_there widths ss place x below c.index-statements-statements.is in
     let all = c.requires.small in
     let low = c.requires.low in
     let start = c.args.scope.now in
@@ -253,8 +255,8 @@ emit_all-emit_statement-requires t c =
     let more : all_of (take (length ss - c.loop-i.i) ss) ≡ ThenStmt front (stmt x) = ap (λ m. all_of (take m ss)) left ∙ row_more ss place x below c.index-statements-statements.is in
     let inner : c.leave.new.scope ≡ scope_after_all start front = c.leave.ensures (scope_after_all start front) (c.loop-i.invariant.scope ∙ ap (λ r. scope_after_all start r) more) in
     let level : free_level c.leave.new.scope ≡ free_level (scope_after_all start front) = ap (λ (z : Scope). free_level z) inner in
-    let after = after_row sizes start.variables front in
-    let parts : (row_size sizes (all_of (take (length ss - c.loop-i.i) ss))).nodes ≡ (row_size sizes front).nodes + (size sizes (stmt x)).nodes = ap (λ r. (row_size sizes r).nodes) more in
+    let after = after_row widths start.variables front in
+    let parts : (row_size widths (all_of (take (length ss - c.loop-i.i) ss))).nodes ≡ (row_size widths front).nodes + (size widths (stmt x)).nodes = ap (λ r. (row_size widths r).nodes) more in
     let added : c.added.result ≡ length c.loop-i.code - length c.args.code.now = c.added.ensures ∙ ap (λ m. length c.loop-i.code - m) c.len-end.ensures in
     let exits = past_exits c.added.result c.args.ending.exits c.past.result c.past.ensures in
     let far = c.requires.short in
@@ -266,7 +268,7 @@ emit_all-emit_statement-requires t c =
       record {
         few = omega (arith, c.loop-i.invariant.site, count, few);
         small = omega (arith, nodes, all);
-        low = omega (arith, level, after, nodes, low);
+        low = omega (arith, level, after, width, low);
         short = omega (arith, parts, added, exits, far, behind, longer_code);
         arrays = omega (arith, arrays, most_elements);
       },
@@ -291,33 +293,33 @@ emit_choice-emit_statement-requires-2 t c =
 
 pub emit_if-put_test-requires : goal.emit_if-put_test-requires
 emit_if-put_test-requires t c =
-    let fewer_nodes = fewer (sizes_in c.args.context.now.helpers.functions.now) (term c.args.condition.now) in
+    let fewer_nodes = fewer (widths_in c.args.context.now.helpers.functions.now) (term c.args.condition.now) in
     let level : free_level c.emit_statement.new.scope ≡ free_level c.args.scope.now = ap (λ (z : Scope). free_level z) c.in_ok-site.ensures.scope in
     let low = c.requires.low in
     omega (arith, fewer_nodes, level, low)
 
 pub emit_choice-put_test-requires : goal.emit_choice-put_test-requires
 emit_choice-put_test-requires t c =
-    let fewer_nodes = fewer (sizes_in c.args.context.now.helpers.functions.now) (term c.args.condition.now) in
+    let fewer_nodes = fewer (widths_in c.args.context.now.helpers.functions.now) (term c.args.condition.now) in
     let level : free_level c.emit_statement-2.new.scope ≡ free_level c.args.scope.now = ap (λ (z : Scope). free_level z) (c.in_ok-site.ensures.scope ∙ c.in_ok-between.ensures.scope) in
     let low = c.requires.low in
     omega (arith, fewer_nodes, level, low)
 
 pub emit_do-put_condition-requires : goal.emit_do-put_condition-requires
 emit_do-put_condition-requires t c =
-    let fewer_nodes = fewer (sizes_in c.args.context.now.helpers.functions.now) (term c.args.condition.now) in
+    let fewer_nodes = fewer (widths_in c.args.context.now.helpers.functions.now) (term c.args.condition.now) in
     let low = c.requires.low in
     omega (arith, fewer_nodes, low)
 
 pub emit_turns-put_condition-requires : goal.emit_turns-put_condition-requires
 emit_turns-put_condition-requires t c =
-    let fewer_nodes = fewer_asked (sizes_in c.args.context.now.helpers.functions.now) (test_of c.args.condition) in
+    let fewer_nodes = fewer_asked (widths_in c.args.context.now.helpers.functions.now) (test_of c.args.condition) in
     let low = c.requires.low in
     omega (arith, fewer_nodes, low)
 
 pub emit_for-emit_turns-requires : goal.emit_for-emit_turns-requires
 emit_for-emit_turns-requires t c =
-    let sizes = sizes_in c.args.context.now.helpers.functions.now in
+    let sizes = widths_in c.args.context.now.helpers.functions.now in
     let after = part_levels sizes c.args.scope.now.variables (part_of c.args.first) in
     let level : free_level c.declare_part.new.scope ≡ free_level (scope_after_part c.args.scope.now (part_of c.args.first)) = ap (λ (z : Scope). free_level z) c.in_ok-declare_part.ensures.declared in
     let few = c.requires.few in
@@ -431,7 +433,7 @@ emit_for-past-requires t c =
 
 pub emit_do-emit_once-requires : goal.emit_do-emit_once-requires
 emit_do-emit_once-requires t c =
-    let sizes = sizes_in c.args.context.now.helpers.functions.now in
+    let sizes = widths_in c.args.context.now.helpers.functions.now in
     let test = WithTerm (term c.args.condition.now) in
     let turn = ap length (begun (condition_code c.args.scope.now test) c.new-turn.result c.put_condition.new.code c.new-turn.ensures c.in_ok-put_condition.ensures.code) in
     let most = (condition_short sizes c.args.scope.now test).most in
@@ -445,7 +447,7 @@ emit_do-emit_once-requires t c =
 pub emit_do-end_do-requires : goal.emit_do-end_do-requires
 emit_do-end_do-requires t c =
     let s = c.args.context.now in
-    let sizes = sizes_in s.helpers.functions.now in
+    let sizes = widths_in s.helpers.functions.now in
     let test = WithTerm (term c.args.condition.now) in
     let turn = ap length (begun (condition_code c.args.scope.now test) c.new-turn.result c.put_condition.new.code c.new-turn.ensures c.in_ok-put_condition.ensures.code) in
     let most = (condition_short sizes c.args.scope.now test).most in
@@ -489,7 +491,7 @@ emit_stepped-emit_once-requires t c =
 
 pub emit_turns-emit_round-requires : goal.emit_turns-emit_round-requires
 emit_turns-emit_round-requires t c =
-    let sizes = sizes_in c.args.context.now.helpers.functions.now in
+    let sizes = widths_in c.args.context.now.helpers.functions.now in
     let test = test_of c.args.condition in
     let turn = ap length (begun (condition_code c.args.scope.now test) c.new-turn.result c.put_condition.new.code c.new-turn.ensures c.in_ok-put_condition.ensures.code) in
     let most = (condition_short sizes c.args.scope.now test).most in
@@ -502,7 +504,7 @@ emit_turns-emit_round-requires t c =
 
 pub emit_turns-len-start-requires : goal.emit_turns-len-start-requires
 emit_turns-len-start-requires t c =
-    let sizes = sizes_in c.args.context.now.helpers.functions.now in
+    let sizes = widths_in c.args.context.now.helpers.functions.now in
     let test = test_of c.args.condition in
     let turn = ap length (begun (condition_code c.args.scope.now test) c.new-turn.result c.put_condition.new.code c.new-turn.ensures c.in_ok-put_condition.ensures.code) in
     let most = (condition_short sizes c.args.scope.now test).most in
@@ -512,7 +514,7 @@ emit_turns-len-start-requires t c =
 pub emit_turns-end_while-requires : goal.emit_turns-end_while-requires
 emit_turns-end_while-requires t c =
     let s = c.args.context.now in
-    let sizes = sizes_in s.helpers.functions.now in
+    let sizes = widths_in s.helpers.functions.now in
     let test = test_of c.args.condition in
     let turn = ap length (begun (condition_code c.args.scope.now test) c.new-turn.result c.put_condition.new.code c.new-turn.ensures c.in_ok-put_condition.ensures.code) in
     let most = (condition_short sizes c.args.scope.now test).most in
@@ -541,6 +543,8 @@ emit_statement-emit_for-requires-in-For t c =
     c.in-For.is c.statement_of.ensures c.condition_of.ensures c.statement_of-in-For.ensures c.deref-in-For.ensures in
     let barriers = ap (λ x. sites f x) whole in
     let nodes = ap (λ x. (size sizes x).nodes) whole in
+    let widths = widths_in c.args.context.now.helpers.functions.now in
+    let width = ap (λ x. (size widths x).nodes) whole in
     let arrays = ap (λ x. elements x) whole in
     let few = c.requires.few in
     let small = c.requires.small in
@@ -551,7 +555,7 @@ emit_statement-emit_for-requires-in-For t c =
     let third = part_depth_is c.statement_of-in-For.result c.in-For.third c.statement_of-in-For.ensures in
     let body = ap (λ (x : Statement). size-Statement x) c.deref-in-For.ensures in
     let all = ap (λ (x : Statement). size-Statement x) c.in-For.is in
-    (search (rules, the_lemmas), record { few = omega (arith, barriers, few); small = omega (arith, nodes, small); low = omega (arith, nodes, low); short = omega (arith, nodes, far); arrays = omega (arith, arrays, most) })
+    (search (rules, the_lemmas), record { few = omega (arith, barriers, few); small = omega (arith, nodes, small); low = omega (arith, width, low); short = omega (arith, width, far); arrays = omega (arith, arrays, most) })
 
 pub emit_statement-returns-in-While-clause-code : goal.emit_statement-returns-in-While-clause-code
 emit_statement-returns-in-While-clause-code t c =
@@ -621,7 +625,7 @@ emit_statement-returns-in_ok-put_step-in-Step-clause-code t c =
 
 pub emit_statement-put_step-requires : goal.emit_statement-put_step-requires
 emit_statement-put_step-requires t c =
-    let sizes = sizes_in c.args.context.now.helpers.functions.now in
+    let sizes = widths_in c.args.context.now.helpers.functions.now in
     let whole = ap (λ (s : Stmt). (size sizes s).nodes) (step_is c.args.statement.now c.in-Step.at c.in-Step.target c.in-Step.is_increment c.deref-in-Step.result.now c.in-Step.is c.deref-in-Step.ensures) in
     let to = fewer_there sizes (tree_target c.deref-in-Step.result.now) in
     let low = c.requires.low in
@@ -629,7 +633,7 @@ emit_statement-put_step-requires t c =
 
 pub emit_statement-put_return_value-requires : goal.emit_statement-put_return_value-requires
 emit_statement-put_return_value-requires t c =
-    let sizes = sizes_in c.args.context.now.helpers.functions.now in
+    let sizes = widths_in c.args.context.now.helpers.functions.now in
     let value = c.deref-in-Some-value.result.now in
     let whole = ap (λ (s : Stmt). (size sizes s).nodes) (return_is c.args.statement.now c.in-Return.at c.in-Return.value c.in-Some-value.value value c.in-Return.is c.in-Some-value.is c.deref-in-Some-value.ensures) in
     let less = fewer sizes (term value) in

@@ -6,7 +6,7 @@ use Rattle.clmodel.specs.declared.tree.Statement.{size-Statement}
 use Rattle.lower_code.specs.Variables.{scope_after_all}
 use Rattle.lower_code.specs.Trees.{all_of}
 use Rattle.lower_code.specs.Code.{stmts_code, call_code, result_in, past}
-use Rattle.lower_code.specs.Emission.{functions_of, inside, sizes_in, exits_of, row_code}
+use Rattle.lower_code.specs.Emission.{functions_of, inside, widths_in, exits_of, row_code}
 use Rattle.lower_code.specs.Room.{instructions}
 use Rattle.lower_code.specs.Growth.{GrowsBefore}
 use Rattle.lower_code.proofs.Lists.{part_depth}
@@ -53,8 +53,8 @@ invariant-emit_all-loop-i l = record {
   site : l.behind + all_sites (inside l.context.helpers.functions.now) (all_of l.statements)
       ≡ l.ending.behind + all_sites (inside l.context.helpers.functions.now) (all_of (take (length l.statements - l.i) l.statements));
   longer : length l.fn.code ≤ length l.code;
-  short : length l.code + instructions (row_size (sizes_in l.context.helpers.functions.now) (all_of (take (length l.statements - l.i) l.statements))).nodes
-      ≤ length l.fn.code + instructions (row_size (sizes_in l.context.helpers.functions.now) (all_of l.statements)).nodes;
+  short : length l.code + instructions (row_size (widths_in l.context.helpers.functions.now) (all_of (take (length l.statements - l.i) l.statements))).nodes
+      ≤ length l.fn.code + instructions (row_size (widths_in l.context.helpers.functions.now) (all_of l.statements)).nodes;
   grows : GrowsBefore l.fn.code l.code;
   code : (site : ℕ) → site + all_sites (inside l.context.helpers.functions.now) (all_of (take (length l.statements - l.i) l.statements)) ≡ l.behind
       → row_code l.context l.fn.scope (all_of l.statements) (begun_at l.ending site) ++ l.fn.code

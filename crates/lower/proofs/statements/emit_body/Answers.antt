@@ -2,7 +2,7 @@ use Rattle.std.proofs.Common.{◌≡◌, ◌+◌, ◌-◌, [], length, ap, ap₂
 use Rattle.clmodel.specs.Typing.Sizes.{row_size}
 use Rattle.lower_expr.specs.Scope.{Scope, free_level}
 use Rattle.lower_code.specs.Code.{parameter_variables}
-use Rattle.lower_code.specs.Emission.{sizes_in}
+use Rattle.lower_code.specs.Emission.{sizes_in, widths_in}
 use Rattle.lower_code.specs.Trees.{all_of}
 use Rattle.lower_code.specs.Variables.{row_elements}
 use Rattle.lower_code.proofs.Short.{no_value_short}
@@ -34,6 +34,8 @@ emit_all-requires c =
     let same = c.as_slice-body.ensures.value in
     let nodes : (row_size (sizes_in c.args.helpers.functions.now) (all_of c.as_slice-body.result.now)).nodes ≡ (row_size (sizes_in c.args.helpers.functions.now) (all_of c.args.function.now.body.items)).nodes =
     ap (λ ss. (row_size (sizes_in c.args.helpers.functions.now) (all_of ss)).nodes) same in
+    let width : (row_size (widths_in c.args.helpers.functions.now) (all_of c.as_slice-body.result.now)).nodes ≡ (row_size (widths_in c.args.helpers.functions.now) (all_of c.args.function.now.body.items)).nodes =
+    ap (λ ss. (row_size (widths_in c.args.helpers.functions.now) (all_of ss)).nodes) same in
     let elements : row_elements (all_of c.as_slice-body.result.now) ≡ row_elements (all_of c.args.function.now.body.items) = ap (λ ss. row_elements (all_of ss)) same in
     let behind = c.site_behind_all-behind.ensures in
     let small = c.requires.small in
@@ -43,8 +45,8 @@ emit_all-requires c =
     record {
       few = omega (arith, behind);
       small = omega (arith, nodes, small);
-      low = omega (arith, level, count, nodes, low);
-      short = omega (arith, end, added, nodes, small, far);
+      low = omega (arith, level, count, width, low);
+      short = omega (arith, end, added, width, low, far);
       arrays = omega (arith, elements, arrays);
     }
 
