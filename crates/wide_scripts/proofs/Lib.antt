@@ -2,4 +2,6 @@ mod AlikeTables
 mod AlikeSteps
 mod AlikeRuns
 mod Marks
+mod OneAnswer
+mod OneBuild
 mod Performing

@@ -49,9 +49,15 @@ Runs old [] [] new = new ≡ old
 Runs old (c ∷ cs) (r ∷ rs) new = (mid : Machine) × Answers old c r mid × Runs mid cs rs new
 Runs old _ _ new = ⊥
 
+-- a machine has one run over commands
+abbrev pub RunsAreOne : Type 0
+RunsAreOne =
+    (old : Machine) (commands : List Command) (replies others : List Reply) (new last : Machine) → Runs old commands replies new → Runs old commands others last
+    → (replies ≡ others) × (new ≡ last)
+
 -- The replies to a script hold for all bytes of the writes and all patterns of the fills that are free, by their places:
--- with any others, as long, a machine of this configuration has a run over the script with the same replies, but for the
--- bytes of those reads that may differ.
+-- with any others, as long, the run over the script of a machine of this configuration, of which there is one
+-- (`RunsAreOne`), has the same replies, but for the bytes of those reads that may differ.
 abbrev pub IsWideScript : Configuration → (free reads : List Bool) → List Command → List Reply → Type 0
 IsWideScript configuration free reads commands replies =
     (others : List Command) → ScriptsDiffer free commands others
