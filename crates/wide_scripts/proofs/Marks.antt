@@ -39,8 +39,8 @@ found_set {A} (e ∷ es) name other value there = by (is name e.0) refl there (�
   where
     apart : (b : Bool) → is other e.0 ≡ b → is name e.0 ≡ false → find (set_value (is name) es value) other ≡ cond (is name other) (Some value) (find es other)
         → cond b (Some e.1) (find (set_value (is name) es value) other) ≡ cond (is name other) (Some value) (cond b (Some e.1) (find es other))
-    apart true here no rest = ap (λ t. cond t (Some value) (Some e.1)) (sym (not_the_first name e.0 other no here))
-    apart false here no rest = rest
+    apart true here differs rest = ap (λ t. cond t (Some value) (Some e.1)) (sym (not_the_first name e.0 other differs here))
+    apart false here differs rest = rest
 
     same : (b : Bool) → b ≡ is name other → cond b (Some value) (find es other) ≡ cond (is name other) (Some value) (cond b (Some e.1) (find es other))
     same true is_other = ap (λ t. cond t (Some value) (Some e.1)) is_other
@@ -50,7 +50,7 @@ found_set {A} (e ∷ es) name other value there = by (is name e.0) refl there (�
         → (is_some (find es name) ≡ true → find (set_value (is name) es value) other ≡ cond (is name other) (Some value) (find es other))
         → find (cond b ((e.0, value) ∷ es) (e ∷ set_value (is name) es value)) other ≡ cond (is name other) (Some value) (cond (is other e.0) (Some e.1) (find es other))
     by true here more rest = same (is other e.0) (as_the_first name e.0 other here)
-    by false no more rest = apart (is other e.0) refl no (rest more)
+    by false differs more rest = apart (is other e.0) refl differs (rest more)
 
 pub found_added : {A : Type 0} (table : Table A) (name other : List ℕ) (value : A) → is_some (find table name) ≡ false
     → find (table ++ (name, value) ∷ []) other ≡ cond (is name other) (Some value) (find table other)
@@ -59,14 +59,18 @@ found_added {A} (e ∷ es) name other value none = by (is name e.0) refl none (�
   where
     apart : (b : Bool) → is other e.0 ≡ b → is name e.0 ≡ false → find (es ++ (name, value) ∷ []) other ≡ cond (is name other) (Some value) (find es other)
         → cond b (Some e.1) (find (es ++ (name, value) ∷ []) other) ≡ cond (is name other) (Some value) (cond b (Some e.1) (find es other))
-    apart true here no rest = ap (λ t. cond t (Some value) (Some e.1)) (sym (not_the_first name e.0 other no here))
-    apart false here no rest = rest
+    apart true here differs rest = ap (λ t. cond t (Some value) (Some e.1)) (sym (not_the_first name e.0 other differs here))
+    apart false here differs rest = rest
 
     by : (b : Bool) → is name e.0 ≡ b → is_some (cond b (Some e.1) (find es name)) ≡ false
         → (is_some (find es name) ≡ false → find (es ++ (name, value) ∷ []) other ≡ cond (is name other) (Some value) (find es other))
         → cond (is other e.0) (Some e.1) (find (es ++ (name, value) ∷ []) other) ≡ cond (is name other) (Some value) (cond (is other e.0) (Some e.1) (find es other))
     by true here more rest = absurd (false≢true (sym more))
-    by false no more rest = apart (is other e.0) refl no (rest more)
+    by false differs more rest = apart (is other e.0) refl differs (rest more)
+
+pub is_some_mapped : {A B : Type 0} (o : Option A) (f : A → B) → is_some (option_map f o) ≡ is_some o
+is_some_mapped None f = refl
+is_some_mapped (Some a) f = refl
 
 -- ---- marks
 
@@ -184,6 +188,9 @@ none_behind (note.Launched buffers wide) name h =
     sym (ap (λ b. (b && is_free_name buffers.items wide.buffers.items name) || false) (no_marks buffers.items)) ∙ h
 
 -- where nothing is free, nothing differs
-pub plain_walk : (notes : List Note) → IsWalk no_taint notes [] (replicate (length notes) false)
-plain_walk [] = tt
-plain_walk (n ∷ ns) = (none_passed n, none_read n, no_taint, none_behind n, plain_walk ns)
+plain : (notes : List Note) → IsWalk no_taint notes [] (replicate (length notes) false)
+plain [] = tt
+plain (n ∷ ns) = (none_passed n, none_read n, no_taint, none_behind n, plain ns)
+
+pub plain_walk : (notes : List Note) (reads : List Bool) → reads ≡ replicate (length notes) false → IsWalk no_taint notes [] reads
+plain_walk notes reads are = subst (IsWalk no_taint notes []) (sym are) (plain notes)

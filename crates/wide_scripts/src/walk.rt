@@ -31,8 +31,10 @@ pub fn walk(
 }
 
 /// The same where no command is free: no bytes that are read may differ. An error is out of memory.
+#[tactic(auto, using(crate::proofs::Marks::plain_walk))]
 pub(crate) fn plain_walk(alloc: Global, notes: &[Note]) -> Result<Vec<bool>, AllocError>
     ensures { IfOk result (λ reads. IsWalk no_taint notes.now [] reads.items) }
 {
-    vec![in alloc; false; notes.len()]
+    let reads = vec![in alloc; false; notes.len()]?;
+    Ok(reads)
 }
