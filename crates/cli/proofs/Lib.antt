@@ -1,5 +1,4 @@
 pub mod CommandLines
-mod Readings
 pub mod Replays
 mod Servings
 pub mod Sessions

@@ -7,11 +7,11 @@ ghost use Rattle.simfile.specs.Lines.{check_line};
 ghost use Rattle.cli.specs.Checking.{Checked, Unchecked, source_status_of};
 
 use crate::reading::bytes_of;
+use crate::session::{Reader, RunFault};
 use byte_io::{Read, Write, WriteFailed};
 use host_commands::build::{NotBuilt, build};
 use host_commands::command::BuildFault;
 use limits::Limits;
-use simfile::faults::{Reader, RunFault};
 use simfile::replies::write_check;
 use std::alloc::Global;
 

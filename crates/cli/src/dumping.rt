@@ -2,32 +2,19 @@
 #![tactic(auto)]
 
 ghost use Rattle.std.specs.Prelude.{IfOk, IfErr, OnOk};
-ghost use Rattle.byte_io.specs.Sink.{Puts};
 ghost use Rattle.clmodel.specs.Tree.{program};
-ghost use Rattle.code_text.specs.Text.{text_of};
 ghost use Rattle.cli.specs.Dumping.{CodeWritten, CodeUnwritten, Dumped, Undumped};
 
 use crate::checking::tell;
 use crate::reading::bytes_of;
-use byte_io::{Read, Write, WriteFailed};
+use crate::session::{Reader, RunFault};
+use byte_io::{Read, Write};
 use cltypes::Checked;
-use code_text::{DumpFault, dump};
+use code_text::dump;
 use host_commands::build::{NotBuilt, build};
 use limits::Limits;
-use lower::{LowerFault, lower};
-use regcode::Code;
-use simfile::faults::{Reader, RunFault};
+use lower::lower;
 use std::alloc::Global;
-
-/// Writes code as text.
-fn write_code<W: Write>(code: &Code, writer: &mut W) -> Result<(), WriteFailed>
-    ensures { Puts (W.sink writer.old) result (W.sink writer.new) (text_of code.now.instructions) }
-{
-    match dump(code, writer) {
-        Ok(()) => Ok(()),
-        Err(DumpFault::Write) => Err(WriteFailed),
-    }
-}
 
 /// Writes the code of a program's kernel as text, and lets go of it.
 fn tell_kernel<W: Write>(
@@ -39,12 +26,8 @@ fn tell_kernel<W: Write>(
     ensures told { OnOk result (CodeWritten (program checked.now.tree) kernel.now (W.sink writer.old) (W.sink writer.new)) }
     ensures untold { IfErr result (CodeUnwritten (program checked.now.tree) kernel.now (W.sink writer.old) (W.sink writer.new)) }
 {
-    let code = match lower(alloc, checked, kernel) {
-        Ok(code) => code,
-        Err(LowerFault::NoSuchKernel) => return Err(RunFault::NoSuchKernel),
-        Err(LowerFault::OutOfMemory) => return Err(RunFault::OutOfMemory),
-    };
-    write_code(&code, writer)?;
+    let code = lower(alloc, checked, kernel)?;
+    dump(&code, writer)?;
     Ok(writer.flush()?)
 }
 

@@ -56,7 +56,7 @@ read_back bytes p is =
     } in
     let whole : IsReadBack (text_of is.text.names (printed fs)) p = record {
       stands = stands;
-      source = λ short within. read (back.lexes short) (record {
+      source = λ limits short within. read (back.lexes limits short) (record {
         functions = record { placed = again.placed; same = sym again.same; program = again.program; within = within };
         names = sym back.names_are;
       });

@@ -1,5 +1,6 @@
 -- The text that a program is printed as, and what texts stand for.
 use Rattle.std.specs.Prelude.{◌≡◌, ℕ, ◌≤◌, List, length, Ok}
+use Rattle.limits.specs.declared.Limits.{Limits}
 use Rattle.clmodel.specs.Tree.{Program}
 use Rattle.clsyntax_lex.specs.Tokens.{Text}
 use Rattle.clsyntax_lex.specs.Lexing.{LexesAtAnyLength}
@@ -31,7 +32,7 @@ abbrev pub IsOfGrammar : Program → Type 0
 IsOfGrammar p = (bytes : List ℕ) × StandsFor bytes p
 
 -- The bytes stand for the program, and are a source of it where they are within the limits of length and nesting of a
--- source.
+-- device.
 pub record IsReadBack (bytes : List ℕ) (p : Program) : Type 0 where
   pub stands : StandsFor bytes p
-  pub source : length bytes ≤ 65536 → IsWithin stands.placed → IsSource bytes (Ok stands.again)
+  pub source : (limits : Limits) → length bytes ≤ limits.source_bytes → IsWithin limits stands.placed → IsSource limits bytes (Ok stands.again)

@@ -2,6 +2,7 @@
 #![tactic(auto)]
 
 ghost use Rattle.std.specs.Prelude.{ℕ, List, Ok};
+ghost use Rattle.limits.specs.declared.Limits.{Limits};
 ghost use Rattle.clmodel.specs.Tree.{Program};
 ghost use Rattle.clsyntax.specs.Source.{IsSource};
 ghost use Rattle.clsyntax_print.specs.Printing.{IsPrinted, HasWords};
@@ -16,9 +17,9 @@ pub fn printed_again()
     ensures words { HasWords }
 {}
 
-/// A source stands for what it is read as, which therefore is a tree of the grammar.
+/// A source stands for what it is read as on a device, which therefore is a tree of the grammar.
 pub fn sources_are_of_the_grammar()
-    ensures { (source : List ℕ) (p : Program) → IsSource source (Ok p) → StandsFor source p }
+    ensures { (limits : Limits) (source : List ℕ) (p : Program) → IsSource limits source (Ok p) → StandsFor source p }
 {
     length_changes_nothing();
 }

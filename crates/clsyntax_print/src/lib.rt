@@ -1,7 +1,9 @@
 //! From a syntax tree back to text.
 //!
 //! `print` writes the defined text. If any text stands for the tree, so does what is written; it is read back as the
-//! tree, offsets aside, where it has at most 65,536 bytes and is nested at most 64 deep.
+//! tree, offsets aside, where it is within the limits of length and nesting of a device. What writes an expression or a
+//! statement calls itself for what stands inside, and so goes as deep as the tree does: of a source's tree, some calls
+//! for each level of its nesting.
 #![tactic(auto)]
 
 ghost use Rattle.clmodel.specs.Tree.{program};
@@ -28,8 +30,8 @@ pub enum PrintFault {
 
 /// Prints a program as OpenCL C: its tokens with a space behind each, and only the round brackets that it needs (C99
 /// 6.4 to 6.9). A tree that some text stands for, of any length and nesting, is printed as a text that stands for the
-/// same tree, but for offsets; and this text is read back as that tree where it has at most 65,536 bytes and is nested
-/// at most 64 deep. Takes no memory.
+/// same tree, but for offsets; and this text is read back as that tree where it is within the limits of length and
+/// nesting of a device. Takes no memory.
 ///
 /// `Write` comes where the writer fails; then a beginning of the text may have been written.
 pub fn print<W: Write>(tree: &Tree, writer: &mut W) -> Result<(), PrintFault>

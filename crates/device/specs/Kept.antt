@@ -25,7 +25,7 @@ ActsAs program number code =
     (setup : Setup) → setup.program ≡ program → setup.kernel ≡ number → (item : ℕ) (answers : List Answer) → acts code setup item answers ≡ next setup item answers
 
 -- Code is the one that is defined of a program's kernel, by the number of its name, with other registers: each
--- instruction stays at its place. There are at most 153,002 of them (own).
+-- instruction stays at its place. There are at most 7,013,002 of them, on any device (own).
 pub record RenamedCode (program : Program) (number : ℕ) (code : Listing) : Type 0 where
   pub defined : Listing
   pub lists : Lists program.functions number defined

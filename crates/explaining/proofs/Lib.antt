@@ -3,7 +3,6 @@ pub mod Faulting
 pub mod Inside
 pub mod Marking
 pub mod Performing
-pub mod Placing
 pub mod Schedules
 pub mod Telling
 pub mod Walking

@@ -1,3 +1,4 @@
 pub mod Explaining
+pub mod Faults
 pub mod Leading
 pub mod Whole

@@ -9,7 +9,7 @@ use Rattle.clmodel.specs.Setup.{kernel_in, functions_before}
 use Rattle.clmodel.specs.Tree as tree
 use Rattle.clmodel.specs.Tree.{Term, Terms, NoTerm, ThenTerm, Target, MaybeTerm, Stmt, Stmts, NoStmt, ThenStmt, MaybeStmt, Func, Funcs, NoFunc, ThenFunc, Program}
 use Rattle.clmodel.specs.Typing.{IsTypedWithin, IsTypedProgram}
-use Rattle.clmodel.specs.Typing.Context.{Context, Signature, Single, Meaning, meaning, Current, BuiltInFunction, Barrier, found, called, signature_of, function_meaning, bind, enter, turning, for_context, after_all}
+use Rattle.clmodel.specs.Typing.Context.{Context, Signature, Meaning, meaning, Current, BuiltInFunction, Barrier, found, called, signature_of, function_meaning, bind, enter, turning, for_context, after_all}
 use Rattle.clmodel.specs.Typing.Context as context
 use Rattle.clmodel.specs.Typing.Functions.{names, signature, signatures, begin, with_params, size_of, IsTypedFunction, AreTypedFunctions}
 use Rattle.clmodel.specs.Typing.Rules as rule
@@ -17,6 +17,7 @@ use Rattle.clmodel.specs.Typing.Rules.{Types, TypesAll, TypesTarget, count, AreG
 use Rattle.clmodel.specs.Typing.Sizes.{Size, Sizes, or_nothing, size_in, term_size, terms_size, target_size, condition_size, size, part_size, row_size, sizes_of, node_limit}
 use Rattle.clmodel.specs.declared.action.Fences.{Fences}
 use Rattle.clmodel.specs.declared.declaration.Declaration.{Declaration}
+use Rattle.clmodel.specs.declared.declaration.Declaration.TheVariants.{Single}
 use Rattle.clmodel.specs.declared.setup.BuiltIn.{BuiltIn}
 use Rattle.clmodel.specs.declared.tree.InfixOperator.TheVariants.{Arithmetic}
 use Rattle.clmodel.specs.declared.tree.VariableType.{VariableType}
@@ -218,17 +219,14 @@ module _ (limits : Limits) (all : List ℕ) where
 
   functions_narrow : (fs : Funcs) → AreTypedFunctions limits all fs → Narrow (sizes_of fs) (widths_of fs) (signatures fs)
   functions_narrow NoFunc typed x = omega arith
-  functions_narrow (ThenFunc earlier f) typed x = by_case (nat_eq x f.name) refl
+  functions_narrow (ThenFunc earlier f) typed x = by_case (functions_narrow earlier typed.0) (nat_eq x f.name) refl
     where
-      before : Narrow (sizes_of earlier) (widths_of earlier) (signatures earlier)
-      before = functions_narrow earlier typed.0
-
       new : signature_of (signatures earlier) f.name ≡ None
       new = (fresh earlier f.name typed.1.name).2
 
-      by_case : (b : Bool) → nat_eq x f.name ≡ b
+      by_case : Narrow (sizes_of earlier) (widths_of earlier) (signatures earlier) → (b : Bool) → nat_eq x f.name ≡ b
           → (size_in (widths_of (ThenFunc earlier f)) x).nodes ≤ wanted (signature_of (signatures (ThenFunc earlier f)) x) + 2 * (size_in (sizes_of (ThenFunc earlier f)) x).nodes
-      by_case true e =
+      by_case before true e =
           let same : x ≡ f.name = eqb-true x f.name e in
           let none : signature_of (signatures earlier) x ≡ None = ap (signature_of (signatures earlier)) same ∙ new in
           let no_size = sizes_none earlier (nat_eq x) none in
@@ -238,7 +236,7 @@ module _ (limits : Limits) (all : List ℕ) where
           let many : length (signature f).parameters ≡ length f.parameters = length-map f.parameters (λ p. p.kind) in
           let body = body_narrow earlier f typed.1 before in
           omega (arith, wide, plain_size, its, many, body)
-      by_case false e =
+      by_case before false e =
           let wide = ap (λ (o : Option Size). (or_nothing o).nodes) (look_left (nat_eq x) (widths_of earlier) f.name (with_parameters f (row_size (widths_of earlier) f.body)) e) in
           let plain_size = ap (λ (o : Option Size). (or_nothing o).nodes) (look_left (nat_eq x) (sizes_of earlier) f.name (size_of earlier f) e) in
           let its = ap wanted (look_left (nat_eq x) (signatures earlier) f.name (signature f) e) in

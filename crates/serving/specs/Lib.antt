@@ -1,3 +1,4 @@
+pub mod Faults
 pub mod Hearing
 pub mod Turns
 pub mod Serving

@@ -13,4 +13,4 @@ mod answer;
 mod hearing;
 pub mod server;
 
-pub use server::Server;
+pub use server::{ServeFault, Server};

@@ -3,4 +3,3 @@ pub mod FieldLaws
 pub mod Grammar
 pub mod Scripts
 pub mod LineLaws
-mod Places
