@@ -12,13 +12,19 @@ use Rattle.host_commands.specs.declared.command.BuildFault.{BuildFault}
 use Rattle.host_commands.specs.declared.command.BuildFault.TheVariants as build_fault
 use Rattle.wide_scripts.proofs.OneAnswer.{BuildsAreOne}
 
-program_of : (p q : Program) → Ok {E = SyntaxFault} p ≡ Ok q → p ≡ q
+abbrev ok : Program → Result Program SyntaxFault
+ok p = Ok p
+
+abbrev err : SyntaxFault → Result Program SyntaxFault
+err f = Err f
+
+program_of : (p q : Program) → ok p ≡ ok q → p ≡ q
 program_of p q e = cc
 
-fault_of : (f g : SyntaxFault) → Err {A = Program} f ≡ Err g → f ≡ g
+fault_of : (f g : SyntaxFault) → err f ≡ err g → f ≡ g
 fault_of f g e = cc
 
-not_both : (p : Program) (f : SyntaxFault) → Ok p ≡ Err f → ⊥
+not_both : (p : Program) (f : SyntaxFault) → ok p ≡ err f → ⊥
 not_both p f e = cc
 
 pub builds_are_one : IsOneSource → IsTypedExactly → BuildsAreOne
