@@ -161,15 +161,15 @@ same_launch m other setup each =
     ap (λ (bs : List (List ℕ)). record (launch_of setup (bytes_of m)) { buffers = bs }) (same_map (bytes_of m) (bytes_of other) (buffer_names setup) each) in
     record {
       clean = λ new l. (
-          with_buffers other (with_values other.buffers (buffer_names setup) l.0),
-          (l.0, subst (λ (launch : launches.Launch). CleanWith launch (map (λ b. map Some b) l.0)) same l.1, refl),
-          λ number. same_bytes (is_free_at [] number) (slice_index_or l.0 number []) (slice_index_or l.0 number []) refl,
+        with_buffers other (with_values other.buffers (buffer_names setup) l.0),
+        (l.0, subst (λ (launch : launches.Launch). CleanWith launch (map (λ b. map Some b) l.0)) same l.1, refl),
+        λ number. same_bytes (is_free_at [] number) (slice_index_or l.0 number []) (slice_index_or l.0 number []) refl,
       );
       fault = λ f schedule new l. (
-          subst (λ (launch : launches.Launch). Reaches launch (events_of schedule) f) same l.0,
-          subst (λ (launch : launches.Launch). IsReported launch (events_of schedule) f) same l.1,
-          l.2,
-          refl,
+        subst (λ (launch : launches.Launch). Reaches launch (events_of schedule) f) same l.0,
+        subst (λ (launch : launches.Launch). IsReported launch (events_of schedule) f) same l.1,
+        l.2,
+        refl,
       );
     }
 
@@ -206,10 +206,10 @@ module _ (taint after : Taint) (free differs : Bool) (m : Machine) (buffers : Ta
   buffer_step name size r new n noted includes =
       answered after differs m buffers (command.Buffer name size) (command.Buffer name size) r new
       (ap₂ (λ b k. first ((b, NameInUse) ∷ ((size == 0) || nat_lt m.configuration.limits.buffer_bytes size, BadSize) ∷ (nat_le m.configuration.limits.buffers k, TooManyBuffers) ∷ []))
-       (used name) (sym (as_many taint m.buffers buffers h)))
+      (used name) (sym (as_many taint m.buffers buffers h)))
       (λ why said. refused why said noted)
       (λ none does. ∣ done after differs m buffers (command.Buffer name size) r new (with_buffers m (m.buffers ++ (name, replicate size 0) ∷ [])) (buffers ++ (name, replicate size 0) ∷ [])
-       does.0 does.1 (refl, refl) (both_added after m.buffers buffers name (replicate size 0) (unused none noted)) ∣₁)
+      does.0 does.1 (refl, refl) (both_added after m.buffers buffers name (replicate size 0) (unused none noted)) ∣₁)
     where
       others : n ≡ note.Other → AlikeTables after m.buffers buffers
       others other = kept (noted_as taint after free n note.Other other includes)
@@ -229,13 +229,13 @@ module _ (taint after : Taint) (free differs : Bool) (m : Machine) (buffers : Ta
       unused none (inl other) = others other
       unused none (inr made) =
           let free_name =
-              unused_from (is_used m name)
-              (((size == 0) || nat_lt m.configuration.limits.buffer_bytes size, BadSize) ∷ (nat_le m.configuration.limits.buffers (length m.buffers), TooManyBuffers) ∷ []) refl none in
+          unused_from (is_used m name)
+          (((size == 0) || nat_lt m.configuration.limits.buffer_bytes size, BadSize) ∷ (nat_le m.configuration.limits.buffers (length m.buffers), TooManyBuffers) ∷ []) refl none in
           more_alike (λ other. not (is name other) && taint other) after m.buffers buffers
           (noted_as taint after free n (note.Made name) made.0 includes)
           (unmarked taint m.buffers buffers name
-           (or_parts (is_some (find m.buffers name)) (is_some (find m.programs name))
-            (or_parts (is_some (find m.buffers name) || is_some (find m.programs name)) (is_some (find m.kernels name)) free_name).0).0 h)
+          (or_parts (is_some (find m.buffers name)) (is_some (find m.programs name))
+          (or_parts (is_some (find m.buffers name) || is_some (find m.programs name)) (is_some (find m.kernels name)) free_name).0).0 h)
 
   -- the marks behind bytes that are put into a buffer
   put_step : (name : List ℕ) (marked : Bool) → ((x : List ℕ) → ((marked && is name x) || taint x) ≡ true → after x ≡ true) → (c d : Command) (r : Reply) (new : Machine) (at : ℕ) (xs ys : List ℕ)
@@ -246,9 +246,9 @@ module _ (taint after : Taint) (free differs : Bool) (m : Machine) (buffers : Ta
   put_step name marked includes c d r new at xs ys alike rows was does =
       answered_more more c d r new rows
       (λ did. ∣ done after differs m buffers d r new (with_buffers m (set_value (is name) m.buffers (with_bytes (bytes_of m name) at xs)))
-       (set_value (is name) buffers (with_bytes (bytes_in buffers name) at ys)) (was did).0 (was did).1 (does _ refl)
-       (both_set after m.buffers buffers name (with_bytes (bytes_of m name) at xs) (with_bytes (bytes_in buffers name) at ys) (kept more)
-        (put_into (taint name) marked (after name) (bytes_of m name) (bytes_in buffers name) xs ys at (more name) put (holds name) alike)) ∣₁)
+      (set_value (is name) buffers (with_bytes (bytes_in buffers name) at ys)) (was did).0 (was did).1 (does _ refl)
+      (both_set after m.buffers buffers name (with_bytes (bytes_of m name) at xs) (with_bytes (bytes_in buffers name) at ys) (kept more)
+      (put_into (taint name) marked (after name) (bytes_of m name) (bytes_in buffers name) xs ys at (more name) put (holds name) alike)) ∣₁)
     where
       more : Includes after taint
       more x t = includes x (or_right (marked && is name x) (taint x) t)
@@ -269,7 +269,7 @@ module _ (taint after : Taint) (free differs : Bool) (m : Machine) (buffers : Ta
       put_step name free (noted_as taint after free n (note.Put name) noted includes) (command.Fill name at count xs) (command.Fill name at count ys) r new at (repeated xs count) (repeated ys count)
       (again free xs ys count alike)
       (ap₂ (λ b k. fill_row b k at count (length ys)) (there name) (long name)
-       ∙ ap (fill_row (is_some (find m.buffers name)) (length (bytes_of m name)) at count) (sym (as_long free xs ys alike)))
+      ∙ ap (fill_row (is_some (find m.buffers name)) (length (bytes_of m name)) at count) (sym (as_long free xs ys alike)))
       (λ did. did) (λ left is_left. (refl, ap (with_buffers m) is_left))
 
   copy_step : (source target : List ℕ) (at to count : ℕ) (r : Reply) (new : Machine) (n : Note) → n ≡ note.Copied source target → Includes after (behind free n taint)
@@ -279,7 +279,7 @@ module _ (taint after : Taint) (free differs : Bool) (m : Machine) (buffers : Ta
       (take count (drop at (bytes_of m source))) (take count (drop at (bytes_in buffers source)))
       (part (taint source) (bytes_of m source) (bytes_in buffers source) at count (holds source))
       (ap₂ (λ b k. copy_row b (is_some (find buffers target)) k (length (bytes_in buffers target)) at to count (is source target && do_overlap at to count)) (there source) (long source)
-       ∙ ap₂ (λ b k. copy_row (is_some (find m.buffers source)) b (length (bytes_of m source)) k at to count (is source target && do_overlap at to count)) (there target) (long target))
+      ∙ ap₂ (λ b k. copy_row (is_some (find m.buffers source)) b (length (bytes_of m source)) k at to count (is source target && do_overlap at to count)) (there target) (long target))
       (λ did. did) (λ left is_left. (refl, ap (with_buffers m) is_left))
 
   read_step : (name : List ℕ) (at count : ℕ) (r : Reply) (new : Machine) (n : Note) → n ≡ note.Read name → Includes after (behind free n taint) → (may_read taint n ≡ true → differs ≡ true)
@@ -295,7 +295,7 @@ module _ (taint after : Taint) (free differs : Bool) (m : Machine) (buffers : Ta
         same =
             subst (λ s. AlikeReply differs s (reply.Data (take count (drop at (bytes_in buffers name))))) (sym did.0)
             (weaker (taint name) differs (take count (drop at (bytes_of m name))) (take count (drop at (bytes_in buffers name))) (λ t. read (ap (may_read taint) noted ∙ t))
-             (part (taint name) (bytes_of m name) (bytes_in buffers name) at count (holds name)));
+            (part (taint name) (bytes_of m name) (bytes_in buffers name) at count (holds name)));
       } ∣₁)
     where
       more : Includes after taint
@@ -306,10 +306,10 @@ module _ (taint after : Taint) (free differs : Bool) (m : Machine) (buffers : Ta
   release_step name r new more =
       answered_more more (command.Release name) (command.Release name) r new
       (ap (λ b. first ((not (b || is_some (find m.programs name) || is_some (find m.kernels name)), NoSuchName)
-                       ∷ ((b && is_argument m name) || (is_some (find m.programs name) && has_kernels m name), InUse) ∷ [])) (there name))
+      ∷ ((b && is_argument m name) || (is_some (find m.programs name) && has_kernels m name), InUse) ∷ [])) (there name))
       (λ did. ∣ done after differs m buffers (command.Release name) r new
-       (record m { buffers = remove_entry (is name) m.buffers; programs = remove_entry (is name) m.programs; kernels = remove_entry (is name) m.kernels })
-       (remove_entry (is name) buffers) did.0 did.1 (refl, refl) (both_removed after m.buffers buffers name (kept more)) ∣₁)
+      (record m { buffers = remove_entry (is name) m.buffers; programs = remove_entry (is name) m.programs; kernels = remove_entry (is name) m.kernels })
+      (remove_entry (is name) buffers) did.0 did.1 (refl, refl) (both_removed after m.buffers buffers name (kept more)) ∣₁)
 
   program_step : (name source : List ℕ) (r : Reply) (new : Machine) → Includes after taint → Answers m (command.Program name source) r new
       → ∥ AnswersAlike after differs m buffers (command.Program name source) r new ∥₁
@@ -378,8 +378,8 @@ module _ (taint after : Taint) (free differs : Bool) (m : Machine) (buffers : Ta
         alike =
             subst (λ (x : Machine). AlikeTables after x.buffers left) (sym l.2)
             (both_with_values after m.buffers buffers (buffer_names setup) l.0 c.1.0 (kept more)
-             (as_many_left setup (bytes_of m) l.0 l.1 ∙ sym (as_many_left setup (bytes_in buffers) c.1.0 c.1.1))
-             (λ number name is_name. weaker (is_free_at flags number) (after name) (slice_index_or l.0 number []) (slice_index_or c.1.0 number []) (marks number name is_name) (c.2 number)));
+            (as_many_left setup (bytes_of m) l.0 l.1 ∙ sym (as_many_left setup (bytes_in buffers) c.1.0 c.1.1))
+            (λ number name is_name. weaker (is_free_at flags number) (after name) (slice_index_or l.0 number []) (slice_index_or c.1.0 number []) (marks number name is_name) (c.2 number)));
         same = refl;
       }
 
@@ -412,20 +412,20 @@ module _ (taint after : Taint) (free differs : Bool) (m : Machine) (buffers : Ta
       by false none l =
           ∣ launched kernel range [] more (λ number name is_name freed. absurd (false≢true freed))
           (same_launch m (with_buffers m buffers) setup
-           (λ number name is_name. subst (λ b. AlikeBytes b (bytes_of m name) (bytes_in buffers name)) (none_marked taint names number name none (among number name is_name)) (holds name)))
+          (λ number name is_name. subst (λ b. AlikeBytes b (bytes_of m name) (bytes_in buffers name)) (none_marked taint names number name none (among number name is_name)) (holds name)))
           r new l ∣₁
       by true some l =
           ∥∥₁_map
           (noted.4 (with_buffers m buffers) setup.arguments (same_arguments noted.1.arguments.items setup.arguments)
-           (λ number name is_name.
-            weaker (taint name) (is_free_at flags number) (bytes_of m name) (bytes_in buffers name)
-            (free_there taint names flags number name (sym (ap (may_pass taint) noted.2) ∙ pass) (among number name is_name)) (holds name)))
+          (λ number name is_name.
+          weaker (taint name) (is_free_at flags number) (bytes_of m name) (bytes_in buffers name)
+          (free_there taint names flags number name (sym (ap (may_pass taint) noted.2) ∙ pass) (among number name is_name)) (holds name)))
           (λ same.
-           launched kernel range flags more
-           (λ number name is_name freed.
-            marks name (or_left (list_any taint names && is_free_name names flags name) (taint name)
-                        (and_from (list_any taint names) (is_free_name names flags name) some (free_named names flags number name (among number name is_name) freed))))
-           same r new l)
+          launched kernel range flags more
+          (λ number name is_name freed.
+          marks name (or_left (list_any taint names && is_free_name names flags name) (taint name)
+          (and_from (list_any taint names) (is_free_name names flags name) some (free_named names flags number name (among number name is_name) freed))))
+          same r new l)
 
   launch_step : (kernel : List ℕ) (range : Range) (r : Reply) (new : Machine) (n : Note) → IsNoted m (command.Launch kernel range) r n → may_pass taint n ≡ true
       → Includes after (behind free n taint) → Answers m (command.Launch kernel range) r new → ∥ AnswersAlike after differs m buffers (command.Launch kernel range) r new ∥₁

@@ -115,7 +115,7 @@ pub one_marked : (names : List (List ℕ)) (free : List Bool) (i : ℕ) (name ot
 one_marked names free i name other old new here kept marks (inl had) = inl (kept had)
 one_marked names free i name other old new here kept marks (inr rest) =
     by (or_cases (is_free_at (drop i free) 0 && is name other) (is_free_name (drop (i + 1) names) (drop 1 (drop i free)) other)
-        (sym (ap (λ ns. is_free_name ns (drop i free) other) here) ∙ rest))
+    (sym (ap (λ ns. is_free_name ns (drop i free) other) here) ∙ rest))
   where
     by : ((is_free_at (drop i free) 0 && is name other) ≡ true) ⊎ (is_free_name (drop (i + 1) names) (drop 1 (drop i free)) other ≡ true)
         → (new other ≡ true) ⊎ (is_free_name (drop (i + 1) names) (drop (i + 1) free) other ≡ true)
@@ -151,8 +151,8 @@ pub goes_more : (now after : Taint) (notes : List Note) (free reads : List Bool)
 goes_more now after notes free reads i n read here pass reading includes goes rest walk =
     subst (IsWalk no_taint notes free) (sym (append_assoc reads (read ∷ []) rest))
     (goes (read ∷ rest)
-     (subst (λ ns. IsWalk now ns (drop i free) (read ∷ rest)) (sym here)
-      (pass, λ h. reading ∙ h, after, subst (λ b. Includes after (behind b n now)) (sym (first_of free i)) includes, subst (λ f. IsWalk after (drop (i + 1) notes) f rest) (sym (drop_one free i)) walk)))
+    (subst (λ ns. IsWalk now ns (drop i free) (read ∷ rest)) (sym here)
+    (pass, λ h. reading ∙ h, after, subst (λ b. Includes after (behind b n now)) (sym (first_of free i)) includes, subst (λ f. IsWalk after (drop (i + 1) notes) f rest) (sym (drop_one free i)) walk)))
 
 pub goes_to_end : (now : Taint) (notes : List Note) (free reads : List Bool) (i : ℕ) → length notes ≤ i → Goes now notes free reads i → IsWalk no_taint notes free reads
 goes_to_end now notes free reads i all goes =

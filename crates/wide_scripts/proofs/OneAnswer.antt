@@ -60,8 +60,8 @@ same_counts item zero (suc m) a b p q r s e = absurd (not_begun item a (replicat
 same_counts item (suc n) zero a b p q r s e = absurd (not_begun item b (replicate n (event.Item item) ++ events_of a) r s (sym e))
 same_counts item (suc n) (suc m) a b p q r s e =
     let rest =
-        same_counts item n m a b p q r s
-        (same_tail (event.Item item) (event.Item item) (replicate n (event.Item item) ++ events_of a) (replicate m (event.Item item) ++ events_of b) e) in
+    same_counts item n m a b p q r s
+    (same_tail (event.Item item) (event.Item item) (replicate n (event.Item item) ++ events_of a) (replicate m (event.Item item) ++ events_of b) e) in
     (ap suc rest.0, rest.1)
 
 -- a list of events is one schedule in runs that are as long as can be
@@ -76,9 +76,9 @@ one_schedule (run.Item i (suc n) ∷ a) (run.Item j zero ∷ b) p q e = absurd (
 one_schedule (run.Item i (suc n) ∷ a) (run.Item j (suc m) ∷ b) p q e =
     let same = item_of i j (same_head (event.Item i) (event.Item j) (replicate n (event.Item i) ++ events_of a) (replicate m (event.Item j) ++ events_of b) e) in
     let rest =
-        same_counts i n m a b p.1 p.2 (subst (λ k. BeginsApart k b) (sym same) q.1) q.2
-        (same_tail (event.Item i) (event.Item j) (replicate n (event.Item i) ++ events_of a) (replicate m (event.Item j) ++ events_of b) e
-         ∙ ap (λ k. replicate m (event.Item k) ++ events_of b) (sym same)) in
+    same_counts i n m a b p.1 p.2 (subst (λ k. BeginsApart k b) (sym same) q.1) q.2
+    (same_tail (event.Item i) (event.Item j) (replicate n (event.Item i) ++ events_of a) (replicate m (event.Item j) ++ events_of b) e
+    ∙ ap (λ k. replicate m (event.Item k) ++ events_of b) (sym same)) in
     ap₂ (λ r rs. r ∷ rs) (ap₂ (λ k l. run.Item k (suc l)) same rest.0) (one_schedule a b p.2 q.2 rest.1)
 one_schedule (run.Item i (suc n) ∷ a) (run.Release h ∷ b) p q e =
     absurd (no_release i h (same_head (event.Item i) (event.Release h) (replicate n (event.Item i) ++ events_of a) (events_of b) e))

@@ -45,12 +45,12 @@ pub launch_noted : (m : Machine) (launch : Launch) (code : Listing) (names : Lis
     → buffers.items ≡ names → IfSome found (HoldsFor code names arguments uniform)
     → MatchOption found ((wide.buffers.items ≡ []) × (wide.arguments.items ≡ [])) (λ w. wide ≡ w) → IsLaunchNote m (launches.setup_of launch) (note.Launched buffers wide)
 launch_noted m launch code names arguments uniform found wide buffers nothing is coded named given said copied holds same = (
-    buffers,
-    wide,
-    refl,
-    copied ∙ named,
-    found_holds m (launches.setup_of launch) code names arguments uniform found wide nothing
-    (subst (λ c. IsCodeOf (launches.setup_of launch).program (launches.setup_of launch).kernel c) (sym coded) is) named given said holds same,
+  buffers,
+  wide,
+  refl,
+  copied ∙ named,
+  found_holds m (launches.setup_of launch) code names arguments uniform found wide nothing
+      (subst (λ c. IsCodeOf (launches.setup_of launch).program (launches.setup_of launch).kernel c) (sym coded) is) named given said holds same,
 )
 
 -- the note of a launch that was prepared

@@ -22,11 +22,9 @@ pub fn runs_are_one()
 /// sections 3.2 and 3.3.1).
 pub fn walks_are_wide()
     ensures { WalksAreWide }
-{
-}
+{}
 
 /// The reply to a launch holds for the bytes and the numbers that it has (own).
 pub fn nothing_is_free()
     ensures { NothingIsFree }
-{
-}
+{}

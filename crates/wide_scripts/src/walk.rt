@@ -11,11 +11,7 @@ use std::alloc::{AllocError, Global};
 /// Of each command whether the bytes that it reads may differ, where a script's replies hold for all bytes of those
 /// commands that are free, by their places; None where a launch has a buffer that may differ and isn't free. It takes
 /// time in proportion to the commands and to the buffers of the launches. An error is out of memory.
-pub fn walk(
-    alloc: Global,
-    notes: &[Note],
-    free: &[bool],
-) -> Result<Option<Vec<bool>>, AllocError>
+pub fn walk(alloc: Global, notes: &[Note], free: &[bool]) -> Result<Option<Vec<bool>>, AllocError>
     ensures { IfOk result (λ found. IfSome found (λ reads. IsWalk no_taint notes.now free.now reads.items)) }
 {
     let mut taint = Taint::new(alloc);

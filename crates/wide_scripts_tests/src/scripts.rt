@@ -144,7 +144,7 @@ fn has_a_wide_fault(script: Option<WideScript>, ticket: usize) -> bool {
     match script {
         Some(wide) => match (wide.replies.get(ticket), wide.notes.get(ticket)) {
             (Some(Reply::Fault { .. }), Some(Note::Launched { buffers, wide })) => {
-                buffers.len() == 1 && wide.buffers.as_slice() == &[true]
+                buffers.len() == 1 && wide.buffers.as_slice() == [true].as_slice()
             }
             _ => false,
         },

@@ -27,14 +27,14 @@ loop-command-preserved c =
       led =
           subst (λ (rs : List Reply). AreNoted start (c.loop-command.yielded ++ c.in-Some.command ∷ []) rs c.push-2.new.self.items (machine_of c.perform.new.device)) (sym c.in_ok-push.ensures.items)
           (subst (λ (ns : List Note). AreNoted start (c.loop-command.yielded ++ c.in-Some.command ∷ []) (c.loop-command.replies.items ++ c.in_ok-perform.field-0.0 ∷ []) ns (machine_of c.perform.new.device)) (sym c.in_ok-push-2.ensures.items)
-           (noted_more start (machine_of c.loop-command.device) (machine_of c.perform.new.device) c.loop-command.yielded c.in-Some.command c.loop-command.replies.items c.in_ok-perform.field-0.0
-            c.loop-command.notes.items c.in_ok-perform.field-0.1 c.loop-command.invariant.led c.in_ok-perform.ensures.answers c.in_ok-perform.ensures.noted));
+          (noted_more start (machine_of c.loop-command.device) (machine_of c.perform.new.device) c.loop-command.yielded c.in-Some.command c.loop-command.replies.items c.in_ok-perform.field-0.0
+          c.loop-command.notes.items c.in_ok-perform.field-0.1 c.loop-command.invariant.led c.in_ok-perform.ensures.answers c.in_ok-perform.ensures.noted));
     }
 
 pub returns : goal.returns
 returns c =
     let empty = nil_from_length (into_iter_items c.loop-command.command-iterator) (omega (arith, c.in-None.ensures.steps.0, c.loop-command.command-iterator.rest.ok)) in
     let all : c.args.commands.items ≡ c.loop-command.yielded = c.loop-command.invariant.split ∙ (ap (λ l. c.loop-command.yielded ++ l) empty ∙ append-nil c.loop-command.yielded) in (
-        machine_of c.loop-command.device,
-        subst (λ (l : List Command). AreNoted (opening c.args.configuration) l c.loop-command.replies.items c.loop-command.notes.items (machine_of c.loop-command.device)) (sym all) c.loop-command.invariant.led,
+      machine_of c.loop-command.device,
+      subst (λ (l : List Command). AreNoted (opening c.args.configuration) l c.loop-command.replies.items c.loop-command.notes.items (machine_of c.loop-command.device)) (sym all) c.loop-command.invariant.led,
     )

@@ -16,8 +16,8 @@ pub returns-in_ok-copied : goal.returns-in_ok-copied
 returns-in_ok-copied g c =
     on_ok_weaker c.insert.result
     (λ added other.
-     ap (λ t. find t other) added
-     ∙ ap (λ name. find (c.args.table.now ++ (name, c.args.value) ∷ []) other) c.in_ok-copied.ensures
-     ∙ found_added c.args.table.now c.args.name.now other c.args.value
-     (sym (ap is_some c.get.ensures) ∙ (is_some_mapped c.get.result (λ a. a.now) ∙ (sym c.is_some.ensures ∙ c.if-is_some.false))))
+    ap (λ t. find t other) added
+    ∙ ap (λ name. find (c.args.table.now ++ (name, c.args.value) ∷ []) other) c.in_ok-copied.ensures
+    ∙ found_added c.args.table.now c.args.name.now other c.args.value
+    (sym (ap is_some c.get.ensures) ∙ (is_some_mapped c.get.result (λ a. a.now) ∙ (sym c.is_some.ensures ∙ c.if-is_some.false))))
     c.insert.ensures.ok

@@ -19,10 +19,10 @@ loop-place-preserved c =
     let new = marked c.pass.new.self.marks in
     subst (λ (reads : List Bool). Goes new c.args.notes.now c.args.free.now reads (i + 1)) (sym c.in_ok-push.ensures.items)
     (goes_more old new c.args.notes.now c.args.free.now c.loop-place.reads.items i n c.may_read.result
-     (drop_more c.args.notes.now i n c.loop-place-test.true ∙ ap (λ x. x ∷ drop (i + 1) c.args.notes.now) (sym c.index-notes-place.is))
-     (c.in_ok-pass.ensures.may c.if-not-branch.false) c.may_read.ensures
-     (subst (λ (b : Bool). Includes new (behind b n old)) c.is_free.ensures (c.in_ok-pass.ensures.marks c.if-not-branch.false))
-     c.loop-place.invariant)
+    (drop_more c.args.notes.now i n c.loop-place-test.true ∙ ap (λ x. x ∷ drop (i + 1) c.args.notes.now) (sym c.index-notes-place.is))
+    (c.in_ok-pass.ensures.may c.if-not-branch.false) c.may_read.ensures
+    (subst (λ (b : Bool). Includes new (behind b n old)) c.is_free.ensures (c.in_ok-pass.ensures.marks c.if-not-branch.false))
+    c.loop-place.invariant)
 
 pub returns : goal.returns
 returns c = goes_to_end (marked c.loop-place.taint.marks) c.args.notes.now c.args.free.now c.loop-place.reads.items c.loop-place.place c.loop-place-test.false c.loop-place.invariant
