@@ -74,8 +74,8 @@ may_pass taint (note.Put buffer) = true
 may_pass taint (note.Copied source target) = true
 may_pass taint (note.Read buffer) = true
 
--- Which buffers may differ behind a command: one that is made anew doesn't; a write or a fill that is free leaves one that
--- does, and so does a copy from one; a launch that has one leaves all its free ones so.
+-- Which buffers may differ behind a command: one that is made anew doesn't; a write or a fill that is free leaves one
+-- that does, and so does a copy from one; a launch that has one leaves all its free ones so.
 abbrev pub behind : Bool → Note → Taint → Taint
 behind free note.Other taint name = taint name
 behind free (note.Made buffer) taint name = not (is buffer name) && taint name

@@ -42,8 +42,8 @@ AlikeReplies differs [] [] = Unit {0}
 AlikeReplies differs (r ∷ rs) (s ∷ ss) = AlikeReply (is_free_at differs 0) r s × AlikeReplies (drop 1 differs) rs ss
 AlikeReplies differs _ _ = ⊥
 
--- A run of the machine over commands: what each answers, after those before it (3.2.1). None lacks memory, which may come
--- in place of any answer (`Step`).
+-- A run of the machine over commands: what each answers, after those before it (3.2.1). None lacks memory, which may
+-- come in place of any answer (`Step`).
 abbrev pub Runs : Machine → List Command → List Reply → Machine → Type 0
 Runs old [] [] new = new ≡ old
 Runs old (c ∷ cs) (r ∷ rs) new = (mid : Machine) × Answers old c r mid × Runs mid cs rs new
@@ -55,8 +55,8 @@ RunsAreOne =
     (old : Machine) (commands : List Command) (replies others : List Reply) (new last : Machine) → Runs old commands replies new → Runs old commands others last
     → (replies ≡ others) × (new ≡ last)
 
--- The replies to a script hold for all bytes of the writes and all patterns of the fills that are free, by their places:
--- with any others, as long, the run over the script of a machine of this configuration, of which there is one
+-- The replies to a script hold for all bytes of the writes and all patterns of the fills that are free, by their
+-- places: with any others, as long, the run over the script of a machine of this configuration, of which there is one
 -- (`RunsAreOne`), has the same replies, but for the bytes of those reads that may differ.
 abbrev pub IsWideScript : Configuration → (free reads : List Bool) → List Command → List Reply → Type 0
 IsWideScript configuration free reads commands replies =

@@ -18,8 +18,8 @@ pub fn runs_are_one()
     clean_exactly();
 }
 
-/// Where a run of a script has a walk, its replies hold for all bytes of the writes and fills that are free (OpenCL 1.2,
-/// sections 3.2 and 3.3.1).
+/// Where a run of a script has a walk, its replies hold for all bytes of the writes and fills that are free (OpenCL
+/// 1.2, sections 3.2 and 3.3.1).
 pub fn walks_are_wide()
     ensures { WalksAreWide }
 {}

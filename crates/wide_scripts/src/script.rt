@@ -19,8 +19,8 @@ use std::alloc::{AllocError, Global};
 pub struct WideScript {
     /// The reply to each command
     pub replies: Vec<Reply>,
-    /// What is noted of each command: of a launch for which bytes of its buffers and which numbers of arguments its reply
-    /// holds
+    /// What is noted of each command: of a launch for which bytes of its buffers and which numbers of arguments its
+    /// reply holds
     pub notes: Vec<Note>,
     /// Of each command whether it is a write or a fill, for all of whose bytes the replies hold
     pub free: Vec<bool>,
@@ -50,8 +50,8 @@ fn find(alloc: Global, notes: &[Note]) -> Result<Found, AllocError>
 }
 
 /// Performs the commands of a script on a device of this configuration, and answers what the replies don't depend on
-/// (OpenCL 1.2, sections 3.2 and 3.3.1). With any other bytes of the writes and any other patterns of the fills that are
-/// free, as many, each reply is the same, but for the bytes of the reads that may differ. Of each launch that isn't
+/// (OpenCL 1.2, sections 3.2 and 3.3.1). With any other bytes of the writes and any other patterns of the fills that
+/// are free, as many, each reply is the same, but for the bytes of the reads that may differ. Of each launch that isn't
 /// refused the notes tell for which bytes of its buffers and which numbers of its arguments its reply holds, whatever
 /// else the machine has, and where the others decide. Beside the commands' own, it takes the time of `widen_launch` for
 /// each launch, and time in proportion to the commands and to the buffers of the launches. An error is out of memory.

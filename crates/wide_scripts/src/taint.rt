@@ -124,8 +124,8 @@ impl Taint {
         Ok(())
     }
 
-    /// Passes a launch with these buffers, of which some are free, by their places: whether it may be passed. An error is
-    /// out of memory.
+    /// Passes a launch with these buffers, of which some are free, by their places: whether it may be passed. An error
+    /// is out of memory.
     fn pass_launch(&mut self, names: &[Name], free: &[bool]) -> Result<bool, AllocError>
         ensures may { IfOk result (λ passed. IsTrue passed → are_free (marked self.old.marks) names.now free.now ≡ true) }
         ensures marks { IfOk result (λ passed. IsTrue passed → (other : List ℕ) → ((list_any (marked self.old.marks) names.now && is_free_name names.now free.now other) || marked self.old.marks other) ≡ true → marked self.new.marks other ≡ true) }

@@ -1,5 +1,5 @@
-//! Small scripts, and for which bytes of their writes and fills their replies hold. What must come follows from the rules
-//! by hand.
+//! Small scripts, and for which bytes of their writes and fills their replies hold. What must come follows from the
+//! rules by hand.
 
 use crate::script::{Script, finds};
 use device::Reply;
