@@ -21,6 +21,9 @@ use Rattle.limits.specs.declared.Limits.{Limits}
 use Rattle.cli.specs.CommandLine.{IsForm, AreLimits, GivesBudget, GivesConfiguration, GivesFormat, GivesLimits, GivesWorkers, IsFormat, IsNumber, IsRun, IsCheck, IsDump, IsReplay, IsServe, IsExplain, IsRefused, Reads, Holds, program}
 
 -- a form with one more argument, by the rule of that one
+pub ruled : {a b : Rule} (old : App) (form : Command) → a ≡ b → IsForm (with_rule old a) form → IsForm (with_rule old b) form
+ruled old form same h = subst (λ (r : Rule). IsForm (with_rule old r) form) same h
+
 pub by_rule : {E : Type 0} {a b : Rule} (old : App) (made : Result Command E) → a ≡ b → IfOk made (IsForm (with_rule old a)) → IfOk made (IsForm (with_rule old b))
 by_rule {E} old made same h = subst (λ (r : Rule). IfOk made (IsForm (with_rule old r))) same h
 

@@ -111,19 +111,16 @@ fn named<'a>(alloc: Global, name: &'a str, about: &'a str) -> Command<'a>
     Command::new(alloc, name).about(about)
 }
 
-/// A form with one more argument, where it was made. In what makes a form each `?` would add a path.
-fn with<'a>(form: Result<Command<'a>, AllocError>, arg: Arg<'a>) -> Result<Command<'a>, AllocError>
-    ensures { (shape : App) → IfOk form.entry (IsForm shape) → arg.entry.global ≡ false → IfOk result (IsForm (with_rule shape (rule_of arg.entry))) }
+/// A form with one more argument.
+fn with<'a>(form: Command<'a>, arg: Arg<'a>) -> Result<Command<'a>, AllocError>
+    ensures { (shape : App) → IsForm shape form.entry → arg.entry.global ≡ false → IfOk result (IsForm (with_rule shape (rule_of arg.entry))) }
 {
-    form?.arg(arg)
+    form.arg(arg)
 }
 
 /// A form with `--limits LIMITS`.
-fn limited<'a>(
-    alloc: Global,
-    form: Result<Command<'a>, AllocError>,
-) -> Result<Command<'a>, AllocError>
-    ensures { (shape : App) → IfOk form.entry (IsForm shape) → IfOk result (IsForm (with_rule shape limits)) }
+fn limited<'a>(alloc: Global, form: Command<'a>) -> Result<Command<'a>, AllocError>
+    ensures { (shape : App) → IsForm shape form.entry → IfOk result (IsForm (with_rule shape limits)) }
 {
     let limits = option(
         alloc,
@@ -135,11 +132,8 @@ fn limited<'a>(
 }
 
 /// A form with what a device is made with: `--budget N` and `--limits LIMITS`.
-fn configured<'a>(
-    alloc: Global,
-    form: Result<Command<'a>, AllocError>,
-) -> Result<Command<'a>, AllocError>
-    ensures { (shape : App) → IfOk form.entry (IsForm shape) → IfOk result (IsForm (configured shape)) }
+fn configured<'a>(alloc: Global, form: Command<'a>) -> Result<Command<'a>, AllocError>
+    ensures { (shape : App) → IsForm shape form.entry → IfOk result (IsForm (configured shape)) }
 {
     let budget = number(
         alloc,
@@ -147,15 +141,13 @@ fn configured<'a>(
         MAX_BUDGET,
         "The most ticks of a work-item: accesses, barriers and turns of loops",
     );
-    limited(alloc, with(form, budget))
+    let with_budget = with(form, budget)?;
+    limited(alloc, with_budget)
 }
 
 /// A form with the options of a run: `--workers N`, `--budget N` and `--limits LIMITS`.
-fn working<'a>(
-    alloc: Global,
-    form: Result<Command<'a>, AllocError>,
-) -> Result<Command<'a>, AllocError>
-    ensures { (shape : App) → IfOk form.entry (IsForm shape) → IfOk result (IsForm (working shape)) }
+fn working<'a>(alloc: Global, form: Command<'a>) -> Result<Command<'a>, AllocError>
+    ensures { (shape : App) → IsForm shape form.entry → IfOk result (IsForm (working shape)) }
 {
     let workers = number(
         alloc,
@@ -163,7 +155,8 @@ fn working<'a>(
         MAX_WORKERS,
         "How many workers run the groups of a launch",
     );
-    configured(alloc, with(form, workers))
+    let with_workers = with(form, workers)?;
+    configured(alloc, with_workers)
 }
 
 /// The form `run FILE [--workers N] [--budget N] [--limits LIMITS]`.
@@ -171,7 +164,8 @@ fn run_form<'a>(alloc: Global) -> Result<Command<'a>, AllocError>
     ensures { IfOk result (IsForm run_form) }
 {
     let form = named(alloc, "run", "Runs a script and prints its replies");
-    working(alloc, with(Ok(form), needed(alloc, "FILE", "The script")))
+    let with_file = with(form, needed(alloc, "FILE", "The script"))?;
+    working(alloc, with_file)
 }
 
 /// The form `check FILE [--limits LIMITS]`.
@@ -183,10 +177,8 @@ fn check_form<'a>(alloc: Global) -> Result<Command<'a>, AllocError>
         "check",
         "Checks a source and prints ok or its first fault",
     );
-    limited(
-        alloc,
-        with(Ok(form), needed(alloc, "FILE", "The source, in OpenCL C")),
-    )
+    let with_file = with(form, needed(alloc, "FILE", "The source, in OpenCL C"))?;
+    limited(alloc, with_file)
 }
 
 /// The form `dump FILE KERNEL [--limits LIMITS]`.
@@ -194,11 +186,9 @@ fn dump_form<'a>(alloc: Global) -> Result<Command<'a>, AllocError>
     ensures { IfOk result (IsForm dump_form) }
 {
     let form = named(alloc, "dump", "Prints the register code of a kernel");
-    let with_file = with(Ok(form), needed(alloc, "FILE", "The source, in OpenCL C"));
-    limited(
-        alloc,
-        with(with_file, needed(alloc, "KERNEL", "The kernel's name")),
-    )
+    let with_file = with(form, needed(alloc, "FILE", "The source, in OpenCL C"))?;
+    let with_kernel = with(with_file, needed(alloc, "KERNEL", "The kernel's name"))?;
+    limited(alloc, with_kernel)
 }
 
 /// The form `replay SCRIPT SCHEDULE [--limits LIMITS]`.
@@ -210,13 +200,14 @@ fn replay_form<'a>(alloc: Global) -> Result<Command<'a>, AllocError>
         "replay",
         "Replays a schedule and prints whether it leads to its fault",
     );
-    let with_script = with(Ok(form), needed(alloc, "SCRIPT", "The script"));
+    let with_script = with(form, needed(alloc, "SCRIPT", "The script"))?;
     let schedule = needed(
         alloc,
         "SCHEDULE",
         "The schedule file: a line `ticket T`, and a fault's line",
     );
-    limited(alloc, with(with_script, schedule))
+    let with_files = with(with_script, schedule)?;
+    limited(alloc, with_files)
 }
 
 /// The form `serve [--workers N] [--budget N] [--limits LIMITS]`.
@@ -228,24 +219,22 @@ fn serve_form<'a>(alloc: Global) -> Result<Command<'a>, AllocError>
         "serve",
         "Reads commands from standard input and answers each at once",
     );
-    working(alloc, Ok(form))
+    working(alloc, form)
 }
 
-/// The arguments of `explain`: `SCRIPT [SCHEDULE] [--format text|json]`.
-fn explained<'a>(
-    alloc: Global,
-    form: Result<Command<'a>, AllocError>,
-) -> Result<Command<'a>, AllocError>
-    ensures { (shape : App) → IfOk form.entry (IsForm shape) → IfOk result (IsForm (with_rule (with_rule (with_rule shape script) some_schedule) format)) }
+/// A form with the files of an explanation and its format: `SCRIPT [SCHEDULE] [--format text|json]`.
+fn explained<'a>(alloc: Global, form: Command<'a>) -> Result<Command<'a>, AllocError>
+    ensures { (shape : App) → IsForm shape form.entry → IfOk result (IsForm (with_rule (with_rule (with_rule shape script) some_schedule) format)) }
 {
-    let with_script = with(form, needed(alloc, "SCRIPT", "The script"));
+    let with_script = with(form, needed(alloc, "SCRIPT", "The script"))?;
+    let with_files = with(with_script, some_schedule(alloc))?;
     let format = option(
         alloc,
         "format",
         "FORMAT",
         "How the explanation is written: text or json",
     );
-    with(with(with_script, some_schedule(alloc)), format)
+    with(with_files, format)
 }
 
 /// The form `explain SCRIPT [SCHEDULE] [--format text|json] [--budget N] [--limits LIMITS] [--as-given]`.
@@ -257,8 +246,9 @@ fn explain_form<'a>(alloc: Global) -> Result<Command<'a>, AllocError>
         "explain",
         "Explains a fault: where in the source, in whose ids, and how it comes about",
     );
-    let whole = configured(alloc, explained(alloc, Ok(form)));
-    with(whole, as_given(alloc))
+    let with_format = explained(alloc, form)?;
+    let with_limits = configured(alloc, with_format)?;
+    with(with_limits, as_given(alloc))
 }
 
 /// The limits of a device, the profile's where the option isn't there, and `None` where it names none.
@@ -444,14 +434,13 @@ fn no_form<'a>(alloc: Global) -> Command<'a>
     named(alloc, "clsim", "A simulated OpenCL 1.2 device").subcommand_required(true)
 }
 
-/// Forms with one more, where both were made. In `forms` each `?` would add a path.
+/// Forms with one more, where that one was made. In `forms` each `?` would add a path that drops the forms so far.
 fn with_form<'a>(
-    forms: Result<Command<'a>, AllocError>,
+    forms: Command<'a>,
     form: Result<Command<'a>, AllocError>,
 ) -> Result<Command<'a>, AllocError>
-    ensures { (shape more : App) → IfOk forms.entry (λ f. app_of f ≡ shape) → IfOk form.entry (IsForm more) → IfOk result (λ all. app_of all ≡ with_subcommand shape more.top) }
+    ensures { (shape more : App) → app_of forms.entry ≡ shape → IfOk form.entry (IsForm more) → IfOk result (λ all. app_of all ≡ with_subcommand shape more.top) }
 {
-    let forms = forms?;
     forms.subcommand(form?)
 }
 
@@ -459,11 +448,11 @@ fn with_form<'a>(
 fn forms<'a>(alloc: Global) -> Result<Command<'a>, AllocError>
     ensures { IfOk result (λ forms. app_of forms ≡ program) }
 {
-    let runs = with_form(Ok(no_form(alloc)), run_form(alloc));
-    let with_checks = with_form(runs, check_form(alloc));
-    let with_dumps = with_form(with_checks, dump_form(alloc));
-    let with_replays = with_form(with_dumps, replay_form(alloc));
-    let with_serving = with_form(with_replays, serve_form(alloc));
+    let runs = with_form(no_form(alloc), run_form(alloc))?;
+    let runs_and_checks = with_form(runs, check_form(alloc))?;
+    let with_dumps = with_form(runs_and_checks, dump_form(alloc))?;
+    let with_replays = with_form(with_dumps, replay_form(alloc))?;
+    let with_serving = with_form(with_replays, serve_form(alloc))?;
     with_form(with_serving, explain_form(alloc))
 }
 

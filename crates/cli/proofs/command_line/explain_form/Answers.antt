@@ -6,5 +6,6 @@ use Rattle.cli.proofs.command_line.explain_form.Goals as goal
 
 pub returns : goal.returns
 returns c =
-    let whole = c.configured-whole.ensures _ (c.explained.ensures (new_app (codes "explain")) c.named-form.ensures) in
-    by_rule (configured (with_rule (with_rule (with_rule (new_app (codes "explain")) script) some_schedule) format)) c.with.result c.as_given.ensures.rule (c.with.ensures _ whole c.as_given.ensures.local)
+    let with_format = c.in_ok-with_format.ensures (new_app (codes "explain")) c.named-form.ensures in
+    let with_limits = c.in_ok-with_limits.ensures _ with_format in
+    by_rule (configured (with_rule (with_rule (with_rule (new_app (codes "explain")) script) some_schedule) format)) c.with.result c.as_given.ensures.rule (c.with.ensures _ with_limits c.as_given.ensures.local)

@@ -3,9 +3,9 @@ use Rattle.cli.proofs.command_line.forms.Goals as goal
 
 pub returns : goal.returns
 returns c =
-    let runs = c.with_form-runs.ensures no_form _ c.no_form.ensures c.run_form.ensures in
-    let checks = c.with_form-with_checks.ensures _ _ runs c.check_form.ensures in
-    let dumps = c.with_form-with_dumps.ensures _ _ checks c.dump_form.ensures in
-    let replays = c.with_form-with_replays.ensures _ _ dumps c.replay_form.ensures in
-    let serving = c.with_form-with_serving.ensures _ _ replays c.serve_form.ensures in
+    let runs = c.in_ok-runs.ensures no_form _ c.no_form.ensures c.run_form.ensures in
+    let checks = c.in_ok-runs_and_checks.ensures _ _ runs c.check_form.ensures in
+    let dumps = c.in_ok-with_dumps.ensures _ _ checks c.dump_form.ensures in
+    let replays = c.in_ok-with_replays.ensures _ _ dumps c.replay_form.ensures in
+    let serving = c.in_ok-with_serving.ensures _ _ replays c.serve_form.ensures in
     c.with_form.ensures _ _ serving c.explain_form.ensures
