@@ -13,7 +13,13 @@ struct _cl_device_id the_device = {&dispatch_table};
 #define DEVICE_TYPES (CL_DEVICE_TYPE_CPU | CL_DEVICE_TYPE_GPU | CL_DEVICE_TYPE_ACCELERATOR | CL_DEVICE_TYPE_DEFAULT)
 #define EXTENSIONS \
     "cl_khr_byte_addressable_store cl_khr_global_int32_base_atomics cl_khr_global_int32_extended_atomics " \
-    "cl_khr_local_int32_base_atomics cl_khr_local_int32_extended_atomics"
+    "cl_khr_local_int32_base_atomics cl_khr_local_int32_extended_atomics cl_khr_fp64"
+
+// Each operation rounds once, to the nearest, as IEEE 754 says, with subnormal numbers, infinities and NaNs.
+#define BOTH_CONFIGS (CL_FP_DENORM | CL_FP_INF_NAN | CL_FP_ROUND_TO_NEAREST | CL_FP_FMA)
+// (of double a device has to tell the other directions too, table 4.3; only conversions and stores ask for them)
+#define SINGLE_CONFIG (BOTH_CONFIGS | CL_FP_CORRECTLY_ROUNDED_DIVIDE_SQRT)
+#define DOUBLE_CONFIG (BOTH_CONFIGS | CL_FP_ROUND_TO_ZERO | CL_FP_ROUND_TO_INF)
 
 // Notes in the file that CLSIM_ASKED names that a client asked for the device, so that `clsim-exec` can tell where none
 // did.
@@ -85,12 +91,12 @@ CL_API_ENTRY cl_int CL_API_CALL clGetDeviceInfo(cl_device_id d, cl_device_info n
     case CL_DEVICE_NATIVE_VECTOR_WIDTH_CHAR:
     case CL_DEVICE_NATIVE_VECTOR_WIDTH_SHORT:
     case CL_DEVICE_NATIVE_VECTOR_WIDTH_INT:
-    case CL_DEVICE_NATIVE_VECTOR_WIDTH_LONG: GIVE(cl_uint, 1);
+    case CL_DEVICE_NATIVE_VECTOR_WIDTH_LONG:
     case CL_DEVICE_PREFERRED_VECTOR_WIDTH_FLOAT:
     case CL_DEVICE_PREFERRED_VECTOR_WIDTH_DOUBLE:
-    case CL_DEVICE_PREFERRED_VECTOR_WIDTH_HALF:
     case CL_DEVICE_NATIVE_VECTOR_WIDTH_FLOAT:
-    case CL_DEVICE_NATIVE_VECTOR_WIDTH_DOUBLE:
+    case CL_DEVICE_NATIVE_VECTOR_WIDTH_DOUBLE: GIVE(cl_uint, 1);
+    case CL_DEVICE_PREFERRED_VECTOR_WIDTH_HALF:
     case CL_DEVICE_NATIVE_VECTOR_WIDTH_HALF: GIVE(cl_uint, 0);
     case CL_DEVICE_MAX_CLOCK_FREQUENCY: GIVE(cl_uint, 1);
     case CL_DEVICE_ADDRESS_BITS: GIVE(cl_uint, 64);
@@ -109,8 +115,8 @@ CL_API_ENTRY cl_int CL_API_CALL clGetDeviceInfo(cl_device_id d, cl_device_info n
     case CL_DEVICE_MAX_PARAMETER_SIZE: GIVE(size_t, PARAMETER_BYTES);
     case CL_DEVICE_MEM_BASE_ADDR_ALIGN: GIVE(cl_uint, 8 * BASE_ALIGN);
     case CL_DEVICE_MIN_DATA_TYPE_ALIGN_SIZE: GIVE(cl_uint, BASE_ALIGN);
-    case CL_DEVICE_SINGLE_FP_CONFIG:
-    case CL_DEVICE_DOUBLE_FP_CONFIG: GIVE(cl_device_fp_config, 0);
+    case CL_DEVICE_SINGLE_FP_CONFIG: GIVE(cl_device_fp_config, SINGLE_CONFIG);
+    case CL_DEVICE_DOUBLE_FP_CONFIG: GIVE(cl_device_fp_config, DOUBLE_CONFIG);
     case CL_DEVICE_GLOBAL_MEM_CACHE_TYPE: GIVE(cl_device_mem_cache_type, CL_NONE);
     case CL_DEVICE_GLOBAL_MEM_CACHELINE_SIZE: GIVE(cl_uint, 0);
     case CL_DEVICE_GLOBAL_MEM_CACHE_SIZE: GIVE(cl_ulong, 0);

@@ -50,7 +50,7 @@ function note_calls(line, name) {
 
 BEGIN {
     print "/* Made of floats.cl by helpers.awk. */"
-    count = split("int uint long ulong ushort if else while return min max clz abs", list, " ")
+    count = split("char uchar short ushort int uint long ulong if else for while do break continue return min max clz abs", list, " ")
     for (i = 1; i <= count; i++) word[list[i]] = 1
 }
 

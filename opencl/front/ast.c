@@ -124,7 +124,8 @@ static void explain_outcome(text *log, const char *clang, const outcome *o) {
 
 #define EXTENSIONS \
     "-cl-ext=-all,+cl_khr_byte_addressable_store,+cl_khr_global_int32_base_atomics," \
-    "+cl_khr_global_int32_extended_atomics,+cl_khr_local_int32_base_atomics,+cl_khr_local_int32_extended_atomics"
+    "+cl_khr_global_int32_extended_atomics,+cl_khr_local_int32_base_atomics,+cl_khr_local_int32_extended_atomics," \
+    "+cl_khr_fp64"
 
 // (clang's dump doesn't tell what `__builtin_offsetof` comes to; it tells the length of an array)
 static const char *const for_all[] = {"-target",
@@ -295,9 +296,29 @@ static bool ends_as_source(const whole *w) {
     return w->length >= n && !memcmp(w->at + w->length - n, last_line, n);
 }
 
+// OpenCL 1.2, 6.12.7: clang knows these only where it takes arithmetic of half.
+static const char of_half[] =
+    "#define CLSIM_O __attribute__((overloadable))\n"
+    "#define CLSIM_L(S, N) float##N CLSIM_O vload_half##N(size_t, const S half *);\n"
+    "#define CLSIM_A(S, N) CLSIM_L(S, N) float##N CLSIM_O vloada_half##N(size_t, const S half *);\n"
+    "#define CLSIM_W(S, T, F) void CLSIM_O F(T, size_t, S half *);\n"
+    "#define CLSIM_M(S, T, F) CLSIM_W(S, T, F) CLSIM_W(S, T, F##_rte) CLSIM_W(S, T, F##_rtz) "
+    "CLSIM_W(S, T, F##_rtp) CLSIM_W(S, T, F##_rtn)\n"
+    "#define CLSIM_S(S, N) CLSIM_M(S, float##N, vstore_half##N) CLSIM_M(S, double##N, vstore_half##N)\n"
+    "#define CLSIM_B(S, N) CLSIM_S(S, N) CLSIM_M(S, float##N, vstorea_half##N) CLSIM_M(S, double##N, vstorea_half##N)\n"
+    "#define CLSIM_N(M, S) M(S, 2) M(S, 3) M(S, 4) M(S, 8) M(S, 16)\n"
+    "#define CLSIM_ALL(S) CLSIM_L(S, ) CLSIM_N(CLSIM_A, S) CLSIM_S(S, ) CLSIM_N(CLSIM_B, S)\n"
+    "CLSIM_ALL(__global) CLSIM_ALL(__local) CLSIM_ALL(__private)\n"
+    "CLSIM_L(__constant, ) CLSIM_N(CLSIM_A, __constant)\n"
+    "#undef CLSIM_O\n#undef CLSIM_L\n#undef CLSIM_A\n#undef CLSIM_W\n#undef CLSIM_M\n#undef CLSIM_S\n"
+    "#undef CLSIM_B\n#undef CLSIM_N\n#undef CLSIM_ALL\n";
+
 static outcome check_source(const request *q, const text *named) {
     whole nothing = {.arena = q->arena};
-    return run_clang(q->arena, words_for(q, for_checking), named->at, named->length, read_whole, &nothing);
+    text checked = {.arena = q->arena};
+    if (strstr(named->at, "_half")) add(&checked, of_half);
+    add_bytes(&checked, named->at, named->length);
+    return run_clang(q->arena, words_for(q, for_checking), checked.at, checked.length, read_whole, &nothing);
 }
 
 // Why clang doesn't take a source: what it says of the client's own text, where that is at hand and it says so there
@@ -314,14 +335,17 @@ static void explain_refusal(const request *q, const text *named, const outcome *
 }
 
 // What clang looks for where it knows a built-in function by an extension: the preprocessed text has no macros any
-// more.
-static const char in_front[] = "#define __opencl_c_int64 1\n"
-                               "#define __opencl_c_named_address_space_builtins 1\n"
-                               "#define cl_khr_byte_addressable_store 1\n"
-                               "#define cl_khr_global_int32_base_atomics 1\n"
-                               "#define cl_khr_global_int32_extended_atomics 1\n"
-                               "#define cl_khr_local_int32_base_atomics 1\n"
-                               "#define cl_khr_local_int32_extended_atomics 1\n";
+// more. By cl_khr_fp16 it knows vload_half and its like; arithmetic of half it refuses all the same.
+static const char in_front[] =
+    "#define __opencl_c_int64 1\n"
+    "#define __opencl_c_named_address_space_builtins 1\n"
+    "#define cl_khr_byte_addressable_store 1\n"
+    "#define cl_khr_global_int32_base_atomics 1\n"
+    "#define cl_khr_global_int32_extended_atomics 1\n"
+    "#define cl_khr_local_int32_base_atomics 1\n"
+    "#define cl_khr_local_int32_extended_atomics 1\n"
+    "#define cl_khr_fp64 1\n"
+    "#define cl_khr_fp16 1\n";
 static const char behind[] = "\ntypedef int " LAST_NAME ";\n";
 
 // Reads what a source is after its preprocessing. Without `named` its own text isn't read again.

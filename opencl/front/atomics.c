@@ -61,8 +61,9 @@ static void call_on(translator *t, object *o, void *with) {
 
 value atomic_value(translator *t, const node *n, const char *operation, bool is_used) {
     const type *number = n->part_count > 1 ? n->parts[1]->type->of : NULL;
-    if (!number || number->kind != INTEGER_TYPE || number->width != 4)
-        refuse_at(t, &n->place, "Clsim has atomic functions of int and uint only");
+    bool of_float = number && number->kind == FLOATING_TYPE && !strcmp(operation, "xchg");
+    if (!number || (number->kind != INTEGER_TYPE && !of_float) || number->width != 4)
+        refuse_at(t, &n->place, "Clsim has atomic functions of int and uint, and atomic_xchg of float, only");
     atomic a = {.node = n, .operation = operation, .type = core_type(number), .count = n->part_count - 1};
     a.given = take(&t->pass, a.count * sizeof *a.given);
     for (unsigned i = 0; i < a.count; i++) a.given[i] = (operand){.node = n->parts[1 + i]};

@@ -234,12 +234,19 @@ static void evaluate_arguments(translator *t, const node *n, operand *to, unsign
 
 static integer component(const value *v, unsigned i) { return v->kind == VECTOR_VALUE ? v->components[i] : v->integer; }
 
+// bitselect and select are the only ones of these that floating-point numbers have too, by their bits.
+static void refuse_floats(translator *t, const node *n, const char *name) {
+    if (!strcmp(name, "bitselect") || !strcmp(name, "select")) return;
+    for (unsigned i = 1; i < n->part_count; i++)
+        if (is_floating(n->parts[i]->type)) refuse_at(t, &n->place, "Clsim has no %s of floating-point numbers", name);
+}
+
 static value numeric_value(translator *t, const node *n, unsigned which) {
     unsigned count = functions[which].count, length = n->type->kind == VECTOR_TYPE ? (unsigned)n->type->length : 1;
     operand given[3];
     integer each[3], *results = take(&t->pass, length * sizeof *results);
     const type *result = n->type->kind == VECTOR_TYPE ? n->type->of : n->type;
-    for (unsigned i = 1; i < n->part_count; i++) refuse_floating(t, n->parts[i]->type, &n->place);
+    refuse_floats(t, n, functions[which].name);
     evaluate_arguments(t, n, given, n->part_count - 1, count);
     for (unsigned i = 0; i < count; i++) {
         if (given[i].value.kind != INTEGER_VALUE && given[i].value.kind != VECTOR_VALUE)
@@ -257,7 +264,6 @@ static value numeric_value(translator *t, const node *n, unsigned which) {
 
 // Whether the highest bit is set in any, or in all, of the components (6.12.6).
 static value bits_value(translator *t, const node *n, bool of_all) {
-    refuse_floating(t, n->parts[1]->type, &n->place);
     value v = evaluate_value(t, n->parts[1]);
     unsigned count = v.kind == VECTOR_VALUE ? v.count : 1;
     integer result = literal(t, 0, INT);
@@ -316,7 +322,6 @@ static integer saturated_conversion(translator *t, integer v, integer_type to) {
 }
 
 static value conversion_value(translator *t, const node *n, bool saturates) {
-    for (unsigned i = 1; i < n->part_count; i++) refuse_floating(t, n->parts[i]->type, &n->place);
     operand given[1];
     evaluate_arguments(t, n, given, n->part_count - 1, 1);
     value v = given[0].value;
@@ -435,6 +440,7 @@ value builtin_value(translator *t, const node *n, const char *name, bool is_used
     const char *operation;
     bool flag;
     unsigned count;
+    value v;
     if (IS_OF(name, work_items)) return work_item_value(t, n, name);
     if (!strcmp(name, "get_work_dim")) return integer_value(variable("get_work_dim()", UINT, true));
     if (!strcmp(name, "barrier")) return barrier_value(t, n);
@@ -443,6 +449,7 @@ value builtin_value(translator *t, const node *n, const char *name, bool is_used
     if (!strcmp(name, "printf")) return left_out(t, n, "printf writes nothing");
     if (is_atomic(name, &operation)) return atomic_value(t, n, operation, is_used);
     if (is_vector_access(name, &flag, &count)) return vector_access(t, n, flag, count);
+    if (float_function_value(t, n, name, &v)) return v;
     if (is_conversion(name, &flag)) return conversion_value(t, n, flag);
     if (!strcmp(name, "async_work_group_copy")) return copy_value(t, n, false);
     if (!strcmp(name, "async_work_group_strided_copy")) return copy_value(t, n, true);
@@ -454,6 +461,5 @@ value builtin_value(translator *t, const node *n, const char *name, bool is_used
     if (!strcmp(name, "any") || !strcmp(name, "all")) return bits_value(t, n, name[1] == 'l');
     for (unsigned i = 0; i < sizeof functions / sizeof *functions; i++)
         if (!strcmp(name, functions[i].name)) return numeric_value(t, n, i);
-    if (is_floating(n->type)) refuse_at(t, &n->place, "Clsim has no floating point");
     refuse_at(t, &n->place, "Clsim has no function %s", name);
 }

@@ -72,7 +72,7 @@ static void bind_parameter(translator *t, object *o, const node *p, value v) {
 
 static void give_argument(translator *t, unsigned number, const node *p, value v, const place *at) {
     object *o = find_object(t, number, p->number, ITSELF);
-    bool is_bound = p->type->kind == POINTER_TYPE || p->type->kind == INTEGER_TYPE;
+    bool is_bound = p->type->kind == POINTER_TYPE || p->type->kind == INTEGER_TYPE || p->type->kind == FLOATING_TYPE;
     if (is_bound && !t->is_modified[p->number]) bind_parameter(t, o, p, v);
     else declare_given(t, o, p->type, p->name, given_value(t, v, p->type), at);
 }

@@ -101,6 +101,10 @@ static void judge_attributes(translator *t, const node *n) {
 
 static bool is_whole(const type *t) { return t->kind == ARRAY_TYPE || t->kind == RECORD_TYPE; }
 
+static bool is_one(const type *t) {
+    return t->kind == POINTER_TYPE || t->kind == INTEGER_TYPE || t->kind == FLOATING_TYPE;
+}
+
 // A variable that is declared already, in front of the switch that it stands in.
 static void give_initial(translator *t, object *o, const node *n) {
     pointer to = pointer_to(t, o);
@@ -125,7 +129,7 @@ static void declare_private(translator *t, object *o, const node *n) {
     const node *initial = n->part_count ? n->parts[0] : NULL;
     bool is_constant = initial && !t->is_modified[n->number];
     if (o->pass == t->pass_number) give_initial(t, o, n);
-    else if (is_constant && (type->kind == POINTER_TYPE || type->kind == INTEGER_TYPE)) declare_constant(t, o, n);
+    else if (is_constant && is_one(type)) declare_constant(t, o, n);
     else if (!initial || (is_whole(type) && is_braces(initial))) {
         declare(t, o, type, n->name, &n->place);
         if (initial) initialize(t, pointer_to(t, o), type, initial, &n->place);

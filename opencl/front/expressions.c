@@ -167,39 +167,6 @@ static pointer address(translator *t, const node *n) {
 
 // ---- casts ----
 
-// A whole number as a floating-point one, and back, are known where it is a literal.
-static integer floating_literal(translator *t, const node *n, integer v) {
-    const type *to = n->type;
-    bool is_known = v.is_literal && to->kind == FLOATING_TYPE && (to->width == 4 || to->width == 8);
-    if (!is_known) refuse_at(t, &n->place, "Clsim has no floating point");
-    bool has_sign = is_signed(type_of(&v));
-    uint64_t bits = 0;
-    double d = has_sign ? (double)(int64_t)v.value : (double)v.value;
-    float f = has_sign ? (float)(int64_t)v.value : (float)v.value;
-    memcpy(&bits, to->width == 4 ? (void *)&f : (void *)&d, to->width);
-    return literal(t, bits, core_type(to));
-}
-
-// The same of a floating-point literal in another width.
-static integer floating_cast(translator *t, const node *n, integer v) {
-    unsigned from = n->parts[0]->type->width, to = n->type->width;
-    uint64_t bits = 0;
-    if (from == to) return v;
-    if (!v.is_literal || from + to != 12) refuse_at(t, &n->place, "Clsim has no floating point");
-    float f = 0;
-    double d = 0;
-    if (from == 4) {
-        memcpy(&f, &v.value, 4);
-        d = f;
-        memcpy(&bits, &d, 8);
-    } else {
-        memcpy(&d, &v.value, 8);
-        f = (float)d;
-        memcpy(&bits, &f, 4);
-    }
-    return literal(t, bits, core_type(n->type));
-}
-
 // A value where it is read: of something that isn't in memory it is that.
 static value read_value(translator *t, const node *n, const node *from) {
     bool is_number = from->type->kind == VECTOR_TYPE || from->type->kind == INTEGER_TYPE;
@@ -222,8 +189,17 @@ static value bit_cast(translator *t, const node *n) {
     return as_type(t, v, n->type, &n->place);
 }
 
+// Between formats, or between whole numbers and floating-point ones.
+static value floating_cast(translator *t, const node *n) {
+    const type *from = n->parts[0]->type;
+    need_format(t, from, &n->place);
+    need_format(t, n->type, &n->place);
+    value v = evaluate_value(t, n->parts[0]);
+    t->at = &n->place;
+    return converted_numbers(t, v, from, n->type, BY_DEFAULT);
+}
+
 static value cast_of_integer(translator *t, const node *n) {
-    if (is_floating(n->parts[0]->type) || is_floating(n->type)) refuse_at(t, &n->place, "Clsim has no floating point");
     integer v = evaluate_value(t, n->parts[0]).integer;
     if (n->cast == INTEGRAL_TO_BOOLEAN) return integer_value(cast_to(t, is_not_zero(t, v), UCHAR));
     return integer_value(cast_to(t, unary(t, MINUS, cast_to(t, v, INT), INT), core_type(n->type)));
@@ -249,19 +225,13 @@ static value cast_value(translator *t, const node *n) {
     case TO_VOID: evaluate_effects(t, from); return (value){.kind = NO_VALUE};
     case ZERO_TO_OPAQUE_TYPE: return integer_value(literal(t, 0, INT));
     case INTEGRAL_TO_FLOATING:
-        if (n->type->kind == FLOATING_TYPE && from->type->kind == INTEGER_TYPE)
-            return integer_value(floating_literal(t, n, evaluate_value(t, from).integer));
-        break;
     case FLOATING_CAST:
-        if (n->type->kind == FLOATING_TYPE) return integer_value(floating_cast(t, n, evaluate_value(t, from).integer));
-        break;
+    case FLOATING_TO_INTEGRAL:
+    case FLOATING_TO_BOOLEAN: return floating_cast(t, n);
     case POINTER_TO_INTEGRAL: refuse_at(t, &n->place, "Clsim has no addresses as numbers");
     case INTEGRAL_TO_POINTER: refuse_at(t, &n->place, "Clsim has no numbers as addresses");
-    case FLOATING_TO_INTEGRAL:
-    case FLOATING_TO_BOOLEAN: break;
     default: refuse_at(t, &n->place, "Clsim has no such cast (%s)", n->name ? n->name : "");
     }
-    refuse_at(t, &n->place, "Clsim has no floating point");
 }
 
 value converted_value(translator *t, value v, const type *type) {
@@ -446,9 +416,10 @@ void evaluate_effects(translator *t, const node *n) {
 
 integer condition(translator *t, const node *n) {
     const place *at = t->at;
-    refuse_floating(t, n->type, &n->place);
+    need_format(t, n->type, &n->place);
     value v = evaluate_value(t, n);
     t->at = at;
     integer test = v.kind == POINTER_VALUE ? is_not_null(t, v.pointer) : v.integer;
+    if (is_floating(n->type)) test = is_not_zero_float(t, test, n->type->width);
     return is_narrowing(&test) ? forced(t, test) : test;
 }

@@ -164,10 +164,10 @@ struct object {
     integer_type element; // where no access says otherwise
     bool is_fixed;        // it is never assigned
     bool is_const;
-    unsigned char accesses, held;        // of a buffer: which accesses are written, and which of them are held back
+    unsigned char accesses, held; // of a buffer: which accesses are written, and which of them are held back
     // of a part of a buffer: its parameters, and the element that stands for all outside of it
     const char *part_origin, *part_size, *outside;
-    const char *views[INTEGER_TYPES];    // of a buffer: the parameters by the types of their elements
+    const char *views[INTEGER_TYPES]; // of a buffer: the parameters by the types of their elements
     integer_type array_element;
     const value *alias;         // what it always holds
     const unsigned char *bytes; // of a table
@@ -262,6 +262,7 @@ typedef struct translator {
     unsigned shown_count, shown_room;
     object **locals;
     unsigned local_count, local_room;
+    bool *helpers; // of each helper of floats.h, whether the kernel reaches it
 } translator;
 
 // ---- translate.c ----
@@ -342,7 +343,6 @@ void evaluate(translator *t, operand *operands, unsigned count);
 // ---- layouts.c ----
 integer_type core_type(const type *t); // of an integer or a floating-point number
 bool is_floating(const type *t);       // or a vector of such
-void refuse_floating(translator *t, const type *type, const place *at);
 uint64_t size_of_type(translator *t, const type *type, const place *at);
 integer_type element_of(const type *t);
 typedef struct {
@@ -423,6 +423,33 @@ pointer aligned_vector(translator *t, const storage *s);
 object *table_of(translator *t, const node *declaration);
 object *text_table(translator *t, const node *n);
 
+// ---- floats.c ----
+// Rounding by the numbers that the helpers know it by; where none is asked for, to zero of whole numbers and to the
+// nearest of others.
+typedef enum { TO_NEAREST, TO_ZERO, UPWARDS, DOWNWARDS, BY_DEFAULT } rounding;
+// An operator or a function, with the helper that computes it.
+typedef struct float_operation float_operation;
+const float_operation *float_operation_named(const char *name); // NULL for none
+unsigned operand_count(const float_operation *f);               // without what a second result is stored through
+bool stores_result(const float_operation *f);
+// The result for operands of a width; and what is stored. A truth is 0 or 1.
+integer float_result(translator *t, const float_operation *f, unsigned width, const integer *operands);
+integer stored_float_result(translator *t, const float_operation *f, unsigned width, const integer *operands);
+// An operator of one or of two operands, both of a width.
+integer float_operator(translator *t, operation op, integer a, integer b, unsigned width);
+integer is_not_zero_float(translator *t, integer v, unsigned width);
+integer number_is_not_zero(translator *t, integer v, const type *type);
+integer float_literal(translator *t, unsigned width, bool is_one); // 1 or 0
+// Refuses numbers that are loaded and stored only.
+void need_format(translator *t, const type *type, const place *at);
+// A number of one type in another one.
+integer converted_number(translator *t, integer v, const type *from, const type *to, rounding mode);
+value converted_numbers(translator *t, value v, const type *from, const type *to, rounding mode);
+// The helpers that a kernel reaches: in its text, and before a pass.
+void write_helpers(translator *t, text *to);
+void begin_helpers(translator *t);
+bool uses_helpers(const translator *t);
+
 // ---- expressions.c ----
 value evaluate_value(translator *t, const node *n);
 storage evaluate_storage(translator *t, const node *n);
@@ -472,6 +499,10 @@ value call_value(translator *t, const node *n, bool is_used);
 
 // ---- builtins.c ----
 value builtin_value(translator *t, const node *n, const char *name, bool is_used);
+
+// ---- float_functions.c ----
+// A function on floating-point numbers; false where it is none.
+bool float_function_value(translator *t, const node *n, const char *name, value *result);
 
 // ---- atomics.c ----
 bool is_atomic(const char *name, const char **operation);

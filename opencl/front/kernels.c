@@ -1,4 +1,5 @@
 // A kernel: its parameters, its passes, its text.
+#include "floats.h"
 #include "front.h"
 #include <inttypes.h>
 #include <string.h>
@@ -95,7 +96,7 @@ static void take_value(translator *t, written_parameters *all, unsigned argument
     if (!is_taken) refuse_at(t, &p->place, "Clsim has no parameter of the type %s", type->name);
     number_place *numbers = numbers_in(t, type, &p->place, &count);
     new_variable(t, o, type, p->name, &p->place);
-    o->is_fixed = !t->is_modified[p->number] && type->kind == INTEGER_TYPE;
+    o->is_fixed = !t->is_modified[p->number] && (type->kind == INTEGER_TYPE || type->kind == FLOATING_TYPE);
     bool direct = is_numbers(o, numbers, count);
     if (!direct) write_declarations(t, o);
     for (unsigned i = 0; i < count; i++) {
@@ -238,6 +239,7 @@ static void take_reserved_names(translator *t) {
 
 static bool is_reserved(const char *name) {
     size_t length = strlen(name);
+    if (helper_named(name) != NO_HELPER) return true;
     for (const char *at = reserved; *at;) {
         size_t n = strcspn(at, " ");
         if (n == length && !memcmp(at, name, n)) return true;
@@ -246,9 +248,12 @@ static bool is_reserved(const char *name) {
     return false;
 }
 
-// A kernel's name in the judged text: its own, where a script takes that.
-static const char *judged_name(const char *name) {
-    return strlen(name) > MOST_NAME || is_reserved(name) ? "clsim_kernel" : name;
+// A kernel's name in the judged text: its own, where a script takes that, and no variable of a helper has it: these end
+// with `_`.
+static const char *judged_name(const translator *t, const char *name) {
+    size_t length = strlen(name);
+    bool is_of_helper = length && name[length - 1] == '_' && uses_helpers(t);
+    return length > MOST_NAME || is_of_helper || is_reserved(name) ? "clsim_kernel" : name;
 }
 
 static void begin_pass(translator *t, const node *function) {
@@ -276,6 +281,7 @@ static void begin_pass(translator *t, const node *function) {
     t->pass_number++;
     begin_pass_of_objects(t);
     take_reserved_names(t);
+    begin_helpers(t);
 }
 
 static void begin_null(translator *t) {
@@ -316,7 +322,9 @@ void translate_kernel(translator *t, const node *function, judged_kernel *k, tex
     } while (t->is_changed);
     if (t->is_incomplete) refuse_at(t, at, "Clsim can't follow the pointers of this kernel");
     k->begin = to->length;
-    k->name = judged_name(function->name);
+    k->name = judged_name(t, function->name);
+    add_place(t, (judged_place){.offset = to->length, .at = at});
+    write_helpers(t, to);
     write_head(t, k, &all, to);
     list begin = t->uses_null ? one_text(t, "uchar clsim_null[1];", at) : (list){NULL, NULL};
     if (t->uses_copies) append_list(&begin, begin_of_copies(t, at));

@@ -1,15 +1,11 @@
 // Types as memory has them: their sizes, and the numbers in them.
 #include "front.h"
 
-// A floating-point number is the integer of its bits: it is moved, and nothing else is done with it.
+// A floating-point number is the integer of its bits.
 integer_type core_type(const type *t) { return integer_of(t->width, t->kind == INTEGER_TYPE && t->is_signed); }
 
 bool is_floating(const type *t) {
     return t->kind == FLOATING_TYPE || (t->kind == VECTOR_TYPE && t->of->kind == FLOATING_TYPE);
-}
-
-void refuse_floating(translator *t, const type *type, const place *at) {
-    if (is_floating(type)) refuse_at(t, at, "Clsim has no floating point (%s)", type->name);
 }
 
 static void judge_record(translator *t, const record *r, const place *at) {

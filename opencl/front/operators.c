@@ -3,14 +3,15 @@
 
 static const type *number_of(const type *t) { return t->kind == VECTOR_TYPE ? t->of : t; }
 
-static void refuse_floats(translator *t, const node *n) {
-    for (unsigned i = 0; i < n->part_count; i++) refuse_floating(t, n->parts[i]->type, &n->place);
-    refuse_floating(t, n->type, &n->place);
+static void need_formats(translator *t, const node *n) {
+    for (unsigned i = 0; i < n->part_count; i++) need_format(t, n->parts[i]->type, &n->place);
+    need_format(t, n->type, &n->place);
 }
 
-// An operator on integers or vectors, in the type of the left operand.
+// An operator on numbers or vectors, in the type of the left operand.
 static value arithmetic(translator *t, operation op, value a, value b, const type *type) {
     if (type->kind == VECTOR_TYPE) return vector_operation(t, op, a, b, type, type);
+    if (is_floating(type)) return integer_value(float_operator(t, op, a.integer, b.integer, type->width));
     return integer_value(binary(t, op, a.integer, b.integer, core_type(type)));
 }
 
@@ -58,14 +59,14 @@ static value move_pointer(translator *t, const node *n, bool is_used) {
 value compound_assignment(translator *t, const node *n, bool is_used) {
     const node *target = n->parts[0];
     if (target->type->kind == POINTER_TYPE) return move_pointer(t, n, is_used);
-    refuse_floats(t, n);
-    refuse_floating(t, n->computed, &n->place);
+    need_formats(t, n);
     operand parts[] = {{.node = target, .kind = AS_TARGET}, {.node = n->parts[1]}};
     evaluate(t, parts, 2);
     t->at = &n->place;
-    value old = converted_value(t, parts[0].value, n->computed);
+    value old = converted_numbers(t, parts[0].value, target->type, n->computed, BY_DEFAULT);
     value v = arithmetic(t, n->operation, old, parts[1].value, n->computed);
-    if (target->type->is_bool) v.integer = is_not_zero(t, v.integer);
+    if (target->type->is_bool) v.integer = number_is_not_zero(t, v.integer, n->computed);
+    else v = converted_numbers(t, v, n->computed, target->type, BY_DEFAULT);
     v = converted_value(t, v, target->type);
     if (is_used) v = kept_value(t, v);
     put(t, parts[0].storage, v, &target->place);
@@ -80,7 +81,9 @@ static value stepped(translator *t, const node *n, value old) {
         return pointer_value(shifted(old.pointer, back ? -size : size));
     }
     integer_type wide = promoted(core_type(number_of(type)));
-    value one = integer_value(literal(t, 1, wide));
+    bool of_float = is_floating(type);
+    value one = integer_value(of_float ? float_literal(t, number_of(type)->width, true) : literal(t, 1, wide));
+    if (of_float) return arithmetic(t, back ? SUBTRACT : ADD, old, one, type);
     if (type->kind == VECTOR_TYPE) return vector_operation(t, back ? SUBTRACT : ADD, old, one, type, type);
     integer v = binary(t, back ? SUBTRACT : ADD, old.integer, one.integer, wide);
     if (type->is_bool) v = is_not_zero(t, v);
@@ -89,7 +92,7 @@ static value stepped(translator *t, const node *n, value old) {
 
 value step(translator *t, const node *n, bool is_used) {
     const node *target = n->parts[0];
-    refuse_floating(t, target->type, &n->place);
+    need_format(t, target->type, &n->place);
     operand part = {.node = target, .kind = AS_TARGET};
     evaluate(t, &part, 1);
     t->at = &n->place;
@@ -103,33 +106,38 @@ value step(translator *t, const node *n, bool is_used) {
 
 // ---- one operand ----
 
-// The sign of a floating-point literal.
-static value signed_literal(translator *t, const node *n) {
-    integer v = evaluate_value(t, n->parts[0]).integer;
-    uint64_t sign = UINT64_C(1) << (8 * n->type->width - 1);
-    if (!v.is_literal) refuse_floats(t, n);
-    return integer_value(literal(t, n->operation == MINUS ? v.value ^ sign : v.value, core_type(n->type)));
+// `!`, `-` and the like of one component.
+static integer unary_component(translator *t, operation op, integer v, const type *number, const type *result) {
+    integer_type wide = promoted(type_of(&v));
+    if (op == LOGICAL_NOT) {
+        integer is_zero = is_floating(number) ? unary(t, LOGICAL_NOT, is_not_zero_float(t, v, number->width), INT)
+                                              : binary(t, EQUAL, v, literal(t, 0, type_of(&v)), type_of(&v));
+        return cast_to(t, unary(t, MINUS, is_zero, INT), core_type(result));
+    }
+    if (is_floating(number)) return op == PLUS ? v : float_operator(t, op, v, v, number->width);
+    return cast_to(t, unary(t, op, cast_to(t, v, wide), wide), core_type(result));
 }
 
 static value unary_value(translator *t, const node *n) {
-    bool is_sign = n->operation == MINUS || n->operation == PLUS;
-    if (is_sign && n->type->kind == FLOATING_TYPE) return signed_literal(t, n);
-    refuse_floats(t, n);
+    const type *type = n->parts[0]->type;
+    need_formats(t, n);
     if (n->operation == UNKNOWN_OPERATION)
         refuse_at(t, &n->place, "Clsim has no such operator (%s)", n->name ? n->name : "");
     value v = evaluate_value(t, n->parts[0]);
     bool negates = n->operation == LOGICAL_NOT;
+    t->at = &n->place;
     if (v.kind == POINTER_VALUE) return integer_value(unary(t, LOGICAL_NOT, is_not_null(t, v.pointer), INT));
-    if (v.kind == INTEGER_VALUE && negates) return integer_value(unary(t, LOGICAL_NOT, v.integer, INT));
+    if (v.kind == INTEGER_VALUE && negates) {
+        if (is_floating(type)) v.integer = is_not_zero_float(t, v.integer, type->width);
+        return integer_value(unary(t, LOGICAL_NOT, v.integer, INT));
+    }
+    if (v.kind == INTEGER_VALUE && is_floating(type))
+        return integer_value(unary_component(t, n->operation, v.integer, type, n->type));
     if (v.kind == INTEGER_VALUE) return integer_value(unary(t, n->operation, v.integer, core_type(n->type)));
     integer *components = take(&t->pass, v.count * sizeof *components);
-    for (unsigned i = 0; i < v.count; i++) {
-        integer c = v.components[i];
-        integer_type wide = promoted(type_of(&c));
-        if (negates) c = unary(t, MINUS, binary(t, EQUAL, c, literal(t, 0, type_of(&c)), type_of(&c)), INT);
-        else c = unary(t, n->operation, cast_to(t, c, wide), wide);
-        components[i] = cast_to(t, c, core_type(n->type->of));
-    }
+    if (is_floating(type)) v = kept_value(t, v);
+    for (unsigned i = 0; i < v.count; i++)
+        components[i] = unary_component(t, n->operation, v.components[i], type->of, n->type->of);
     return vector_value(components, v.count);
 }
 
@@ -182,9 +190,10 @@ value operation_value(translator *t, const node *n) {
     evaluate(t, parts, 2);
     value a = parts[0].value, b = parts[1].value;
     if (a.kind == POINTER_VALUE || b.kind == POINTER_VALUE) return pointer_operation(t, n, a, b);
-    refuse_floats(t, n);
+    need_formats(t, n);
+    t->at = &n->place;
     const type *left = n->parts[0]->type, *right = n->parts[1]->type;
-    bool is_number = left->kind == INTEGER_TYPE || left->kind == VECTOR_TYPE;
+    bool is_number = left->kind == INTEGER_TYPE || left->kind == FLOATING_TYPE || left->kind == VECTOR_TYPE;
     if (!is_number) refuse_at(t, &n->place, "Clsim has no operator on the type %s", left->name);
     if (n->type->kind == VECTOR_TYPE)
         return vector_operation(t, op, a, b, n->type, left->kind == VECTOR_TYPE ? left : right);

@@ -51,6 +51,19 @@ value splat(translator *t, integer v, unsigned count) {
 
 static bool compares(operation op) { return op >= LESS && op <= NOT_EQUAL; }
 
+// What an operator gives of two floating-point components.
+static integer float_components(translator *t, operation op, integer a, integer b, unsigned width,
+                                integer_type result) {
+    if (op == LOGICAL_AND || op == LOGICAL_OR) {
+        a = is_not_zero_float(t, a, width);
+        b = is_not_zero_float(t, b, width);
+        a = binary(t, op == LOGICAL_AND ? BIT_AND : BIT_OR, a, b, INT);
+        return cast_to(t, unary(t, MINUS, a, INT), result);
+    }
+    integer v = float_operator(t, op, a, b, width);
+    return compares(op) ? cast_to(t, unary(t, MINUS, v, INT), result) : v;
+}
+
 // What an operator gives of two components of a type.
 static integer component_operation(translator *t, operation op, integer a, integer b, integer_type type,
                                    integer_type result) {
@@ -69,18 +82,22 @@ static integer component_operation(translator *t, operation op, integer a, integ
 
 // Comparisons and logical operators give 0 or -1 (6.3.d to 6.3.g), both operands are evaluated.
 value vector_operation(translator *t, operation op, value a, value b, const type *result, const type *operands) {
-    integer_type type = core_type(operands->kind == VECTOR_TYPE ? operands->of : operands);
+    const struct type *number = operands->kind == VECTOR_TYPE ? operands->of : operands;
+    integer_type type = core_type(number);
     unsigned count = (unsigned)result->length;
     integer *components = take(&t->pass, count * sizeof *components);
-    bool is_logical = op == LOGICAL_AND || op == LOGICAL_OR;
+    bool is_kept = op == LOGICAL_AND || op == LOGICAL_OR || is_floating(number);
     if (a.kind == INTEGER_VALUE) a = splat(t, a.integer, count);
     if (b.kind == INTEGER_VALUE) b = splat(t, b.integer, count);
-    if (is_logical) {
+    if (is_kept) {
         a = kept_value(t, a);
         b = kept_value(t, b);
     }
     for (unsigned i = 0; i < count; i++)
-        components[i] = component_operation(t, op, a.components[i], b.components[i], type, core_type(result->of));
+        components[i] =
+            is_floating(number)
+                ? float_components(t, op, a.components[i], b.components[i], number->width, core_type(result->of))
+                : component_operation(t, op, a.components[i], b.components[i], type, core_type(result->of));
     return vector_value(components, count);
 }
 

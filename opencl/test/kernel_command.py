@@ -98,7 +98,7 @@ __kernel void structs(box s, __global int *to) {
 """
 HEADED = '#include "part.h"\n__kernel void headed(__global int *a) {\n    store(a, N);\n}\n'
 PART = "void store(__global int *a, int n) {\n    a[n] = 1;\n}\n"
-FLOATS = "__kernel void wrong(__global float *a) {\n    a[0] = a[1] * 2.0f;\n}\n"
+REFUSED = "__kernel void wrong(__global float *a) {\n    a[0] = *(__global float *)8L;\n}\n"
 SIMULATION = """\
 add.cl   # the source
 add
@@ -112,7 +112,7 @@ add
 """
 FILES = {"add.cl": ADD, "shift.cl": SHIFT, "nothing.cl": NOTHING, "tile.cl": TILE, "flag.cl": FLAG, "loop.cl": LOOP,
          "values.cl": VALUES, "many.cl": MANY, "help.h": "#define TOUCH(p) (p)[0] = 1\n", "vectors.cl": VECTORS,
-         "structs.cl": STRUCTS, "headed.cl": HEADED, "part.h": PART, "floats.cl": FLOATS, "empty.cl": "",
+         "structs.cl": STRUCTS, "headed.cl": HEADED, "part.h": PART, "refused.cl": REFUSED, "empty.cl": "",
          "no_kernel.cl": "void f() {\n}\n", "add.sim": SIMULATION, "a.bin": "abcdefgh", "odd.bin": "abc",
          "zero.cl": "__kernel void f(__global int *a) {\n\0}\n"}
 
@@ -321,8 +321,8 @@ def told_in_headers(bench):
 def refused_sources(bench):
     """A source that doesn't build is told at its lines."""
     command = Command(bench, "refused sources")
-    command.writes("floats.cl wrong --global 1", "floats.cl:2:12: error: Clsim has no floating point (float)\n"
-                   "    a[0] = a[1] * 2.0f;\n           ^\nclsim-kernel: floats.cl doesn't build\n", 2)
+    command.writes("refused.cl wrong --global 1", "refused.cl:2:13: error: Clsim has no numbers as addresses\n"
+                   "    a[0] = *(__global float *)8L;\n            ^\nclsim-kernel: refused.cl doesn't build\n", 2)
     command.write("wrong.cl", "__kernel void f(__global int *a) {\n    a[0] = b;\n}\n")
     told = command.run("wrong.cl f --global 1", 2)
     want("wrong.cl:2:12: error: use of undeclared identifier 'b'\n" in told and "source:" not in told, told)

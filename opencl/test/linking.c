@@ -149,15 +149,15 @@ static void wrong_headers(void) {
     OK(clReleaseProgram(p));
 }
 
-// A floating point of a header is refused in the link, at its line.
+// A number as an address in a header is refused in the link, at its line.
 static void refused_headers(void) {
     const char *name = "in.h";
     cl_program p = source_of("#include \"in.h\"\nkernel void f(global int *a) { a[0] = bad(a[1]); }\n"), whole;
-    cl_program header = source_of("\ninline int bad(int x) { float y = x; return y; }\n");
+    cl_program header = source_of("\ninline int bad(int x) { int *y = (int *)(long)x; return *y; }\n");
     OK(clCompileProgram(p, 0, NULL, "", 1, &header, &name, NULL, NULL));
     WANT(link_fault("", 1, &p, &whole) == CL_LINK_PROGRAM_FAILURE && whole);
-    WANT_LOG(whole, "in.h:2:35: error: Clsim has no floating point\n"
-                    "inline int bad(int x) { float y = x; return y; }\n");
+    WANT_LOG(whole, "in.h:2:34: error: Clsim has no numbers as addresses\n"
+                    "inline int bad(int x) { int *y = (int *)(long)x; return *y; }\n");
     want_state(whole, CL_BUILD_ERROR, NONE, "");
     OK(clReleaseProgram(whole));
     OK(clReleaseProgram(header));
