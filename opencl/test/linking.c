@@ -132,7 +132,7 @@ static void headers(void) {
 
 // What is wrong with a header is in the log, at its line; names that leave the folder are refused.
 static void wrong_headers(void) {
-    static const char *const bad[] = {"../up.h", "/tmp/up.h", "", "a/../../up.h", "a\nb"};
+    static const char *const bad[] = {"../up.h", "/up.h", "", "a/../../up.h", "a\nb"};
     const char *name = "in.h";
     cl_program p = source_of("#include \"in.h\"\n"), header = source_of("int f(void) {\n    return wrong;\n}\n");
     WANT(clCompileProgram(p, 0, NULL, "", 1, &header, &name, NULL, NULL) == CL_COMPILE_PROGRAM_FAILURE);
