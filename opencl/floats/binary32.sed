@@ -9,6 +9,12 @@ s/FRACTION_MASK/0x007fffffu/g
 s/GUARD_BITS/7/g
 s/GUARD_MASK/0x7fu/g
 s/GUARD_HALF/0x40u/g
+s/PRODUCT/ulong product = (ulong)a * b;\n        a = (uint)(product >> 32);/g
+s/LOWER/(uint)product/g
+s/REST_MASK/0xffu/g
+s/REST_HALF/0x80u/g
+s/CARRY_MASK/0x1ffu/g
+s/CARRY_HALF/0x100u/g
 s/TOP_SHIFT/8/g
 s/TOP_BIT/0x80000000u/g
 s/SECOND_BIT/0x40000000u/g

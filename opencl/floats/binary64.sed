@@ -9,6 +9,12 @@ s/FRACTION_MASK/0x000ffffffffffffful/g
 s/GUARD_BITS/10/g
 s/GUARD_MASK/0x3fful/g
 s/GUARD_HALF/0x200ul/g
+s/PRODUCT/ulong lower = a * b;\n        a = double_product_upper(a, b);/g
+s/LOWER/lower/g
+s/REST_MASK/0x7fful/g
+s/REST_HALF/0x400ul/g
+s/CARRY_MASK/0xffful/g
+s/CARRY_HALF/0x800ul/g
 s/TOP_SHIFT/11/g
 s/TOP_BIT/0x8000000000000000ul/g
 s/SECOND_BIT/0x4000000000000000ul/g

@@ -1,69 +1,104 @@
 /* ---- addition (5.4.1) ---- */
 
-/* The difference of two magnitudes, x above y, both with the leading one of x's exponent at bit WIDTH - 3; `upper` has
-   the sign and that exponent. The result is exact if it is subnormal. */
-WORD FORMAT_subtract_aligned(WORD upper, WORD x, WORD y) {
-    x -= y;
-    WORD most = (upper & MAGNITUDE_MASK) >> FRACTION_BITS;
-    WORD up = min(clz(x) - UNIT, most);
-    WORD result = FORMAT_pack(upper - (up << FRACTION_BITS), x << up);
-    return result;
-}
-
-/* a + b where y, the magnitude of b, is 0 or subnormal, and x, that of a, isn't larger than the largest such. */
-WORD FORMAT_add_small(WORD a, WORD y, WORD signs) {
+/* a + b of which y is the smaller magnitude, where a isn't finite, or both are 0 or subnormal: their sum has the bits
+   of a whole number's. `signs` has the sign bit where the signs differ. */
+WORD FORMAT_add_special(WORD a, WORD y, WORD signs) {
+    WORD x = a & MAGNITUDE_MASK;
+    if (x > INFINITY_BITS) return NAN_BITS;
+    if (x == INFINITY_BITS) return y == INFINITY_BITS && signs >= SIGN_BIT ? NAN_BITS : a;
     if (signs < SIGN_BIT) return a + y;
-    if ((a & MAGNITUDE_MASK) == y) return 0;
+    if (x == y) return 0;
     return a - y;
 }
 
-/* a + b. The exact sum 0 is +0, but for two zeros of one sign (6.3). */
+/* The rest of a + b of one sign, whose significands' sum is 2^WIDTH + x, in units of 2^-TOP_SHIFT of a's last place: a
+   sum with the next exponent, which may be that of infinity. */
+WORD FORMAT_add_carried(WORD a, WORD x) {
+    WORD rest = x & CARRY_MASK;
+    a &= EXPONENT_AND_SIGN;
+    a += SMALLEST_NORMAL;
+    x >>= TOP_SHIFT + 1;
+    a += x;
+    if (rest >= CARRY_HALF) {
+        if (rest == CARRY_HALF) a += a & UNIT;
+        else a += UNIT;
+    }
+    x = a & MAGNITUDE_MASK;
+    if (x >= INFINITY_BITS) a &= EXPONENT_AND_SIGN;
+    return a;
+}
+
+/* The rest of a + b of two signs, whose significands' difference is x, in the same units. Below the exponent of a it has
+   no bit that isn't one of a's places or the next; with an exponent of 1 it may be subnormal. */
+WORD FORMAT_add_cancelled(WORD a, WORD x) {
+    if (x == 0) return 0;
+    WORD up = a & MAGNITUDE_MASK;
+    up >>= FRACTION_BITS;
+    up = min(clz(x), up - UNIT);
+    x <<= up;
+    a -= up << FRACTION_BITS;
+    a &= EXPONENT_AND_SIGN;
+    a -= SMALLEST_NORMAL;
+    WORD rest = x & REST_MASK;
+    x >>= TOP_SHIFT;
+    a += x;
+    if (rest >= REST_HALF) {
+        if (rest == REST_HALF) a += a & UNIT;
+        else a += UNIT;
+    }
+    return a;
+}
+
+/* a + b. The exact sum 0 is +0, but for two zeros of one sign (6.3). Here a has the larger magnitude; the significand of
+   each has its leading one at bit WIDTH - 1, that of b moved to its place below, the lowest bit sticky. */
 WORD FORMAT_add(WORD a, WORD b) {
     WORD x = a & MAGNITUDE_MASK;
     WORD y = b & MAGNITUDE_MASK;
-    WORD signs = a ^ b;
+    b ^= a;
     if (x < y) {
+        a ^= b;
+        b &= SIGN_BIT;
         y = x;
-        x = b & MAGNITUDE_MASK;
-        a = b;
+        x = a & MAGNITUDE_MASK;
     }
     if (x >= INFINITY_BITS) {
-        if (x > INFINITY_BITS) return NAN_BITS;
-        return y == INFINITY_BITS && signs >= SIGN_BIT ? NAN_BITS : a;
+        a = FORMAT_add_special(a, y, b);
+        return a;
     }
-    int shift = (int)((x >> FRACTION_BITS) - (y >> FRACTION_BITS));
+    WORD shift = (x >> FRACTION_BITS) - (y >> FRACTION_BITS);
     if (y < SMALLEST_NORMAL) {
         if (x < SMALLEST_NORMAL) {
-            a = FORMAT_add_small(a, y, signs);
+            a = FORMAT_add_special(a, y, b);
             return a;
         }
         if (y == 0) return a;
-        int up = (int)clz(y) - TOP_SHIFT;
+        WORD up = clz(y) - TOP_SHIFT;
         y <<= up;
         shift += up - 1;
     }
-    x &= FRACTION_MASK;
-    x |= SMALLEST_NORMAL;
-    x <<= GUARD_BITS - 1;
-    y &= FRACTION_MASK;
-    y |= SMALLEST_NORMAL;
-    y <<= GUARD_BITS - 1;
-    if (shift < GUARD_BITS) y >>= shift;
-    else y = FORMAT_shift_right(y, shift);
-    a &= EXPONENT_AND_SIGN;
-    if (signs >= SIGN_BIT) {
-        if (x == y) return 0;
-        a = FORMAT_subtract_aligned(a, x, y);
+    y <<= TOP_SHIFT;
+    y |= TOP_BIT;
+    if (shift <= TOP_SHIFT) y >>= shift;
+    else y = FORMAT_shift_right(y, (int)shift);
+    x <<= TOP_SHIFT;
+    x |= TOP_BIT;
+    if (b >= SIGN_BIT) {
+        x -= y;
+        a = FORMAT_add_cancelled(a, x);
         return a;
     }
     x += y;
-    if (x < SECOND_BIT) {
-        x <<= 1;
-        a -= SMALLEST_NORMAL;
-    } else if ((a & MAGNITUDE_MASK) == INFINITY_BITS - SMALLEST_NORMAL) {
-        return a + SMALLEST_NORMAL;
+    if (x < y) {
+        a = FORMAT_add_carried(a, x);
+        return a;
     }
-    a = FORMAT_pack(a, x);
+    x = y & REST_MASK;
+    y >>= TOP_SHIFT;
+    a += y;
+    if (x >= REST_HALF) {
+        if (x == REST_HALF) a += a & UNIT;
+        else a += UNIT;
+    }
     return a;
 }
 
@@ -83,43 +118,60 @@ WORD FORMAT_mul_special(WORD sign, WORD x, WORD y) {
     return sign | INFINITY_BITS;
 }
 
-/* a * b. `exponent` is the sum of the biased exponents. */
+/* a * b of two magnitudes of which one is 0, subnormal, infinite or not a number. */
+WORD FORMAT_mul_rare(WORD sign, WORD a, WORD b) {
+    if (a != 0) if (b != 0) if (a < INFINITY_BITS) if (b < INFINITY_BITS) {
+        int exponent = FORMAT_exponent_of(a);
+        int other = FORMAT_exponent_of(b);
+        a = FORMAT_significand_of(a);
+        b = FORMAT_significand_of(b);
+        a = FORMAT_product(a, b);
+        if (a < TOP_BIT) a <<= 1;
+        else exponent += 1;
+        a = FORMAT_shift_right(a, 1);
+        a = FORMAT_round(sign, exponent + other - BIAS, a);
+        return a;
+    }
+    a = FORMAT_mul_special(sign, a, b);
+    return a;
+}
+
+/* a * b. `exponent` is the sum of the biased exponents; both significands have their leading one at bit WIDTH - 1, and
+   so has the upper word of their product, or at the next one: its lowest bit is that of `lower` then, and left open. */
 WORD FORMAT_mul(WORD a, WORD b) {
     WORD sign = a ^ b;
     sign &= SIGN_BIT;
     a &= MAGNITUDE_MASK;
     b &= MAGNITUDE_MASK;
-    if (a != 0) if (b != 0) if (a < INFINITY_BITS) if (b < INFINITY_BITS) {
+    if (a >= SMALLEST_NORMAL) if (b >= SMALLEST_NORMAL) if (a < INFINITY_BITS) if (b < INFINITY_BITS) {
         WORD exponent = (a >> FRACTION_BITS) + (b >> FRACTION_BITS);
-        if (a < SMALLEST_NORMAL) {
-            WORD up = clz(a) - TOP_SHIFT;
-            a <<= up;
-            exponent += 1 - up;
-        }
-        if (b < SMALLEST_NORMAL) {
-            WORD up = clz(b) - TOP_SHIFT;
-            b <<= up;
-            exponent += 1 - up;
-        }
         a <<= TOP_SHIFT;
         a |= TOP_BIT;
-        b &= FRACTION_MASK;
-        b |= SMALLEST_NORMAL;
-        b <<= TOP_SHIFT - 1;
-        a = FORMAT_product(a, b);
-        if (a < SECOND_BIT) a <<= 1;
+        b <<= TOP_SHIFT;
+        b |= TOP_BIT;
+        PRODUCT
+        if (a < TOP_BIT) a <<= 1;
         else exponent += 1;
-        if (exponent > BIAS) {
-            if (exponent < BIAS + LARGEST_EXPONENT) {
-                exponent -= BIAS + 1;
-                a = FORMAT_pack(sign + (exponent << FRACTION_BITS), a);
-                return a;
+        exponent -= BIAS + 1;
+        if (exponent < LARGEST_EXPONENT - 1) {
+            b = a & REST_MASK;
+            a >>= TOP_SHIFT;
+            exponent <<= FRACTION_BITS;
+            exponent |= sign;
+            a += exponent;
+            if (b >= REST_HALF) {
+                if (b > REST_HALF) a += UNIT;
+                else if (LOWER != 0) a += UNIT;
+                else a += a & UNIT;
             }
+            return a;
         }
-        a = FORMAT_round(sign, (int)exponent - BIAS, a);
+        if (LOWER != 0) a |= UNIT;
+        a = FORMAT_shift_right(a, 1);
+        a = FORMAT_round(sign, (int)(exponent + 1), a);
         return a;
     }
-    a = FORMAT_mul_special(sign, a, b);
+    a = FORMAT_mul_rare(sign, a, b);
     return a;
 }
 

@@ -9,6 +9,12 @@ s/FRACTION_MASK/0x07u/g
 s/GUARD_BITS/27/g
 s/GUARD_MASK/0x7ffffffu/g
 s/GUARD_HALF/0x4000000u/g
+s/PRODUCT/ulong product = (ulong)a * b;\n        a = (uint)(product >> 32);/g
+s/LOWER/(uint)product/g
+s/REST_MASK/0xfffffffu/g
+s/REST_HALF/0x8000000u/g
+s/CARRY_MASK/0x1fffffffu/g
+s/CARRY_HALF/0x10000000u/g
 s/TOP_SHIFT/28/g
 s/TOP_BIT/0x80000000u/g
 s/SECOND_BIT/0x40000000u/g

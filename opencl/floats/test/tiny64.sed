@@ -9,6 +9,12 @@ s/FRACTION_MASK/0x07ul/g
 s/GUARD_BITS/59/g
 s/GUARD_MASK/0x7fffffffffffffful/g
 s/GUARD_HALF/0x400000000000000ul/g
+s/PRODUCT/ulong lower = a * b;\n        a = tiny64_product_upper(a, b);/g
+s/LOWER/lower/g
+s/REST_MASK/0xffffffffffffffful/g
+s/REST_HALF/0x800000000000000ul/g
+s/CARRY_MASK/0x1ffffffffffffffful/g
+s/CARRY_HALF/0x1000000000000000ul/g
 s/TOP_SHIFT/60/g
 s/TOP_BIT/0x8000000000000000ul/g
 s/SECOND_BIT/0x4000000000000000ul/g
