@@ -9,8 +9,9 @@ s/FRACTION_MASK/0x000ffffffffffffful/g
 s/GUARD_BITS/10/g
 s/GUARD_MASK/0x3fful/g
 s/GUARD_HALF/0x200ul/g
-s/PRODUCT/ulong lower = a * b;\n        a = double_product_upper(a, b);/g
-s/LOWER/lower/g
+s/UPPER_PRODUCT/double_product_upper/g
+s/SMALL_BITS/0x2000000000000000ul/g
+s/LARGE_BITS/0x5ff0000000000000ul/g
 s/REST_MASK/0x7fful/g
 s/REST_HALF/0x400ul/g
 s/CARRY_MASK/0xffful/g

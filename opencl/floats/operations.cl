@@ -11,53 +11,15 @@ WORD FORMAT_add_special(WORD a, WORD y, WORD signs) {
     return a - y;
 }
 
-/* The rest of a + b of one sign, whose significands' sum is 2^WIDTH + x, in units of 2^-TOP_SHIFT of a's last place: a
-   sum with the next exponent, which may be that of infinity. */
-WORD FORMAT_add_carried(WORD a, WORD x) {
-    WORD rest = x & CARRY_MASK;
-    a &= EXPONENT_AND_SIGN;
-    a += SMALLEST_NORMAL;
-    x >>= TOP_SHIFT + 1;
-    a += x;
-    if (rest >= CARRY_HALF) {
-        if (rest == CARRY_HALF) a += a & UNIT;
-        else a += UNIT;
-    }
-    x = a & MAGNITUDE_MASK;
-    if (x >= INFINITY_BITS) a &= EXPONENT_AND_SIGN;
-    return a;
-}
-
-/* The rest of a + b of two signs, whose significands' difference is x, in the same units. Below the exponent of a it has
-   no bit that isn't one of a's places or the next; with an exponent of 1 it may be subnormal. */
-WORD FORMAT_add_cancelled(WORD a, WORD x) {
-    if (x == 0) return 0;
-    WORD up = a & MAGNITUDE_MASK;
-    up >>= FRACTION_BITS;
-    up = min(clz(x), up - UNIT);
-    x <<= up;
-    a -= up << FRACTION_BITS;
-    a &= EXPONENT_AND_SIGN;
-    a -= SMALLEST_NORMAL;
-    WORD rest = x & REST_MASK;
-    x >>= TOP_SHIFT;
-    a += x;
-    if (rest >= REST_HALF) {
-        if (rest == REST_HALF) a += a & UNIT;
-        else a += UNIT;
-    }
-    return a;
-}
-
-/* a + b. The exact sum 0 is +0, but for two zeros of one sign (6.3). Here a has the larger magnitude; the significand of
-   each has its leading one at bit WIDTH - 1, that of b moved to its place below, the lowest bit sticky. */
+/* a + b. The exact sum 0 is +0, but for two zeros of one sign (6.3). Here a has the larger magnitude, and b the sign bit
+   where the signs differ. The significands x and y have the leading one at bit WIDTH - 1; y is moved to its place below
+   x, its lowest bit sticky. (A variable that is declared costs a step: each has several uses.) */
 WORD FORMAT_add(WORD a, WORD b) {
     WORD x = a & MAGNITUDE_MASK;
     WORD y = b & MAGNITUDE_MASK;
     b ^= a;
     if (x < y) {
         a ^= b;
-        b &= SIGN_BIT;
         y = x;
         x = a & MAGNITUDE_MASK;
     }
@@ -65,7 +27,6 @@ WORD FORMAT_add(WORD a, WORD b) {
         a = FORMAT_add_special(a, y, b);
         return a;
     }
-    WORD shift = (x >> FRACTION_BITS) - (y >> FRACTION_BITS);
     if (y < SMALLEST_NORMAL) {
         if (x < SMALLEST_NORMAL) {
             a = FORMAT_add_special(a, y, b);
@@ -74,27 +35,56 @@ WORD FORMAT_add(WORD a, WORD b) {
         if (y == 0) return a;
         WORD up = clz(y) - TOP_SHIFT;
         y <<= up;
-        shift += up - 1;
+        x >>= FRACTION_BITS;
+        x += up - 1;
+    } else {
+        x = (x >> FRACTION_BITS) - (y >> FRACTION_BITS);
     }
     y <<= TOP_SHIFT;
     y |= TOP_BIT;
-    if (shift <= TOP_SHIFT) y >>= shift;
-    else y = FORMAT_shift_right(y, (int)shift);
-    x <<= TOP_SHIFT;
+    if (x <= TOP_SHIFT) y >>= x;
+    else y = FORMAT_shift_right(y, (int)x);
+    x = a << TOP_SHIFT;
     x |= TOP_BIT;
-    if (b >= SIGN_BIT) {
-        x -= y;
-        a = FORMAT_add_cancelled(a, x);
+    if (b < SIGN_BIT) {
+        x += y;
+        if (x >= y) {
+            a += y >> TOP_SHIFT;
+            y &= REST_MASK;
+            if (y >= REST_HALF) {
+                if (y == REST_HALF) a += a & UNIT;
+                else a += UNIT;
+            }
+            return a;
+        }
+        /* The sum is 2^WIDTH + x: the next exponent, which may be that of infinity. */
+        a &= EXPONENT_AND_SIGN;
+        a += SMALLEST_NORMAL;
+        a += x >> (TOP_SHIFT + 1);
+        x &= CARRY_MASK;
+        if (x >= CARRY_HALF) {
+            if (x == CARRY_HALF) a += a & UNIT;
+            else a += UNIT;
+        }
+        y = a & MAGNITUDE_MASK;
+        if (y >= INFINITY_BITS) a &= EXPONENT_AND_SIGN;
         return a;
     }
-    x += y;
-    if (x < y) {
-        a = FORMAT_add_carried(a, x);
-        return a;
+    /* The leading one moves up, at most to where the exponent is 1: below that the difference is subnormal, and exact. */
+    x -= y;
+    if (x < TOP_BIT) {
+        if (x == 0) return 0;
+        y = a & MAGNITUDE_MASK;
+        y >>= FRACTION_BITS;
+        y -= 1;
+        y = min(clz(x), y);
+        x <<= y;
+        a -= y << FRACTION_BITS;
     }
-    x = y & REST_MASK;
-    y >>= TOP_SHIFT;
-    a += y;
+    a &= EXPONENT_AND_SIGN;
+    a -= SMALLEST_NORMAL;
+    a += x >> TOP_SHIFT;
+    x &= REST_MASK;
     if (x >= REST_HALF) {
         if (x == REST_HALF) a += a & UNIT;
         else a += UNIT;
@@ -118,8 +108,11 @@ WORD FORMAT_mul_special(WORD sign, WORD x, WORD y) {
     return sign | INFINITY_BITS;
 }
 
-/* a * b of two magnitudes of which one is 0, subnormal, infinite or not a number. */
-WORD FORMAT_mul_rare(WORD sign, WORD a, WORD b) {
+/* a * b, whatever they are. */
+WORD FORMAT_mul_rare(WORD a, WORD b) {
+    WORD sign = (a ^ b) & SIGN_BIT;
+    a &= MAGNITUDE_MASK;
+    b &= MAGNITUDE_MASK;
     if (a != 0) if (b != 0) if (a < INFINITY_BITS) if (b < INFINITY_BITS) {
         int exponent = FORMAT_exponent_of(a);
         int other = FORMAT_exponent_of(b);
@@ -136,42 +129,38 @@ WORD FORMAT_mul_rare(WORD sign, WORD a, WORD b) {
     return a;
 }
 
-/* a * b. `exponent` is the sum of the biased exponents; both significands have their leading one at bit WIDTH - 1, and
-   so has the upper word of their product, or at the next one: its lowest bit is that of `lower` then, and left open. */
+/* a * b. Where both exponents are far from their ends, that of the product is none of them. `upper` has the sum of the
+   exponents with that of the signs, whose carry leaves the word. Both significands have their leading one at bit
+   WIDTH - 1; the upper word x of their product has it there, or at the next one, and is doubled then: its lowest bit is
+   one of the lower word a * b. */
 WORD FORMAT_mul(WORD a, WORD b) {
-    WORD sign = a ^ b;
-    sign &= SIGN_BIT;
-    a &= MAGNITUDE_MASK;
-    b &= MAGNITUDE_MASK;
-    if (a >= SMALLEST_NORMAL) if (b >= SMALLEST_NORMAL) if (a < INFINITY_BITS) if (b < INFINITY_BITS) {
-        WORD exponent = (a >> FRACTION_BITS) + (b >> FRACTION_BITS);
-        a <<= TOP_SHIFT;
-        a |= TOP_BIT;
-        b <<= TOP_SHIFT;
-        b |= TOP_BIT;
-        PRODUCT
-        if (a < TOP_BIT) a <<= 1;
-        else exponent += 1;
-        exponent -= BIAS + 1;
-        if (exponent < LARGEST_EXPONENT - 1) {
-            b = a & REST_MASK;
-            a >>= TOP_SHIFT;
-            exponent <<= FRACTION_BITS;
-            exponent |= sign;
-            a += exponent;
-            if (b >= REST_HALF) {
-                if (b > REST_HALF) a += UNIT;
-                else if (LOWER != 0) a += UNIT;
-                else a += a & UNIT;
+    WORD upper = a & MAGNITUDE_MASK;
+    if (upper >= SMALL_BITS) if (upper < LARGE_BITS) {
+        upper = b & MAGNITUDE_MASK;
+        if (upper >= SMALL_BITS) if (upper < LARGE_BITS) {
+            upper = (a >> FRACTION_BITS) + (b >> FRACTION_BITS);
+            a <<= TOP_SHIFT;
+            a |= TOP_BIT;
+            b <<= TOP_SHIFT;
+            b |= TOP_BIT;
+            WORD x = UPPER_PRODUCT(a, b);
+            if (x < TOP_BIT) {
+                x <<= 1;
+                upper -= 1;
             }
-            return a;
+            upper -= BIAS;
+            upper <<= FRACTION_BITS;
+            upper += x >> TOP_SHIFT;
+            x &= REST_MASK;
+            if (x >= REST_HALF) {
+                if (x > REST_HALF) upper += UNIT;
+                else if (a * b != 0) upper += UNIT;
+                else upper += upper & UNIT;
+            }
+            return upper;
         }
-        if (LOWER != 0) a |= UNIT;
-        a = FORMAT_shift_right(a, 1);
-        a = FORMAT_round(sign, (int)(exponent + 1), a);
-        return a;
     }
-    a = FORMAT_mul_rare(sign, a, b);
+    a = FORMAT_mul_rare(a, b);
     return a;
 }
 

@@ -153,12 +153,17 @@ fault 1 race item 0 load item 1 store buffer b3 byte 4 schedule 0*2 1*2
   item 0: load at shift.cl:3:12
         3 | \tdata[i] = data[(i + 1) % get_global_size(0)];
           | \t          ^
+    data[1] is 1
   item 1: store at shift.cl:3:2
         3 | \tdata[i] = data[(i + 1) % get_global_size(0)];
           | \t^
+    data[1] = 2
   why: both work-items are of group 0, and no barrier of it stands between the two accesses
   why: one of the two stores: what the other one finds depends on which comes first
 """
+
+# the same where the buffer is of zeros
+ZEROS_FAULT = SHIFT_FAULT.replace("data[1] is 1", "data[1] is 0").replace("data[1] = 2", "data[1] = 0")
 
 
 def want(condition, text):
@@ -324,9 +329,9 @@ def told_at_its_line(bench):
     command.writes("shift.cl shift --global 4 --arg data=int[4]:range --dump data", SHIFT_FAULT + "data[0]: 0 1 2 3\n", 1)
     beside = command.folder.replace(" ", "_")
     told = command.run(f"{beside}/shift.cl shift --global 4 --arg data=int[4]", 1)
-    want(told == SHIFT_FAULT.replace("at shift.cl", f"at {beside}/shift.cl"), told)
+    want(told == ZEROS_FAULT.replace("at shift.cl", f"at {beside}/shift.cl"), told)
     # (the settings of other host programs aren't for it)
-    command.writes("shift.cl shift --global 4 --arg data=int[4]", SHIFT_FAULT, 1, CLSIM_ON_FAULT="abort",
+    command.writes("shift.cl shift --global 4 --arg data=int[4]", ZEROS_FAULT, 1, CLSIM_ON_FAULT="abort",
                    CLSIM_STATUS="7", CLSIM_LOG=command.path("log"), CLSIM_SCRIPT=command.path("script"))
     want(not os.path.exists(command.path("log")) and not os.path.exists(command.path("script")), "a file was written")
 
