@@ -1,8 +1,7 @@
 // Faults in the client's terms.
 #define _GNU_SOURCE
+#include "accessed.h"
 #include "digits.h"
-#include "json.h"
-#include "objects.h"
 #include "reasons.h"
 #include <stdio.h>
 #include <stdlib.h>
@@ -85,16 +84,7 @@ static void tell_item(unsigned long item, const launch_sizes *s) {
 
 // ---- memory ----
 
-// Where in an object of memory a fault lies, as its line has it: at a byte, or at an element, which may be outside.
-typedef struct {
-    const char *name; // of the buffer or the local object
-    size_t length;    // of the name
-    bool is_local;
-    unsigned long group, byte;
-    const char *element; // its number as text, NULL where it is a byte
-} memory_place;
-
-// Reads it from a fault's line. False where the line has none.
+// Reads the place of a fault from its line. False where the line has none.
 static bool read_place(const char *line, memory_place *m) {
     const char *buffer = strstr(line, " buffer "), *local = strstr(line, " local ");
     bool is_local = local && (!buffer || local < buffer);
@@ -359,6 +349,7 @@ static bool add_script(text *t, cl_kernel k, const launch_sizes *s) {
     for (unsigned i = 0; i < form->judged_count; i++)
         if (form->judged[i].kind == TABLE_PARAMETER)
             addf(t, "arg k%u %u buffer b%u\n", k->number, i, k->program->tables[form->judged[i].argument]);
+    add_printing(t, k, s);
     addf(t, "launch k%u", k->number);
     add_sizes(t, s);
     return true;
@@ -441,7 +432,7 @@ static void tell_loops(cl_kernel k, json spot) {
 }
 
 // Tells what an item of an explanation does, and where. One that has ended is told with its last access.
-static void tell_spot(cl_kernel k, json item) {
+static void tell_spot(cl_kernel k, const memory_place *m, json whole, json item) {
     unsigned long number;
     char does[32], words[96];
     if (!json_number(json_member(item, "item"), &number) || !json_word(json_member(item, "does"), does, sizeof does))
@@ -454,6 +445,7 @@ static void tell_spot(cl_kernel k, json item) {
     } else {
         snprintf(words, sizeof words, "  item %lu: %s", number, strcmp(does, "waits") ? does : "waits at the barrier");
         if (!tell_at(k, words, spot)) tell("%s, its place isn't known", words);
+        if (m) tell_accessed(k, m, whole, item);
     }
     tell_calls_in_place(k, spot);
     tell_calls(k, json_member(spot, "calls"));
@@ -461,15 +453,15 @@ static void tell_spot(cl_kernel k, json item) {
 }
 
 // Tells the items of an explanation, whose members docs/use/explain.md has, and why it is a fault.
-static void tell_spots(cl_kernel k, const char *explanation, bool has_reasons) {
+static void tell_spots(cl_kernel k, const memory_place *m, const char *explanation, bool has_reasons) {
     json whole = json_text(explanation, strlen(explanation)), items = json_member(whole, "items");
     unsigned long version;
     if (json_number(json_member(whole, "version"), &version) && version != 2) return;
-    for (json i = json_first(items); i.at; i = json_next(items, i)) tell_spot(k, i);
+    for (json i = json_first(items); i.at; i = json_next(items, i)) tell_spot(k, m, whole, i);
     if (has_reasons) tell_reasons(k->source, k->form, json_member(whole, "why"));
 }
 
-static void explain(cl_kernel k, const launch_sizes *s, bool has_reasons) {
+static void explain(cl_kernel k, const launch_sizes *s, const memory_place *m, bool has_reasons) {
     static unsigned explained;
     arena a = {0};
     text script = {.arena = &a};
@@ -484,7 +476,7 @@ static void explain(cl_kernel k, const launch_sizes *s, bool has_reasons) {
     bool whole = add_script(&script, k, s) && script.length <= MAX_EXPLAINED_BYTES;
     session_record(k->context->session, true);
     char *explanation = whole ? explain_script(script.at, script.length) : NULL;
-    if (explanation) tell_spots(k, explanation, has_reasons);
+    if (explanation) tell_spots(k, m, explanation, has_reasons);
     free(explanation);
     free_arena(&a);
 }
@@ -512,7 +504,7 @@ static void tell_fault(cl_kernel k, const char *reply, const launch_sizes *s) {
         first = false;
         last = item;
     }
-    explain(k, s, !is_held);
+    explain(k, s, has_place ? &place : NULL, !is_held);
     if (is_held) tell("  why: such an access of a buffer with this flag is undefined (OpenCL 1.2, table 5.3)");
     call_back(k->context, line);
     free(line);

@@ -137,6 +137,7 @@ void drop_held_kernel(cl_kernel k) {
     cl_kernel held = k->held;
     if (!held) return;
     session_askf(k->context->session, "release k%u\n", held->number);
+    drop_printing(held);
     for (unsigned i = 0; i < held->form->count; i++) free(held->arguments[i].command);
     free(held->arguments);
     free(held);

@@ -105,10 +105,15 @@ static cl_int launch(cl_command_queue q, cl_kernel k, cl_uint dimensions, const 
     cl_kernel launched;
     fault = launched_kernel(k, &launched);
     if (!fault) fault = copy_parts(k, launched, false);
+    if (!fault) fault = begin_printing(launched, &sizes);
     if (fault) return fault;
     const char *reply = ask_launch(launched, &sizes);
     if (!reply) return CL_DEVICE_NOT_AVAILABLE;
-    if (!strcmp(reply, "clean")) return finish(&made, type, copy_parts(k, launched, true), event);
+    if (!strcmp(reply, "clean")) {
+        fault = copy_parts(k, launched, true);
+        if (!fault) fault = end_printing(launched, &sizes);
+        return finish(&made, type, fault, event);
+    }
     if (strncmp(reply, "fault ", 6)) {
         refuse(q->context, "kernel %s: %s", k->form->name, reply);
         return error_of(reply);

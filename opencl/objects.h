@@ -111,6 +111,8 @@ struct _cl_kernel {
     argument *arguments;
     cl_kernel held;                 // that is launched in its place, with the same arguments; NULL for none
     const unsigned char *held_back; // in such a one: which accesses, a set for each argument
+    unsigned print_number;          // of the buffer for printf of its last launch, 0 before
+    size_t print_words;             // that each work-item has in it
 };
 
 typedef struct event_end {
@@ -292,6 +294,22 @@ cl_int ask_kernel(cl_kernel k);
 cl_int launched_kernel(cl_kernel k, cl_kernel *to);
 // Copies what the sub-buffers of a launch have into the buffers that its kernel is given, or back behind the launch.
 cl_int copy_parts(cl_kernel k, cl_kernel launched, bool is_back);
+
+// ---- printing ----
+typedef struct {
+    cl_uint dimensions;
+    size_t global[3], local[3], offset[3];
+    bool uniform;
+} launch_sizes;
+// Gives a kernel that calls printf the buffer for a launch.
+cl_int begin_printing(cl_kernel k, const launch_sizes *sizes);
+// Writes on standard output what printf wrote in a launch that was clean.
+cl_int end_printing(cl_kernel k, const launch_sizes *sizes);
+// How many bytes that buffer may have.
+size_t printing_bytes(void);
+// The same buffer in a script of the launch.
+void add_printing(text *t, cl_kernel k, const launch_sizes *sizes);
+void drop_printing(cl_kernel k);
 // Releases what was made for that.
 void drop_held_kernel(cl_kernel k);
 void drop_held_forms(cl_program p);
@@ -299,11 +317,6 @@ void drop_held_forms(cl_program p);
 cl_ulong local_bytes(cl_kernel k, const local_object *l);
 
 // ---- faults ----
-typedef struct {
-    cl_uint dimensions;
-    size_t global[3], local[3], offset[3];
-    bool uniform;
-} launch_sizes;
 // Sizes as a launch has them, with commas.
 void sizes_text(char *room, size_t n, cl_uint dimensions, const size_t *sizes);
 // Tells each setting whose value isn't known; it is as if it weren't set.

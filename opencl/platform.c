@@ -146,7 +146,7 @@ CL_API_ENTRY cl_int CL_API_CALL clGetDeviceInfo(cl_device_id d, cl_device_info n
     case CL_DEVICE_VERSION: return give_text("OpenCL 1.2 Clsim", room, to, size);
     case CL_DEVICE_OPENCL_C_VERSION: return give_text("OpenCL C 1.2 Clsim", room, to, size);
     case CL_DEVICE_EXTENSIONS: return give_text(EXTENSIONS, room, to, size);
-    case CL_DEVICE_PRINTF_BUFFER_SIZE: GIVE(size_t, 0);
+    case CL_DEVICE_PRINTF_BUFFER_SIZE: GIVE(size_t, printing_bytes());
     case CL_DEVICE_PREFERRED_INTEROP_USER_SYNC: GIVE(cl_bool, CL_TRUE);
     case CL_DEVICE_PARENT_DEVICE: GIVE(cl_device_id, NULL);
     case CL_DEVICE_PARTITION_MAX_SUB_DEVICES: GIVE(cl_uint, 0);

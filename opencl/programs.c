@@ -330,6 +330,7 @@ void drop_kernel(cl_kernel k) {
     cl_program p = k->program;
     drop_held_kernel(k);
     session_askf(c->session, "release k%u\n", k->number);
+    drop_printing(k);
     for (unsigned i = 0; i < k->form->count; i++) {
         free(k->arguments[i].command);
         free(k->arguments[i].value);
@@ -435,7 +436,7 @@ static void add_commands(text *commands, cl_kernel k, cl_uint argument, size_t n
     add(commands, "");
     for (unsigned i = 0; i < k->form->judged_count; i++) {
         const judged_parameter *q = &k->form->judged[i];
-        if (q->kind == TABLE_PARAMETER || q->argument != argument) continue;
+        if (q->kind == TABLE_PARAMETER || q->kind >= PRINT_PARAMETER || q->argument != argument) continue;
         if (q->kind == VALUE_PARAMETER) add_value(commands, k, i, q, value);
         else if (q->kind == ORIGIN_PARAMETER) addf(commands, "arg k%u %u value %zu\n", k->number, i, m->origin);
         else if (q->kind == SIZE_PARAMETER) addf(commands, "arg k%u %u value %zu\n", k->number, i, m->size);

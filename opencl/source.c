@@ -142,6 +142,22 @@ void put_part(char *room, size_t n, const type *type, uint64_t offset) {
     }
 }
 
+const type *number_at(const type *type, uint64_t offset) {
+    while (type->kind == RECORD_TYPE || type->kind == ARRAY_TYPE || type->kind == VECTOR_TYPE) {
+        if (type->kind == RECORD_TYPE) {
+            const field *f = field_at(type->record, offset);
+            if (!f) return NULL;
+            offset -= f->offset;
+            type = f->type;
+        } else {
+            if (!type->of->size) return NULL;
+            offset %= type->of->size;
+            type = type->of;
+        }
+    }
+    return (type->kind == INTEGER_TYPE || type->kind == FLOATING_TYPE) && !offset ? type : NULL;
+}
+
 // ---- what a refusal means ----
 
 static const char *meaning(arena *a, const char *name) {
@@ -241,6 +257,8 @@ static void list_kernel(arena *a, const prepared *p, kernel_form *k, const judge
                        .length = judged->length,
                        .function = f,
                        .accesses = judged->accesses,
+                       .printed = judged->printed,
+                       .printed_count = judged->printed_count,
                        .lines = lines_in(p->text + judged->begin, judged->length)};
     for (unsigned i = 0; i < f->part_count; i++) {
         const node *q = f->parts[i];

@@ -28,6 +28,8 @@ typedef struct {
     const char *attributes;        // those of its function, with a space between each two
     const node *function;          // NULL where it is judged as it is
     const unsigned char *accesses; // of each argument: which accesses of its buffer are written; NULL where unknown
+    const printed_call *printed;   // its calls of printf, by their numbers from 1 on
+    unsigned printed_count;
 } kernel_form;
 
 typedef struct {
@@ -81,4 +83,6 @@ bool is_of_turn_before(const prepared *p, size_t offset, size_t loop);
 const char *shown_as(const kernel_form *k, const char *name, size_t length);
 // An object's part at a byte as the source names it behind the object's name: `[3].x`.
 void put_part(char *room, size_t n, const type *type, uint64_t offset);
+// The number that begins at a byte of an object of a type; NULL for none.
+const type *number_at(const type *type, uint64_t offset);
 #endif
