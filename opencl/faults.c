@@ -43,6 +43,7 @@ void check_settings(void) {
 
 // With CLSIM_STATUS=N the process ends with status N where a launch faulted, whatever it answers itself.
 __attribute__((destructor)) static void end_process(void) {
+    tell_never_done();
     if (!faults) return;
     tell("%u launch%s faulted", faults, faults == 1 ? "" : "es");
     if (status_setting(-1) < 0) return;

@@ -29,8 +29,7 @@ static unsigned char forbidden_by(cl_mem_flags flags) {
     return flags & CL_MEM_READ_ONLY ? STORES : flags & CL_MEM_WRITE_ONLY ? LOADS : 0;
 }
 
-// Which accesses by an argument a kernel may make, as far as that is known before it is translated.
-static unsigned char possible_accesses(const kernel_form *form, unsigned argument) {
+unsigned char possible_accesses(const kernel_form *form, unsigned argument) {
     const type *of = form->parameters[argument].type->of;
     if (form->accesses) return form->accesses[argument];
     return of->is_const || of->space == CONSTANT_SPACE ? LOADS : LOADS | STORES;
