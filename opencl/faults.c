@@ -9,7 +9,13 @@
 #include <string.h>
 #include <unistd.h>
 
-enum { MOST_COLUMNS = 400, MAX_ARGUMENTS = 65536, MOST_TOLD = 4096, MAX_EXPLAINED = 16, MAX_EXPLAINED_BYTES = 32 << 20 };
+enum {
+    MOST_COLUMNS = 400,
+    MAX_ARGUMENTS = 65536,
+    MOST_TOLD = 4096,
+    MAX_EXPLAINED = 16,
+    MAX_EXPLAINED_BYTES = 32 << 20
+};
 
 static unsigned faults;
 
@@ -269,8 +275,8 @@ static void tell_words(cl_kernel k, const char *reply, bool is_held) {
     else tell("%.*s: %s, in kernel %s", (int)(first - reply), reply, words, k->form->name);
 }
 
-// The last line: the device's reply as it came, with the schedule, which is cut. Of a fault of flags without the element
-// that none is, and with the word for its kind.
+// The last line: the device's reply as it came, with the schedule, which is cut. Of a fault of flags without the
+// element that none is, and with the word for its kind.
 static void tell_reply(const char *reply, const memory_place *held) {
     const char *begin = held ? strstr(reply, " item ") : reply, *behind = reply;
     const char *before = held ? strstr(reply, " element " HELD_ELEMENT) : NULL;
@@ -588,8 +594,8 @@ static void tell_launch(cl_kernel k, const char *line, const launch_sizes *s, co
     }
 }
 
-// Tells what a fault's line, which goes with the next command, means to the client: in words, where it is in the source,
-// in which launch, memory and ids, why, and the line itself.
+// Tells what a fault's line, which goes with the next command, means to the client: in words, where it is in the
+// source, in which launch, memory and ids, why, and the line itself.
 static void tell_fault(cl_kernel k, const char *reply, const launch_sizes *s) {
     char *line = strdup(reply);
     memory_place place;
