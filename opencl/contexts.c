@@ -1,5 +1,5 @@
 #define _GNU_SOURCE
-#include "objects.h"
+#include "widening.h"
 #include <errno.h>
 #include <stdlib.h>
 #include <string.h>
@@ -14,6 +14,7 @@ void leave_context(cl_context c) {
 
 void drop_context(cl_context c) {
     if (c->references || c->uses) return;
+    tell_widened(c);
     session_close(c->session);
     free(c->properties);
     free_object(c);
@@ -56,6 +57,7 @@ clCreateContext(const cl_context_properties *properties, cl_uint n, const cl_dev
     c->notify = notify;
     c->user = user;
     c->ready_end = &c->ready;
+    c->noted_end = &c->noted;
     done(errcode);
     return c;
 }

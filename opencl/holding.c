@@ -7,7 +7,7 @@
 //   of them are the one buffer, of which an index reaches its part alone. Others are buffers of their own, into which
 //   the launch's bytes are copied, and back.
 // - An argument that is NULL is the null pointer.
-#include "objects.h"
+#include "widening.h"
 #include <stdlib.h>
 #include <string.h>
 
@@ -91,7 +91,7 @@ static cl_int make_form(cl_kernel k, struct held *h) {
 
 static void drop_form(cl_context c, struct held *h) {
     if (h->number) session_askf(c->session, "release p%u\n", h->number);
-    free_prepared(&h->source);
+    leave_source(&h->source);
     free(h->accesses);
     free(h);
 }

@@ -1,4 +1,4 @@
-#include "objects.h"
+#include "widening.h"
 #include <stdint.h>
 #include <stdio.h>
 #include <stdlib.h>
@@ -94,8 +94,10 @@ static cl_int do_launch(command *c) {
     if (fault) return fault;
     const char *reply = ask_launch(launched, &c->sizes);
     if (!reply) return CL_DEVICE_NOT_AVAILABLE;
-    if (!strcmp(reply, "clean")) return copy_parts(k, launched, true);
-    if (strncmp(reply, "fault ", 6)) {
+    bool is_clean = !strcmp(reply, "clean"), is_fault = !strncmp(reply, "fault ", 6);
+    if (is_clean || is_fault) note_launch(launched, reply);
+    if (is_clean) return copy_parts(k, launched, true);
+    if (!is_fault) {
         refuse(k->context, "kernel %s: %s", k->form->name, reply);
         return error_of(reply);
     }

@@ -17,6 +17,9 @@
 #include "inner.h"
 #endif
 
+typedef struct kept_source kept_source;
+typedef struct noted_launch noted_launch;
+
 typedef enum { CONTEXT = 1, QUEUE, MEMORY, PROGRAM, KERNEL, EVENT } object_kind;
 
 // `references` are those of the client, `uses` those of other objects. An object goes when both are 0.
@@ -44,6 +47,11 @@ struct _cl_context {
     size_t property_count;
     void(CL_CALLBACK *notify)(const char *, const void *, size_t, void *);
     void *user;
+    // of CLSIM_WIDEN (widening.c)
+    noted_launch *noted, **noted_end; // its launches
+    kept_source *sources;             // that they were made by
+    bool lost_launches;               // memory was refused for one
+    // of its commands
     unsigned commands;                  // how many were enqueued
     unsigned waiting;                   // how many of them wait
     struct command *ready, **ready_end; // those that have waited, in the order in which they are done

@@ -1,4 +1,4 @@
-#include "objects.h"
+#include "widening.h"
 #include <inttypes.h>
 #include <stdio.h>
 #include <stdlib.h>
@@ -15,7 +15,7 @@ void release_built(cl_program p) {
     for (unsigned i = 0; p->tables && i < p->form.table_count; i++) session_askf(s, "release b%u\n", p->tables[i]);
     free(p->tables);
     free(p->numbers);
-    free_prepared(&p->form);
+    leave_source(&p->form);
     free(p->options);
     p->numbers = NULL;
     p->count = 0;

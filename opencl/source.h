@@ -48,6 +48,7 @@ typedef struct {
     const tree *tree;        // NULL where it is judged as it is
     unsigned *table_numbers; // as in `judged_source`
     unsigned table_room;
+    struct kept_source *kept; // that launches by it are noted (widening.c); NULL for none
 } prepared;
 
 typedef enum { PREPARED, NOT_PREPARED, NO_MEMORY } preparation;
