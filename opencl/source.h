@@ -50,6 +50,7 @@ typedef struct {
     const tree *tree;        // NULL where it is judged as it is
     unsigned *table_numbers; // as in `judged_source`
     unsigned table_room;
+    struct kept_source *kept; // that launches by it are noted (widening.c); NULL for none
 } prepared;
 
 typedef enum { PREPARED, NOT_PREPARED, NO_MEMORY } preparation;
@@ -72,6 +73,9 @@ const char *build_log(prepared *p, size_t begin, const char *reply);
 // Where a byte of the program of a kernel comes from, as FILE:LINE:COLUMN; false where that isn't known, or there is no
 // such byte.
 bool place_of(const prepared *p, const kernel_form *k, size_t offset, char *room, size_t n);
+// The client's line there with its row and column; false too where it has no room.
+bool line_at(const prepared *p, const kernel_form *k, size_t offset, unsigned *row, unsigned *column, char *room,
+             size_t n);
 // The calls of the source round a byte, which are judged in their places; NULL for none.
 const call_site *calls_round(const prepared *p, size_t offset);
 void put_place(char *room, size_t n, const place *at);

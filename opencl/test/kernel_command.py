@@ -145,11 +145,7 @@ FILES = {"add.cl": ADD, "shift.cl": SHIFT, "nothing.cl": NOTHING, "tile.cl": TIL
          "zero.cl": "__kernel void f(__global int *a) {\n\0}\n"}
 
 SHIFT_FAULT = """\
-fault 1 race item 0 load item 1 store buffer b3 byte 4 schedule 0*2 1*2
-  kernel shift, global size 4, local size 4
-  buffer b3 has 16 bytes and is argument 0, data: data[1]
-  item 0 is global id (0), group (0), local id (0)
-  item 1 is global id (1), group (0), local id (1)
+fault 1 race: work-item 0 loads, and work-item 1 stores, the same bytes, in kernel shift
   item 0: load at shift.cl:3:12
         3 | \tdata[i] = data[(i + 1) % get_global_size(0)];
           | \t          ^
@@ -158,8 +154,13 @@ fault 1 race item 0 load item 1 store buffer b3 byte 4 schedule 0*2 1*2
         3 | \tdata[i] = data[(i + 1) % get_global_size(0)];
           | \t^
     data[1] = 2
+  kernel shift, global size 4, local size 4
+  buffer b3 has 16 bytes and is argument 0, data: data[1]
+  item 0 is global id (0), group (0), local id (0)
+  item 1 is global id (1), group (0), local id (1)
   why: both work-items are of group 0, and no barrier of it stands between the two accesses
   why: one of the two stores: what the other one finds depends on which comes first
+  reply: fault 1 race item 0 load item 1 store buffer b3 byte 4 schedule 0*2 1*2
 """
 
 # the same where the buffer is of zeros
@@ -315,7 +316,8 @@ def local_memory(bench):
     for form in ["16", "0x10", "int[4]", "uchar[16]", "int4[1]"]:
         command.writes(f"{words} --arg t=local:{form}", "clean\na[0]: 3 2 1 0 7 6 5 4\n")
     told = command.run(f"{words} --arg t=local:12", 1)
-    want(told.startswith("fault 4 bounds item 3 store local 0 t element 3 schedule 0*2 1*2 2*2 3*1\n")
+    want("\n  reply: fault 4 bounds item 3 store local 0 t element 3 schedule 0*2 1*2 2*2 3*1\n" in told
+         and told.startswith("fault 4 bounds: work-item 3 stores outside of an object, in kernel tile\n")
          and "\n  t of group 0: t[3], of 3 elements\n" in told and told.endswith("\na[0]: 0 1 2 3 4 5 6 7\n")
          and "\n  item 3: store at tile.cl:2:5\n        2 |     t[get_local_id(0)] = a[get_global_id(0)];\n"
              "          |     ^\n" in told, told)
@@ -368,10 +370,10 @@ def settings(bench):
     command = Command(bench, "settings")
     words = "flag.cl flag --global 2 --local 1 --arg a=int[1] --dump a"
     told = command.run(words, 1)
-    want(told.startswith("fault 1 race item 0 store item 1 store buffer b3 byte 0 ") and "a[0]: 0\n" in told, told)
+    want("\n  reply: fault 1 race item 0 store item 1 store buffer b3 byte 0 " in told and "a[0]: 0\n" in told, told)
     command.writes(f"{words} --uniform", "clean\na[0]: 1\n")
     words = "loop.cl loop --global 1 --arg a=int[1] --dump a"
-    want(command.run(f"{words} --budget 199", 1).startswith("fault 8 budget item 0 schedule "), "it has enough")
+    want(command.run(f"{words} --budget 199", 1).startswith("fault 8 budget: work-item 0 "), "it has enough")
     command.writes(f"{words} --budget 200 --workers 2", "clean\na[0]: 99\n")
     words = "nothing.cl f --global 1024 --local 512 --arg a=int[1]"
     command.writes(words, "clean\n")
