@@ -383,11 +383,6 @@ cl_int launched_kernel(cl_kernel k, cl_kernel *to);
 cl_int copy_parts(cl_kernel k, cl_kernel launched, bool is_back);
 
 // ---- printing ----
-typedef struct {
-    cl_uint dimensions;
-    size_t global[3], local[3], offset[3];
-    bool uniform;
-} launch_sizes;
 // Gives a kernel that calls printf the buffer for a launch.
 cl_int begin_printing(cl_kernel k, const launch_sizes *sizes);
 // Writes on standard output what printf wrote in a launch that was clean.
