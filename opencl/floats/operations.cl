@@ -11,9 +11,9 @@ WORD FORMAT_add_special(WORD a, WORD y, WORD signs) {
     return a - y;
 }
 
-/* a + b. The exact sum 0 is +0, but for two zeros of one sign (6.3). Here a has the larger magnitude, and b the sign bit
-   where the signs differ. The significands x and y have the leading one at bit WIDTH - 1; y is moved to its place below
-   x, its lowest bit sticky. (A variable that is declared costs a step: each has several uses.) */
+/* a + b. The exact sum 0 is +0, but for two zeros of one sign (6.3). Here a has the larger magnitude, and b the sign
+   bit where the signs differ. The significands x and y have the leading one at bit WIDTH - 1; y is moved to its place
+   below x, its lowest bit sticky. (A variable that is declared costs a step: each has several uses.) */
 WORD FORMAT_add(WORD a, WORD b) {
     WORD x = a & MAGNITUDE_MASK;
     WORD y = b & MAGNITUDE_MASK;
@@ -70,7 +70,7 @@ WORD FORMAT_add(WORD a, WORD b) {
         if (y >= INFINITY_BITS) a &= EXPONENT_AND_SIGN;
         return a;
     }
-    /* The leading one moves up, at most to where the exponent is 1: below that the difference is subnormal, and exact. */
+    /* The leading one moves up, at most to the exponent 1: below that the difference is subnormal, and exact. */
     x -= y;
     if (x < TOP_BIT) {
         if (x == 0) return 0;

@@ -105,7 +105,8 @@ class Kernel:
             lambda: f"copysign({one()}, known_{t}({one()}))",
             lambda: f"({r.choice(['fmin', 'fmax'])}({one()}, {one()}) + ({t})0)",
             lambda: f"({self.test(depth - 1)} ? {one()} : {one()})",
-            lambda: f"({t}){self.number(other, depth - 1)}", lambda: f"({t}){self.whole_number(r.choice(WHOLE), depth - 1)}",
+            lambda: f"({t}){self.number(other, depth - 1)}",
+            lambda: f"({t}){self.whole_number(r.choice(WHOLE), depth - 1)}",
             lambda: f"convert_{t}{r.choice(['', '_rte', '_rtz', '_rtp', '_rtn'])}({self.number('double', depth - 1)})",
             lambda: f"select({one()}, {one()}, ({TRUTH[t]})-{self.test(depth - 1)})",
             lambda: f"as_{t}(bits_{t}({one()}) ^ 1u)", lambda: f"ldexp({one()}, {r.randint(-4, 4)})",
@@ -194,8 +195,8 @@ class Kernel:
         return r.choice([
             lambda: f"if ({self.test(2)}) {{ {body()} }} else {{ {body()} {body()} }}",
             lambda: f"if ({self.number(r.choice(FORMATS), 1)}) {body()}",
-            lambda: f"for (float {i} = 0; {i} < {r.randint(1, 2)}.5f; {i} += 0.75f) {{ {body()} {self.variable('float')} "
-                    f"*= {i}; }}",
+            lambda: f"for (float {i} = 0; {i} < {r.randint(1, 2)}.5f; {i} += 0.75f) {{ {body()} "
+                    f"{self.variable('float')} *= {i}; }}",
             lambda: f"for (int {i} = 0; {i} < 3; {i}++) {{ if ({self.test(1)}) continue; {body()} }}",
         ])()
 

@@ -1,5 +1,5 @@
-"""Random kernels on floating-point numbers on Clsim's driver and on pocl: they have to leave the same bytes, and results
-of functions within both their bounds.
+"""Random kernels on floating-point numbers on Clsim's driver and on pocl: they have to leave the same bytes, and
+results of functions within both their bounds.
 
     front_floats.py [--seed N] [--count N] [--keep FOLDER] [--seconds N]
 

@@ -426,8 +426,8 @@ def printf(bench):
     command.writes(f"prints.cl prints {words}", PRINTED + NOTED)
     some = "".join(f"{i}\n" for i in range(341)) * 2
     command.writes("prints.cl much --global 2 --arg a=int[2] --dump a",
-                   f"{some}clean\na[0]: 341 341\n{NOTED}clsim-kernel: kernel much: 2 work-items had no room for all that "
-                   "printf wrote: each has 4092 bytes in a launch of 2 work-items\n")
+                   f"{some}clean\na[0]: 341 341\n{NOTED}clsim-kernel: kernel much: 2 work-items had no room for all "
+                   "that printf wrote: each has 4092 bytes in a launch of 2 work-items\n")
     command.writes("prints.cl left --global 2 --arg a=int[1] --arg text=char[4]", f"clean\n{NOTED}")
     told = command.run("prints.cl races --global 2 --arg a=float[1]", 1)
     want("never" not in told and "\n    a[0] = 0.1f\n" in told, told)
