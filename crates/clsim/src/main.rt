@@ -257,8 +257,10 @@ fn do_check<R: Files + io::Input + Print + Eprint + AllocGlobal>(
     let mut gone = false;
     let outcome = check_source(rt, &mut source, limits, &mut gone);
     let looks = source.looks();
-    if let (Ok(false), Some(text)) = (outcome, source.kept()) {
-        tell_place(rt, limits, file, text);
+    if let Ok(false) = outcome {
+        if let Some(text) = source.kept() {
+            tell_place(rt, limits, file, text);
+        }
     }
     end_source(rt, outcome, Told { file, looks, gone })
 }

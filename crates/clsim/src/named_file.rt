@@ -40,8 +40,9 @@ impl<'a, R: Files + io::Input> NamedFile<'a, R> {
     }
 
     /// The same, of which a copy is kept or not.
-    pub(crate) fn keeping(self, keeps: bool) -> Self {
-        NamedFile { keeps, ..self }
+    pub(crate) fn keeping(mut self, keeps: bool) -> Self {
+        self.keeps = keeps;
+        self
     }
 
     /// The text that was read, where a copy is kept.
@@ -101,7 +102,10 @@ pub(crate) fn reason_of<R: Files>(rt: &R, path: &str) -> Option<io::Error> {
         return None;
     }
     match fs::open(rt, path) {
-        Ok(mut file) => file.read(&mut [0]).err(),
+        Ok(mut file) => {
+            let mut byte = [0u8; 1];
+            file.read(&mut byte).err()
+        }
         Err(error) => Some(error),
     }
 }
