@@ -3,6 +3,8 @@
 //! What is told of a file by this is a hint on standard error, and no answer depends on it.
 #![tactic(auto)]
 
+use text_lines::line_text;
+
 /// What a text looks like.
 #[derive(Clone, Copy, Debug, PartialEq, Eq)]
 pub(crate) enum Looks {
@@ -35,12 +37,7 @@ const SOURCES: [&str; 9] = [
 
 /// The first line that isn't blank, from its first byte that isn't.
 fn first_line(text: &[u8]) -> &[u8] {
-    let text = text.trim_ascii_start();
-    let end = text
-        .iter()
-        .position(|byte| *byte == b'\n')
-        .unwrap_or(text.len());
-    &text[..end]
+    line_text(text.trim_ascii_start(), 0)
 }
 
 /// Whether a line begins with one of the words.
