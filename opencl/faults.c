@@ -259,7 +259,7 @@ static void tell_words(cl_kernel k, const char *reply, bool is_held) {
     }
     if (is_held) {
         size_t at = put_deed(words, sizeof words, first + 6);
-        snprintf(words + at, sizeof words - at, " what the flags of the buffer forbid");
+        snprintf(words + at, sizeof words - at, ", which the flags of the buffer forbid");
     } else put_words(words, sizeof words, fault, first + 6, second ? second + 6 : first + 6);
     if (is_held) tell("fault flags: %s, in kernel %s", words, k->form->name);
     else tell("%.*s: %s, in kernel %s", (int)(first - reply), reply, words, k->form->name);

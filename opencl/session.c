@@ -190,11 +190,11 @@ static FILE *open_record(void) {
     if (!record && !widens()) return NULL;
     if (!record) {
         int fd = memfd_create("clsim", MFD_CLOEXEC);
-        return fd < 0 ? NULL : fdopen(fd, "w+b");
+        return fd < 0 ? NULL : fdopen(fd, "wb");
     }
     snprintf(path, sizeof path, number ? "%s.%d" : "%s", record, number);
     number++;
-    FILE *file = fopen(path, "w+be");
+    FILE *file = fopen(path, "wbe");
     if (!file) tell("cannot write %s: %s", path, strerror(errno));
     return file;
 }

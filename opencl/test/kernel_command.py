@@ -483,7 +483,8 @@ def scripts(bench):
                    SHIFT_FAULT + "data[0]: 0 1 2 3\n", 1)
     replies = bench.replies(command.path("out.txt"))
     data = "data " + struct.pack("<4i", 0, 1, 2, 3).hex()
-    want([line for line in replies if line != "ok"] == [SHIFT_FAULT.split("\n")[0], data], replies)
+    fault = SHIFT_FAULT.splitlines()[-1].removeprefix("  reply: ")
+    want([line for line in replies if line != "ok"] == [fault, data], replies)
     before = command.read("out.txt")
     command.writes("tile.cl tile --global 4 --script out.txt --arg a=int[4] --arg t=5",
                    "clsim-kernel: --arg t=5: __local int *t is in local memory, whose bytes are given: t=local:BYTES\n", 2)
