@@ -1,0 +1,7 @@
+mod AlikeTables
+mod AlikeSteps
+mod AlikeRuns
+mod Marks
+mod OneAnswer
+mod OneBuild
+mod Performing
