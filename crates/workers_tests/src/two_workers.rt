@@ -59,7 +59,7 @@ fn ran<W: Threads + Wait + Sync, G: Gate>(
         return None;
     };
     match run_parallel(rt, alloc, &launch, device.buffers(), workers, gate) {
-        Ok(outcome) => Some(outcome),
+        Ok(end) => end.outcome(alloc, &launch, device.buffers()).ok(),
         Err(_) => None,
     }
 }
