@@ -1,14 +1,15 @@
 -- Buffers with changes, the first with the first.
-use Rattle.std.proofs.Common.{◌≡◌, ℕ, zero, suc, ◌+◌, ◌-◌, ◌<◌, ◌≤◌, ◌⊎◌, List, [], ◌∷◌, ◌++◌, length, set, take, get_or, refl, sym, ap, ap₂, ◌∙◌, subst, inl, inr, arith}
+use Rattle.std.proofs.Common.{◌≡◌, ℕ, zero, suc, ◌+◌, ◌-◌, ◌<◌, ◌≤◌, ◌⊎◌, List, [], ◌∷◌, ◌++◌, Some, false, leb, length, map, set, take, get_or, refl, sym, ap, ap₂, ◌∙◌, subst, inl, inr, arith}
 use Rattle.std.specs.Prelude.{All, slice_get}
 use Rattle.std.specs.List.{AllByRecursion}
 use Rattle.std.proofs.lemmas.List.Elements.{recursion_from_All}
 use Rattle.spaces.specs.Changes.{Changed, with_changes, all_with_changes}
-use Rattle.clmodel.specs.Cells.{byte_count, byte_of, written}
+use Rattle.clmodel.specs.Cells.{cells_of, byte_count, byte_of, written}
 use Rattle.spaces.proofs.Changed.{changed_many}
-use Rattle.group_join.specs.Changes.{buffer_at, bytes_of, AreChanged}
+use Rattle.group_join.specs.Changes.{buffer_at, bytes_of, AreChanged, filled_at, number_or_0}
 use Rattle.group_join.specs.declared.changes.Change.{Change}
 use Rattle.group_join.proofs.Changing.{changed_written, changed_nothing}
+use Rattle.group_join.proofs.Numbers.{number_past, or_0, past_0}
 
 -- changes that change nothing
 abbrev pub IsNone : Changed → Type 0
@@ -99,3 +100,18 @@ pub nothing_put : (rows : List (List ℕ)) (changes : List Changed) (c : Change)
 nothing_put rows changes c h =
     changed_nothing (all_with_changes rows changes) c.buffer c.first (byte_count c.width) (λ byte. byte_of (byte - c.first) c.value)
     (subst (λ (r : List ℕ). length r ≤ c.first) (sym (zipped_past rows changes c.buffer h)) (omega arith))
+
+-- ---- a word of one of them
+
+pub word_at : (rows : List (List ℕ)) (changes : List Changed) (n at : ℕ) (row : List ℕ) (one : Changed) (value : ℕ) → n < length rows → n < length changes → row ≡ get_or rows n row → one ≡ get_or changes n one
+    → value ≡ number_or_0 (cells_of (map Some (with_changes row one))) at 4 → value ≡ number_or_0 (filled_at (all_with_changes rows changes) n) at 4
+word_at rows changes n at row one value a b e f h =
+    h ∙ ap (λ z. number_or_0 (cells_of (map Some z)) at 4) (sym (zipped_at rows changes n row one a b ∙ ap₂ with_changes (sym e) (sym f)))
+
+pub word_past : (rows : List (List ℕ)) (changes : List Changed) (n at : ℕ) → (n < length rows → n < length changes → ⊥) → 0 ≡ number_or_0 (filled_at (all_with_changes rows changes) n) at 4
+word_past rows changes n at h =
+    subst (λ (z : List ℕ). 0 ≡ number_or_0 (cells_of (map Some z)) at 4) (sym (zipped_past rows changes n h)) (or_0 (cells_of (map Some [])) at 4 (number_past (map Some []) at 4 (omega arith) (omega arith)))
+
+-- what a word with changes is where the row ends before
+pub changed_past : (row : List ℕ) (one : Changed) (at : ℕ) → leb (at + 4) (length row) ≡ false → 0 ≡ number_or_0 (cells_of (map Some (with_changes row one))) at 4
+changed_past row one at h = past_0 (with_changes row one) at 4 (omega arith) (ap (leb (at + 4)) (changed_many row one) ∙ h)

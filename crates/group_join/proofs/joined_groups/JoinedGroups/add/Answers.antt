@@ -13,9 +13,9 @@ returns-clause-changed g c = λ value w there.
     let old = c.args.self.now.changes in
     let rows : List (Bor (List ℕ)) → List (List ℕ) = map (λ row. row.now) in
     let first = c.args.self.now.first.items in
-    let made : AreChanged (all_with_changes (rows c.as_slice-first.result.now) c.as_mut_slice.result.now) (all_with_changes (rows c.as_slice-first.result.now) new) (changes_of value entries)
+    let made : AreChanged (all_with_changes (rows c.as_slice.result.now) c.as_mut_slice.result.now) (all_with_changes (rows c.as_slice.result.now) new) (changes_of value entries)
     = c.in_ok-join_accesses.ensures.changed value w there in
     let long : length new ≡ old.len = omega (arith, c.join_accesses.ensures.many, c.as_mut_slice.ensures.len) in
     subst (λ z. AreChanged (all_with_changes (rows first) old.items) (all_with_changes (rows first) z) (changes_of value entries)) (sym (front old.len new (drop (length new) old.items) long))
     (subst (λ z. AreChanged (all_with_changes (rows first) z) (all_with_changes (rows first) new) (changes_of value entries)) c.as_mut_slice.ensures.value
-    (subst (λ z. AreChanged (all_with_changes (rows z) c.as_mut_slice.result.now) (all_with_changes (rows z) new) (changes_of value entries)) c.as_slice-first.ensures.value made))
+    (subst (λ z. AreChanged (all_with_changes (rows z) c.as_mut_slice.result.now) (all_with_changes (rows z) new) (changes_of value entries)) c.as_slice.ensures.value made))
