@@ -37,10 +37,13 @@ clean_answers old new kernel range launched changes determined complete comes is
     let contents : List (List ℕ) = all_with_changes launch.buffers changes.items in
     let claims : ClaimsClean launch (Clean changes) = subst (λ (end : LaunchEnd). ClaimsClean launch end) is (clean_of determined complete launch launched.end came.ends) in
     unrefused (first (row old (command.Launch kernel range))) (Launches old setup reply.Clean new)
-    (λ refusal. (reply.Clean ≡ reply.Refused refusal) × (new ≡ old)) comes.admitted
-    (contents, claims, gives
-    ∙ ap (λ (names : List (List ℕ)). record old { buffers = table_with_changes old.buffers names changes.items }) came.names
-    ∙ ap (λ (buffers : Table (List ℕ)). record old { buffers = buffers }) (changes_written old.buffers setup changes.items))
+    (λ refusal. (reply.Clean ≡ reply.Refused refusal) × (new ≡ old)) comes.admitted (
+      contents,
+      claims,
+      gives
+          ∙ ap (λ (names : List (List ℕ)). record old { buffers = table_with_changes old.buffers names changes.items }) came.names
+          ∙ ap (λ (buffers : Table (List ℕ)). record old { buffers = buffers }) (changes_written old.buffers setup changes.items),
+    )
 
 -- a launch that ended with a fault
 pub fault_answers : (old new : Machine) (kernel : List ℕ) (range : Range) (launched : Launched) (fault : Fault) (schedule : List EventRun)

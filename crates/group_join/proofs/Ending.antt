@@ -65,8 +65,7 @@ concludes_fault l fault runs h = (events_of runs, h.0.0, h.0.1, refl, h.1)
 
 pub concludes_clean : (l : Launch) (g : ℕ) (so_far : JoinedGroups) → JoiningLaws → IsGrouped l → HoldsGroups l g so_far → l.items ≤ g * l.group_size → EndsAs l (Clean so_far.changes)
 concludes_clean l g so_far laws grouped holds all =
-    let end = laws.ends l g holds.joined grouped holds.is_joined all in
-    (
+    let end = laws.ends l g holds.joined grouped holds.is_joined all in (
       holds.joined.events,
       end.0,
       end.1,

@@ -207,11 +207,11 @@ nothing_joined l so_far first same remembers none =
       first = first;
       contents = contents_start l (contents_of so_far) (same ∙ first);
       log = λ _. record {
-          kept = [];
-          keeps = refl;
-          remembers = remembers;
-          events = ap events_of none;
-          merged = subst IsMerged (sym none) tt;
+        kept = [];
+        keeps = refl;
+        remembers = remembers;
+        events = ap events_of none;
+        merged = subst IsMerged (sym none) tt;
       };
     }
 

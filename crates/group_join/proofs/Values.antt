@@ -1,5 +1,6 @@
 -- Numbers whose bytes are what the bytes of an access become.
 use Rattle.std.proofs.Common.{◌≡◌, ℕ, zero, suc, ◌+◌, ◌-◌, ◌*◌, ◌/◌, ◌%◌, ◌^◌, ◌<◌, ◌≤◌, ◌⊎◌, Bool, true, Option, None, Some, List, [], ◌∷◌, refl, sym, ap, ap₂, ◌∙◌, subst, inl, inr, arith}
+use Rattle.std.specs.Prelude.{Result, Ok, Err, OnOk}
 use Rattle.std.proofs.Math.Nat.{pow-succ', div-div-eq-div-mul, div-one}
 use Rattle.clmodel.specs.Cells.{Cells, byte_count, byte_of, covers, joined, number}
 use Rattle.clmodel.specs.declared.access.Access.{Access}
@@ -11,7 +12,7 @@ use Rattle.clmodel.specs.declared.access.Region.TheVariants as region
 use Rattle.clmodel.proofs.CellLaws.{covers_parts, covers_from}
 use Rattle.clmodel.proofs.Steps.{none_some, some_inj, if_true}
 use Rattle.joining.specs.Memory.{writes}
-use Rattle.group_join.specs.Changes.{ByteChange, byte_changes, changes_at, access_changes, bytes_of, number_or_0, joined_value, value_of, cells_at, filled_at, buffer_at, AreChanged, IsValue, AreBytes, IsKept}
+use Rattle.group_join.specs.Changes.{ByteChange, byte_changes, changes_at, access_changes, bytes_of, number_or_0, joined_value, value_of, cells_at, filled_at, buffer_at, AreChanged, IsValue, AreBytes, WroteBytes, IsKept}
 use Rattle.group_join.proofs.Numbers.{one_byte, first_or_later}
 
 -- ---- the bytes of a number
@@ -128,3 +129,12 @@ pub own_kept :
     (value : ℕ → Access → ℕ → ℕ) (own : List (List (Option ℕ))) (n : ℕ) (x : Access) (v : ℕ) → writes x.kind ≡ true → x.region ≡ region.Buffer n → IsKept value own x None
     → IsValue x.first (byte_count x.width) (λ byte. number_or_0 (cells_at own n) byte 1) v → IsValue x.first (byte_count x.width) (value n x) v
 own_kept value own n x v w r kept is = record { each = λ byte c. is.each byte c ∙ sym (kept n w r byte c) }
+
+-- the same of a call that may lack memory, where what it puts is each value for which this holds
+pub change_made_ok :
+    {T E : Type 0} (r : Result T E) (old new : List (List ℕ)) (n : ℕ) (x : Access) (v : ℕ) (own : List (List (Option ℕ))) (kept : Option ℕ) → writes x.kind ≡ true → x.region ≡ region.Buffer n
+    → ((value : ℕ → Access → ℕ → ℕ) → WroteBytes own x → IsKept value own x kept → IsValue x.first (byte_count x.width) (value n x) v)
+    → OnOk r (AreChanged old new (bytes_of (record { buffer = n; width = x.width; first = x.first; value = v })))
+    → OnOk r ((value : ℕ → Access → ℕ → ℕ) → WroteBytes own x → IsKept value own x kept → AreChanged old new (access_changes value x))
+change_made_ok (Ok t) old new n x v own kept w r is h = λ value wrote k. change_made value old new n x v w r (is value wrote k) h
+change_made_ok (Err e) old new n x v own kept w r is h = tt

@@ -1,6 +1,6 @@
 -- Buffers with changes, the first with the first.
 use Rattle.std.proofs.Common.{◌≡◌, ℕ, zero, suc, ◌+◌, ◌-◌, ◌<◌, ◌≤◌, ◌⊎◌, List, [], ◌∷◌, ◌++◌, Some, false, leb, length, map, set, take, get_or, refl, sym, ap, ap₂, ◌∙◌, subst, inl, inr, arith}
-use Rattle.std.specs.Prelude.{All, slice_get}
+use Rattle.std.specs.Prelude.{All, Result, Ok, Err, OnOk, slice_get}
 use Rattle.std.specs.List.{AllByRecursion}
 use Rattle.std.proofs.lemmas.List.Elements.{recursion_from_All}
 use Rattle.spaces.specs.Changes.{Changed, with_changes, all_with_changes}
@@ -93,6 +93,14 @@ change_put rows changes c row one new a b e f h =
 
     long : length (buffer_at all c.buffer) ≡ length row
     long = ap length before ∙ changed_many row one
+
+pub on_put :
+    {T E : Type 0} (r : Result T E) (rows : List (List ℕ)) (changes : List Changed) (c : Change) (row : List ℕ) (one new : Changed) → c.buffer < length rows → c.buffer < length changes → row ≡ get_or rows c.buffer row
+    → one ≡ get_or changes c.buffer one
+    → OnOk r ((byte : ℕ) → byte < length row → slice_get (with_changes row new) byte ≡ written (slice_get (with_changes row one)) c.first (byte_count c.width) c.value byte)
+    → OnOk r (AreChanged (all_with_changes rows changes) (all_with_changes rows (set changes c.buffer new)) (bytes_of c))
+on_put (Ok t) rows changes c row one new a b e f h = change_put rows changes c row one new a b e f h
+on_put (Err x) rows changes c row one new a b e f h = tt
 
 -- where there is no such buffer
 pub nothing_put : (rows : List (List ℕ)) (changes : List Changed) (c : Change) → (c.buffer < length rows → c.buffer < length changes → ⊥)

@@ -155,9 +155,10 @@ impl Before<'_, '_, '_, '_> {
     fn lower_word(&self, number: u32, at: u64) -> u32
         ensures { result ≡ number_or_0 (filled_at (all_with_changes (map (λ row. row.now) self.now.first.now) self.now.lower.now) number) at 4 }
     {
-        let number = number as usize;
-        if number < self.first.len() && number < self.lower.len() {
-            changed_word(self.first[number], &self.lower[number], at)
+        let place = number as usize;
+        let count = self.first.len().min(self.lower.len());
+        if place < count {
+            changed_word(self.first[place], &self.lower[place], at)
         } else {
             0
         }
@@ -245,19 +246,17 @@ impl Before<'_, '_, '_, '_> {
 }
 
 /// Makes a change, of those of its bytes that the buffer has. An error is out of memory.
-fn make_change(
-    first: &[&[u8]],
-    changes: &mut [Changes],
-    change: Change,
-) -> Result<(), AllocError>
+fn make_change(first: &[&[u8]], changes: &mut [Changes], change: Change) -> Result<(), AllocError>
     ensures many { length changes.new ≡ length changes.old }
     ensures changed { OnOk result (AreChanged (all_with_changes (map (λ row. row.now) first.now) changes.old) (all_with_changes (map (λ row. row.now) first.now) changes.new) (bytes_of change)) }
 {
     let number = change.buffer as usize;
-    if number < first.len() && number < changes.len() {
-        changes[number].put(first[number], change.first, change.width, change.value)?;
+    let count = first.len().min(changes.len());
+    if number < count {
+        changes[number].put(first[number], change.first, change.width, change.value)
+    } else {
+        Ok(())
     }
-    Ok(())
 }
 
 /// What the bytes of a buffer that an access of the further group wrote become, as a number: the number kept of it, or

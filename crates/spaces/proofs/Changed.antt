@@ -3,11 +3,11 @@ use Rattle.std.proofs.Common.{◌≡◌, ℕ, zero, suc, ◌+◌, ◌-◌, ◌*�
 use Rattle.std.specs.Prelude.{slice_index, slice_get}
 use Rattle.std.specs.List.{range_with_len}
 use Rattle.std.proofs.lemmas.Bool.{cases_lt, cases_eq}
-use Rattle.std.proofs.lemmas.List.{get_or-take, get_or-drop, get_or_append_left, get_or-append_right, length-take, length-drop, drop_more, drop_all, get_or_default}
-use Rattle.clmodel.specs.Cells.{Cells, cells_of, byte_of, written}
+use Rattle.std.proofs.lemmas.List.{get_or-take, get_or-drop, get_or_append_left, get_or-append_right, length-take, length-drop, drop_more, drop_all}
+use Rattle.clmodel.specs.Cells.{Cells, cells_of, written}
 use Rattle.clmodel.proofs.CellLaws.{cells_some}
 use Rattle.spaces.specs.Changes.{Changed, with_changes, table_with_changes}
-use Rattle.spaces.specs.Overlay.{PageCounts, overlaid_byte, overlaid_cells, overlaid, copies, IsCopied, AreNumbered}
+use Rattle.spaces.specs.Overlay.{PageCounts, overlaid_byte, overlaid, copies, IsCopied, AreNumbered}
 use Rattle.spaces.specs.Space.{Becomes}
 use Rattle.spaces.specs.Tables.{Table}
 use Rattle.spaces.proofs.Copies.{copied_or, lent, in_copy, written_same}
@@ -53,7 +53,7 @@ changed_many base changes = count_of (overlaid_byte base (copies changes.counts)
 
 -- an overlay's bytes are those with its changes
 pub overlaid_is : (base : List ℕ) (counts : PageCounts) (cells : List ℕ) → overlaid base (copies counts) cells ≡ map Some (with_changes base (changed_of counts cells))
-unfolding with_changes, overlaid
+unfolding with_changes overlaid
 overlaid_is base counts cells = some_of (overlaid_byte base (copies counts) cells) 0 (length base)
 
 pub cell_is : (base : List ℕ) (counts : PageCounts) (cells : List ℕ) (byte : ℕ) → cells_of (overlaid base (copies counts) cells) byte ≡ slice_get (with_changes base (changed_of counts cells)) byte
@@ -224,3 +224,10 @@ pub changes_done :
     → table_with_changes table (drop place names) (drop place changes) ≡ table
 changes_done table names changes place (inl h) = ap (λ ns. table_with_changes table ns (drop place changes)) (drop_all place names h)
 changes_done table names changes place (inr h) = ap (table_with_changes table (drop place names)) (drop_all place changes h) ∙ no_changes_left table (drop place names)
+
+pub either_done : (names changes place : ℕ) → min names changes ≤ place → (names ≤ place) ⊎ (changes ≤ place)
+either_done names changes place h = go (cases_lt place names)
+  where
+    go : (place < names) ⊎ (names ≤ place) → (names ≤ place) ⊎ (changes ≤ place)
+    go (inl a) = inr (omega (arith, a, h))
+    go (inr a) = inl a

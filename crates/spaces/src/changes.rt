@@ -52,13 +52,7 @@ impl Changes {
 
     /// Puts the low bytes of a value in place of those of an element of a buffer of these bytes, as far as the buffer
     /// has them. An error is out of memory, and nothing is changed.
-    pub fn put(
-        &mut self,
-        bytes: &[u8],
-        at: u64,
-        width: Width,
-        value: u64,
-    ) -> Result<(), AllocError>
+    pub fn put(&mut self, bytes: &[u8], at: u64, width: Width, value: u64) -> Result<(), AllocError>
         ensures put { OnOk result ((byte : ℕ) → byte < length bytes.now → slice_get (with_changes bytes.now self.new) byte ≡ written (slice_get (with_changes bytes.now self.old)) at (byte_count width) value byte) }
         ensures same { OnErr result (with_changes bytes.now self.new ≡ with_changes bytes.now self.old) }
     {

@@ -97,11 +97,7 @@ fn merged(
 }
 
 /// A launch run whole.
-fn run_whole(
-    alloc: Global,
-    launch: &Launch<'_>,
-    buffers: &Buffers,
-) -> Result<Outcome, AllocError>
+fn run_whole(alloc: Global, launch: &Launch<'_>, buffers: &Buffers) -> Result<Outcome, AllocError>
     requires { HasGroups (setup_of launch.now) }
 {
     run_launch(alloc, launch, buffers)?.outcome(alloc, launch, buffers)

@@ -1,4 +1,4 @@
-use Rattle.std.proofs.Common.{◌≡◌, ℕ, ◌/◌, ◌∙◌, sym, ap}
+use Rattle.std.proofs.Common.{◌≡◌, ◌∙◌, sym, ap}
 use Rattle.clmodel.specs.Cells.{cells_of, written}
 use Rattle.spaces.specs.Overlay.{copies, overlaid}
 use Rattle.spaces.proofs.PageRows.{overlaid_many, overlaid_same, put_whole, on_err}

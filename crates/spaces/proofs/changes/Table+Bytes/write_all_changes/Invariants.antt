@@ -1,6 +1,6 @@
 use Rattle.std.proofs.Common.{◌≡◌, drop}
 use Rattle.spaces.specs.Changes.{table_with_changes}
-use Rattle.spaces.proofs.changes.Table.write_all_changes.Given as goal
+use Rattle.spaces.proofs.changes.Table+Bytes.write_all_changes.Given as goal
 
 -- the table so far with the changes that are left is that with all changes
 abbrev pub invariant-loop-place : goal.invariant-loop-place
