@@ -92,7 +92,7 @@ fn no_changes_of(alloc: Global, rows: &[&[u8]]) -> Result<Vec<Changes>, AllocErr
     ensures { IfOk result (λ changes. all_with_changes (map (λ row. row.now) rows.now) changes.items ≡ map (λ row. row.now) rows.now) }
 {
     let mut changes = Vec::new(alloc);
-    for _row in 0..rows.len() {
+    for _ in 0..rows.len() {
         changes.push(Changes::new(alloc))?;
     }
     Ok(changes)

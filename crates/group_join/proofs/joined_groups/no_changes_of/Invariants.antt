@@ -3,5 +3,5 @@ use Rattle.std.specs.Prelude.{All}
 use Rattle.group_join.proofs.Zipped.{IsNone}
 use Rattle.group_join.proofs.joined_groups.no_changes_of.Given as goal
 
-abbrev pub invariant-loop-_row : goal.invariant-loop-_row
-invariant-loop-_row l = record { many : length l.changes.items ≡ l._row; none : All IsNone l.changes.items }
+abbrev pub invariant-loop : goal.invariant-loop
+invariant-loop l = record { many : length l.changes.items ≡ l.counter; none : All IsNone l.changes.items }
