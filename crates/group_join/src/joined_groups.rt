@@ -18,7 +18,7 @@ ghost use Rattle.shadow.specs.Lasting.{StandsWith};
 ghost use Rattle.shadow.specs.Seen.{IsFootprint};
 ghost use Rattle.access_list.specs.Log.{Log};
 ghost use Rattle.spaces.specs.Buffers.{bytes_in};
-ghost use Rattle.spaces.specs.Changes.{all_with_changes, with_changes};
+ghost use Rattle.spaces.specs.Changes.{all_with_changes};
 ghost use Rattle.group_join.specs.Changes.{AreChanged, AreUpdates, AllWroteBytes, changes_of, value_of};
 ghost use Rattle.group_join.specs.Comparing.{met_of, KeepsUpdates};
 ghost use Rattle.group_join.specs.Ends.{EndsAs};
