@@ -4,12 +4,12 @@ use Rattle.std.specs.Prelude.{◌≡◌, ℕ, ℤ, String, Option, None, Some, L
 use Rattle.std.specs.declared.alloc.Global.{Global}
 use Rattle.serde_json.specs.Data.{Data, string, array, object, member, no_members, item, no_items}
 use Rattle.explanation.specs.declared.refusals.Divided.{Divided}
-use Rattle.explanation.specs.declared.refusals.Divided.TheVariants as divided
+use Rattle.explanation.specs.declared.refusals.Divided.TheVariants as division
 use Rattle.explanation.specs.declared.refusals.Limited.{Limited}
-use Rattle.explanation.specs.declared.refusals.Limited.TheVariants as limited
+use Rattle.explanation.specs.declared.refusals.Limited.TheVariants as bound
 use Rattle.explanation.specs.declared.refusals.MadeName.{MadeName}
 use Rattle.explanation.specs.declared.refusals.NameKind.{NameKind}
-use Rattle.explanation.specs.declared.refusals.NameKind.TheVariants as kind
+use Rattle.explanation.specs.declared.refusals.NameKind.TheVariants as kinds
 use Rattle.explanation.specs.declared.refusals.RefusalReason.{RefusalReason}
 use Rattle.explanation.specs.declared.refusals.RefusalReason.TheVariants as reason
 use Rattle.explanation.specs.declared.refusals.RefusedCommand.{RefusedCommand}
@@ -22,28 +22,28 @@ use Rattle.explain_json.specs.Members.{left_data, list_data, number_data, or_nul
 use Rattle.explain_json.specs.Reasons.{plain_data}
 
 abbrev pub kind_word : NameKind → List ℕ
-kind_word kind.Buffer = codes "buffer"
-kind_word kind.Program = codes "program"
-kind_word kind.Kernel = codes "kernel"
+kind_word kinds.Buffer = codes "buffer"
+kind_word kinds.Program = codes "program"
+kind_word kinds.Kernel = codes "kernel"
 
 abbrev pub kind_data : NameKind → Data
 kind_data k = string (kind_word k)
 
 abbrev pub limited_word : Limited → List ℕ
-limited_word limited.BufferBytes = codes "buffer_bytes"
-limited_word limited.GroupItems = codes "group_items"
-limited_word limited.Items = codes "items"
-limited_word limited.LocalBytes = codes "local_bytes"
+limited_word bound.BufferBytes = codes "buffer_bytes"
+limited_word bound.GroupItems = codes "group_items"
+limited_word bound.Items = codes "items"
+limited_word bound.LocalBytes = codes "local_bytes"
 
 abbrev pub divided_word : Divided → List ℕ
-divided_word divided.FillOffset = codes "offset"
-divided_word divided.FillCount = codes "count"
-divided_word (divided.GlobalSize dimension) = codes "global_size"
+divided_word division.FillOffset = codes "offset"
+divided_word division.FillCount = codes "count"
+divided_word (division.GlobalSize dimension) = codes "global_size"
 
 abbrev pub dimension_of : Divided → Option ℕ
-dimension_of divided.FillOffset = None
-dimension_of divided.FillCount = None
-dimension_of (divided.GlobalSize dimension) = Some dimension
+dimension_of division.FillOffset = None
+dimension_of division.FillCount = None
+dimension_of (division.GlobalSize dimension) = Some dimension
 
 abbrev pub made_data : MadeName → Data
 made_data m = object (member (codes "kind") (kind_data m.kind) (member (codes "name") (text_data m.name) (member (codes "script_line") (number_data m.script_line) no_members)))

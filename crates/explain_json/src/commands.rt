@@ -2,8 +2,8 @@
 //! and the reason.
 #![tactic(auto)]
 
-ghost use Rattle.std.specs.Prelude.{◌≡◌, string_bytes, IfOk};
-ghost use Rattle.serde_json.specs.Data.{array, no_items};
+ghost use Rattle.std.specs.Prelude.{◌≡◌, Some, string_bytes, IfOk};
+ghost use Rattle.serde_json.specs.Data.{array, item, no_items};
 ghost use Rattle.serde_json.specs.View.{view};
 ghost use Rattle.explain_json.specs.Members.{left_data, or_null};
 ghost use Rattle.explain_json.specs.Commands.{IsCommandData, IsCommandLine, IsWhy, command_fault_data, dimension_of, divided_word, kind_data, kind_word, limited_word, made_data, refusal_reason_data, word_spot_data, counts_data, kernel_data, large_offset_data, limit_data, many_data, missing_data, multiple_data, no_parameter_data, other_argument_data, outside_data, outside_type_data, overlap_data, pattern_data, taken_data, unknown_data, used_data, zero_data};
@@ -345,16 +345,32 @@ fn reason_value(alloc: Global, reason: &RefusalReason, text: &str) -> Result<Val
     }
 }
 
+/// A value as a list of it alone.
+fn list_of(alloc: Global, value: Value) -> Result<Value, AllocError>
+    ensures { IfOk result (λ list. view list ≡ array (item (view value) no_items)) }
+{
+    let mut values = Vec::new(alloc);
+    values.push(value)?;
+    Ok(Value::Array(values))
+}
+
+/// A reason in a list.
+fn listed_reason(alloc: Global, reason: &RefusalReason) -> Result<Value, AllocError>
+    ensures { IfOk result (λ list. IsWhy (Some reason.now) (view list)) }
+{
+    let text = refusal_reason_text(alloc, reason)?;
+    let value = reason_value(alloc, reason, text.as_str())?;
+    list_of(alloc, value)
+}
+
 /// The reason of a refusal in a list, which is empty where none is known.
 fn why_value(alloc: Global, why: &Option<RefusalReason>) -> Result<Value, AllocError>
     ensures { IfOk result (λ value. IsWhy why.now (view value)) }
 {
-    let mut values = Vec::new(alloc);
-    if let Some(reason) = why {
-        let text = refusal_reason_text(alloc, reason)?;
-        values.push(reason_value(alloc, reason, text.as_str())?)?;
+    match why {
+        Some(reason) => listed_reason(alloc, reason),
+        None => empty_list(alloc),
     }
-    Ok(Value::Array(values))
 }
 
 /// The refusal of a command, by its number and its name.
@@ -369,7 +385,7 @@ fn fault_value(alloc: Global, told: &RefusedCommand) -> Result<Value, AllocError
 }
 
 /// A list of nothing.
-fn no_hints(alloc: Global) -> Result<Value, AllocError>
+fn empty_list(alloc: Global) -> Result<Value, AllocError>
     ensures { IfOk result (λ value. view value ≡ array no_items) }
 {
     Ok(Value::Array(Vec::new(alloc)))
@@ -388,7 +404,7 @@ fn command_value(alloc: Global, told: &RefusedCommand) -> Result<Value, AllocErr
         .with("spot", &told.spot)
         .with("script", &told.script)
         .with_text("kind", "refusal")
-        .with_value("hints", no_hints(alloc))
+        .with_value("hints", empty_list(alloc))
         .with_value("fault", fault_value(alloc, told))
         .with("command", &told.command)
         .finish()

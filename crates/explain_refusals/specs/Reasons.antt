@@ -6,11 +6,11 @@ use Rattle.std.specs.declared.alloc.Global.{Global}
 use Rattle.clmodel.specs.Setup.{product}
 use Rattle.clmodel.specs.declared.setup.Argument.TheVariants as argument
 use Rattle.explanation.specs.declared.refusals.Divided.{Divided}
-use Rattle.explanation.specs.declared.refusals.Divided.TheVariants as divided
+use Rattle.explanation.specs.declared.refusals.Divided.TheVariants as division
 use Rattle.explanation.specs.declared.refusals.Limited.{Limited}
-use Rattle.explanation.specs.declared.refusals.Limited.TheVariants as limited
+use Rattle.explanation.specs.declared.refusals.Limited.TheVariants as bound
 use Rattle.explanation.specs.declared.refusals.NameKind.{NameKind}
-use Rattle.explanation.specs.declared.refusals.NameKind.TheVariants as kind
+use Rattle.explanation.specs.declared.refusals.NameKind.TheVariants as kinds
 use Rattle.explanation.specs.declared.refusals.RefusalReason.{RefusalReason}
 use Rattle.explanation.specs.declared.refusals.RefusalReason.TheVariants as reason
 use Rattle.host_commands.specs.Fills.{is_pattern_size}
@@ -48,11 +48,11 @@ NamesBuffer _ name = ⊥
 -- a number of a command that the device limits, and its limit; of a product that is too large for 64 bits the greatest
 -- number that they hold
 abbrev pub IsLimited : Limits → Command → Limited → ℕ → ℕ → Type 0
-IsLimited limits (command.Buffer name size) limited.BufferBytes number limit = (number ≡ size) × (limit ≡ limits.buffer_bytes)
-IsLimited limits (command.Launch kernel range) limited.GroupItems number limit = (number ≡ min (product range.local) (2 ^ 64 - 1)) × (limit ≡ limits.group_items)
-IsLimited limits (command.Launch kernel range) limited.Items number limit = (number ≡ min (product range.global) (2 ^ 64 - 1)) × (limit ≡ limits.items)
-IsLimited limits (command.Launch kernel range) limited.LocalBytes number limit = limit ≡ limits.local_bytes
-IsLimited limits (command.Arg kernel index (argument.Local size)) limited.LocalBytes number limit = (number ≡ size) × (limit ≡ limits.local_bytes)
+IsLimited limits (command.Buffer name size) bound.BufferBytes number limit = (number ≡ size) × (limit ≡ limits.buffer_bytes)
+IsLimited limits (command.Launch kernel range) bound.GroupItems number limit = (number ≡ min (product range.local) (2 ^ 64 - 1)) × (limit ≡ limits.group_items)
+IsLimited limits (command.Launch kernel range) bound.Items number limit = (number ≡ min (product range.global) (2 ^ 64 - 1)) × (limit ≡ limits.items)
+IsLimited limits (command.Launch kernel range) bound.LocalBytes number limit = limit ≡ limits.local_bytes
+IsLimited limits (command.Arg kernel index (argument.Local size)) bound.LocalBytes number limit = (number ≡ size) × (limit ≡ limits.local_bytes)
 IsLimited limits _ _ number limit = ⊥
 
 -- a count or a size of a command
@@ -67,9 +67,9 @@ IsCount _ n = ⊥
 
 -- a number of a command, and what it has to be a multiple of
 abbrev pub Divides : Command → Divided → ℕ → ℕ → Type 0
-Divides (command.Fill buffer at count pattern) divided.FillOffset number of = (number ≡ at) × (of ≡ length pattern)
-Divides (command.Fill buffer at count pattern) divided.FillCount number of = (number ≡ count) × (of ≡ length pattern)
-Divides (command.Launch kernel range) (divided.GlobalSize dimension) number of =
+Divides (command.Fill buffer at count pattern) division.FillOffset number of = (number ≡ at) × (of ≡ length pattern)
+Divides (command.Fill buffer at count pattern) division.FillCount number of = (number ≡ count) × (of ≡ length pattern)
+Divides (command.Launch kernel range) (division.GlobalSize dimension) number of =
     (slice_get range.global dimension ≡ Some number) × (slice_get range.local dimension ≡ Some of)
 Divides _ _ number of = ⊥
 
@@ -100,7 +100,7 @@ HasZero _ dimension = ⊥
 
 -- where a buffer is wanted, none has the name
 abbrev pub IsMissing : Table (List ℕ) → Command → String Global → Option NameKind → Type 0
-IsMissing buffers c text (Some kind.Buffer) = (name : List ℕ) × NamesBuffer c name × IsTold text name × (find buffers name ≡ None)
+IsMissing buffers c text (Some kinds.Buffer) = (name : List ℕ) × NamesBuffer c name × IsTold text name × (find buffers name ≡ None)
 IsMissing buffers c text _ = ⊤
 
 -- A reason holds of a command, as far as limits, buffers and the command itself decide it.

@@ -1,10 +1,9 @@
 //! Why a command on buffers was refused (OpenCL 1.2, section 5.2).
 #![tactic(auto)]
 
-ghost use Rattle.std.specs.Prelude.{◌≡◌, ◌<◌, ◌+◌, length, IfOk, IfSome, None, Some};
+ghost use Rattle.std.specs.Prelude.{IfOk, IfSome};
 ghost use Rattle.host_commands.specs.declared.command.Command.{Command as CommandOf};
 ghost use Rattle.host_commands.specs.declared.command.Command.TheVariants as command;
-ghost use Rattle.spaces.specs.Tables.{find};
 ghost use Rattle.explain_refusals.specs.Reasons.{Divides, Holds, IsCount, IsLimited, IsRange, NamesBuffer};
 
 use crate::names::{names_there, text_of, told_names, told_of};

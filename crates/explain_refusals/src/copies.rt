@@ -1,7 +1,7 @@
 //! Why bytes of a buffer aren't copied (OpenCL 1.2, section 5.2.2, clEnqueueCopyBuffer).
 #![tactic(auto)]
 
-ghost use Rattle.std.specs.Prelude.{IfOk, IfSome};
+ghost use Rattle.std.specs.Prelude.{◌≡◌, ◌<◌, ◌+◌, true, IfOk, IfSome};
 ghost use Rattle.host_commands.specs.declared.command.Command.TheVariants as command;
 ghost use Rattle.explain_refusals.specs.Reasons.{Holds};
 
@@ -24,8 +24,8 @@ pub(crate) struct Copied<'a> {
 }
 
 /// The buffer of a copy that isn't there.
-fn missing(refusing: &Refusing<'_>, copied: Copied<'_>) -> Result<Option<Found>, AllocError>
-    ensures { IfOk result (λ found. IfSome found (λ f. Holds refusing.now.limits refusing.now.buffers.now (command.Copy copied.source.now copied.offset copied.target.now copied.target_offset copied.count) f.reason)) }
+fn missing(refusing: &Refusing<'_>, copied: &Copied<'_>) -> Result<Option<Found>, AllocError>
+    ensures { IfOk result (λ found. IfSome found (λ f. Holds refusing.now.limits refusing.now.buffers.now (command.Copy copied.now.source.now copied.now.offset copied.now.target.now copied.now.target_offset copied.now.count) f.reason)) }
 {
     if let Some(found) = missing_buffer(refusing, copied.source, 1)? {
         return Ok(Some(found));
@@ -34,8 +34,8 @@ fn missing(refusing: &Refusing<'_>, copied: Copied<'_>) -> Result<Option<Found>,
 }
 
 /// The range of a copy that passes the end of its buffer.
-fn passing(refusing: &Refusing<'_>, copied: Copied<'_>) -> Result<Option<Found>, AllocError>
-    ensures { IfOk result (λ found. IfSome found (λ f. Holds refusing.now.limits refusing.now.buffers.now (command.Copy copied.source.now copied.offset copied.target.now copied.target_offset copied.count) f.reason)) }
+fn passing(refusing: &Refusing<'_>, copied: &Copied<'_>) -> Result<Option<Found>, AllocError>
+    ensures { IfOk result (λ found. IfSome found (λ f. Holds refusing.now.limits refusing.now.buffers.now (command.Copy copied.now.source.now copied.now.offset copied.now.target.now copied.now.target_offset copied.now.count) f.reason)) }
 {
     let count = copied.count;
     if let Some(found) = outside(refusing, copied.source, copied.offset, count, 2)? {
@@ -56,8 +56,8 @@ fn do_overlap(first: u64, second: u64, count: u64) -> bool
 }
 
 /// The ranges of a copy within a buffer, if they share a byte.
-fn overlapping(refusing: &Refusing<'_>, copied: Copied<'_>) -> Result<Option<Found>, AllocError>
-    ensures { IfOk result (λ found. IfSome found (λ f. Holds refusing.now.limits refusing.now.buffers.now (command.Copy copied.source.now copied.offset copied.target.now copied.target_offset copied.count) f.reason)) }
+fn overlapping(refusing: &Refusing<'_>, copied: &Copied<'_>) -> Result<Option<Found>, AllocError>
+    ensures { IfOk result (λ found. IfSome found (λ f. Holds refusing.now.limits refusing.now.buffers.now (command.Copy copied.now.source.now copied.now.offset copied.now.target.now copied.now.target_offset copied.now.count) f.reason)) }
 {
     let (offset, other_offset, count) = (copied.offset, copied.target_offset, copied.count);
     if copied.source != copied.target || !do_overlap(offset, other_offset, count) {
@@ -75,10 +75,10 @@ fn overlapping(refusing: &Refusing<'_>, copied: Copied<'_>) -> Result<Option<Fou
 /// Why bytes aren't copied.
 pub(crate) fn copy_reason(
     refusing: &Refusing<'_>,
-    copied: Copied<'_>,
+    copied: &Copied<'_>,
     refusal: Refusal,
 ) -> Result<Option<Found>, AllocError>
-    ensures { IfOk result (λ found. IfSome found (λ f. Holds refusing.now.limits refusing.now.buffers.now (command.Copy copied.source.now copied.offset copied.target.now copied.target_offset copied.count) f.reason)) }
+    ensures { IfOk result (λ found. IfSome found (λ f. Holds refusing.now.limits refusing.now.buffers.now (command.Copy copied.now.source.now copied.now.offset copied.now.target.now copied.now.target_offset copied.now.count) f.reason)) }
 {
     match refusal {
         Refusal::NoSuchName => missing(refusing, copied),

@@ -1,7 +1,7 @@
 //! Why a launch was refused (OpenCL 1.2, section 5.8).
 #![tactic(auto)]
 
-ghost use Rattle.std.specs.Prelude.{◌≡◌, ◌<◌, IfOk, IfSome, Some, slice_get};
+ghost use Rattle.std.specs.Prelude.{IfOk, IfSome};
 ghost use Rattle.clmodel.specs.declared.setup.Range.{Range as RangeOf};
 ghost use Rattle.host_commands.specs.declared.command.Command.{Command as CommandOf};
 ghost use Rattle.host_commands.specs.declared.command.Command.TheVariants as command;

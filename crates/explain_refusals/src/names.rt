@@ -33,9 +33,14 @@ fn released_by(command: &Command) -> Option<&Name> {
     }
 }
 
-/// The place of a name among those that are there.
-fn place_of(there: &[Made<'_>], name: &Name) -> Option<usize> {
-    there.iter().position(|made| made.name == name)
+/// Removes a name from those that are there.
+fn remove(there: &mut Vec<Made<'_>>, name: &Name) {
+    for place in 0..there.len() {
+        if there[place].name == name {
+            there.remove(place);
+            return;
+        }
+    }
 }
 
 /// The names that are there after commands that were done, in the order in which they were made. A release takes the
@@ -49,11 +54,8 @@ pub(crate) fn names_there<'a>(
         if let Some((name, kind)) = made_by(command) {
             there.push(Made { name, kind, number })?;
         }
-        let released = released_by(command).and_then(|name| place_of(there.as_slice(), name));
-        if let Some(place) = released {
-            if place < there.len() {
-                there.remove(place);
-            }
+        if let Some(name) = released_by(command) {
+            remove(&mut there, name);
         }
     }
     Ok(there)

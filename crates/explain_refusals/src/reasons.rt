@@ -210,7 +210,7 @@ pub fn reason_of(
                 target_offset: *target_offset,
                 count: *count,
             };
-            copy_reason(refusing, copied, refusal)
+            copy_reason(refusing, &copied, refusal)
         }
         Command::Read {
             buffer,

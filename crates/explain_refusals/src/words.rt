@@ -47,15 +47,23 @@ fn begin_of(line: &[u8], word: usize) -> usize
     line.len()
 }
 
+/// How many bytes the word has that begins a text.
+fn length_of(rest: &[u8]) -> usize
+    ensures { result ≤ length rest.now }
+{
+    for (at, byte) in rest.iter().enumerate() {
+        if *byte == b' ' {
+            return at;
+        }
+    }
+    rest.len()
+}
+
 /// Where the word of a number begins in a line, and how many bytes it has.
 pub fn word_of(line: &[u8], word: usize) -> (usize, usize)
     ensures { result.0 + result.1 ≤ length line.now }
 {
     let begin = begin_of(line, word);
     let (_, rest) = line.split_at(begin);
-    let length = match rest.iter().position(|byte| *byte == b' ') {
-        Some(length) => length,
-        None => rest.len(),
-    };
-    (begin, length)
+    (begin, length_of(rest))
 }

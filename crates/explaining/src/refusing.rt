@@ -33,7 +33,7 @@ fn reason_at(
     let Some(command) = commands.get(case.ticket) else {
         return Ok(None);
     };
-    let (before, _) = commands.split_at(case.ticket);
+    let (before, _) = commands.split_at(case.ticket.min(commands.len()));
     let refusing = Refusing {
         alloc,
         limits: performed.options.configuration.limits,

@@ -34,7 +34,7 @@ fn listed(alloc: Global, mut texts: Vec<String>, left: usize) -> Result<String, 
 /// The names of a list, as far as they are told.
 fn name_list(alloc: Global, names: &[MadeName]) -> Result<String, AllocError> {
     let mut texts = Vec::new(alloc);
-    for made in names.iter().take(MOST_TOLD) {
+    for made in &names[..names.len().min(MOST_TOLD)] {
         texts.push(String::from_str(alloc, made.name.as_str())?)?;
     }
     listed(alloc, texts, names.len().saturating_sub(MOST_TOLD))
@@ -43,7 +43,7 @@ fn name_list(alloc: Global, names: &[MadeName]) -> Result<String, AllocError> {
 /// Texts of a list, as far as they are told.
 fn text_list(alloc: Global, names: &[String]) -> Result<String, AllocError> {
     let mut texts = Vec::new(alloc);
-    for name in names.iter().take(MOST_TOLD) {
+    for name in &names[..names.len().min(MOST_TOLD)] {
         texts.push(String::from_str(alloc, name.as_str())?)?;
     }
     listed(alloc, texts, names.len().saturating_sub(MOST_TOLD))
@@ -59,7 +59,7 @@ fn parameter_words(alloc: Global, parameter: &ParameterFacts) -> Result<String, 
 /// The parameters of a list, as far as they are told.
 fn parameter_list(alloc: Global, parameters: &[ParameterFacts]) -> Result<String, AllocError> {
     let mut texts = Vec::new(alloc);
-    for parameter in parameters.iter().take(MOST_TOLD) {
+    for parameter in &parameters[..parameters.len().min(MOST_TOLD)] {
         texts.push(parameter_words(alloc, parameter)?)?;
     }
     let left = parameters.len().saturating_sub(MOST_TOLD);
@@ -131,13 +131,13 @@ fn limit_words(
     limit: u64,
 ) -> Result<String, AllocError> {
     let least = if number == u64::MAX { "at least " } else { "" };
-    let (what, may) = match limited {
-        Limited::BufferBytes => ("bytes are more than a buffer", "have"),
-        Limited::GroupItems => ("work-items are more than a work-group", "have"),
-        Limited::Items => ("work-items are more than a launch", "have"),
-        Limited::LocalBytes => ("bytes of local memory are more than a work-group", "have"),
+    let what = match limited {
+        Limited::BufferBytes => "bytes are more than a buffer",
+        Limited::GroupItems => "work-items are more than a work-group",
+        Limited::Items => "work-items are more than a launch",
+        Limited::LocalBytes => "bytes of local memory are more than a work-group",
     };
-    format!(in alloc; "{least}{number} {what} may {may}: {limit}")
+    format!(in alloc; "{least}{number} {what} may have: {limit}")
 }
 
 /// A number that is no multiple of another one.
@@ -217,9 +217,9 @@ fn index_words(alloc: Global, index: u64, parameters: u64) -> Result<String, All
 
 /// What a parameter wants, by its type.
 fn wanted_words(type_name: &str) -> &'static str {
-    if type_name.starts_with("__local") {
+    if type_name.as_bytes().starts_with(b"__local") {
         "a size: local N"
-    } else if type_name.starts_with("__") {
+    } else if type_name.as_bytes().starts_with(b"__") {
         "a buffer: buffer NAME"
     } else {
         "a number: value V"

@@ -15,7 +15,7 @@ returns c =
     }) (c.finish.ensures _ (
     c.with-5.ensures _ refl (
     c.with_value-3.ensures _ c.fault_value.ensures _ refl (
-    c.with_value-2.ensures _ c.no_hints.ensures _ refl (
+    c.with_value-2.ensures _ c.empty_list.ensures _ refl (
     c.with_text.ensures _ refl _ refl (
     c.with-4.ensures _ refl (
     c.with-3.ensures _ refl (
