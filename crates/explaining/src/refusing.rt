@@ -68,11 +68,12 @@ pub(crate) fn explain_refused(
         performed.now.given.script.now performed.now.commands.now case.ticket case.refusal (string_bytes answer.text)) }
 {
     let found = reason_at(alloc, device, performed, case)?;
+    let place = place_of(performed.places, case.ticket);
     let at = RefusedAt {
         name: performed.given.name,
         script: performed.given.script,
         command: case.ticket,
-        place: place_of(performed.places, case.ticket),
+        place,
         refusal: case.refusal,
     };
     let told = refused_command(alloc, &at, found)?;
