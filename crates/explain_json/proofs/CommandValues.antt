@@ -3,10 +3,10 @@ use Rattle.std.proofs.Common.{◌≡◌, ◌≤◌, ℕ, List, Option, None, Som
 use Rattle.serde_json.specs.Data.{Data, array, depth, items_depth, item, no_items}
 use Rattle.serde_json.specs.View.{items_of}
 use Rattle.serde_json.specs.Written.{has_float}
-use Rattle.explanation.specs.declared.refusals.MadeName.{MadeName}
-use Rattle.explanation.specs.declared.refusals.RefusalReason.{RefusalReason}
-use Rattle.explanation.specs.declared.refusals.RefusalReason.TheVariants as reason
-use Rattle.explanation.specs.declared.refusals.RefusedCommand.{RefusedCommand}
+use Rattle.refused_commands.specs.declared.told.MadeName.{MadeName}
+use Rattle.refused_commands.specs.declared.told.RefusalReason.{RefusalReason}
+use Rattle.refused_commands.specs.declared.told.RefusalReason.TheVariants as reason
+use Rattle.refused_commands.specs.declared.told.RefusedCommand.{RefusedCommand}
 use Rattle.explain_json.specs.Commands.{IsWhy, command_data, dimension_of, kind_data, made_data, refusal_reason_data}
 use Rattle.explain_json.specs.Members.{number_data, or_null, parameter_data, text_data}
 use Rattle.explain_json.proofs.Depths.{many, parameter_depth, some}
@@ -59,7 +59,7 @@ why_depth None d is = subst (λ (x : Data). depth x ≤ 4) (sym is) (omega arith
 why_depth (Some r) d is =
     let here : depth (refusal_reason_data r is.0) ≤ 3 = reason_depth r is.0 in
     let whole : depth (array (item (refusal_reason_data r is.0) no_items)) ≤ 4 = omega arith in
-    subst (λ (x : Data). depth x ≤ 4) (sym is.2) whole
+    subst (λ (x : Data). depth x ≤ 4) (sym is.1) whole
 
 pub command_depth : (told : RefusedCommand) (title : List ℕ) (why : Data) → IsWhy told.why why → depth (command_data told title why) ≤ 5
 command_depth told title why is =
@@ -88,7 +88,7 @@ reason_whole (reason.StillUsed name kernels) text = rw (floats.many made_data (�
 
 why_whole : (why : Option RefusalReason) (d : Data) → IsWhy why d → has_float d ≡ false
 why_whole None d is = ap has_float is
-why_whole (Some r) d is = let here : has_float (refusal_reason_data r is.0) ≡ false = reason_whole r is.0 in ap has_float is.2 ∙ rw here
+why_whole (Some r) d is = let here : has_float (refusal_reason_data r is.0) ≡ false = reason_whole r is.0 in ap has_float is.1 ∙ rw here
 
 pub command_whole : (told : RefusedCommand) (title : List ℕ) (why : Data) → IsWhy told.why why → has_float (command_data told title why) ≡ false
 command_whole told title why is = let reasons : has_float why ≡ false = why_whole told.why why is in rw reasons

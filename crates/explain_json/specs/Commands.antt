@@ -3,20 +3,19 @@
 use Rattle.std.specs.Prelude.{◌≡◌, ℕ, ℤ, String, Option, None, Some, List, codes, string_bytes}
 use Rattle.std.specs.declared.alloc.Global.{Global}
 use Rattle.serde_json.specs.Data.{Data, string, array, object, member, no_members, item, no_items}
-use Rattle.explanation.specs.declared.refusals.Divided.{Divided}
-use Rattle.explanation.specs.declared.refusals.Divided.TheVariants as division
-use Rattle.explanation.specs.declared.refusals.Limited.{Limited}
-use Rattle.explanation.specs.declared.refusals.Limited.TheVariants as bound
-use Rattle.explanation.specs.declared.refusals.MadeName.{MadeName}
-use Rattle.explanation.specs.declared.refusals.NameKind.{NameKind}
-use Rattle.explanation.specs.declared.refusals.NameKind.TheVariants as kinds
-use Rattle.explanation.specs.declared.refusals.RefusalReason.{RefusalReason}
-use Rattle.explanation.specs.declared.refusals.RefusalReason.TheVariants as reason
-use Rattle.explanation.specs.declared.refusals.RefusedCommand.{RefusedCommand}
-use Rattle.explanation.specs.declared.refusals.WordSpot.{WordSpot}
+use Rattle.refused_commands.specs.declared.told.Divided.{Divided}
+use Rattle.refused_commands.specs.declared.told.Divided.TheVariants as division
+use Rattle.refused_commands.specs.declared.told.Limited.{Limited}
+use Rattle.refused_commands.specs.declared.told.Limited.TheVariants as bound
+use Rattle.refused_commands.specs.declared.told.MadeName.{MadeName}
+use Rattle.refused_commands.specs.declared.told.NameKind.{NameKind}
+use Rattle.refused_commands.specs.declared.told.NameKind.TheVariants as kinds
+use Rattle.refused_commands.specs.declared.told.RefusalReason.{RefusalReason}
+use Rattle.refused_commands.specs.declared.told.RefusalReason.TheVariants as reason
+use Rattle.refused_commands.specs.declared.told.RefusedCommand.{RefusedCommand}
+use Rattle.refused_commands.specs.declared.told.WordSpot.{WordSpot}
 use Rattle.explanation.specs.declared.told.ParameterFacts.{ParameterFacts}
-use Rattle.explain_text.specs.Texts.{IsOneLine}
-use Rattle.refusal_text.specs.Refusals.{IsTitle}
+use Rattle.refused_commands.specs.Refusals.{IsTitle}
 use Rattle.explain_json.specs.Lines.{IsLine}
 use Rattle.explain_json.specs.Members.{left_data, list_data, number_data, or_null, parameter_data, text_data}
 use Rattle.explain_json.specs.Reasons.{plain_data}
@@ -143,10 +142,10 @@ refusal_reason_data (reason.OutsideType parameter number) text = outside_type_da
 refusal_reason_data (reason.ArgumentsMissing parameters) text = missing_data parameters.items text
 refusal_reason_data (reason.StillUsed name kernels) text = used_data kernels.items name text
 
--- the reason with a sentence in one line, where one is known
+-- the reason with a sentence, where one is known
 abbrev pub IsWhy : Option RefusalReason → Data → Type 0
 IsWhy None d = d ≡ array no_items
-IsWhy (Some r) d = (text : List ℕ) × IsOneLine text × (d ≡ array (item (refusal_reason_data r text) no_items))
+IsWhy (Some r) d = (text : List ℕ) × (d ≡ array (item (refusal_reason_data r text) no_items))
 
 abbrev pub command_fault_data : RefusedCommand → Data
 command_fault_data told =

@@ -12,10 +12,11 @@ use crate::object::Object;
 use crate::reasons::plain_value;
 use crate::values::ToJson;
 use crate::whole::VERSION;
-use explanation::{
-    Divided, Limited, MadeName, NameKind, ParameterFacts, RefusalReason, RefusedCommand, WordSpot,
+use explanation::ParameterFacts;
+use refused_commands::{
+    Divided, Limited, MadeName, NameKind, RefusalReason, RefusedCommand, WordSpot,
+    refusal_reason_text, refused_title,
 };
-use refusal_text::{refusal_reason_text, refused_title};
 use serde_json::Value;
 use std::alloc::{AllocError, Global};
 

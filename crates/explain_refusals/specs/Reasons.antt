@@ -5,14 +5,14 @@ use Rattle.std.specs.Str.Lossy.{utf8_lossy}
 use Rattle.std.specs.declared.alloc.Global.{Global}
 use Rattle.clmodel.specs.Setup.{product}
 use Rattle.clmodel.specs.declared.setup.Argument.TheVariants as argument
-use Rattle.explanation.specs.declared.refusals.Divided.{Divided}
-use Rattle.explanation.specs.declared.refusals.Divided.TheVariants as division
-use Rattle.explanation.specs.declared.refusals.Limited.{Limited}
-use Rattle.explanation.specs.declared.refusals.Limited.TheVariants as bound
-use Rattle.explanation.specs.declared.refusals.NameKind.{NameKind}
-use Rattle.explanation.specs.declared.refusals.NameKind.TheVariants as kinds
-use Rattle.explanation.specs.declared.refusals.RefusalReason.{RefusalReason}
-use Rattle.explanation.specs.declared.refusals.RefusalReason.TheVariants as reason
+use Rattle.refused_commands.specs.declared.told.Divided.{Divided}
+use Rattle.refused_commands.specs.declared.told.Divided.TheVariants as division
+use Rattle.refused_commands.specs.declared.told.Limited.{Limited}
+use Rattle.refused_commands.specs.declared.told.Limited.TheVariants as bound
+use Rattle.refused_commands.specs.declared.told.NameKind.{NameKind}
+use Rattle.refused_commands.specs.declared.told.NameKind.TheVariants as kinds
+use Rattle.refused_commands.specs.declared.told.RefusalReason.{RefusalReason}
+use Rattle.refused_commands.specs.declared.told.RefusalReason.TheVariants as reason
 use Rattle.host_commands.specs.Fills.{is_pattern_size}
 use Rattle.host_commands.specs.declared.command.Command.{Command}
 use Rattle.host_commands.specs.declared.command.Command.TheVariants as command

@@ -2,8 +2,8 @@
 use Rattle.std.specs.Prelude.{◌≡◌, ℕ, ◌+◌, Option, None, Some, List, ◌++◌, codes, decimal, slice_range, string_bytes}
 use Rattle.std.specs.Str.Lossy.{utf8_lossy}
 use Rattle.explanation.specs.Lines.{told_line}
-use Rattle.explanation.specs.declared.refusals.RefusalReason.{RefusalReason}
-use Rattle.explanation.specs.declared.refusals.RefusedCommand.{RefusedCommand}
+use Rattle.refused_commands.specs.declared.told.RefusalReason.{RefusalReason}
+use Rattle.refused_commands.specs.declared.told.RefusedCommand.{RefusedCommand}
 use Rattle.explain_refusals.specs.declared.reasons.Found.{Found}
 use Rattle.host_commands.specs.declared.command.Refusal.{Refusal}
 use Rattle.simfile.specs.Lines.{refusal_word}

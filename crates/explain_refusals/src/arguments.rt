@@ -13,8 +13,8 @@ use crate::trees::{KernelTree, made_of, tree_of};
 use clmodel::setup::Argument;
 use clmodel::text::Name;
 use clmodel::tree::{AddressSpace, Parameter, VariableType};
-use explanation::{Limited, NameKind, RefusalReason};
 use host_commands::command::{Command, Refusal};
+use refused_commands::{Limited, NameKind, RefusalReason};
 use std::alloc::AllocError;
 
 /// The argument that a command gives a kernel, with its index.

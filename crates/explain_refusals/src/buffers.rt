@@ -9,8 +9,8 @@ ghost use Rattle.explain_refusals.specs.Reasons.{Divides, Holds, IsCount, IsLimi
 use crate::names::{names_there, text_of, told_names, told_of};
 use crate::reasons::{Found, Refusing, taken};
 use clmodel::text::{Bytes, Name};
-use explanation::{Divided, Limited, NameKind, RefusalReason};
 use host_commands::command::Refusal;
+use refused_commands::{Divided, Limited, NameKind, RefusalReason};
 use std::alloc::AllocError;
 
 /// A buffer that isn't there, if it isn't.

@@ -9,8 +9,8 @@ use crate::buffers::{missing_buffer, no_bytes, outside};
 use crate::names::text_of;
 use crate::reasons::{Found, Refusing};
 use clmodel::text::Name;
-use explanation::RefusalReason;
 use host_commands::command::Refusal;
+use refused_commands::RefusalReason;
 use std::alloc::AllocError;
 
 /// A copy: from a buffer, from an offset, into a buffer, from an offset on, so many bytes.

@@ -13,9 +13,10 @@ use crate::reasons::{Found, Refusing, Unknown, unknown};
 use crate::trees::{KernelTree, made_of, tree_of};
 use clmodel::setup::{Argument, Range};
 use clmodel::text::Name;
-use explanation::{Divided, Limited, NameKind, ParameterFacts, RefusalReason};
+use explanation::ParameterFacts;
 use host_commands::command::Refusal;
 use item_step::is_local_too_large;
+use refused_commands::{Divided, Limited, NameKind, RefusalReason};
 use std::alloc::{AllocError, Global};
 
 /// A number that passes its limit, if it does.

@@ -2,8 +2,8 @@
 #![tactic(auto)]
 
 use clmodel::text::Name;
-use explanation::{MadeName, NameKind};
 use host_commands::command::Command;
+use refused_commands::{MadeName, NameKind};
 use simfile::script::CommandPlace;
 use std::alloc::{AllocError, Global};
 

@@ -8,8 +8,9 @@ ghost use Rattle.explain_refusals.specs.Refused.{TellsRefused, reason_in};
 
 use crate::reasons::Found;
 use crate::words::{refusal_words, word_of};
-use explanation::{RefusalReason, RefusedCommand, WordSpot, line_as_text};
+use explanation::line_as_text;
 use host_commands::command::Refusal;
+use refused_commands::{RefusalReason, RefusedCommand, WordSpot};
 use simfile::script::CommandPlace;
 use std::alloc::{AllocError, Global};
 use text_lines::line_text;

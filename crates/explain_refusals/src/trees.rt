@@ -6,10 +6,11 @@ use crate::reasons::Refusing;
 use clmodel::text::Name;
 use clmodel::tree::{Function, Parameter, Tree};
 use cltypes::Checked;
-use explanation::{NameKind, ParameterFacts};
+use explanation::ParameterFacts;
 use host_commands::build::build;
 use host_commands::command::Command;
 use launch_facts::type_text;
+use refused_commands::NameKind;
 use std::alloc::{AllocError, Global};
 
 /// What is there of a name, if it is of this kind.

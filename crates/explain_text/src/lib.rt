@@ -11,7 +11,7 @@ mod reasons;
 mod steps;
 mod whole;
 
-pub use lines::{ids_text, numbers_text, one_line, place_text};
+pub use lines::{ids_text, numbers_text, place_text};
 pub use quotes::write_quote;
-pub use reasons::{joined, reason_text};
+pub use reasons::reason_text;
 pub use whole::text_of;

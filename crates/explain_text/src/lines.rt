@@ -15,8 +15,8 @@ fn in_line(letter: char) -> char
     if letter == '\n' { ' ' } else { letter }
 }
 
-/// A text in one line: with a blank in place of each line feed. An error is out of memory.
-pub fn one_line(alloc: Global, text: &str) -> Result<String, AllocError>
+/// A text in one line: with a blank in place of each line feed.
+pub(crate) fn one_line(alloc: Global, text: &str) -> Result<String, AllocError>
     ensures { IfOk result (λ line. IsOneLine (string_bytes line)) }
 {
     let mut line = String::new(alloc);

@@ -29,8 +29,8 @@ fn mark_before(number: usize, count: usize) -> &'static str {
     }
 }
 
-/// Texts as a list in a sentence. An error is out of memory.
-pub fn joined(alloc: Global, texts: &[String]) -> Result<String, AllocError> {
+/// Texts as a list in a sentence.
+fn joined(alloc: Global, texts: &[String]) -> Result<String, AllocError> {
     let mut list = String::new(alloc);
     for (number, text) in texts.iter().enumerate() {
         list.push_str(mark_before(number, texts.len()))?;

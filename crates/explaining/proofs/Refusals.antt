@@ -5,8 +5,8 @@ use Rattle.std.specs.Option.{IfSome}
 use Rattle.explain_refusals.specs.Reasons.{Holds}
 use Rattle.explain_refusals.specs.Refused.{TellsRefused, reason_in}
 use Rattle.explain_refusals.specs.declared.reasons.Found.{Found}
-use Rattle.explanation.specs.declared.refusals.RefusalReason.{RefusalReason}
-use Rattle.explanation.specs.declared.refusals.RefusedCommand.{RefusedCommand}
+use Rattle.refused_commands.specs.declared.told.RefusalReason.{RefusalReason}
+use Rattle.refused_commands.specs.declared.told.RefusedCommand.{RefusedCommand}
 use Rattle.host_commands.specs.declared.command.Command.{Command}
 use Rattle.host_commands.specs.declared.command.Refusal.{Refusal}
 use Rattle.limits.specs.declared.Limits.{Limits}

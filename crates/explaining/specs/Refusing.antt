@@ -4,11 +4,11 @@ use Rattle.std.specs.Option.{IfSome}
 use Rattle.explain_json.specs.Commands.{IsCommandLine}
 use Rattle.explain_refusals.specs.Reasons.{Holds}
 use Rattle.explain_refusals.specs.Refused.{TellsRefused}
-use Rattle.explanation.specs.declared.refusals.RefusedCommand.{RefusedCommand}
+use Rattle.refused_commands.specs.declared.told.RefusedCommand.{RefusedCommand}
 use Rattle.host_commands.specs.declared.command.Command.{Command}
 use Rattle.host_commands.specs.declared.command.Refusal.{Refusal}
 use Rattle.limits.specs.declared.Limits.{Limits}
-use Rattle.refusal_text.specs.Refusals.{IsRefusedText}
+use Rattle.refused_commands.specs.Refusals.{IsRefusedText}
 use Rattle.simfile.specs.Places.{StandsAt}
 use Rattle.simfile.specs.declared.script.CommandPlace.{CommandPlace}
 use Rattle.spaces.specs.Tables.{Table}

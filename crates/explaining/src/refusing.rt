@@ -15,8 +15,7 @@ use crate::walks::RefusedCase;
 use device::Device;
 use explain_json::command_json;
 use explain_refusals::{Found, RefusedAt, Refusing, reason_of, refused_command};
-use explanation::RefusedCommand;
-use refusal_text::refused_text;
+use refused_commands::{RefusedCommand, refused_text};
 use std::alloc::{AllocError, Global};
 
 /// Why a command was refused, on the device to which those before it led.

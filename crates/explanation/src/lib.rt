@@ -1,13 +1,11 @@
-//! What an explanation tells, as plain data. Of a fault: the launch, the fault, the memory, the items with their ids and
-//! places in the source, the reasons, the schedule and its steps. Of a command that was refused: its word in the script,
-//! the refusal, and why. Texts are owned, and are UTF-8; a line of a source keeps its columns. It knows no launch that
-//! runs, and neither how an explanation is made nor how it is worded.
+//! What an explanation of a fault tells, as plain data: the launch, the fault, the memory, the items with their ids and
+//! places in the source, the reasons, the schedule and its steps. Texts are owned, and are UTF-8; a line of a source
+//! keeps its columns. It knows no launch that runs, and neither how an explanation is made nor how it is worded.
 #![tactic(auto)]
 
 mod lines;
 mod places;
 mod reasons;
-mod refusals;
 mod steps;
 mod told;
 
@@ -15,9 +13,6 @@ pub use lines::line_as_text;
 pub use places::{CallSite, LoopSite, NodeKind, Spot};
 pub use reasons::{
     BudgetUse, CountedTurns, FencedMemory, LoopTurns, OtherLoops, Reason, StoredBytes,
-};
-pub use refusals::{
-    Divided, Limited, MadeName, NameKind, RefusalReason, RefusedCommand, WordSpot,
 };
 pub use steps::{Code, ScheduleFacts, ToldEvent};
 pub use told::{

@@ -9,7 +9,6 @@ returns c =
     IfOk-weaker c.list_of.result _ _
     (λ list h. (
       string_bytes c.in_ok-text.text,
-      c.in_ok-text.ensures,
       h ∙ ap (λ (d : Data). array (item d no_items)) (c.in_ok-value.ensures ∙ ap (refusal_reason_data c.args.reason.now) c.as_str.ensures.value),
     ))
     c.list_of.ensures

@@ -1,9 +1,10 @@
 //! The wording of the reasons for which a command was refused, a sentence each.
 #![tactic(auto)]
 
-use explain_text::joined;
-use explanation::{Divided, Limited, MadeName, NameKind, ParameterFacts, RefusalReason};
+use crate::told::{Divided, Limited, MadeName, NameKind, RefusalReason};
+use explanation::ParameterFacts;
 use std::alloc::{AllocError, Global};
+use std::fmt::Write;
 
 /// How many names or parameters are told at most.
 const MOST_TOLD: usize = 8;
@@ -23,12 +24,18 @@ fn made_words(alloc: Global, made: &MadeName) -> Result<String, AllocError> {
     format!(in alloc; "the {kind} of line {line}")
 }
 
-/// Texts as a list in a sentence, of which a number aren't told.
-fn listed(alloc: Global, mut texts: Vec<String>, left: usize) -> Result<String, AllocError> {
-    if left > 0 {
-        texts.push(format!(in alloc; "{left} more")?)?;
+/// Texts with commas between them, and how many others there are.
+fn listed(alloc: Global, texts: &[String], left: usize) -> Result<String, AllocError> {
+    let mut list = String::new(alloc);
+    for (number, text) in texts.iter().enumerate() {
+        let comma = if number == 0 { "" } else { ", " };
+        list.push_str(comma)?;
+        list.push_str(text.as_str())?;
     }
-    joined(alloc, texts.as_slice())
+    if left > 0 {
+        write!(list, " and {left} more")?;
+    }
+    Ok(list)
 }
 
 /// The names of a list, as far as they are told.
@@ -37,7 +44,7 @@ fn name_list(alloc: Global, names: &[MadeName]) -> Result<String, AllocError> {
     for made in &names[..names.len().min(MOST_TOLD)] {
         texts.push(String::from_str(alloc, made.name.as_str())?)?;
     }
-    listed(alloc, texts, names.len().saturating_sub(MOST_TOLD))
+    listed(alloc, texts.as_slice(), names.len().saturating_sub(MOST_TOLD))
 }
 
 /// Texts of a list, as far as they are told.
@@ -46,14 +53,14 @@ fn text_list(alloc: Global, names: &[String]) -> Result<String, AllocError> {
     for name in &names[..names.len().min(MOST_TOLD)] {
         texts.push(String::from_str(alloc, name.as_str())?)?;
     }
-    listed(alloc, texts, names.len().saturating_sub(MOST_TOLD))
+    listed(alloc, texts.as_slice(), names.len().saturating_sub(MOST_TOLD))
 }
 
 /// A parameter with its type and its name.
 fn parameter_words(alloc: Global, parameter: &ParameterFacts) -> Result<String, AllocError> {
     let (index, name) = (parameter.index, parameter.name.as_str());
     let type_name = parameter.type_name.as_str();
-    format!(in alloc; "parameter {index}, {type_name} {name}")
+    format!(in alloc; "parameter {index} ({type_name} {name})")
 }
 
 /// The parameters of a list, as far as they are told.
@@ -63,7 +70,7 @@ fn parameter_list(alloc: Global, parameters: &[ParameterFacts]) -> Result<String
         texts.push(parameter_words(alloc, parameter)?)?;
     }
     let left = parameters.len().saturating_sub(MOST_TOLD);
-    listed(alloc, texts, left)
+    listed(alloc, texts.as_slice(), left)
 }
 
 /// A name that is taken.
@@ -230,7 +237,7 @@ fn wanted_words(type_name: &str) -> &'static str {
 fn other_words(alloc: Global, parameter: &ParameterFacts) -> Result<String, AllocError> {
     let told = parameter_words(alloc, parameter)?;
     let wanted = wanted_words(parameter.type_name.as_str());
-    format!(in alloc; "{told}, wants {wanted}")
+    format!(in alloc; "{told} wants {wanted}")
 }
 
 /// Kernels that use a name.

@@ -2,33 +2,28 @@
 #![tactic(auto)]
 
 ghost use Rattle.std.specs.Prelude.{◌≡◌, ◌++◌, codes, decimal, string_bytes, IfOk, OnOk};
-ghost use Rattle.explain_text.specs.Texts.{IsOneLine};
-ghost use Rattle.refusal_text.specs.Refusals.{IsRefusedText, IsTitle};
+ghost use Rattle.refused_commands.specs.Refusals.{IsRefusedText, IsTitle};
 
+use crate::told::{RefusalReason, RefusedCommand, WordSpot};
 use crate::words::words_of;
-use explain_text::{one_line, place_text, write_quote};
-use explanation::{RefusalReason, RefusedCommand, WordSpot};
+use explain_text::{place_text, write_quote};
 use std::alloc::{AllocError, Global};
 use std::fmt::Write;
 
-/// Why a command was refused, in one line. An error is out of memory.
-pub fn refusal_reason_text(alloc: Global, reason: &RefusalReason) -> Result<String, AllocError>
-    ensures { IfOk result (λ text. IsOneLine (string_bytes text)) }
-{
-    let words = words_of(alloc, reason)?;
-    one_line(alloc, words.as_str())
+/// Why a command was refused. An error is out of memory.
+pub fn refusal_reason_text(alloc: Global, reason: &RefusalReason) -> Result<String, AllocError> {
+    words_of(alloc, reason)
 }
 
 /// The sentence of a reason behind a colon, where there is one.
-fn why_text(alloc: Global, why: &Option<RefusalReason>) -> Result<String, AllocError>
-    ensures { IfOk result (λ text. IsOneLine (string_bytes text)) }
-{
-    let Some(reason) = why else {
-        return one_line(alloc, "");
-    };
-    let sentence = words_of(alloc, reason)?;
-    let text = format!(in alloc; ": {sentence}")?;
-    one_line(alloc, text.as_str())
+fn why_text(alloc: Global, why: &Option<RefusalReason>) -> Result<String, AllocError> {
+    match why {
+        Some(reason) => {
+            let sentence = words_of(alloc, reason)?;
+            format!(in alloc; ": {sentence}")
+        }
+        None => Ok(String::new(alloc)),
+    }
 }
 
 /// Adds a refusal by its number and its name, and what stands behind it.
@@ -38,7 +33,7 @@ fn push_refusal(number: u32, name: &str, why: &str, out: &mut String) -> Result<
     write!(out, "refused {number} {name}{why}")
 }
 
-/// The refusal of a command, and why, in one line.
+/// The refusal of a command, and why. An error is out of memory.
 pub fn refused_title(alloc: Global, told: &RefusedCommand) -> Result<String, AllocError>
     ensures { IfOk result (λ text. IsTitle told.now (string_bytes text)) }
 {

@@ -1,7 +1,7 @@
-//! A command of a script that was refused, and why.
+//! A command of a script that was refused, and why, as data.
 #![tactic(auto)]
 
-use crate::told::ParameterFacts;
+use explanation::ParameterFacts;
 
 /// What has a name.
 #[derive(Clone, Copy, Debug, PartialEq, Eq)]
