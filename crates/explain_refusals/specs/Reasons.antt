@@ -1,6 +1,7 @@
 -- What holds of a command that was refused, by the limits and the buffers of its device (OpenCL 1.2, chapter 5: the
 -- errors of clCreateBuffer, clEnqueueReadBuffer and its like, and clEnqueueNDRangeKernel; the limits are our own).
 use Rattle.std.specs.Prelude.{◌≡◌, ◌≢◌, ◌<◌, ◌≤◌, ◌+◌, ◌-◌, ◌%◌, ◌^◌, ◌⊎◌, ⊤, ℕ, true, false, min, String, List, length, slice_get, string_bytes, Option, None, Some}
+use Rattle.std.specs.Option.{IfSome}
 use Rattle.std.specs.Str.Lossy.{utf8_lossy}
 use Rattle.std.specs.declared.alloc.Global.{Global}
 use Rattle.clmodel.specs.Setup.{product}
@@ -13,6 +14,8 @@ use Rattle.refused_commands.specs.declared.told.NameKind.{NameKind}
 use Rattle.refused_commands.specs.declared.told.NameKind.TheVariants as kinds
 use Rattle.refused_commands.specs.declared.told.RefusalReason.{RefusalReason}
 use Rattle.refused_commands.specs.declared.told.RefusalReason.TheVariants as reason
+use Rattle.explain_refusals.specs.declared.reasons.Found.{Found}
+use Rattle.explain_refusals.specs.declared.reasons.Refusing.{Refusing}
 use Rattle.host_commands.specs.Fills.{is_pattern_size}
 use Rattle.host_commands.specs.declared.command.Command.{Command}
 use Rattle.host_commands.specs.declared.command.Command.TheVariants as command
@@ -21,8 +24,8 @@ use Rattle.spaces.specs.Buffers.{bytes_in}
 use Rattle.spaces.specs.Tables.{Table, find}
 
 -- a name as text
-abbrev pub IsTold : String Global → List ℕ → Type 0
-IsTold text name = string_bytes text ≡ utf8_lossy name
+abbrev pub IsTold : List ℕ → String Global → Type 0
+IsTold name text = string_bytes text ≡ utf8_lossy name
 
 -- a command touches these bytes of the buffer of a name: `count` from an offset on
 abbrev pub IsRange : Command → List ℕ → ℕ → ℕ → Type 0
@@ -100,7 +103,7 @@ HasZero _ dimension = ⊥
 
 -- where a buffer is wanted, none has the name
 abbrev pub IsMissing : Table (List ℕ) → Command → String Global → Option NameKind → Type 0
-IsMissing buffers c text (Some kinds.Buffer) = (name : List ℕ) × NamesBuffer c name × IsTold text name × (find buffers name ≡ None)
+IsMissing buffers c text (Some kinds.Buffer) = (name : List ℕ) × NamesBuffer c name × IsTold name text × (find buffers name ≡ None)
 IsMissing buffers c text _ = ⊤
 
 -- A reason holds of a command, as far as limits, buffers and the command itself decide it.
@@ -113,8 +116,8 @@ Holds limits buffers c (reason.ManyBuffers number limit) = (number ≡ length bu
 Holds limits buffers c (reason.PatternBytes bytes) = is_pattern_size bytes ≡ false
 Holds limits buffers c (reason.NotMultiple divided number of) = Divides c divided number of × (0 < of) × (number % of ≢ 0)
 Holds limits buffers c (reason.OutsideBuffer text offset count bytes) =
-    (name : List ℕ) × IsTold text name × IsRange c name offset count × Passes buffers name offset count bytes
-Holds limits buffers c (reason.Overlapping text offset other count) = (name : List ℕ) × IsTold text name × Overlaps c name offset other count
+    (name : List ℕ) × IsTold name text × IsRange c name offset count × Passes buffers name offset count bytes
+Holds limits buffers c (reason.Overlapping text offset other count) = (name : List ℕ) × IsTold name text × Overlaps c name offset other count
 Holds limits buffers c (reason.DimensionCounts global local offset) = HasCounts c global local offset × IsBadCount global local offset
 Holds limits buffers c (reason.OffsetTooLarge dimension offset size) = HasOffset c dimension offset size × (2 ^ 64 - 1 < offset + size)
 Holds limits buffers c (reason.ZeroSize dimension) = HasZero c dimension
@@ -124,3 +127,7 @@ Holds limits buffers c (reason.OtherArgument parameter) = ⊤
 Holds limits buffers c (reason.OutsideType parameter number) = ⊤
 Holds limits buffers c (reason.ArgumentsMissing parameters) = ⊤
 Holds limits buffers c (reason.StillUsed name kernels) = ⊤
+
+-- a reason that was found holds, by what is known where a command is refused
+abbrev pub HoldsOf : Refusing → Command → Option Found → Type 0
+HoldsOf refusing c found = IfSome found (λ f. Holds refusing.limits refusing.buffers.now c f.reason)

@@ -1,10 +1,10 @@
 //! Why an argument of a kernel isn't set (OpenCL 1.2, section 5.7.2).
 #![tactic(auto)]
 
-ghost use Rattle.std.specs.Prelude.{ℕ, IfOk, IfSome};
+ghost use Rattle.std.specs.Prelude.{ℕ, IfOk};
 ghost use Rattle.host_commands.specs.declared.command.Command.{Command as CommandOf};
 ghost use Rattle.host_commands.specs.declared.command.Command.TheVariants as command;
-ghost use Rattle.explain_refusals.specs.Reasons.{Holds};
+ghost use Rattle.explain_refusals.specs.Reasons.{Holds, HoldsOf};
 
 use crate::buffers::{bad_size, missing_buffer};
 use crate::names::{Made, names_there};
@@ -114,7 +114,7 @@ fn unsuited(
     kernel: &Name,
     argument: &Argument,
 ) -> Result<Option<Found>, AllocError>
-    ensures { (number : ℕ) → IfOk result (λ found. IfSome found (λ f. Holds refusing.now.limits refusing.now.buffers.now (command.Arg kernel.now number argument.now) f.reason)) }
+    ensures { (number : ℕ) → IfOk result (HoldsOf refusing.now (command.Arg kernel.now number argument.now)) }
 {
     if let Argument::Local(size) = argument {
         if is_local(parameter) {
@@ -133,7 +133,7 @@ fn bad_argument(
     index: u64,
     argument: &Argument,
 ) -> Result<Option<Found>, AllocError>
-    ensures { IfOk result (λ found. IfSome found (λ f. Holds refusing.now.limits refusing.now.buffers.now (command.Arg kernel.now index argument.now) f.reason)) }
+    ensures { IfOk result (HoldsOf refusing.now (command.Arg kernel.now index argument.now)) }
 {
     let Some(tree) = tree_of(refusing, made)? else {
         return Ok(None);
@@ -159,7 +159,7 @@ fn missing_argument(
     index: u64,
     argument: &Argument,
 ) -> Result<Option<Found>, AllocError>
-    ensures { IfOk result (λ found. IfSome found (λ f. Holds refusing.now.limits refusing.now.buffers.now (command.Arg kernel.now index argument.now) f.reason)) }
+    ensures { IfOk result (HoldsOf refusing.now (command.Arg kernel.now index argument.now)) }
 {
     match argument {
         Argument::Buffer(name) => missing_buffer(refusing, name, 4),
@@ -175,7 +175,7 @@ pub(crate) fn arg_reason(
     argument: &Argument,
     refusal: Refusal,
 ) -> Result<Option<Found>, AllocError>
-    ensures { IfOk result (λ found. IfSome found (λ f. Holds refusing.now.limits refusing.now.buffers.now (command.Arg kernel.now index argument.now) f.reason)) }
+    ensures { IfOk result (HoldsOf refusing.now (command.Arg kernel.now index argument.now)) }
 {
     let there = names_there(refusing.alloc, refusing.before)?;
     let Some(made) = made_of(there.as_slice(), kernel, NameKind::Kernel) else {

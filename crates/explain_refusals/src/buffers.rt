@@ -1,10 +1,11 @@
 //! Why a command on buffers was refused (OpenCL 1.2, section 5.2).
 #![tactic(auto)]
 
-ghost use Rattle.std.specs.Prelude.{IfOk, IfSome};
+ghost use Rattle.std.specs.Prelude.{◌≡◌, IfOk, None};
 ghost use Rattle.host_commands.specs.declared.command.Command.{Command as CommandOf};
 ghost use Rattle.host_commands.specs.declared.command.Command.TheVariants as command;
-ghost use Rattle.explain_refusals.specs.Reasons.{Divides, Holds, IsCount, IsLimited, IsRange, NamesBuffer};
+ghost use Rattle.spaces.specs.Tables.{find};
+ghost use Rattle.explain_refusals.specs.Reasons.{Divides, Holds, HoldsOf, IsCount, IsLimited, IsRange, NamesBuffer};
 
 use crate::names::{names_there, text_of, told_names, told_of};
 use crate::reasons::{Found, Refusing, taken};
@@ -13,26 +14,38 @@ use host_commands::command::Refusal;
 use refused_commands::{Divided, Limited, NameKind, RefusalReason};
 use std::alloc::AllocError;
 
-/// A buffer that isn't there, if it isn't.
-pub(crate) fn missing_buffer(
+/// A buffer that isn't there.
+fn unknown_buffer(
     refusing: &Refusing<'_>,
     name: &Name,
     word: usize,
-) -> Result<Option<Found>, AllocError>
-    ensures { (c : CommandOf) → NamesBuffer c name.now → IfOk result (λ found. IfSome found (λ f. Holds refusing.now.limits refusing.now.buffers.now c f.reason)) }
+) -> Result<Found, AllocError>
+    requires { find refusing.now.buffers.now name.now ≡ None }
+    ensures { (c : CommandOf) → NamesBuffer c name.now → IfOk result (λ f. Holds refusing.now.limits refusing.now.buffers.now c f.reason) }
 {
-    if refusing.buffers.get(name).is_some() {
-        return Ok(None);
-    }
-    let there = names_there(refusing.alloc, refusing.before)?;
     let (alloc, places) = (refusing.alloc, refusing.places);
+    let there = names_there(alloc, refusing.before)?;
     let reason = RefusalReason::NameUnknown {
         name: text_of(alloc, name)?,
         wanted: Some(NameKind::Buffer),
         known: told_names(alloc, places, there.as_slice(), Some(NameKind::Buffer))?,
         other: told_of(alloc, places, there.as_slice(), name)?,
     };
-    Ok(Some(Found { reason, word }))
+    Ok(Found { reason, word })
+}
+
+/// A buffer that isn't there, if it isn't.
+pub(crate) fn missing_buffer(
+    refusing: &Refusing<'_>,
+    name: &Name,
+    word: usize,
+) -> Result<Option<Found>, AllocError>
+    ensures { (c : CommandOf) → NamesBuffer c name.now → IfOk result (HoldsOf refusing.now c) }
+{
+    match refusing.buffers.get(name) {
+        Some(_) => Ok(None),
+        None => Ok(Some(unknown_buffer(refusing, name, word)?)),
+    }
 }
 
 /// A range that passes the end of its buffer, if it does.
@@ -43,7 +56,7 @@ pub(crate) fn outside(
     count: u64,
     word: usize,
 ) -> Result<Option<Found>, AllocError>
-    ensures { (c : CommandOf) → IsRange c name.now offset count → IfOk result (λ found. IfSome found (λ f. Holds refusing.now.limits refusing.now.buffers.now c f.reason)) }
+    ensures { (c : CommandOf) → IsRange c name.now offset count → IfOk result (HoldsOf refusing.now c) }
 {
     let bytes = refusing.buffers.bytes_in(name).len() as u64;
     if count <= bytes && offset <= bytes - count {
@@ -60,7 +73,7 @@ pub(crate) fn outside(
 
 /// A count of 0, if it is 0.
 pub(crate) fn no_bytes(refusing: &Refusing<'_>, count: u64, word: usize) -> Option<Found>
-    ensures { (c : CommandOf) → IsCount c count → IfSome result (λ f. Holds refusing.now.limits refusing.now.buffers.now c f.reason) }
+    ensures { (c : CommandOf) → IsCount c count → HoldsOf refusing.now c result }
 {
     if count != 0 {
         return None;
@@ -78,7 +91,7 @@ pub(crate) fn buffer_reason(
     size: u64,
     refusal: Refusal,
 ) -> Result<Option<Found>, AllocError>
-    ensures { IfOk result (λ found. IfSome found (λ f. Holds refusing.now.limits refusing.now.buffers.now (command.Buffer name.now size) f.reason)) }
+    ensures { IfOk result (HoldsOf refusing.now (command.Buffer name.now size)) }
 {
     match refusal {
         Refusal::NameInUse => taken(refusing, name),
@@ -99,7 +112,7 @@ pub(crate) fn bad_size(
     limit: u64,
     word: usize,
 ) -> Option<Found>
-    ensures { (c : CommandOf) → IsCount c size → IsLimited refusing.now.limits c limited size limit → IfSome result (λ f. Holds refusing.now.limits refusing.now.buffers.now c f.reason) }
+    ensures { (c : CommandOf) → IsCount c size → IsLimited refusing.now.limits c limited size limit → HoldsOf refusing.now c result }
 {
     if size <= limit {
         return no_bytes(refusing, size, word);
@@ -114,7 +127,7 @@ pub(crate) fn bad_size(
 
 /// As many buffers as there may be, if there are.
 fn many_buffers(refusing: &Refusing<'_>) -> Option<Found>
-    ensures { (c : CommandOf) → IfSome result (λ f. Holds refusing.now.limits refusing.now.buffers.now c f.reason) }
+    ensures { (c : CommandOf) → HoldsOf refusing.now c result }
 {
     let limit = refusing.limits.buffers as u64;
     let buffers = refusing.buffers.len() as u64;
@@ -135,7 +148,7 @@ pub(crate) fn write_reason(
     bytes: &Bytes,
     refusal: Refusal,
 ) -> Result<Option<Found>, AllocError>
-    ensures { IfOk result (λ found. IfSome found (λ f. Holds refusing.now.limits refusing.now.buffers.now (command.Write buffer.now offset bytes.now) f.reason)) }
+    ensures { IfOk result (HoldsOf refusing.now (command.Write buffer.now offset bytes.now)) }
 {
     let count = bytes.len() as u64;
     match refusal {
@@ -154,7 +167,7 @@ pub(crate) fn read_reason(
     count: u64,
     refusal: Refusal,
 ) -> Result<Option<Found>, AllocError>
-    ensures { IfOk result (λ found. IfSome found (λ f. Holds refusing.now.limits refusing.now.buffers.now (command.Read buffer.now offset count) f.reason)) }
+    ensures { IfOk result (HoldsOf refusing.now (command.Read buffer.now offset count)) }
 {
     match refusal {
         Refusal::NoSuchName => missing_buffer(refusing, buffer, 1),
@@ -172,7 +185,7 @@ fn no_multiple(
     of: u64,
     word: usize,
 ) -> Option<Found>
-    ensures { (c : CommandOf) → Divides c divided number of → IfSome result (λ f. Holds refusing.now.limits refusing.now.buffers.now c f.reason) }
+    ensures { (c : CommandOf) → Divides c divided number of → HoldsOf refusing.now c result }
 {
     if of == 0 || number % of == 0 {
         return None;
@@ -187,7 +200,7 @@ fn no_multiple(
 
 /// A pattern of a length that none may have, if it has one.
 fn bad_pattern(refusing: &Refusing<'_>, bytes: u64) -> Option<Found>
-    ensures { (c : CommandOf) → IfSome result (λ f. Holds refusing.now.limits refusing.now.buffers.now c f.reason) }
+    ensures { (c : CommandOf) → HoldsOf refusing.now c result }
 {
     if matches!(bytes, 1 | 2 | 4 | 8 | 16 | 32 | 64 | 128) {
         return None;
@@ -201,7 +214,7 @@ fn bad_pattern(refusing: &Refusing<'_>, bytes: u64) -> Option<Found>
 /// What of a fill may not be: the length of its pattern, its count, or its offset.
 fn bad_fill(refusing: &Refusing<'_>, offset: u64, count: u64, of: u64) -> Option<Found>
     ensures { (c : CommandOf) → IsCount c count → Divides c Divided.FillOffset offset of → Divides c Divided.FillCount count of
-        → IfSome result (λ f. Holds refusing.now.limits refusing.now.buffers.now c f.reason) }
+        → HoldsOf refusing.now c result }
 {
     if let Some(found) = bad_pattern(refusing, of) {
         return Some(found);
@@ -224,7 +237,7 @@ pub(crate) fn fill_reason(
     pattern: &Bytes,
     refusal: Refusal,
 ) -> Result<Option<Found>, AllocError>
-    ensures { IfOk result (λ found. IfSome found (λ f. Holds refusing.now.limits refusing.now.buffers.now (command.Fill buffer.now offset count pattern.now) f.reason)) }
+    ensures { IfOk result (HoldsOf refusing.now (command.Fill buffer.now offset count pattern.now)) }
 {
     let of = pattern.len() as u64;
     match refusal {

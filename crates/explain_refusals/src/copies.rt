@@ -1,9 +1,9 @@
 //! Why bytes of a buffer aren't copied (OpenCL 1.2, section 5.2.2, clEnqueueCopyBuffer).
 #![tactic(auto)]
 
-ghost use Rattle.std.specs.Prelude.{◌≡◌, ◌<◌, ◌+◌, true, IfOk, IfSome};
+ghost use Rattle.std.specs.Prelude.{◌≡◌, ◌<◌, ◌+◌, true, IfOk};
 ghost use Rattle.host_commands.specs.declared.command.Command.TheVariants as command;
-ghost use Rattle.explain_refusals.specs.Reasons.{Holds};
+ghost use Rattle.explain_refusals.specs.Reasons.{HoldsOf};
 
 use crate::buffers::{missing_buffer, no_bytes, outside};
 use crate::names::text_of;
@@ -25,7 +25,7 @@ pub(crate) struct Copied<'a> {
 
 /// The buffer of a copy that isn't there.
 fn missing(refusing: &Refusing<'_>, copied: &Copied<'_>) -> Result<Option<Found>, AllocError>
-    ensures { IfOk result (λ found. IfSome found (λ f. Holds refusing.now.limits refusing.now.buffers.now (command.Copy copied.now.source.now copied.now.offset copied.now.target.now copied.now.target_offset copied.now.count) f.reason)) }
+    ensures { IfOk result (HoldsOf refusing.now (command.Copy copied.now.source.now copied.now.offset copied.now.target.now copied.now.target_offset copied.now.count)) }
 {
     if let Some(found) = missing_buffer(refusing, copied.source, 1)? {
         return Ok(Some(found));
@@ -35,7 +35,7 @@ fn missing(refusing: &Refusing<'_>, copied: &Copied<'_>) -> Result<Option<Found>
 
 /// The range of a copy that passes the end of its buffer.
 fn passing(refusing: &Refusing<'_>, copied: &Copied<'_>) -> Result<Option<Found>, AllocError>
-    ensures { IfOk result (λ found. IfSome found (λ f. Holds refusing.now.limits refusing.now.buffers.now (command.Copy copied.now.source.now copied.now.offset copied.now.target.now copied.now.target_offset copied.now.count) f.reason)) }
+    ensures { IfOk result (HoldsOf refusing.now (command.Copy copied.now.source.now copied.now.offset copied.now.target.now copied.now.target_offset copied.now.count)) }
 {
     let count = copied.count;
     if let Some(found) = outside(refusing, copied.source, copied.offset, count, 2)? {
@@ -57,7 +57,7 @@ fn do_overlap(first: u64, second: u64, count: u64) -> bool
 
 /// The ranges of a copy within a buffer, if they share a byte.
 fn overlapping(refusing: &Refusing<'_>, copied: &Copied<'_>) -> Result<Option<Found>, AllocError>
-    ensures { IfOk result (λ found. IfSome found (λ f. Holds refusing.now.limits refusing.now.buffers.now (command.Copy copied.now.source.now copied.now.offset copied.now.target.now copied.now.target_offset copied.now.count) f.reason)) }
+    ensures { IfOk result (HoldsOf refusing.now (command.Copy copied.now.source.now copied.now.offset copied.now.target.now copied.now.target_offset copied.now.count)) }
 {
     let (offset, other_offset, count) = (copied.offset, copied.target_offset, copied.count);
     if copied.source != copied.target || !do_overlap(offset, other_offset, count) {
@@ -78,7 +78,7 @@ pub(crate) fn copy_reason(
     copied: &Copied<'_>,
     refusal: Refusal,
 ) -> Result<Option<Found>, AllocError>
-    ensures { IfOk result (λ found. IfSome found (λ f. Holds refusing.now.limits refusing.now.buffers.now (command.Copy copied.now.source.now copied.now.offset copied.now.target.now copied.now.target_offset copied.now.count) f.reason)) }
+    ensures { IfOk result (HoldsOf refusing.now (command.Copy copied.now.source.now copied.now.offset copied.now.target.now copied.now.target_offset copied.now.count)) }
 {
     match refusal {
         Refusal::NoSuchName => missing(refusing, copied),

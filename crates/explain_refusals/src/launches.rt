@@ -1,11 +1,11 @@
 //! Why a launch was refused (OpenCL 1.2, section 5.8).
 #![tactic(auto)]
 
-ghost use Rattle.std.specs.Prelude.{IfOk, IfSome};
+ghost use Rattle.std.specs.Prelude.{IfOk};
 ghost use Rattle.clmodel.specs.declared.setup.Range.{Range as RangeOf};
 ghost use Rattle.host_commands.specs.declared.command.Command.{Command as CommandOf};
 ghost use Rattle.host_commands.specs.declared.command.Command.TheVariants as command;
-ghost use Rattle.explain_refusals.specs.Reasons.{Holds, IsLimited};
+ghost use Rattle.explain_refusals.specs.Reasons.{HoldsOf, IsLimited};
 
 use crate::arguments::arguments_of;
 use crate::names::names_there;
@@ -27,7 +27,7 @@ fn past_limit(
     limit: u64,
     word: usize,
 ) -> Option<Found>
-    ensures { (c : CommandOf) → IsLimited refusing.now.limits c limited number limit → IfSome result (λ f. Holds refusing.now.limits refusing.now.buffers.now c f.reason) }
+    ensures { (c : CommandOf) → IsLimited refusing.now.limits c limited number limit → HoldsOf refusing.now c result }
 {
     if number <= limit {
         return None;
@@ -47,7 +47,7 @@ fn offset_at(
     range: &Range,
     dimension: usize,
 ) -> Option<Found>
-    ensures { IfSome result (λ f. Holds refusing.now.limits refusing.now.buffers.now (command.Launch kernel.now range.now) f.reason) }
+    ensures { HoldsOf refusing.now (command.Launch kernel.now range.now) result }
 {
     let offset = *range.offset.as_slice().get(dimension)?;
     let size = *range.global.as_slice().get(dimension)?;
@@ -64,7 +64,7 @@ fn offset_at(
 
 /// The first dimension whose offset and global size pass 2^64 - 1 together.
 fn large_offset(refusing: &Refusing<'_>, kernel: &Name, range: &Range) -> Option<Found>
-    ensures { IfSome result (λ f. Holds refusing.now.limits refusing.now.buffers.now (command.Launch kernel.now range.now) f.reason) }
+    ensures { HoldsOf refusing.now (command.Launch kernel.now range.now) result }
 {
     for dimension in 0..range.offset.as_slice().len() {
         if let Some(found) = offset_at(refusing, kernel, range, dimension) {
@@ -76,7 +76,7 @@ fn large_offset(refusing: &Refusing<'_>, kernel: &Name, range: &Range) -> Option
 
 /// Lists of lengths that no launch may have, or an offset that is too large.
 fn bad_dimension(refusing: &Refusing<'_>, kernel: &Name, range: &Range) -> Option<Found>
-    ensures { IfSome result (λ f. Holds refusing.now.limits refusing.now.buffers.now (command.Launch kernel.now range.now) f.reason) }
+    ensures { HoldsOf refusing.now (command.Launch kernel.now range.now) result }
 {
     let global = range.global.as_slice().len() as u64;
     let local = range.local.as_slice().len() as u64;
@@ -99,7 +99,7 @@ fn zero_at(
     range: &Range,
     dimension: usize,
 ) -> Option<Found>
-    ensures { IfSome result (λ f. Holds refusing.now.limits refusing.now.buffers.now (command.Launch kernel.now range.now) f.reason) }
+    ensures { HoldsOf refusing.now (command.Launch kernel.now range.now) result }
 {
     let global = *range.global.as_slice().get(dimension)?;
     let local = *range.local.as_slice().get(dimension)?;
@@ -120,7 +120,7 @@ fn uneven_at(
     range: &Range,
     dimension: usize,
 ) -> Option<Found>
-    ensures { IfSome result (λ f. Holds refusing.now.limits refusing.now.buffers.now (command.Launch kernel.now range.now) f.reason) }
+    ensures { HoldsOf refusing.now (command.Launch kernel.now range.now) result }
 {
     let number = *range.global.as_slice().get(dimension)?;
     let of = *range.local.as_slice().get(dimension)?;
@@ -142,7 +142,7 @@ fn bad_size_at(
     range: &Range,
     dimension: usize,
 ) -> Option<Found>
-    ensures { IfSome result (λ f. Holds refusing.now.limits refusing.now.buffers.now (command.Launch kernel.now range.now) f.reason) }
+    ensures { HoldsOf refusing.now (command.Launch kernel.now range.now) result }
 {
     match zero_at(refusing, kernel, range, dimension) {
         Some(found) => Some(found),
@@ -152,7 +152,7 @@ fn bad_size_at(
 
 /// The sizes that no group may have, in the first such dimension, or a group of too many work-items.
 fn bad_group(refusing: &Refusing<'_>, kernel: &Name, range: &Range) -> Option<Found>
-    ensures { IfSome result (λ f. Holds refusing.now.limits refusing.now.buffers.now (command.Launch kernel.now range.now) f.reason) }
+    ensures { HoldsOf refusing.now (command.Launch kernel.now range.now) result }
 {
     for dimension in 0..range.global.as_slice().len() {
         if let Some(found) = bad_size_at(refusing, kernel, range, dimension) {
@@ -227,7 +227,7 @@ fn arguments_reason(
     kernel: &Name,
     refusal: Refusal,
 ) -> Result<Option<Found>, AllocError>
-    ensures { (range : RangeOf) → IfOk result (λ found. IfSome found (λ f. Holds refusing.now.limits refusing.now.buffers.now (command.Launch kernel.now range) f.reason)) }
+    ensures { (range : RangeOf) → IfOk result (HoldsOf refusing.now (command.Launch kernel.now range)) }
 {
     let there = names_there(refusing.alloc, refusing.before)?;
     let Some(made) = made_of(there.as_slice(), kernel, NameKind::Kernel) else {
@@ -259,7 +259,7 @@ pub(crate) fn launch_reason(
     range: &Range,
     refusal: Refusal,
 ) -> Result<Option<Found>, AllocError>
-    ensures { IfOk result (λ found. IfSome found (λ f. Holds refusing.now.limits refusing.now.buffers.now (command.Launch kernel.now range.now) f.reason)) }
+    ensures { IfOk result (HoldsOf refusing.now (command.Launch kernel.now range.now)) }
 {
     match refusal {
         Refusal::NoSuchName => unknown(refusing, kernel, Unknown::Kernel, 1),

@@ -1,6 +1,9 @@
 //! The names that commands made.
 #![tactic(auto)]
 
+ghost use Rattle.std.specs.Prelude.{IfOk};
+ghost use Rattle.explain_refusals.specs.Reasons.{IsTold};
+
 use clmodel::text::Name;
 use host_commands::command::Command;
 use refused_commands::{MadeName, NameKind};
@@ -62,7 +65,9 @@ pub(crate) fn names_there<'a>(
 }
 
 /// A name as text.
-pub(crate) fn text_of(alloc: Global, name: &Name) -> Result<String, AllocError> {
+pub(crate) fn text_of(alloc: Global, name: &Name) -> Result<String, AllocError>
+    ensures { IfOk result (IsTold name.now) }
+{
     String::from_utf8_lossy(alloc, name.as_slice())
 }
 

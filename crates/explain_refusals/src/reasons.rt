@@ -1,9 +1,9 @@
 //! Why a command was refused.
 #![tactic(auto)]
 
-ghost use Rattle.std.specs.Prelude.{◌≢◌, IfOk, IfSome, Some};
+ghost use Rattle.std.specs.Prelude.{◌≢◌, IfOk, Some};
 ghost use Rattle.host_commands.specs.declared.command.Command.{Command as CommandOf};
-ghost use Rattle.explain_refusals.specs.Reasons.{Holds};
+ghost use Rattle.explain_refusals.specs.Reasons.{HoldsOf};
 
 use crate::arguments::{arg_reason, arguments_of, is_buffer};
 use crate::buffers::{buffer_reason, fill_reason, read_reason, write_reason};
@@ -39,7 +39,7 @@ pub struct Found {
 
 /// A name that something has.
 pub(crate) fn taken(refusing: &Refusing<'_>, name: &Name) -> Result<Option<Found>, AllocError>
-    ensures { (c : CommandOf) → IfOk result (λ found. IfSome found (λ f. Holds refusing.now.limits refusing.now.buffers.now c f.reason)) }
+    ensures { (c : CommandOf) → IfOk result (HoldsOf refusing.now c) }
 {
     let there = names_there(refusing.alloc, refusing.before)?;
     let reason = RefusalReason::NameTaken {
@@ -56,7 +56,7 @@ pub(crate) fn unknown(
     wanted: Unknown,
     word: usize,
 ) -> Result<Option<Found>, AllocError>
-    ensures { (c : CommandOf) → IfOk result (λ found. IfSome found (λ f. Holds refusing.now.limits refusing.now.buffers.now c f.reason)) }
+    ensures { (c : CommandOf) → IfOk result (HoldsOf refusing.now c) }
 {
     let (alloc, places) = (refusing.alloc, refusing.places);
     let there = names_there(alloc, refusing.before)?;
@@ -120,7 +120,7 @@ fn release_reason(
     name: &Name,
     refusal: Refusal,
 ) -> Result<Option<Found>, AllocError>
-    ensures { (c : CommandOf) → IfOk result (λ found. IfSome found (λ f. Holds refusing.now.limits refusing.now.buffers.now c f.reason)) }
+    ensures { (c : CommandOf) → IfOk result (HoldsOf refusing.now c) }
 {
     match refusal {
         Refusal::NoSuchName => unknown(refusing, name, Unknown::Any, 1),
@@ -143,7 +143,7 @@ fn kernel_reason(
     function: &Name,
     refusal: Refusal,
 ) -> Result<Option<Found>, AllocError>
-    ensures { (c : CommandOf) → IfOk result (λ found. IfSome found (λ f. Holds refusing.now.limits refusing.now.buffers.now c f.reason)) }
+    ensures { (c : CommandOf) → IfOk result (HoldsOf refusing.now c) }
 {
     match refusal {
         Refusal::NameInUse => taken(refusing, name),
@@ -166,7 +166,7 @@ fn program_reason(
     name: &Name,
     refusal: Refusal,
 ) -> Result<Option<Found>, AllocError>
-    ensures { (c : CommandOf) → IfOk result (λ found. IfSome found (λ f. Holds refusing.now.limits refusing.now.buffers.now c f.reason)) }
+    ensures { (c : CommandOf) → IfOk result (HoldsOf refusing.now c) }
 {
     match refusal {
         Refusal::NameInUse => taken(refusing, name),
@@ -181,7 +181,7 @@ pub fn reason_of(
     command: &Command,
     refusal: Refusal,
 ) -> Result<Option<Found>, AllocError>
-    ensures { IfOk result (λ found. IfSome found (λ f. Holds refusing.now.limits refusing.now.buffers.now command.now f.reason)) }
+    ensures { IfOk result (HoldsOf refusing.now command.now) }
 {
     match command {
         Command::Buffer { name, size } => buffer_reason(refusing, name, *size, refusal),
