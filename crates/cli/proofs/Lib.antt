@@ -1,4 +1,5 @@
 pub mod CommandLines
+mod Readings
 pub mod Replays
 mod Servings
 pub mod Sessions

@@ -19,8 +19,8 @@ use Rattle.spaces.specs.Buffers.{bytes_in}
 use Rattle.spaces.specs.Tables.{Table}
 use Rattle.cli.specs.Reading.{ReadsScript}
 use Rattle.cli.specs.Replaying.{HadMemory, Leads, Performs, Replays, ReadsFile, Unjudged, Unreplayed, Missed, Refused}
-use Rattle.cli.specs.declared.session.RunFault.{RunFault}
-use Rattle.cli.specs.declared.session.RunFault.TheVariants as fault
+use Rattle.simfile.specs.declared.faults.RunFault.{RunFault}
+use Rattle.simfile.specs.declared.faults.RunFault.TheVariants as fault
 use Rattle.cli.proofs.Sessions.{plays_more}
 use Rattle.limits.specs.declared.Configuration.{Configuration}
 

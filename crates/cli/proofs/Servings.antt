@@ -7,7 +7,6 @@ use Rattle.device.specs.Machine.{Machine, Step, opening}
 use Rattle.host_commands.specs.declared.command.Command.{Command}
 use Rattle.host_commands.specs.declared.command.Reply.{Reply}
 use Rattle.cli.specs.declared.session.RunEnd.{RunEnd}
-use Rattle.cli.specs.Faults.{serve_fault}
 use Rattle.cli.specs.Session.{Plays, one_end, end_of, Ran}
 use Rattle.cli.specs.Serving.{Served, Begun, ServeFailed}
 use Rattle.cli.specs.Serves.{Serves}
@@ -19,13 +18,14 @@ use Rattle.byte_io.proofs.Puts.{stopped_then}
 use Rattle.byte_io.specs.Talk.{Event, Heard, Told, heard, told, hearing, Conversation, Said}
 use Rattle.byte_io.proofs.Talks.{said_then, heard-append, told-append, heard-hearing, told-hearing}
 use Rattle.serving.specs.declared.server.Server.{Server}
-use Rattle.serving.specs.declared.server.ServeFault.{ServeFault}
-use Rattle.serving.specs.declared.server.ServeFault.TheVariants as serve
 use Rattle.serving.specs.Hearing.{HearFails, NotHeard}
 use Rattle.serving.specs.Turns.{greeting, AreTurns}
 use Rattle.serving.specs.Serving.{Opened, NotOpened, HeardNone, HeardCommand, NoCommand, ToldReply, NotTold, HeardNext, up_to_most}
 use Rattle.serving.proofs.Sources.{fails_then}
 use Rattle.serving.proofs.Commands.{ends_then}
+use Rattle.simfile.specs.declared.faults.Reader.TheVariants as reader
+use Rattle.simfile.specs.declared.faults.RunFault.{RunFault}
+use Rattle.simfile.specs.declared.faults.RunFault.TheVariants as fault
 use Rattle.simfile.specs.declared.lines.Version.{Version}
 use Rattle.simfile.specs.declared.lines.Version.TheVariants as version
 use Rattle.simfile.specs.Lines.{line, lines}
@@ -209,13 +209,18 @@ served_all {old} {now} {new} {configuration} {server} {machine} {end} h k = subs
 })
 
 -- a failure to hear, behind what was heard so far
-fails_hearing : (old now new : Conversation) (configuration : Configuration) (why : ServeFault) → now.failures ≡ old.failures → Begun old new configuration → HearFails now.failures new.failures why → ServeFailed old new configuration (serve_fault why)
-fails_hearing old now new configuration serve.Hear e h k = (h, fails_then new.failures serve.Hear e k)
-fails_hearing old now new configuration serve.OutOfMemory e h k = (h, fails_then new.failures serve.OutOfMemory e k)
-fails_hearing old now new configuration serve.Tell e h k = absurd k
-fails_hearing old now new configuration (serve.BadLine n) e h k = absurd k
+fails_hearing : (old now new : Conversation) (configuration : Configuration) (why : RunFault) → now.failures ≡ old.failures → Begun old new configuration → HearFails now.failures new.failures why → ServeFailed old new configuration why
+fails_hearing old now new configuration (fault.Read reader.First) e h k = (h, fails_then new.failures (fault.Read reader.First) e k)
+fails_hearing old now new configuration (fault.Read reader.Second) e h k = absurd k
+fails_hearing old now new configuration fault.OutOfMemory e h k = (h, fails_then new.failures fault.OutOfMemory e k)
+fails_hearing old now new configuration fault.Write e h k = absurd k
+fails_hearing old now new configuration (fault.BadLine n) e h k = absurd k
+fails_hearing old now new configuration fault.NoSuchKernel e h k = absurd k
+fails_hearing old now new configuration fault.BadSchedule e h k = absurd k
+fails_hearing old now new configuration (fault.NotALaunch ticket) e h k = absurd k
+fails_hearing old now new configuration (fault.CommandRefused ticket) e h k = absurd k
 
-pub not_opened : {old new : Conversation} (configuration : Configuration) (why : ServeFault) → NotOpened old new why → ServeFailed old new configuration (serve_fault why)
+pub not_opened : {old new : Conversation} (configuration : Configuration) (why : RunFault) → NotOpened old new why → ServeFailed old new configuration why
 not_opened {old} {new} configuration why h = fails_hearing old old new configuration why refl (record {
   version = h.version;
   commands = [];
@@ -228,20 +233,24 @@ not_opened {old} {new} configuration why h = fails_hearing old old new configura
   said = said_as (ap (λ l. l ++ Heard h.bytes ∷ []) (sym (append-nil (greeting h.version)))) h.said;
 }) h.fails
 
-pub no_command : {old now : Conversation} (new : Conversation) {configuration : Configuration} {server : Server} {machine : Machine} {end : RunEnd} (why : ServeFault) → Serves old now configuration server machine end → NoCommand now new server why → ServeFailed old new configuration (serve_fault why)
-no_command {old} {now} new {configuration} serve.Hear h k = fails_hearing old now new configuration serve.Hear h.failures (begun_by k.pieces h k.said) k.fails
-no_command {old} {now} new {configuration} serve.OutOfMemory h k = fails_hearing old now new configuration serve.OutOfMemory h.failures (begun_by k.pieces h k.said) k.fails
-no_command new {server = server} (serve.BadLine n) h k = record {
+pub no_command : {old now : Conversation} (new : Conversation) {configuration : Configuration} {server : Server} {machine : Machine} {end : RunEnd} (why : RunFault) → Serves old now configuration server machine end → NoCommand now new server why → ServeFailed old new configuration why
+no_command {old} {now} new {configuration} (fault.Read by) h k = fails_hearing old now new configuration (fault.Read by) h.failures (begun_by k.pieces h k.said) k.fails
+no_command {old} {now} new {configuration} fault.OutOfMemory h k = fails_hearing old now new configuration fault.OutOfMemory h.failures (begun_by k.pieces h k.said) k.fails
+no_command new {server = server} (fault.BadLine n) h k = record {
   begun = begun_by k.pieces h k.said;
   bad = k.bad;
   number = k.number ∙ (ap (λ m. up_to_most (m + 1)) h.lines ∙ most_most (line_feeds (heard (greeting server.version ++ h.turns))) 1);
   failures = k.failures ∙ h.failures;
 }
-no_command new serve.Tell h k = absurd k
+no_command new fault.Write h k = absurd k
+no_command new fault.NoSuchKernel h k = absurd k
+no_command new fault.BadSchedule h k = absurd k
+no_command new (fault.NotALaunch ticket) h k = absurd k
+no_command new (fault.CommandRefused ticket) h k = absurd k
 
-pub not_told : {old now mid : Conversation} (new : Conversation) {configuration : Configuration} {server server' : Server} {machine after : Machine} {end : RunEnd} (c : Command) (r : Reply) (why : ServeFault) → Serves old now configuration server machine end → HeardCommand now mid server server' c → Step machine c r after → NotTold mid new r why
-    → ServeFailed old new configuration (serve_fault why)
-not_told {old} {now} {mid} new {configuration} {server} {server'} {machine} {after} {end} c r serve.Tell h k s t =
+pub not_told : {old now mid : Conversation} (new : Conversation) {configuration : Configuration} {server server' : Server} {machine after : Machine} {end : RunEnd} (c : Command) (r : Reply) (why : RunFault) → Serves old now configuration server machine end → HeardCommand now mid server server' c → Step machine c r after → NotTold mid new r why
+    → ServeFailed old new configuration why
+not_told {old} {now} {mid} new {configuration} {server} {server'} {machine} {after} {end} c r fault.Write h k s t =
     let b = begun_by k.pieces h k.said in
     let pieces : List (List ℕ) = server.text.items ∷ k.pieces in
     let so_far : told (greeting server.version ++ h.turns ++ hearing pieces) ≡ lines h.replies = told_so_far server.version h.commands h.replies h.turns h.are (hearing pieces) (told-hearing pieces) in
@@ -265,13 +274,17 @@ not_told {old} {now} {mid} new {configuration} {server} {server'} {machine} {aft
       stopped = rw (lines-more h.replies r) (stopped_then wrote t.stopped);
       failures = t.failures ∙ (k.failures ∙ h.failures);
     }
-not_told {old} {now} {mid} new {configuration} c r serve.OutOfMemory h k s t =
+not_told {old} {now} {mid} new {configuration} c r fault.OutOfMemory h k s t =
     subst (λ (m : Conversation). Begun old m configuration × (m.failures ≡ old.failures)) (sym t) (begun_by k.pieces h k.said, k.failures ∙ h.failures)
-not_told new c r serve.Hear h k s t = absurd t
-not_told new c r (serve.BadLine n) h k s t = absurd t
+not_told new c r (fault.Read by) h k s t = absurd t
+not_told new c r (fault.BadLine n) h k s t = absurd t
+not_told new c r fault.NoSuchKernel h k s t = absurd t
+not_told new c r fault.BadSchedule h k s t = absurd t
+not_told new c r (fault.NotALaunch ticket) h k s t = absurd t
+not_told new c r (fault.CommandRefused ticket) h k s t = absurd t
 
-pub not_heard : {old now mid told_at new : Conversation} {configuration : Configuration} {server server' server'' : Server} {machine after : Machine} {end : RunEnd} (c : Command) (r : Reply) (why : ServeFault) → Serves old now configuration server machine end → HeardCommand now mid server server' c → Step machine c r after
-    → ToldReply mid told_at server' server'' r → NotHeard told_at new why → ServeFailed old new configuration (serve_fault why)
+pub not_heard : {old now mid told_at new : Conversation} {configuration : Configuration} {server server' server'' : Server} {machine after : Machine} {end : RunEnd} (c : Command) (r : Reply) (why : RunFault) → Serves old now configuration server machine end → HeardCommand now mid server server' c → Step machine c r after
+    → ToldReply mid told_at server' server'' r → NotHeard told_at new why → ServeFailed old new configuration why
 not_heard {old = old} {told_at = told_at} {new = new} {configuration = configuration} {server = server} {after = after} c r why h k s t n =
     let u = turned c r h k s t in
     fails_hearing old told_at new configuration why u.failures (record {

@@ -4,9 +4,9 @@ use Rattle.clmodel.specs.Tree.{Program}
 use Rattle.limits.specs.declared.Limits.{Limits}
 use Rattle.host_commands.specs.Builds.{Builds}
 use Rattle.host_commands.specs.declared.command.BuildFault.{BuildFault}
-use Rattle.cli.specs.declared.session.Reader.TheVariants as reader
-use Rattle.cli.specs.declared.session.RunFault.{RunFault}
-use Rattle.cli.specs.declared.session.RunFault.TheVariants as fault
+use Rattle.simfile.specs.declared.faults.Reader.TheVariants as reader
+use Rattle.simfile.specs.declared.faults.RunFault.{RunFault}
+use Rattle.simfile.specs.declared.faults.RunFault.TheVariants as fault
 use Rattle.byte_io.specs.Sink.{Sink, Wrote, Stopped, CountsUp}
 use Rattle.byte_io.specs.Source.{Are}
 use Rattle.simfile.specs.Lines.{check_line}

@@ -4,9 +4,11 @@ use Rattle.std.specs.Option.{MatchOption}
 use Rattle.std.specs.Str.Parse.{IsNumeral, digits_value, without_leading_plus}
 use Rattle.clap.specs.Kinds.{or_else}
 use Rattle.clap.specs.Simple.{on_top}
-use Rattle.clap.specs.Words.{App, Rule, Row, Text, IsAmong, new_app, new_rule, with_rule, with_subcommand, subcommand_of, first_of, one_of, kind_of, fault_of}
+use Rattle.clap.specs.Words.{App, Rule, Row, Text, IsAmong, app_of, new_app, new_rule, with_rule, with_subcommand, subcommand_of, first_of, one_of, kind_of, fault_of}
 use Rattle.clap.specs.declared.builder.action.ArgAction.TheVariants as action
 use Rattle.clap.specs.declared.builder.value_parser.ValueParser.TheVariants as parser
+use Rattle.clap.specs.declared.builder.command.Command.{Command}
+use Rattle.clap.specs.declared.builder.command.Command.TheViews.{out-Command}
 use Rattle.clap.specs.declared.error.Error.{Error}
 use Rattle.clap.specs.declared.error.kind.ErrorKind.TheVariants as kind
 use Rattle.cli.specs.declared.command_line.Invocation.{Invocation}
@@ -15,56 +17,73 @@ use Rattle.limits.specs.Limits.{profile, large}
 use Rattle.limits.specs.declared.Configuration.{Configuration}
 use Rattle.limits.specs.declared.Limits.{Limits}
 
+-- a form of these arguments, none of which is global
+pub record IsForm (shape : App) (form : Command) : Type 0 where
+  pub is : app_of form ≡ shape
+  pub local : (out-Command form).has_globals ≡ false
+
+-- an argument that must be given
+abbrev pub needed : Text → Rule
+needed name = record (new_rule name) { required = true }
+
+-- an option with a value
+abbrev pub option : Text → Rule
+option name = record (new_rule name) { long = Some name; value_names = 1 }
+
+-- an option whose value is a number from 1 to the most
+abbrev pub number : Text → ℕ → Rule
+number name most = record (option name) { parser = Some (parser.Unsigned 1 most) }
+
 -- `FILE`
 abbrev pub file : Rule
-file = record (new_rule (codes "FILE")) { required = true }
+file = needed (codes "FILE")
 
 -- `--workers N`, a number from 1 to 16
 abbrev pub workers : Rule
-workers = record (new_rule (codes "workers")) {
-  long = Some (codes "workers");
-  value_names = 1;
-  parser = Some (parser.Unsigned 1 16);
-}
+workers = number (codes "workers") 16
 
 -- `--budget N`, a number from 1 to 1,000,000
 abbrev pub budget : Rule
-budget = record (new_rule (codes "budget")) {
-  long = Some (codes "budget");
-  value_names = 1;
-  parser = Some (parser.Unsigned 1 1000000);
-}
+budget = number (codes "budget") 1000000
 
 -- `--limits LIMITS`
 abbrev pub limits : Rule
-limits = record (new_rule (codes "limits")) { long = Some (codes "limits"); value_names = 1 }
+limits = option (codes "limits")
+
+-- what a device is made with: `--budget N` and `--limits LIMITS`
+abbrev pub configured : App → App
+configured form = with_rule (with_rule form budget) limits
+
+-- the options of a run: `--workers N`, `--budget N` and `--limits LIMITS`
+abbrev pub working : App → App
+working form = configured (with_rule form workers)
 
 abbrev pub run_form : App
-run_form = with_rule (with_rule (with_rule (with_rule (new_app (codes "run")) file) workers) budget) limits
+run_form = working (with_rule (new_app (codes "run")) file)
 
 abbrev pub check_form : App
 check_form = with_rule (with_rule (new_app (codes "check")) file) limits
 
 -- `KERNEL`
 abbrev pub kernel : Rule
-kernel = record (new_rule (codes "KERNEL")) { required = true }
+kernel = needed (codes "KERNEL")
 
 abbrev pub dump_form : App
 dump_form = with_rule (with_rule (with_rule (new_app (codes "dump")) file) kernel) limits
 
 -- `SCRIPT`
 abbrev pub script : Rule
-script = record (new_rule (codes "SCRIPT")) { required = true }
+script = needed (codes "SCRIPT")
 
 -- `SCHEDULE`
 abbrev pub schedule : Rule
-schedule = record (new_rule (codes "SCHEDULE")) { required = true }
+schedule = needed (codes "SCHEDULE")
 
 abbrev pub replay_form : App
 replay_form = with_rule (with_rule (with_rule (new_app (codes "replay")) script) schedule) limits
 
 abbrev pub serve_form : App
-serve_form = with_rule (with_rule (with_rule (new_app (codes "serve")) workers) budget) limits
+serve_form = working (new_app (codes "serve"))
 
 -- `SCHEDULE`, which may be left out
 abbrev pub some_schedule : Rule
@@ -72,25 +91,25 @@ some_schedule = new_rule (codes "SCHEDULE")
 
 -- `--format FORMAT`
 abbrev pub format : Rule
-format = record (new_rule (codes "format")) { long = Some (codes "format"); value_names = 1 }
+format = option (codes "format")
 
 -- `--as-given`
 abbrev pub as_given : Rule
 as_given = record (new_rule (codes "as-given")) { long = Some (codes "as-given"); action = Some action.SetTrue }
 
 abbrev pub explain_form : App
-explain_form = with_rule (with_rule (with_rule (with_rule (with_rule (with_rule (new_app (codes "explain")) script) some_schedule) format) budget) limits) as_given
+explain_form = with_rule (configured (with_rule (with_rule (with_rule (new_app (codes "explain")) script) some_schedule) format)) as_given
 
--- `clsim run FILE [--workers N] [--budget N] [--limits LIMITS]`
-abbrev pub runs : App
-runs = with_subcommand (on_top (λ top. record top { subcommand_required = true }) (new_app (codes "clsim"))) run_form.top
+-- one of the forms must be named
+abbrev pub no_form : App
+no_form = on_top (λ top. record top { subcommand_required = true }) (new_app (codes "clsim"))
 
 -- `clsim run FILE [--workers N] [--budget N] [--limits LIMITS]`, `clsim check FILE [--limits LIMITS]`,
 -- `clsim dump FILE KERNEL [--limits LIMITS]`,
 -- `clsim replay SCRIPT SCHEDULE [--limits LIMITS]`, `clsim serve [--workers N] [--budget N] [--limits LIMITS]` or
 -- `clsim explain SCRIPT [SCHEDULE] [--format text|json] [--budget N] [--limits LIMITS] [--as-given]`
 abbrev pub program : App
-program = with_subcommand (with_subcommand (with_subcommand (with_subcommand (with_subcommand runs check_form.top) dump_form.top) replay_form.top) serve_form.top) explain_form.top
+program = with_subcommand (with_subcommand (with_subcommand (with_subcommand (with_subcommand (with_subcommand no_form run_form.top) check_form.top) dump_form.top) replay_form.top) serve_form.top) explain_form.top
 
 -- what is read is asked for, and nothing is read only where nothing is asked for (own)
 abbrev pub Reads : {A : Type 0} → (A → Type 0) → Option A → Type 0

@@ -11,9 +11,9 @@ use Rattle.lower.specs.Names.{LowersNamed}
 use Rattle.regcode.specs.Listing.{Listing}
 use Rattle.code_text.specs.Text.{text_of}
 use Rattle.simfile.specs.Lines.{check_line}
-use Rattle.cli.specs.declared.session.Reader.TheVariants as reader
-use Rattle.cli.specs.declared.session.RunFault.{RunFault}
-use Rattle.cli.specs.declared.session.RunFault.TheVariants as fault
+use Rattle.simfile.specs.declared.faults.Reader.TheVariants as reader
+use Rattle.simfile.specs.declared.faults.RunFault.{RunFault}
+use Rattle.simfile.specs.declared.faults.RunFault.TheVariants as fault
 
 -- the text of code of a program's kernel was written
 pub record CodeWritten (program : Program) (kernel : List ℕ) (old new : Sink) : Type 0 where

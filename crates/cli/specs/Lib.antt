@@ -12,5 +12,4 @@ pub use Rattle.cli.specs.Reading
 pub use Rattle.simfile.specs.Script
 pub use Rattle.simfile.specs.Lines
 pub mod Session
-pub mod Faults
 pub mod Reading

@@ -4,10 +4,10 @@ use Rattle.host_commands.specs.declared.command.Command.{Command}
 use Rattle.byte_io.specs.Sink.{CountsUp}
 use Rattle.byte_io.specs.Source.{Are}
 use Rattle.simfile.specs.Script.{IsScript, IsBadLine}
-use Rattle.cli.specs.declared.session.Reader.{Reader}
-use Rattle.cli.specs.declared.session.Reader.TheVariants as reader
-use Rattle.cli.specs.declared.session.RunFault.{RunFault}
-use Rattle.cli.specs.declared.session.RunFault.TheVariants as fault
+use Rattle.simfile.specs.declared.faults.Reader.{Reader}
+use Rattle.simfile.specs.declared.faults.Reader.TheVariants as reader
+use Rattle.simfile.specs.declared.faults.RunFault.{RunFault}
+use Rattle.simfile.specs.declared.faults.RunFault.TheVariants as fault
 
 -- why a reader wasn't read to its end: it failed, which was counted, or no memory was left
 abbrev pub ReadFails : Reader → ℕ → ℕ → RunFault → Type 0

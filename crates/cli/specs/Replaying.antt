@@ -19,9 +19,9 @@ use Rattle.byte_io.specs.Source.{Are}
 use Rattle.fault_lines.specs.ScheduleFile.{IsScheduleFile, NoScheduleFile}
 use Rattle.cli.specs.Reading.{ReadsScript, Misread}
 use Rattle.cli.specs.Session.{Plays}
-use Rattle.cli.specs.declared.session.Reader.TheVariants as reader
-use Rattle.cli.specs.declared.session.RunFault.{RunFault}
-use Rattle.cli.specs.declared.session.RunFault.TheVariants as fault
+use Rattle.simfile.specs.declared.faults.Reader.TheVariants as reader
+use Rattle.simfile.specs.declared.faults.RunFault.{RunFault}
+use Rattle.simfile.specs.declared.faults.RunFault.TheVariants as fault
 use Rattle.limits.specs.declared.Configuration.{Configuration}
 
 -- a reply other than the refusal for want of memory

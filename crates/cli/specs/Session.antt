@@ -5,10 +5,10 @@ use Rattle.device.specs.Machine.{Machine, Step, opening}
 use Rattle.host_commands.specs.declared.command.Command.{Command}
 use Rattle.host_commands.specs.declared.command.Reply.{Reply}
 use Rattle.host_commands.specs.declared.command.Reply.TheVariants as reply
-use Rattle.cli.specs.declared.session.Reader.TheVariants as reader
+use Rattle.simfile.specs.declared.faults.Reader.TheVariants as reader
 use Rattle.cli.specs.declared.session.RunEnd.{RunEnd}
-use Rattle.cli.specs.declared.session.RunFault.{RunFault}
-use Rattle.cli.specs.declared.session.RunFault.TheVariants as fault
+use Rattle.simfile.specs.declared.faults.RunFault.{RunFault}
+use Rattle.simfile.specs.declared.faults.RunFault.TheVariants as fault
 use Rattle.byte_io.specs.Sink.{Sink, Wrote, Stopped, CountsUp}
 use Rattle.byte_io.specs.Source.{Are}
 use Rattle.simfile.specs.Script.{IsScript, IsBadLine}

@@ -7,11 +7,11 @@ ghost use Rattle.simfile.specs.Lines.{check_line};
 ghost use Rattle.cli.specs.Checking.{Checked, Unchecked, source_status_of};
 
 use crate::reading::bytes_of;
-use crate::session::{Reader, RunFault};
 use byte_io::{Read, Write, WriteFailed};
 use host_commands::build::{NotBuilt, build};
 use host_commands::command::BuildFault;
 use limits::Limits;
+use simfile::faults::{Reader, RunFault};
 use simfile::replies::write_check;
 use std::alloc::Global;
 
@@ -24,8 +24,8 @@ pub(crate) fn tell<W: Write>(fault: Option<BuildFault>, writer: &mut W) -> Resul
     writer.flush()
 }
 
-/// Reads a source and checks it within limits, as a program is built: `read`, then `check`. Writes `ok`, or the fault with its number,
-/// name and place in the source, as a line. Answers whether the source builds.
+/// Reads a source and checks it within limits, as a program is built: `read`, then `check`. Writes `ok`, or the fault
+/// with its number, name and place in the source, as a line. Answers whether the source builds.
 ///
 /// No fault is a `BadLine`; after `Read` and `OutOfMemory` nothing was written, after `Write` a beginning of the line.
 pub fn check_file<R: Read, W: Write>(

@@ -2,10 +2,8 @@
 #![tactic(auto)]
 
 ghost use Rattle.std.specs.Prelude.{◌≡◌, ◌≤◌, false, map, Ok, IfOk, IfErr, IfSome};
-ghost use Rattle.clap.specs.Words.{AddsSubcommand, app_of, new_app, rule_of, found_of, rows_of, subcommand_rows_of};
-ghost use Rattle.clap.specs.declared.builder.command.Command.{Command};
-ghost use Rattle.clap.specs.declared.builder.command.Command.TheViews.{out-Command};
-ghost use Rattle.cli.specs.CommandLine.{file, workers, budget, limits, kernel, script, schedule, some_schedule, format, as_given, run_form, check_form, dump_form, replay_form, serve_form, explain_form, runs, program, GivesWorkers, GivesLimits, GivesBudget, GivesConfiguration, GivesFormat, GivesFlag, IsRun, IsCheck, IsDump, IsReplay, IsServe, IsExplain, Reads, Holds, AsksFor, IsRefused};
+ghost use Rattle.clap.specs.Words.{App, app_of, new_app, rule_of, found_of, rows_of, subcommand_rows_of, with_rule, with_subcommand};
+ghost use Rattle.cli.specs.CommandLine.{IsForm, needed, option, number, limits, script, some_schedule, format, as_given, configured, working, run_form, check_form, dump_form, replay_form, serve_form, explain_form, no_form, program, GivesWorkers, GivesLimits, GivesBudget, GivesConfiguration, GivesFormat, GivesFlag, IsRun, IsCheck, IsDump, IsReplay, IsServe, IsExplain, Reads, Holds, AsksFor, IsRefused};
 
 use crate::session::Options;
 use crate::wish::ExplainWish;
@@ -58,75 +56,31 @@ const MAX_BUDGET: u32 = 1_000_000;
 /// The most workers of a run.
 const MAX_WORKERS: u32 = 16;
 
-/// The argument `FILE`, and what help says of it.
-fn file<'a>(alloc: Global, help: &'a str) -> Arg<'a>
-    ensures rule { rule_of result ≡ file }
+/// An argument that must be given, and what help says of it.
+fn needed<'a>(alloc: Global, name: &'a str, help: &'a str) -> Arg<'a>
+    ensures rule { rule_of result ≡ needed name.entry.now }
     ensures local { result.global ≡ false }
 {
-    Arg::new(alloc, "FILE").required(true).help(help)
+    Arg::new(alloc, name).required(true).help(help)
 }
 
-/// The option `--workers N`.
-fn workers<'a>(alloc: Global) -> Arg<'a>
-    ensures rule { rule_of result ≡ workers }
+/// An option with a value, by its name, the value's name, and what help says of it.
+fn option<'a>(alloc: Global, name: &'a str, value: &'a str, help: &'a str) -> Arg<'a>
+    ensures rule { rule_of result ≡ option name.entry.now }
     ensures local { result.global ≡ false }
 {
-    Arg::new(alloc, "workers")
-        .long("workers")
-        .value_name("N")
-        .value_parser(ValueParser::unsigned(1, MAX_WORKERS as u64))
-        .help("How many workers run the groups of a launch")
+    Arg::new(alloc, name)
+        .long(name)
+        .value_name(value)
+        .help(help)
 }
 
-/// The option `--budget N`.
-fn budget<'a>(alloc: Global) -> Arg<'a>
-    ensures rule { rule_of result ≡ budget }
+/// An option whose value is a number from 1 to `most`, and what help says of it.
+fn number<'a>(alloc: Global, name: &'a str, most: u32, help: &'a str) -> Arg<'a>
+    ensures rule { rule_of result ≡ number name.entry.now most }
     ensures local { result.global ≡ false }
 {
-    Arg::new(alloc, "budget")
-        .long("budget")
-        .value_name("N")
-        .value_parser(ValueParser::unsigned(1, MAX_BUDGET as u64))
-        .help("The most ticks of a work-item: accesses, barriers and turns of loops")
-}
-
-/// The option `--limits LIMITS`.
-fn limits<'a>(alloc: Global) -> Arg<'a>
-    ensures rule { rule_of result ≡ limits }
-    ensures local { result.global ≡ false }
-{
-    Arg::new(alloc, "limits")
-        .long("limits")
-        .value_name("LIMITS")
-        .help("What the device allows: profile (the default) or large")
-}
-
-/// The argument `KERNEL`.
-fn kernel<'a>(alloc: Global) -> Arg<'a>
-    ensures rule { rule_of result ≡ kernel }
-    ensures local { result.global ≡ false }
-{
-    Arg::new(alloc, "KERNEL")
-        .required(true)
-        .help("The kernel's name")
-}
-
-/// The argument `SCRIPT`.
-fn script<'a>(alloc: Global) -> Arg<'a>
-    ensures rule { rule_of result ≡ script }
-    ensures local { result.global ≡ false }
-{
-    Arg::new(alloc, "SCRIPT").required(true).help("The script")
-}
-
-/// The argument `SCHEDULE`.
-fn schedule<'a>(alloc: Global) -> Arg<'a>
-    ensures rule { rule_of result ≡ schedule }
-    ensures local { result.global ≡ false }
-{
-    Arg::new(alloc, "SCHEDULE")
-        .required(true)
-        .help("The schedule file: a line `ticket T`, and a fault's line")
+    option(alloc, name, "N", help).value_parser(ValueParser::unsigned(1, most as u64))
 }
 
 /// The argument `SCHEDULE`, where it may be left out.
@@ -137,17 +91,6 @@ fn some_schedule<'a>(alloc: Global) -> Arg<'a>
     Arg::new(alloc, "SCHEDULE").help(
         "The schedule file; without one the first fault of the script is explained",
     )
-}
-
-/// The option `--format text|json`.
-fn format<'a>(alloc: Global) -> Arg<'a>
-    ensures rule { rule_of result ≡ format }
-    ensures local { result.global ≡ false }
-{
-    Arg::new(alloc, "format")
-        .long("format")
-        .value_name("FORMAT")
-        .help("How the explanation is written: text or json")
 }
 
 /// The option `--as-given`.
@@ -163,99 +106,159 @@ fn as_given<'a>(alloc: Global) -> Arg<'a>
 
 /// A form without arguments, and what help says of it.
 fn named<'a>(alloc: Global, name: &'a str, about: &'a str) -> Command<'a>
-    ensures form { app_of result ≡ new_app name.entry.now }
-    ensures local { (out-Command result).has_globals ≡ false }
+    ensures { IsForm (new_app name.entry.now) result }
 {
     Command::new(alloc, name).about(about)
 }
 
+/// A form with one more argument, where it was made. In what makes a form each `?` would add a path.
+fn with<'a>(form: Result<Command<'a>, AllocError>, arg: Arg<'a>) -> Result<Command<'a>, AllocError>
+    ensures { (shape : App) → IfOk form.entry (IsForm shape) → arg.entry.global ≡ false → IfOk result (IsForm (with_rule shape (rule_of arg.entry))) }
+{
+    form?.arg(arg)
+}
+
+/// A form with `--limits LIMITS`.
+fn limited<'a>(
+    alloc: Global,
+    form: Result<Command<'a>, AllocError>,
+) -> Result<Command<'a>, AllocError>
+    ensures { (shape : App) → IfOk form.entry (IsForm shape) → IfOk result (IsForm (with_rule shape limits)) }
+{
+    let limits = option(
+        alloc,
+        "limits",
+        "LIMITS",
+        "What the device allows: profile (the default) or large",
+    );
+    with(form, limits)
+}
+
+/// A form with what a device is made with: `--budget N` and `--limits LIMITS`.
+fn configured<'a>(
+    alloc: Global,
+    form: Result<Command<'a>, AllocError>,
+) -> Result<Command<'a>, AllocError>
+    ensures { (shape : App) → IfOk form.entry (IsForm shape) → IfOk result (IsForm (configured shape)) }
+{
+    let budget = number(
+        alloc,
+        "budget",
+        MAX_BUDGET,
+        "The most ticks of a work-item: accesses, barriers and turns of loops",
+    );
+    limited(alloc, with(form, budget))
+}
+
+/// A form with the options of a run: `--workers N`, `--budget N` and `--limits LIMITS`.
+fn working<'a>(
+    alloc: Global,
+    form: Result<Command<'a>, AllocError>,
+) -> Result<Command<'a>, AllocError>
+    ensures { (shape : App) → IfOk form.entry (IsForm shape) → IfOk result (IsForm (working shape)) }
+{
+    let workers = number(
+        alloc,
+        "workers",
+        MAX_WORKERS,
+        "How many workers run the groups of a launch",
+    );
+    configured(alloc, with(form, workers))
+}
+
 /// The form `run FILE [--workers N] [--budget N] [--limits LIMITS]`.
 fn run_form<'a>(alloc: Global) -> Result<Command<'a>, AllocError>
-    ensures form { IfOk result (λ form. app_of form ≡ run_form) }
-    ensures local { IfOk result (λ form. (out-Command form).has_globals ≡ false) }
+    ensures { IfOk result (IsForm run_form) }
 {
-    let form = named(alloc, "run", "Runs a script and prints its replies").arg(file(
-        alloc,
-        "The script",
-    ))?;
-    let with_workers = form.arg(workers(alloc))?;
-    let with_budget = with_workers.arg(budget(alloc))?;
-    with_budget.arg(limits(alloc))
+    let form = named(alloc, "run", "Runs a script and prints its replies");
+    working(alloc, with(Ok(form), needed(alloc, "FILE", "The script")))
 }
 
 /// The form `check FILE [--limits LIMITS]`.
 fn check_form<'a>(alloc: Global) -> Result<Command<'a>, AllocError>
-    ensures form { IfOk result (λ form. app_of form ≡ check_form) }
-    ensures local { IfOk result (λ form. (out-Command form).has_globals ≡ false) }
+    ensures { IfOk result (IsForm check_form) }
 {
     let form = named(
         alloc,
         "check",
         "Checks a source and prints ok or its first fault",
+    );
+    limited(
+        alloc,
+        with(Ok(form), needed(alloc, "FILE", "The source, in OpenCL C")),
     )
-    .arg(file(alloc, "The source, in OpenCL C"))?;
-    form.arg(limits(alloc))
 }
 
 /// The form `dump FILE KERNEL [--limits LIMITS]`.
 fn dump_form<'a>(alloc: Global) -> Result<Command<'a>, AllocError>
-    ensures form { IfOk result (λ form. app_of form ≡ dump_form) }
-    ensures local { IfOk result (λ form. (out-Command form).has_globals ≡ false) }
+    ensures { IfOk result (IsForm dump_form) }
 {
-    let form = named(alloc, "dump", "Prints the register code of a kernel").arg(file(
+    let form = named(alloc, "dump", "Prints the register code of a kernel");
+    let with_file = with(Ok(form), needed(alloc, "FILE", "The source, in OpenCL C"));
+    limited(
         alloc,
-        "The source, in OpenCL C",
-    ))?;
-    let with_kernel = form.arg(kernel(alloc))?;
-    with_kernel.arg(limits(alloc))
+        with(with_file, needed(alloc, "KERNEL", "The kernel's name")),
+    )
 }
 
 /// The form `replay SCRIPT SCHEDULE [--limits LIMITS]`.
 fn replay_form<'a>(alloc: Global) -> Result<Command<'a>, AllocError>
-    ensures form { IfOk result (λ form. app_of form ≡ replay_form) }
-    ensures local { IfOk result (λ form. (out-Command form).has_globals ≡ false) }
+    ensures { IfOk result (IsForm replay_form) }
 {
     let form = named(
         alloc,
         "replay",
         "Replays a schedule and prints whether it leads to its fault",
-    )
-    .arg(script(alloc))?;
-    let with_files = form.arg(schedule(alloc))?;
-    with_files.arg(limits(alloc))
+    );
+    let with_script = with(Ok(form), needed(alloc, "SCRIPT", "The script"));
+    let schedule = needed(
+        alloc,
+        "SCHEDULE",
+        "The schedule file: a line `ticket T`, and a fault's line",
+    );
+    limited(alloc, with(with_script, schedule))
 }
 
 /// The form `serve [--workers N] [--budget N] [--limits LIMITS]`.
 fn serve_form<'a>(alloc: Global) -> Result<Command<'a>, AllocError>
-    ensures form { IfOk result (λ form. app_of form ≡ serve_form) }
-    ensures local { IfOk result (λ form. (out-Command form).has_globals ≡ false) }
+    ensures { IfOk result (IsForm serve_form) }
 {
     let form = named(
         alloc,
         "serve",
         "Reads commands from standard input and answers each at once",
-    )
-    .arg(workers(alloc))?;
-    let with_budget = form.arg(budget(alloc))?;
-    with_budget.arg(limits(alloc))
+    );
+    working(alloc, Ok(form))
+}
+
+/// The arguments of `explain`: `SCRIPT [SCHEDULE] [--format text|json]`.
+fn explained<'a>(
+    alloc: Global,
+    form: Result<Command<'a>, AllocError>,
+) -> Result<Command<'a>, AllocError>
+    ensures { (shape : App) → IfOk form.entry (IsForm shape) → IfOk result (IsForm (with_rule (with_rule (with_rule shape script) some_schedule) format)) }
+{
+    let with_script = with(form, needed(alloc, "SCRIPT", "The script"));
+    let format = option(
+        alloc,
+        "format",
+        "FORMAT",
+        "How the explanation is written: text or json",
+    );
+    with(with(with_script, some_schedule(alloc)), format)
 }
 
 /// The form `explain SCRIPT [SCHEDULE] [--format text|json] [--budget N] [--limits LIMITS] [--as-given]`.
 fn explain_form<'a>(alloc: Global) -> Result<Command<'a>, AllocError>
-    ensures form { IfOk result (λ form. app_of form ≡ explain_form) }
-    ensures local { IfOk result (λ form. (out-Command form).has_globals ≡ false) }
+    ensures { IfOk result (IsForm explain_form) }
 {
     let form = named(
         alloc,
         "explain",
         "Explains a fault: where in the source, in whose ids, and how it comes about",
-    )
-    .arg(script(alloc))?;
-    let with_files = form.arg(some_schedule(alloc))?;
-    let with_format = with_files.arg(format(alloc))?;
-    let with_budget = with_format.arg(budget(alloc))?;
-    let with_limits = with_budget.arg(limits(alloc))?;
-    with_limits.arg(as_given(alloc))
+    );
+    let whole = configured(alloc, explained(alloc, Ok(form)));
+    with(whole, as_given(alloc))
 }
 
 /// The limits of a device, the profile's where the option isn't there, and `None` where it names none.
@@ -434,23 +437,21 @@ fn asked<'a>(matches: &ArgMatches<'a>) -> Option<Invocation<'a>>
     explain_of(matches.subcommand_matches("explain")?)
 }
 
-/// The forms of the command line, `run` alone.
-fn runs<'a>(alloc: Global) -> Result<Command<'a>, AllocError>
-    ensures { IfOk result (λ forms. app_of forms ≡ runs) }
+/// The forms of the command line, without any of them yet.
+fn no_form<'a>(alloc: Global) -> Command<'a>
+    ensures { app_of result ≡ no_form }
 {
-    let run = run_form(alloc)?;
-    named(alloc, "clsim", "A simulated OpenCL 1.2 device")
-        .subcommand_required(true)
-        .subcommand(run)
+    named(alloc, "clsim", "A simulated OpenCL 1.2 device").subcommand_required(true)
 }
 
-/// Forms with one more, where that one was made. In `forms` each `?` would add a path that drops the forms so far.
+/// Forms with one more, where both were made. In `forms` each `?` would add a path.
 fn with_form<'a>(
-    forms: Command<'a>,
+    forms: Result<Command<'a>, AllocError>,
     form: Result<Command<'a>, AllocError>,
 ) -> Result<Command<'a>, AllocError>
-    ensures { IfOk result (λ all. (added : Command) × (form.entry ≡ Ok added) × AddsSubcommand forms.entry added all) }
+    ensures { (shape more : App) → IfOk forms.entry (λ f. app_of f ≡ shape) → IfOk form.entry (IsForm more) → IfOk result (λ all. app_of all ≡ with_subcommand shape more.top) }
 {
+    let forms = forms?;
     forms.subcommand(form?)
 }
 
@@ -458,11 +459,11 @@ fn with_form<'a>(
 fn forms<'a>(alloc: Global) -> Result<Command<'a>, AllocError>
     ensures { IfOk result (λ forms. app_of forms ≡ program) }
 {
-    let runs = runs(alloc)?;
-    let runs_and_checks = with_form(runs, check_form(alloc))?;
-    let with_dumps = with_form(runs_and_checks, dump_form(alloc))?;
-    let with_replays = with_form(with_dumps, replay_form(alloc))?;
-    let with_serving = with_form(with_replays, serve_form(alloc))?;
+    let runs = with_form(Ok(no_form(alloc)), run_form(alloc));
+    let with_checks = with_form(runs, check_form(alloc));
+    let with_dumps = with_form(with_checks, dump_form(alloc));
+    let with_replays = with_form(with_dumps, replay_form(alloc));
+    let with_serving = with_form(with_replays, serve_form(alloc));
     with_form(with_serving, explain_form(alloc))
 }
 

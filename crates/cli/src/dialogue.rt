@@ -11,10 +11,11 @@ ghost use Rattle.cli.specs.Serving.{Served, ServeFailed};
 ghost use Rattle.cli.specs.Serves.{Serves};
 ghost use Rattle.limits.specs.declared.Configuration.{Configuration};
 
-use crate::session::{Options, RunEnd, RunFault, one_end};
+use crate::session::{Options, RunEnd, one_end};
 use byte_io::Peer;
 use device::{Device, OpenGate};
 use serving::Server;
+use simfile::faults::RunFault;
 use std::alloc::Global;
 use std::marker::Sync;
 use std::sync::Wait;

@@ -4,8 +4,7 @@
 //! none is held back in a buffer. It goes through the device's queue, as its only client. `serve` does without the
 //! queue, and the lines that it tells are those of `run`. `replay_files` answers yes exactly where the schedule leads
 //! the launch of its ticket, on the machine to which the commands before it lead, to a state that shows the fault. A
-//! status is the defined one. `RunFault` is the fault of every command of the program, and the faults below become it
-//! by `?`.
+//! status is the defined one.
 #![tactic(auto)]
 
 pub mod checking;
@@ -25,3 +24,4 @@ pub use dialogue::serve;
 pub use dumping::dump_file;
 pub use replaying::replay_files;
 pub use session::{run, status};
+pub use simfile::faults::{Reader, RunFault};

@@ -5,21 +5,20 @@ ghost use Rattle.std.specs.Prelude.{IfOk, IfErr};
 ghost use Rattle.byte_io.specs.Source.{Are};
 ghost use Rattle.cli.specs.Reading.{ReadFails, ReadsScript, ScriptFails};
 
-use crate::session::{Reader, RunFault};
-use byte_io::{Read, ReadFault};
+use byte_io::Read;
 use host_commands::command::Command;
+use simfile::faults::{Reader, RunFault, read_fault};
 use simfile::script::read_script;
 use std::alloc::Global;
 
-/// All that a reader has left. The fault names the reader, so no `From` can make it.
+/// All that a reader has left.
 pub fn bytes_of<R: Read>(alloc: Global, reader: &mut R, named: Reader) -> Result<Vec<u8>, RunFault>
     ensures read { IfOk result (λ bytes. Are (R.rest reader.old) bytes.items) }
     ensures failed { IfErr result (ReadFails named (R.failures reader.old) (R.failures reader.new)) }
 {
     match reader.read_all(alloc) {
         Ok(bytes) => Ok(bytes),
-        Err(ReadFault::Failed) => Err(RunFault::Read(named)),
-        Err(ReadFault::OutOfMemory) => Err(RunFault::OutOfMemory),
+        Err(fault) => Err(read_fault(named, fault)),
     }
 }
 
@@ -29,5 +28,6 @@ pub fn commands_of<R: Read>(alloc: Global, reader: &mut R) -> Result<Vec<Command
     ensures failed { IfErr result (ScriptFails (R.rest reader.old) (R.failures reader.old) (R.failures reader.new)) }
 {
     let bytes = bytes_of(alloc, reader, Reader::First)?;
-    Ok(read_script(alloc, bytes.as_slice())?)
+    let script = read_script(alloc, bytes.as_slice())?;
+    Ok(script.commands)
 }

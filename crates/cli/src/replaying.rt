@@ -8,7 +8,6 @@ ghost use Rattle.byte_io.specs.Sink.{Puts};
 ghost use Rattle.cli.specs.Replaying.{ReadsFile, FileFails, NoLaunch, Performs, Leads, Replays, Judges, Unjudged, answer_line, Replayed, Unreplayed, replay_status_of};
 
 use crate::reading::{bytes_of, commands_of};
-use crate::session::{Reader, RunFault};
 use byte_io::{Read, Write, WriteFailed};
 use clmodel::fault::Fault;
 use clmodel::schedule::Schedule;
@@ -18,6 +17,7 @@ use device::{Command, Device, Refusal, Reply};
 use fault_lines::read;
 use limits::Configuration;
 use replay::replay;
+use simfile::faults::{Reader, RunFault};
 use std::alloc::{AllocError, Global};
 
 /// What a schedule file tells: the number of a launch among a script's commands, from 0, a fault, and events that lead

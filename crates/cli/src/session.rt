@@ -14,20 +14,15 @@ ghost use Rattle.limits.specs.declared.Configuration.{Configuration as Configura
 use crate::only_client::OnlyClient;
 use crate::reading::commands_of;
 use byte_io::{Read, Write, WriteFailed};
-use code_text::DumpFault;
-use fault_lines::ReadFault as FileFault;
 use host_commands::command::{Command, Reply};
 use host_queue::Request;
 use limits::{Configuration, Limits};
-use lower::LowerFault;
-use serving::ServeFault;
+use simfile::faults::RunFault;
 use simfile::replies::write_reply;
-use simfile::script::ScriptFault;
-use std::alloc::{AllocError, AllocFailed, Global};
+use std::alloc::Global;
 use std::marker::Sync;
 use std::sync::Wait;
 use std::thread::Threads;
-use thiserror::Error;
 
 /// What is given to a run beside its script.
 #[derive(Clone, Copy, Debug, PartialEq, Eq)]
@@ -64,148 +59,6 @@ pub struct RunEnd {
     pub faulted: bool,
     /// A command was refused
     pub refused: bool,
-}
-
-/// One of the readers of a command.
-#[derive(Clone, Copy, Debug, PartialEq, Eq)]
-pub enum Reader {
-    /// The script's or the source's
-    First,
-    /// The schedule file's
-    Second,
-}
-
-/// Why a run, a check, a dump or a replay failed.
-#[derive(Clone, Copy, Debug, PartialEq, Eq, Error)]
-pub enum RunFault {
-    /// 1: this reader failed. Nothing was written
-    #[error("cannot read")]
-    Read(Reader),
-    /// 2: the writer failed. A beginning of the text was written
-    #[error("cannot write")]
-    Write,
-    /// 3: the lowest bad line of a text that is no script, counted from 1. Nothing was written
-    #[error("line {0}: bad line")]
-    BadLine(usize),
-    /// 4: no memory is left. Nothing was written
-    #[error("out of memory")]
-    OutOfMemory,
-    /// 5: no kernel of the source has the name. Nothing was written
-    #[error("no such kernel")]
-    NoSuchKernel,
-    /// 6: a text is no schedule file. Nothing was written
-    #[error("bad schedule file")]
-    BadSchedule,
-    /// 7: the command of the schedule file's ticket is no launch, or there is none. Nothing was written
-    #[error("command {0} is not a launch")]
-    NotALaunch(u64),
-    /// 8: the launch of the schedule file's ticket is refused, and not for want of memory. Nothing was written
-    #[error("command {0} is refused")]
-    CommandRefused(u64),
-}
-
-impl From<AllocError> for RunFault {
-    ghost use Rattle.std.specs.Prelude.{◌≡◌};
-    ghost use Rattle.cli.specs.declared.session.RunFault.TheVariants as run_fault;
-
-    ghost from_gives = { λ _ made. made ≡ run_fault.OutOfMemory };
-
-    fn from(_: AllocError) -> Self {
-        RunFault::OutOfMemory
-    }
-}
-
-impl<T: Drop> From<AllocFailed<T>> for RunFault {
-    ghost use Rattle.std.specs.Prelude.{◌≡◌};
-    ghost use Rattle.cli.specs.declared.session.RunFault.TheVariants as run_fault;
-
-    ghost from_gives = { λ _ made. made ≡ run_fault.OutOfMemory };
-
-    fn from(_: AllocFailed<T>) -> Self {
-        RunFault::OutOfMemory
-    }
-}
-
-impl From<WriteFailed> for RunFault {
-    ghost use Rattle.std.specs.Prelude.{◌≡◌};
-    ghost use Rattle.cli.specs.declared.session.RunFault.TheVariants as run_fault;
-
-    ghost from_gives = { λ _ made. made ≡ run_fault.Write };
-
-    fn from(_: WriteFailed) -> Self {
-        RunFault::Write
-    }
-}
-
-impl From<ScriptFault> for RunFault {
-    ghost use Rattle.std.specs.Prelude.{◌≡◌};
-    ghost use Rattle.cli.specs.Faults.{script_fault};
-
-    ghost from_gives = { λ fault made. made ≡ script_fault fault };
-
-    fn from(fault: ScriptFault) -> Self {
-        match fault {
-            ScriptFault::BadLine(number) => RunFault::BadLine(number),
-            ScriptFault::OutOfMemory => RunFault::OutOfMemory,
-        }
-    }
-}
-
-impl From<FileFault> for RunFault {
-    ghost use Rattle.std.specs.Prelude.{◌≡◌};
-    ghost use Rattle.cli.specs.Faults.{file_fault};
-
-    ghost from_gives = { λ fault made. made ≡ file_fault fault };
-
-    fn from(fault: FileFault) -> Self {
-        match fault {
-            FileFault::BadText => RunFault::BadSchedule,
-            FileFault::OutOfMemory => RunFault::OutOfMemory,
-        }
-    }
-}
-
-impl From<LowerFault> for RunFault {
-    ghost use Rattle.std.specs.Prelude.{◌≡◌};
-    ghost use Rattle.cli.specs.Faults.{lower_fault};
-
-    ghost from_gives = { λ fault made. made ≡ lower_fault fault };
-
-    fn from(fault: LowerFault) -> Self {
-        match fault {
-            LowerFault::NoSuchKernel => RunFault::NoSuchKernel,
-            LowerFault::OutOfMemory => RunFault::OutOfMemory,
-        }
-    }
-}
-
-impl From<DumpFault> for RunFault {
-    ghost use Rattle.std.specs.Prelude.{◌≡◌};
-    ghost use Rattle.cli.specs.declared.session.RunFault.TheVariants as run_fault;
-
-    ghost from_gives = { λ _ made. made ≡ run_fault.Write };
-
-    fn from(fault: DumpFault) -> Self {
-        match fault {
-            DumpFault::Write => RunFault::Write,
-        }
-    }
-}
-
-impl From<ServeFault> for RunFault {
-    ghost use Rattle.std.specs.Prelude.{◌≡◌};
-    ghost use Rattle.cli.specs.Faults.{serve_fault};
-
-    ghost from_gives = { λ fault made. made ≡ serve_fault fault };
-
-    fn from(fault: ServeFault) -> Self {
-        match fault {
-            ServeFault::Hear => RunFault::Read(Reader::First),
-            ServeFault::Tell => RunFault::Write,
-            ServeFault::BadLine(number) => RunFault::BadLine(number),
-            ServeFault::OutOfMemory => RunFault::OutOfMemory,
-        }
-    }
 }
 
 /// What the replies come to with one more.

@@ -3,8 +3,8 @@
 
 use crate::scripts::{RACE, RACE_REPLIES, REFUSED, REFUSED_REPLIES, SUM, SUM_REPLIES};
 use byte_io::{Input, Output};
-use cli::run;
-use cli::session::{Options, Reader, RunEnd, RunFault};
+use cli::session::{Options, RunEnd};
+use cli::{Reader, RunFault, run};
 use std::alloc::Global;
 use std::io;
 use std::io::{BufWriter, Error, ErrorKind};

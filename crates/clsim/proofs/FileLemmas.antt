@@ -1,19 +1,23 @@
--- The fault of an explanation as that of a command.
-use Rattle.std.proofs.Common.{◌≡◌, ℕ}
-use Rattle.cli.specs.declared.session.RunFault.{RunFault}
-use Rattle.byte_io.specs.Sink.{Sink}
-use Rattle.explaining.specs.Explaining.{Unwritten}
+-- What an explanation of texts comes to.
+use Rattle.std.proofs.Common.{◌≡◌, ℕ, Bool, Option, List, [], Result, Ok, Err}
+use Rattle.std.specs.Prelude.{OnOk}
+use Rattle.std.specs.Result.{IfErr, IfOk}
+use Rattle.byte_io.specs.Sink.{Sink, Wrote}
+use Rattle.clsim.specs.Files.{Answered, IsGiven, Unanswered}
+use Rattle.explaining.specs.Explaining.{Explains, Unwritten}
 use Rattle.explaining.specs.declared.facts.Given.{Given}
-use Rattle.explaining.specs.declared.faults.ExplainFault.{ExplainFault}
-use Rattle.explaining.specs.declared.faults.ExplainFault.TheVariants as explain
-use Rattle.clsim.specs.Files.{explain_fault, AnswerUnwritten}
 use Rattle.limits.specs.declared.Configuration.{Configuration}
+use Rattle.simfile.specs.declared.faults.RunFault.{RunFault}
 
-pub untold_as : (configuration : Configuration) (given : Given) (old new : Sink) (why : ExplainFault) (named : RunFault) → named ≡ explain_fault why
-    → Unwritten configuration given old new why → AnswerUnwritten configuration given old new named
-untold_as configuration given old new explain.Write named is h = rw is h
-untold_as configuration given old new (explain.BadLine n) named is h = rw is h
-untold_as configuration given old new explain.OutOfMemory named is h = rw is h
-untold_as configuration given old new explain.BadSchedule named is h = rw is h
-untold_as configuration given old new (explain.NotALaunch ticket) named is h = rw is h
-untold_as configuration given old new (explain.CommandRefused ticket) named is h = rw is h
+pub told :
+    (configuration : Configuration) (given : Given) (name script : List ℕ) (schedule : Option (List ℕ)) (old new : Sink) (r : Result Bool RunFault) → IsGiven given name script schedule
+    → IfOk r (Explains configuration given) → OnOk r ((text : List ℕ) × Wrote old new text) → OnOk r (new.held ≡ []) → IfOk r (Answered configuration name script schedule old new)
+told configuration given name script schedule old new (Ok answer) is explains wrote released =
+    record { given = given; is = is; told = record { explains = explains; text = wrote.0; wrote = wrote.1; released = released } }
+told configuration given name script schedule old new (Err why) is explains wrote released = tt
+
+pub untold :
+    (configuration : Configuration) (given : Given) (name script : List ℕ) (schedule : Option (List ℕ)) (old new : Sink) (r : Result Bool RunFault) → IsGiven given name script schedule
+    → IfErr r (Unwritten configuration given old new) → IfErr r (Unanswered configuration name script schedule old new)
+untold configuration given name script schedule old new (Ok answer) is h = tt
+untold configuration given name script schedule old new (Err why) is h = record { given = given; is = is; untold = h }

@@ -1,25 +1,14 @@
 -- Files that are explained: what is read, and what is written (own).
 use Rattle.std.specs.Prelude.{◌≡◌, ◌⊎◌, ℕ, Bool, Option, None, Some, option_map, List, []}
 use Rattle.cli.specs.Reading.{ReadFails}
-use Rattle.cli.specs.declared.session.Reader.{Reader}
-use Rattle.cli.specs.declared.session.Reader.TheVariants as reader
-use Rattle.cli.specs.declared.session.RunFault.{RunFault}
-use Rattle.cli.specs.declared.session.RunFault.TheVariants as fault
+use Rattle.simfile.specs.declared.faults.Reader.{Reader}
+use Rattle.simfile.specs.declared.faults.Reader.TheVariants as reader
+use Rattle.simfile.specs.declared.faults.RunFault.{RunFault}
 use Rattle.byte_io.specs.Sink.{Sink, Wrote}
 use Rattle.byte_io.specs.Source.{Are}
 use Rattle.explaining.specs.Explaining.{Explains, Unwritten}
 use Rattle.explaining.specs.declared.facts.Given.{Given}
-use Rattle.explaining.specs.declared.faults.ExplainFault.{ExplainFault}
-use Rattle.explaining.specs.declared.faults.ExplainFault.TheVariants as explain
 use Rattle.limits.specs.declared.Configuration.{Configuration}
-
-abbrev pub explain_fault : ExplainFault → RunFault
-explain_fault explain.Write = fault.Write
-explain_fault (explain.BadLine n) = fault.BadLine n
-explain_fault explain.OutOfMemory = fault.OutOfMemory
-explain_fault explain.BadSchedule = fault.BadSchedule
-explain_fault (explain.NotALaunch ticket) = fault.NotALaunch ticket
-explain_fault (explain.CommandRefused ticket) = fault.CommandRefused ticket
 
 -- the answer to what is given, and a text that was written whole
 pub record AnswerWritten (configuration : Configuration) (given : Given) (old new : Sink) (answer : Bool) : Type 0 where
@@ -27,17 +16,6 @@ pub record AnswerWritten (configuration : Configuration) (given : Given) (old ne
   pub text : List ℕ
   pub wrote : Wrote old new text
   pub released : new.held ≡ []
-
--- why there is none
-abbrev pub AnswerUnwritten : Configuration → Given → Sink → Sink → RunFault → Type 0
-AnswerUnwritten configuration given old new (fault.Read by) = ⊥
-AnswerUnwritten configuration given old new fault.Write = Unwritten configuration given old new explain.Write
-AnswerUnwritten configuration given old new (fault.BadLine n) = Unwritten configuration given old new (explain.BadLine n)
-AnswerUnwritten configuration given old new fault.OutOfMemory = Unwritten configuration given old new explain.OutOfMemory
-AnswerUnwritten configuration given old new fault.NoSuchKernel = ⊥
-AnswerUnwritten configuration given old new fault.BadSchedule = Unwritten configuration given old new explain.BadSchedule
-AnswerUnwritten configuration given old new (fault.NotALaunch ticket) = Unwritten configuration given old new (explain.NotALaunch ticket)
-AnswerUnwritten configuration given old new (fault.CommandRefused ticket) = Unwritten configuration given old new (explain.CommandRefused ticket)
 
 -- these texts are given
 pub record IsGiven (given : Given) (name script : List ℕ) (schedule : Option (List ℕ)) : Type 0 where
@@ -55,7 +33,7 @@ pub record Answered (configuration : Configuration) (name script : List ℕ) (sc
 pub record Unanswered (configuration : Configuration) (name script : List ℕ) (schedule : Option (List ℕ)) (old new : Sink) (why : RunFault) : Type 0 where
   pub given : Given
   pub is : IsGiven given name script schedule
-  pub untold : AnswerUnwritten configuration given old new why
+  pub untold : Unwritten configuration given old new why
 
 -- a script was read, and the answer to it was written
 pub record ScriptTold (configuration : Configuration) (name : List ℕ) (rest : Option (List ℕ)) (old new : Sink) (answer : Bool) : Type 0 where

@@ -1,32 +1,18 @@
 //! Files explained: a script is read, with a schedule file where one is named, and the explanation is written.
 //!
 //! What is explained, and which answer is given, `explaining` defines. A reader's failure is told apart from its
-//! faults, which become those of the other commands.
+//! faults.
 #![tactic(auto)]
 
 ghost use Rattle.std.specs.Prelude.{◌≡◌, IfOk, IfErr};
 ghost use Rattle.std.specs.Option.{option_map};
-ghost use Rattle.clsim.specs.Files.{explain_fault, IsGiven, Answered, Unanswered, ScriptTold, ScriptUntold, FileTold, FileUntold};
+ghost use Rattle.clsim.specs.Files.{IsGiven, Answered, Unanswered, ScriptTold, ScriptUntold, FileTold, FileUntold};
 
 use byte_io::{Read, Write};
 use cli::reading::bytes_of;
-use cli::session::{Reader, RunFault};
-use explaining::{ExplainFault, ExplainOptions, Given, explain};
+use explaining::{ExplainOptions, Given, explain};
+use simfile::faults::{Reader, RunFault};
 use std::alloc::Global;
-
-/// Which fault of a command the fault of an explanation is.
-fn fault_of(fault: ExplainFault) -> RunFault
-    ensures { result ≡ explain_fault fault }
-{
-    match fault {
-        ExplainFault::Write => RunFault::Write,
-        ExplainFault::BadLine(number) => RunFault::BadLine(number),
-        ExplainFault::OutOfMemory => RunFault::OutOfMemory,
-        ExplainFault::BadSchedule => RunFault::BadSchedule,
-        ExplainFault::NotALaunch(ticket) => RunFault::NotALaunch(ticket),
-        ExplainFault::CommandRefused(ticket) => RunFault::CommandRefused(ticket),
-    }
-}
 
 /// The texts that are explained: the script's name, its bytes, and those of a schedule file, if one is named.
 #[derive(Drop)]
@@ -70,11 +56,7 @@ fn explain_texts<W: Write>(
     ensures told { IfOk result (Answered options.configuration texts.now.name.items texts.now.script.items (option_map (λ bytes. bytes.items) texts.now.schedule) (W.sink writer.old) (W.sink writer.new)) }
     ensures untold { IfErr result (Unanswered options.configuration texts.now.name.items texts.now.script.items (option_map (λ bytes. bytes.items) texts.now.schedule) (W.sink writer.old) (W.sink writer.new)) }
 {
-    let given = texts.given();
-    match explain(alloc, given, options, writer) {
-        Ok(answer) => Ok(answer),
-        Err(fault) => Err(fault_of(fault)),
-    }
+    explain(alloc, texts.given(), options, writer)
 }
 
 /// Reads a script and explains its first fault, or its first build that is refused; a source, which is a file whose

@@ -21,11 +21,12 @@ use cli::command_line::{Invocation, command};
 use cli::dialogue::serve;
 use cli::dumping::dump_file;
 use cli::replaying::{replay_files, replay_status};
-use cli::session::{Options, Reader, RunEnd, RunFault};
+use cli::session::{Options, RunEnd};
 use cli::wish::ExplainWish;
 use cli::{run, status};
 use explaining::{ExplainOptions, Format};
 use limits::{Configuration, Limits};
+use simfile::faults::{Reader, RunFault};
 use std::env::Env;
 use std::io::{BufReader, BufWriter, Printer};
 use std::marker::Sync;
@@ -87,7 +88,8 @@ fn check_source<R: Files + Print + AllocGlobal>(
     check_file(rt.alloc(), limits, &mut reader, &mut writer)
 }
 
-/// Writes the code of a kernel of the source of a file, which is built within limits, on standard output, or the line of the source's fault.
+/// Writes the code of a kernel of the source of a file, which is built within limits, on standard output, or the line of
+/// the source's fault.
 fn dump_kernel<R: Files + Print + AllocGlobal>(
     rt: &R,
     file: &str,

@@ -3,10 +3,11 @@ use Rattle.std.proofs.Common.{◌≡◌, Bool, true, false, Option, None, Some, 
 use Rattle.std.specs.Prelude.{MatchBool, MatchOption}
 use Rattle.std.proofs.lemmas.Bool.{false≢true}
 use Rattle.byte_io.specs.Sink.{Sink}
-use Rattle.explaining.specs.Explaining.{Unanswered, Unexplained, Unread, Unwritten, is_source}
+use Rattle.simfile.specs.Faults.{NoScript}
+use Rattle.explaining.specs.Explaining.{Unanswered, Unexplained, Unwritten, is_source}
 use Rattle.explaining.specs.declared.facts.Given.{Given}
-use Rattle.explaining.specs.declared.faults.ExplainFault.{ExplainFault}
-use Rattle.explaining.specs.declared.faults.ExplainFault.TheVariants as fault
+use Rattle.simfile.specs.declared.faults.RunFault.{RunFault}
+use Rattle.simfile.specs.declared.faults.RunFault.TheVariants as fault
 use Rattle.limits.specs.declared.Configuration.{Configuration}
 
 at_true : (b : Bool) (P Q : Type 0) → b ≡ true → P → MatchBool b P Q
@@ -31,17 +32,21 @@ not_option : {A : Type 0} (o : Option A) (P : Type 0) (Q : A → Type 0) → (P 
 not_option None P Q p q h = p h
 not_option (Some x) P Q p q h = q x h
 
--- a writer that fails is no reason for having no answer
-not_write : (configuration : Configuration) (given : Given) → Unanswered configuration given fault.Write → ⊥
-not_write configuration given h =
-    not_bool (is_source given.name.now) (fault.Write ≡ fault.OutOfMemory) (MatchOption given.schedule (Unread given.script.now fault.Write) (λ s. Unexplained configuration given.script.now s.now fault.Write))
-    (λ e. cc) (λ h. not_option given.schedule (Unread given.script.now fault.Write) (λ s. Unexplained configuration given.script.now s.now fault.Write) (λ u. u) (λ s u. u) h) h
+-- what is no reason for having no answer
+none_by :
+    (configuration : Configuration) (given : Given) (why : RunFault) → (why ≡ fault.OutOfMemory → ⊥) → (NoScript given.script.now why → ⊥)
+    → ((schedule : List ℕ) → Unexplained configuration given.script.now schedule why → ⊥) → Unanswered configuration given why → ⊥
+none_by configuration given why memory script schedules h =
+    not_bool (is_source given.name.now) (why ≡ fault.OutOfMemory) (MatchOption given.schedule (NoScript given.script.now why) (λ s. Unexplained configuration given.script.now s.now why))
+    memory (λ h. not_option given.schedule (NoScript given.script.now why) (λ s. Unexplained configuration given.script.now s.now why) script (λ s u. schedules s.now u) h) h
 
 -- nothing was written, and why
-pub unwritten : (configuration : Configuration) (given : Given) (s : Sink) (why : ExplainFault) → Unanswered configuration given why → Unwritten configuration given s s why
-unwritten configuration given s fault.Write h = absurd (not_write configuration given h)
+pub unwritten : (configuration : Configuration) (given : Given) (s : Sink) (why : RunFault) → Unanswered configuration given why → Unwritten configuration given s s why
+unwritten configuration given s (fault.Read by) h = absurd (none_by configuration given (fault.Read by) (λ e. cc) (λ u. u) (λ schedule u. u) h)
+unwritten configuration given s fault.Write h = absurd (none_by configuration given fault.Write (λ e. cc) (λ u. u) (λ schedule u. u) h)
 unwritten configuration given s (fault.BadLine n) h = (h, refl)
 unwritten configuration given s fault.OutOfMemory h = refl
+unwritten configuration given s fault.NoSuchKernel h = absurd (none_by configuration given fault.NoSuchKernel (λ e. cc) (λ u. u) (λ schedule u. u) h)
 unwritten configuration given s fault.BadSchedule h = (h, refl)
 unwritten configuration given s (fault.NotALaunch ticket) h = (h, refl)
 unwritten configuration given s (fault.CommandRefused ticket) h = (h, refl)

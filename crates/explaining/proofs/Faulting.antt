@@ -16,9 +16,10 @@ use Rattle.host_commands.specs.declared.command.Command.TheVariants as command
 use Rattle.host_commands.specs.declared.command.Refusal.{Refusal}
 use Rattle.host_commands.specs.declared.command.Reply.{Reply}
 use Rattle.host_commands.specs.declared.command.Reply.TheVariants as reply
-use Rattle.explaining.specs.Explaining.{NoLaunch, Refuses, Tells, Unread, Untold}
-use Rattle.explaining.specs.declared.faults.ExplainFault.{ExplainFault}
-use Rattle.explaining.specs.declared.faults.ExplainFault.TheVariants as fault
+use Rattle.simfile.specs.Faults.{NoScript}
+use Rattle.explaining.specs.Explaining.{NoLaunch, Refuses, Tells, Untold}
+use Rattle.simfile.specs.declared.faults.RunFault.{RunFault}
+use Rattle.simfile.specs.declared.faults.RunFault.TheVariants as fault
 
 -- a command is a launch that its row doesn't refuse, and that a schedule leads to a fault
 abbrev pub Faults : Machine → Fault → List EventRun → Command → Type 0
@@ -83,11 +84,13 @@ refused m commands ticket c f runs at h r =
 
 -- and only want of memory stands in its way
 pub told_unless :
-    (script : List ℕ) (m : Machine) (commands : List Command) (ticket : ℕ) (c : Command) (f : Fault) (runs : List EventRun) (why : ExplainFault) → slice_get commands ticket ≡ Some c
-    → Faults m f runs c → Untold m commands ticket why → Unread script why
+    (script : List ℕ) (m : Machine) (commands : List Command) (ticket : ℕ) (c : Command) (f : Fault) (runs : List EventRun) (why : RunFault) → slice_get commands ticket ≡ Some c
+    → Faults m f runs c → Untold m commands ticket why → NoScript script why
+told_unless script m commands ticket c f runs (fault.Read by) at h u = absurd u
 told_unless script m commands ticket c f runs fault.Write at h u = absurd u
 told_unless script m commands ticket c f runs (fault.BadLine n) at h u = absurd u
 told_unless script m commands ticket c f runs fault.OutOfMemory at h u = tt
+told_unless script m commands ticket c f runs fault.NoSuchKernel at h u = absurd u
 told_unless script m commands ticket c f runs fault.BadSchedule at h u = absurd u
 told_unless script m commands ticket c f runs (fault.NotALaunch n) at h u = absurd (launches m commands ticket c f runs at h u.1)
 told_unless script m commands ticket c f runs (fault.CommandRefused n) at h u = absurd (refused m commands ticket c f runs at h u.1)

@@ -3,6 +3,7 @@ pub mod Faulting
 pub mod Inside
 pub mod Marking
 pub mod Performing
+pub mod Placing
 pub mod Schedules
 pub mod Telling
 pub mod Walking

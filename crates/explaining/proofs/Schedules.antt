@@ -10,11 +10,12 @@ use Rattle.device.specs.Machine.{Machine, opening}
 use Rattle.host_commands.specs.declared.command.Command.{Command}
 use Rattle.host_commands.specs.declared.command.Command.TheVariants as command
 use Rattle.fault_lines.specs.ScheduleFile.{IsScheduleFile}
+use Rattle.simfile.specs.Faults.{NoScript}
 use Rattle.simfile.specs.Script.{IsScript}
-use Rattle.explaining.specs.Explaining.{Explained, IsTold, NoLaunch, Tells, Unexplained, Unled, Unread, Untold}
+use Rattle.explaining.specs.Explaining.{Explained, IsTold, NoLaunch, Tells, Unexplained, Unled, Untold}
 use Rattle.explaining.specs.Leading.{Leads}
-use Rattle.explaining.specs.declared.faults.ExplainFault.{ExplainFault}
-use Rattle.explaining.specs.declared.faults.ExplainFault.TheVariants as fault
+use Rattle.simfile.specs.declared.faults.RunFault.{RunFault}
+use Rattle.simfile.specs.declared.faults.RunFault.TheVariants as fault
 use Rattle.explaining.specs.declared.told.ExplainedCase.{ExplainedCase}
 use Rattle.limits.specs.declared.Configuration.{Configuration}
 
@@ -26,38 +27,42 @@ led_there configuration commands before ticket first new start same led =
     subst (λ (m : Machine). Leads m (take ticket commands) new) start (subst (λ (l : List Command). Leads first l new) same led)
 
 pub told_there :
-    (configuration : Configuration) (commands : List Command) (ticket : ℕ) (f : Fault) (runs : List EventRun) (m : Machine) (r : Result (Option ExplainedCase) ExplainFault) → Leads (opening configuration) (take ticket commands) m
+    (configuration : Configuration) (commands : List Command) (ticket : ℕ) (f : Fault) (runs : List EventRun) (m : Machine) (r : Result (Option ExplainedCase) RunFault) → Leads (opening configuration) (take ticket commands) m
     → IfOk r (λ found. Tells m commands ticket f runs (is_some found)) → IfOk r (λ found. IsTold configuration commands ticket f runs (is_some found))
 told_there configuration commands ticket f runs m (Ok found) led tells = record { machine = m; led = led; tells = tells }
 told_there configuration commands ticket f runs m (Err why) led tells = tt
 
-untold : (configuration : Configuration) (script : List ℕ) (commands : List Command) (ticket : ℕ) (m : Machine) → Leads (opening configuration) (take ticket commands) m → (why : ExplainFault)
-    → Untold m commands ticket why → Unled configuration script commands ticket why
-untold configuration script commands ticket m led fault.Write h = absurd h
-untold configuration script commands ticket m led (fault.BadLine n) h = absurd h
-untold configuration script commands ticket m led fault.OutOfMemory h = tt
-untold configuration script commands ticket m led fault.BadSchedule h = absurd h
-untold configuration script commands ticket m led (fault.NotALaunch named) h = h
-untold configuration script commands ticket m led (fault.CommandRefused named) h = (h.0, record { machine = m; led = led; refuses = h.1 })
+untold : (configuration : Configuration) (commands : List Command) (ticket : ℕ) (m : Machine) → Leads (opening configuration) (take ticket commands) m → (why : RunFault)
+    → Untold m commands ticket why → Unled configuration commands ticket why
+untold configuration commands ticket m led (fault.Read by) h = absurd h
+untold configuration commands ticket m led fault.Write h = absurd h
+untold configuration commands ticket m led (fault.BadLine n) h = absurd h
+untold configuration commands ticket m led fault.OutOfMemory h = tt
+untold configuration commands ticket m led fault.NoSuchKernel h = absurd h
+untold configuration commands ticket m led fault.BadSchedule h = absurd h
+untold configuration commands ticket m led (fault.NotALaunch named) h = h
+untold configuration commands ticket m led (fault.CommandRefused named) h = (h.0, record { machine = m; led = led; refuses = h.1 })
 
 pub untold_there :
-    (configuration : Configuration) (script : List ℕ) (commands : List Command) (ticket : ℕ) (m : Machine) (r : Result (Option ExplainedCase) ExplainFault) → Leads (opening configuration) (take ticket commands) m
-    → IfErr r (Untold m commands ticket) → IfErr r (Unled configuration script commands ticket)
-untold_there configuration script commands ticket m (Ok found) led h = tt
-untold_there configuration script commands ticket m (Err why) led h = untold configuration script commands ticket m led why h
+    (configuration : Configuration) (commands : List Command) (ticket : ℕ) (m : Machine) (r : Result (Option ExplainedCase) RunFault) → Leads (opening configuration) (take ticket commands) m
+    → IfErr r (Untold m commands ticket) → IfErr r (Unled configuration commands ticket)
+untold_there configuration commands ticket m (Ok found) led h = tt
+untold_there configuration commands ticket m (Err why) led h = untold configuration commands ticket m led why h
 
--- commands that weren't read again
-pub unread_there : (configuration : Configuration) (script : List ℕ) (commands : List Command) (ticket : ℕ) (why : ExplainFault) → Unread script why → Unled configuration script commands ticket why
-unread_there configuration script commands ticket fault.Write h = h
-unread_there configuration script commands ticket (fault.BadLine n) h = h
-unread_there configuration script commands ticket fault.OutOfMemory h = tt
-unread_there configuration script commands ticket fault.BadSchedule h = h
-unread_there configuration script commands ticket (fault.NotALaunch named) h = absurd h
-unread_there configuration script commands ticket (fault.CommandRefused named) h = absurd h
+-- a script that wasn't read
+pub no_script : (configuration : Configuration) (script schedule : List ℕ) (why : RunFault) → NoScript script why → Unexplained configuration script schedule why
+no_script configuration script schedule (fault.Read by) h = h
+no_script configuration script schedule fault.Write h = h
+no_script configuration script schedule (fault.BadLine n) h = h
+no_script configuration script schedule fault.OutOfMemory h = tt
+no_script configuration script schedule fault.NoSuchKernel h = h
+no_script configuration script schedule fault.BadSchedule h = absurd h
+no_script configuration script schedule (fault.NotALaunch ticket) h = absurd h
+no_script configuration script schedule (fault.CommandRefused ticket) h = absurd h
 
 -- the case of a schedule file
 pub explained :
-    (configuration : Configuration) (script schedule : List ℕ) (commands : List Command) (ticket : ℕ) (f : Fault) (runs : List EventRun) (r : Result (Option ExplainedCase) ExplainFault) → IsScript script commands
+    (configuration : Configuration) (script schedule : List ℕ) (commands : List Command) (ticket : ℕ) (f : Fault) (runs : List EventRun) (r : Result (Option ExplainedCase) RunFault) → IsScript script commands
     → IsScheduleFile schedule ticket f runs → IfOk r (λ found. IsTold configuration commands ticket f runs (is_some found))
     → IfOk r (λ found. Explained configuration script schedule (is_some found))
 explained configuration script schedule commands ticket f runs (Ok found) is file told =
@@ -77,10 +82,12 @@ no_launch configuration script schedule commands ticket f runs is file none =
     record { commands = commands; ticket = ticket; f = f; runs = runs; is = is; file = file; untold = inl (none, refl) }
 
 unled : (configuration : Configuration) (script schedule : List ℕ) (commands : List Command) (ticket : ℕ) (f : Fault) (runs : List EventRun) → IsScript script commands → IsScheduleFile schedule ticket f runs
-    → (why : ExplainFault) → Unled configuration script commands ticket why → Unexplained configuration script schedule why
+    → (why : RunFault) → Unled configuration commands ticket why → Unexplained configuration script schedule why
+unled configuration script schedule commands ticket f runs is file (fault.Read by) h = h
 unled configuration script schedule commands ticket f runs is file fault.Write h = h
-unled configuration script schedule commands ticket f runs is file (fault.BadLine n) h = h
+unled configuration script schedule commands ticket f runs is file (fault.BadLine n) h = absurd h
 unled configuration script schedule commands ticket f runs is file fault.OutOfMemory h = tt
+unled configuration script schedule commands ticket f runs is file fault.NoSuchKernel h = absurd h
 unled configuration script schedule commands ticket f runs is file fault.BadSchedule h = absurd h
 unled configuration script schedule commands ticket f runs is file (fault.NotALaunch named) h =
     record { commands = commands; ticket = ticket; f = f; runs = runs; is = is; file = file; untold = inl (h.1, ap (λ n. fault.NotALaunch n) h.0) }
@@ -88,7 +95,7 @@ unled configuration script schedule commands ticket f runs is file (fault.Comman
     record { commands = commands; ticket = ticket; f = f; runs = runs; is = is; file = file; untold = inr (h.1, ap (λ n. fault.CommandRefused n) h.0) }
 
 pub unexplained :
-    (configuration : Configuration) (script schedule : List ℕ) (commands : List Command) (ticket : ℕ) (f : Fault) (runs : List EventRun) (r : Result (Option ExplainedCase) ExplainFault) → IsScript script commands
-    → IsScheduleFile schedule ticket f runs → IfErr r (Unled configuration script commands ticket) → IfErr r (Unexplained configuration script schedule)
+    (configuration : Configuration) (script schedule : List ℕ) (commands : List Command) (ticket : ℕ) (f : Fault) (runs : List EventRun) (r : Result (Option ExplainedCase) RunFault) → IsScript script commands
+    → IsScheduleFile schedule ticket f runs → IfErr r (Unled configuration commands ticket) → IfErr r (Unexplained configuration script schedule)
 unexplained configuration script schedule commands ticket f runs (Ok found) is file h = tt
 unexplained configuration script schedule commands ticket f runs (Err why) is file h = unled configuration script schedule commands ticket f runs is file why h

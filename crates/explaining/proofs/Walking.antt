@@ -5,11 +5,12 @@ use Rattle.clmodel.specs.declared.schedule.EventRun.{EventRun}
 use Rattle.device.specs.Machine.{Machine, opening}
 use Rattle.host_commands.specs.declared.command.Command.{Command}
 use Rattle.host_commands.specs.declared.command.Reply.TheVariants as reply
+use Rattle.simfile.specs.Faults.{NoScript}
 use Rattle.simfile.specs.Script.{IsScript}
 use Rattle.explaining.proofs.Faulting.{faults, told_unless, told_yes}
-use Rattle.explaining.specs.Explaining.{Found, Tells, Unread, Untold}
+use Rattle.explaining.specs.Explaining.{Found, Tells, Untold}
 use Rattle.explaining.specs.Leading.{IsFirst, WalkedTo}
-use Rattle.explaining.specs.declared.faults.ExplainFault.{ExplainFault}
+use Rattle.simfile.specs.declared.faults.RunFault.{RunFault}
 use Rattle.explaining.specs.declared.walks.Case.{Case}
 use Rattle.explaining.specs.declared.walks.Unbuilt.{Unbuilt}
 use Rattle.explaining.specs.declared.walks.Walked.{Walked}
@@ -53,8 +54,8 @@ faulted_case configuration script commands m w case told answer is h e tells sam
 
 -- and only want of memory stands in its way
 pub unexplained :
-    (configuration : Configuration) (script : List ℕ) (commands : List Command) (m : Machine) (w : Walked) (case : Case) (why : ExplainFault) → WalkedTo (opening configuration) commands m w → w ≡ walked.Faulted case
-    → Untold m commands case.ticket why → Unread script why
+    (configuration : Configuration) (script : List ℕ) (commands : List Command) (m : Machine) (w : Walked) (case : Case) (why : RunFault) → WalkedTo (opening configuration) commands m w → w ≡ walked.Faulted case
+    → Untold m commands case.ticket why → NoScript script why
 unexplained configuration script commands m w case why h e untold =
     let at : IsFirst (opening configuration) commands m case.ticket (reply.Fault case.fault case.schedule) = subst (λ (v : Walked). WalkedTo (opening configuration) commands m v) e h in
     told_unless script m commands case.ticket at.command case.fault case.schedule why at.at (faults at.before m at.command case.fault case.schedule at.replied) untold

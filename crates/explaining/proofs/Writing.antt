@@ -27,7 +27,9 @@ use Rattle.host_commands.specs.declared.command.Refusal.TheVariants as refusal
 use Rattle.host_commands.specs.declared.command.Reply.TheVariants as reply
 use Rattle.item_step.specs.Launches as launches
 use Rattle.fault_lines.specs.ScheduleFile.{IsScheduleFile}
+use Rattle.simfile.specs.Places.{StandsAt}
 use Rattle.simfile.specs.Script.{IsScript}
+use Rattle.simfile.specs.declared.script.CommandPlace.{CommandPlace}
 use Rattle.spaces.specs.Buffers.{bytes_in}
 use Rattle.spaces.specs.Tables.{Table}
 use Rattle.explaining.proofs.Faulting.{faults, told_yes}
@@ -37,7 +39,7 @@ use Rattle.explaining.specs.Leading.{IsFirst, Leads, WalkedTo}
 use Rattle.explaining.specs.Whole.{AnswersTo, AreNamed, HasWhole, IsAsWanted, IsExplained, IsSourceOf, IsToldOf, IsToldThere, SaysOf, SaysScript, TellsFault, TellsLaunch, schedule_words}
 use Rattle.explaining.specs.declared.answers.Answer.{Answer}
 use Rattle.explaining.specs.declared.facts.Format.{Format}
-use Rattle.explaining.specs.declared.faults.ExplainFault.{ExplainFault}
+use Rattle.simfile.specs.declared.faults.RunFault.{RunFault}
 use Rattle.explaining.specs.declared.told.ExplainedCase.{ExplainedCase}
 use Rattle.explaining.specs.declared.walks.Case.{Case}
 use Rattle.explaining.specs.declared.walks.Unbuilt.{Unbuilt}
@@ -47,12 +49,12 @@ use Rattle.limits.specs.declared.Configuration.{Configuration}
 
 -- an explanation of what was played
 pub explained :
-    (e : Explanation) (launch : Launch) (context : Context) (ticket : ℕ) (range : Range) (f : Fault) (runs : List EventRun) (facts : ScheduleFacts) (first second most : ℕ) (played : Played)
-    → TellsLaunch ticket range e.launch → TellsFault f e.fault → e.schedule ≡ facts → AreToldInside context played.marks.items (told_items f played) e.items.items
+    (e : Explanation) (launch : Launch) (context : Context) (ticket : ℕ) (place : CommandPlace) (range : Range) (f : Fault) (runs : List EventRun) (facts : ScheduleFacts) (first second most : ℕ) (played : Played)
+    → TellsLaunch ticket place range e.launch → TellsFault f e.fault → e.schedule ≡ facts → AreToldInside context played.marks.items (told_items f played) e.items.items
     → string_bytes facts.short ≡ schedule_words runs → AreNamed f first second
     → IsPlayedOut launch (launches.started context.launch.now) (group_items (launches.setup_of context.launch.now).range) (events_of runs) f first second most played
-    → Reaches launch (events_of runs) f → IsExplained launch context ticket range f runs e
-explained e launch context ticket range f runs facts first second most played launched faulted same items words named plays leads = record {
+    → Reaches launch (events_of runs) f → IsExplained launch context ticket place range f runs e
+explained e launch context ticket place range f runs facts first second most played launched faulted same items words named plays leads = record {
   launched = launched;
   faulted = faulted;
   schedule = ap (λ z. string_bytes z.short) same ∙ words;
@@ -69,11 +71,11 @@ explained e launch context ticket range f runs facts first second most played la
 
 -- what is told of a prepared launch
 pub whole :
-    (m : Machine) (as_given : Bool) (commands : List Command) (ticket : ℕ) (kernel : List ℕ) (range : Range) (context : Context) (buffers : Table (List ℕ)) (f : Fault) (given runs : List EventRun) (e : Explanation)
-    → slice_get commands ticket ≡ Some (command.Launch kernel range) → IsPrepared m kernel range context.launch.now → buffers ≡ m.buffers → IsSourceOf commands context.done.now kernel context.program
+    (m : Machine) (as_given : Bool) (script : List ℕ) (commands : List Command) (ticket : ℕ) (place : CommandPlace) (kernel : List ℕ) (range : Range) (context : Context) (buffers : Table (List ℕ)) (f : Fault) (given runs : List EventRun) (e : Explanation)
+    → slice_get commands ticket ≡ Some (command.Launch kernel range) → IsPrepared m kernel range context.launch.now → buffers ≡ m.buffers → IsSourceOf script commands context.done.now kernel context.program → StandsAt script commands ticket place
     → IsShort (launch_of (launches.setup_of context.launch.now) (bytes_in buffers)) f given runs → IsAsWanted as_given given runs → string_bytes e.schedule.given ≡ schedule_words given
-    → IsExplained (launch_of (launches.setup_of context.launch.now) (bytes_in buffers)) context ticket range f runs e → HasWhole m as_given commands ticket f given runs e
-whole m as_given commands ticket kernel range context buffers f given runs e at p same source short wanted words explained = record {
+    → IsExplained (launch_of (launches.setup_of context.launch.now) (bytes_in buffers)) context ticket place range f runs e → HasWhole m as_given script commands ticket f given runs e
+whole m as_given script commands ticket place kernel range context buffers f given runs e at p same source stands short wanted words explained = record {
   kernel = kernel;
   range = range;
   at = at;
@@ -86,9 +88,11 @@ whole m as_given commands ticket kernel range context buffers f given runs e at 
   code =
       subst (λ (s : Setup). IsCodeOf s.program s.kernel (launches.code_of context.launch.now)) p.setup p.code;
   source = source;
+  place = place;
+  stands = stands;
   explained =
-      subst (λ (b : Table (List ℕ)). IsExplained (launch_of (setup_of m (kernel_of m kernel) range) (bytes_in b)) context ticket range f runs e) same
-      (subst (λ (s : Setup). IsExplained (launch_of s (bytes_in buffers)) context ticket range f runs e) p.setup explained);
+      subst (λ (b : Table (List ℕ)). IsExplained (launch_of (setup_of m (kernel_of m kernel) range) (bytes_in b)) context ticket place range f runs e) same
+      (subst (λ (s : Setup). IsExplained (launch_of s (bytes_in buffers)) context ticket place range f runs e) p.setup explained);
   schedule = words;
 }
 
@@ -103,15 +107,15 @@ some_all (Some x) P Q R S T p q r s h = h x p q r s
 some_all None P Q R S T p q r s h = tt
 
 pub whole_there :
-    (configuration : Configuration) (as_given : Bool) (commands : List Command) (ticket : ℕ) (f : Fault) (runs : List EventRun) (m : Machine) (r : Result (Option ExplainedCase) ExplainFault) → Leads (opening configuration) (take ticket commands) m
-    → IfOk r (λ found. IfSome found (λ told. HasWhole m as_given commands ticket f runs told.schedule told.whole)) → IfOk r (λ found. IfSome found (IsToldThere configuration as_given commands ticket f runs))
-whole_there configuration as_given commands ticket f runs m (Ok (Some told)) led h = record { machine = m; led = led; whole = h }
-whole_there configuration as_given commands ticket f runs m (Ok None) led h = tt
-whole_there configuration as_given commands ticket f runs m (Err why) led h = tt
+    (configuration : Configuration) (as_given : Bool) (script : List ℕ) (commands : List Command) (ticket : ℕ) (f : Fault) (runs : List EventRun) (m : Machine) (r : Result (Option ExplainedCase) RunFault) → Leads (opening configuration) (take ticket commands) m
+    → IfOk r (λ found. IfSome found (λ told. HasWhole m as_given script commands ticket f runs told.schedule told.whole)) → IfOk r (λ found. IfSome found (IsToldThere configuration as_given script commands ticket f runs))
+whole_there configuration as_given script commands ticket f runs m (Ok (Some told)) led h = record { machine = m; led = led; whole = h }
+whole_there configuration as_given script commands ticket f runs m (Ok None) led h = tt
+whole_there configuration as_given script commands ticket f runs m (Err why) led h = tt
 
 pub whole_of :
-    (configuration : Configuration) (as_given : Bool) (script schedule : List ℕ) (commands : List Command) (ticket : ℕ) (f : Fault) (runs : List EventRun) (r : Result (Option ExplainedCase) ExplainFault) → IsScript script commands
-    → IsScheduleFile schedule ticket f runs → IfOk r (λ found. IfSome found (IsToldThere configuration as_given commands ticket f runs)) → IfOk r (λ found. IfSome found (IsToldOf configuration as_given script schedule))
+    (configuration : Configuration) (as_given : Bool) (script schedule : List ℕ) (commands : List Command) (ticket : ℕ) (f : Fault) (runs : List EventRun) (r : Result (Option ExplainedCase) RunFault) → IsScript script commands
+    → IsScheduleFile schedule ticket f runs → IfOk r (λ found. IfSome found (IsToldThere configuration as_given script commands ticket f runs)) → IfOk r (λ found. IfSome found (IsToldOf configuration as_given script schedule))
 whole_of configuration as_given script schedule commands ticket f runs (Ok (Some told)) is file h =
     record { commands = commands; ticket = ticket; f = f; runs = runs; is = is; file = file; there = h }
 whole_of configuration as_given script schedule commands ticket f runs (Ok None) is file h = tt
@@ -134,7 +138,7 @@ says_unbuilt configuration as_given f script commands m w u answer is h e agrees
 told_first :
     (configuration : Configuration) (as_given : Bool) (f : Format) (script : List ℕ) (commands : List Command) (m : Machine) (ticket : ℕ) (fault : Fault) (runs : List EventRun) (o : Option ExplainedCase) (answer : Answer)
     → IsScript script commands → IsFirst (opening configuration) commands m ticket (reply.Fault fault runs) → is_some o ≡ true
-    → IfSome o (λ told. HasWhole m as_given commands ticket fault runs told.schedule told.whole) → answer.yes ≡ is_some o → AnswersTo f (codes "no\n") o answer
+    → IfSome o (λ told. HasWhole m as_given script commands ticket fault runs told.schedule told.whole) → answer.yes ≡ is_some o → AnswersTo f (codes "no\n") o answer
     → SaysScript configuration as_given f script answer.yes (string_bytes answer.text)
 told_first configuration as_given f script commands m ticket fault runs None answer is first agrees has same text = absurd (false≢true agrees)
 told_first configuration as_given f script commands m ticket fault runs (Some told) answer is first agrees has same text =
@@ -150,7 +154,7 @@ told_first configuration as_given f script commands m ticket fault runs (Some to
 pub says_faulted :
     (configuration : Configuration) (as_given : Bool) (f : Format) (script : List ℕ) (commands : List Command) (m : Machine) (w : Walked) (case : Case) (o : Option ExplainedCase) (answer : Answer) → IsScript script commands
     → WalkedTo (opening configuration) commands m w → w ≡ walked.Faulted case → Tells m commands case.ticket case.fault case.schedule (is_some o)
-    → IfSome o (λ told. HasWhole m as_given commands case.ticket case.fault case.schedule told.schedule told.whole) → answer.yes ≡ is_some o → AnswersTo f (codes "no\n") o answer
+    → IfSome o (λ told. HasWhole m as_given script commands case.ticket case.fault case.schedule told.schedule told.whole) → answer.yes ≡ is_some o → AnswersTo f (codes "no\n") o answer
     → SaysScript configuration as_given f script answer.yes (string_bytes answer.text)
 says_faulted configuration as_given f script commands m w case o answer is h e tells has same text =
     let first : IsFirst (opening configuration) commands m case.ticket (reply.Fault case.fault case.schedule) = subst (λ (v : Walked). WalkedTo (opening configuration) commands m v) e h in

@@ -19,11 +19,12 @@ use Rattle.host_commands.specs.declared.command.Refusal.{Refusal}
 use Rattle.host_commands.specs.declared.command.Refusal.TheVariants as refusal
 use Rattle.host_commands.specs.declared.command.Reply.TheVariants as reply
 use Rattle.fault_lines.specs.ScheduleFile.{IsScheduleFile, NoScheduleFile}
+use Rattle.simfile.specs.Faults.{NoScript}
 use Rattle.simfile.specs.Script.{IsScript, IsBadLine}
 use Rattle.explaining.specs.Leading.{IsFirst, Leads, LeadsCleanly}
 use Rattle.explaining.specs.declared.facts.Given.{Given}
-use Rattle.explaining.specs.declared.faults.ExplainFault.{ExplainFault}
-use Rattle.explaining.specs.declared.faults.ExplainFault.TheVariants as fault
+use Rattle.simfile.specs.declared.faults.RunFault.{RunFault}
+use Rattle.simfile.specs.declared.faults.RunFault.TheVariants as fault
 use Rattle.limits.specs.declared.Configuration.{Configuration}
 use Rattle.limits.specs.declared.Limits.{Limits}
 
@@ -64,10 +65,12 @@ pub record Refuses (m : Machine) (commands : List Command) (ticket : ℕ) : Type
   pub refused : first (row m (command.Launch kernel range)) ≡ Some refusal
 
 -- why the launch of a ticket wasn't explained
-abbrev pub Untold : Machine → List Command → ℕ → ExplainFault → Type 0
+abbrev pub Untold : Machine → List Command → ℕ → RunFault → Type 0
+Untold m commands ticket (fault.Read by) = ⊥
 Untold m commands ticket fault.Write = ⊥
 Untold m commands ticket (fault.BadLine n) = ⊥
 Untold m commands ticket fault.OutOfMemory = ⊤
+Untold m commands ticket fault.NoSuchKernel = ⊥
 Untold m commands ticket fault.BadSchedule = ⊥
 Untold m commands ticket (fault.NotALaunch named) = (named ≡ ticket) × NoLaunch commands ticket
 Untold m commands ticket (fault.CommandRefused named) = (named ≡ ticket) × Refuses m commands ticket
@@ -85,13 +88,15 @@ pub record IsRefusedThere (configuration : Configuration) (commands : List Comma
   pub refuses : Refuses machine commands ticket
 
 -- why it wasn't
-abbrev pub Unled : Configuration → List ℕ → List Command → ℕ → ExplainFault → Type 0
-Unled configuration script commands ticket fault.Write = ⊥
-Unled configuration script commands ticket (fault.BadLine n) = IsBadLine script n
-Unled configuration script commands ticket fault.OutOfMemory = ⊤
-Unled configuration script commands ticket fault.BadSchedule = ⊥
-Unled configuration script commands ticket (fault.NotALaunch named) = (named ≡ ticket) × NoLaunch commands ticket
-Unled configuration script commands ticket (fault.CommandRefused named) = (named ≡ ticket) × IsRefusedThere configuration commands ticket
+abbrev pub Unled : Configuration → List Command → ℕ → RunFault → Type 0
+Unled configuration commands ticket (fault.Read by) = ⊥
+Unled configuration commands ticket fault.Write = ⊥
+Unled configuration commands ticket (fault.BadLine n) = ⊥
+Unled configuration commands ticket fault.OutOfMemory = ⊤
+Unled configuration commands ticket fault.NoSuchKernel = ⊥
+Unled configuration commands ticket fault.BadSchedule = ⊥
+Unled configuration commands ticket (fault.NotALaunch named) = (named ≡ ticket) × NoLaunch commands ticket
+Unled configuration commands ticket (fault.CommandRefused named) = (named ≡ ticket) × IsRefusedThere configuration commands ticket
 
 -- the answer to a script and a schedule file
 pub record Explained (configuration : Configuration) (script schedule : List ℕ) (answer : Bool) : Type 0 where
@@ -104,7 +109,7 @@ pub record Explained (configuration : Configuration) (script schedule : List ℕ
   pub told : IsTold configuration commands ticket f runs answer
 
 -- why a script and a schedule file have no answer
-pub record IsUntold (configuration : Configuration) (script schedule : List ℕ) (why : ExplainFault) : Type 0 where
+pub record IsUntold (configuration : Configuration) (script schedule : List ℕ) (why : RunFault) : Type 0 where
   pub commands : List Command
   pub ticket : ℕ
   pub f : Fault
@@ -113,10 +118,12 @@ pub record IsUntold (configuration : Configuration) (script schedule : List ℕ)
   pub file : IsScheduleFile schedule ticket f runs
   pub untold : (NoLaunch commands ticket × (why ≡ fault.NotALaunch ticket)) ⊎ (IsRefusedThere configuration commands ticket × (why ≡ fault.CommandRefused ticket))
 
-abbrev pub Unexplained : Configuration → List ℕ → List ℕ → ExplainFault → Type 0
+abbrev pub Unexplained : Configuration → List ℕ → List ℕ → RunFault → Type 0
+Unexplained configuration script schedule (fault.Read by) = ⊥
 Unexplained configuration script schedule fault.Write = ⊥
 Unexplained configuration script schedule (fault.BadLine n) = IsBadLine script n
 Unexplained configuration script schedule fault.OutOfMemory = ⊤
+Unexplained configuration script schedule fault.NoSuchKernel = ⊥
 Unexplained configuration script schedule fault.BadSchedule = NoScheduleFile schedule
 Unexplained configuration script schedule (fault.NotALaunch ticket) = IsUntold configuration script schedule (fault.NotALaunch ticket)
 Unexplained configuration script schedule (fault.CommandRefused ticket) = IsUntold configuration script schedule (fault.CommandRefused ticket)
@@ -141,15 +148,6 @@ abbrev pub Found : Configuration → List ℕ → Bool → Type 0
 Found configuration script true = HasFirst configuration script
 Found configuration script false = IsClean configuration script
 
--- why a script wasn't performed
-abbrev pub Unread : List ℕ → ExplainFault → Type 0
-Unread script fault.Write = ⊥
-Unread script (fault.BadLine n) = IsBadLine script n
-Unread script fault.OutOfMemory = ⊤
-Unread script fault.BadSchedule = ⊥
-Unread script (fault.NotALaunch ticket) = ⊥
-Unread script (fault.CommandRefused ticket) = ⊥
-
 -- true exactly where a source isn't built within limits
 abbrev pub IsRefused : Limits → List ℕ → Bool → Type 0
 IsRefused limits source true = (f : BuildFault) × Builds limits source (Err f)
@@ -166,16 +164,18 @@ Explains configuration given answer =
     (MatchOption given.schedule (Found configuration given.script.now answer) (λ schedule. Explained configuration given.script.now schedule.now answer))
 
 -- why there is none
-abbrev pub Unanswered : Configuration → Given → ExplainFault → Type 0
+abbrev pub Unanswered : Configuration → Given → RunFault → Type 0
 Unanswered configuration given why =
     MatchBool (is_source given.name.now) (why ≡ fault.OutOfMemory)
-    (MatchOption given.schedule (Unread given.script.now why) (λ schedule. Unexplained configuration given.script.now schedule.now why))
+    (MatchOption given.schedule (NoScript given.script.now why) (λ schedule. Unexplained configuration given.script.now schedule.now why))
 
 -- why there is none, and what was written: a beginning of a text where the writer failed, else nothing
-abbrev pub Unwritten : Configuration → Given → Sink → Sink → ExplainFault → Type 0
+abbrev pub Unwritten : Configuration → Given → Sink → Sink → RunFault → Type 0
+Unwritten configuration given old new (fault.Read by) = ⊥
 Unwritten configuration given old new fault.Write = (text : List ℕ) × Stopped old new text
 Unwritten configuration given old new (fault.BadLine n) = Unanswered configuration given (fault.BadLine n) × (new ≡ old)
 Unwritten configuration given old new fault.OutOfMemory = new ≡ old
+Unwritten configuration given old new fault.NoSuchKernel = ⊥
 Unwritten configuration given old new fault.BadSchedule = Unanswered configuration given fault.BadSchedule × (new ≡ old)
 Unwritten configuration given old new (fault.NotALaunch ticket) = Unanswered configuration given (fault.NotALaunch ticket) × (new ≡ old)
 Unwritten configuration given old new (fault.CommandRefused ticket) = Unanswered configuration given (fault.CommandRefused ticket) × (new ≡ old)

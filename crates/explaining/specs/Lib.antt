@@ -1,4 +1,3 @@
 pub mod Explaining
-pub mod Faults
 pub mod Leading
 pub mod Whole

@@ -31,7 +31,9 @@ use Rattle.launch_facts.specs.Commands.{HasNoSource, IsSource}
 use Rattle.launch_facts.specs.declared.commands.ProgramSource.{ProgramSource}
 use Rattle.fault_lines.specs.ScheduleFile.{IsScheduleFile}
 use Rattle.fault_lines.specs.Text.{fault_text, schedule_text}
+use Rattle.simfile.specs.Places.{StandsAt}
 use Rattle.simfile.specs.Script.{IsScript}
+use Rattle.simfile.specs.declared.script.CommandPlace.{CommandPlace}
 use Rattle.explaining.specs.Explaining.{IsShort, is_source}
 use Rattle.explaining.specs.Leading.{IsFirst, Leads}
 use Rattle.explaining.specs.declared.answers.Answer.{Answer}
@@ -45,9 +47,10 @@ use Rattle.limits.specs.declared.Configuration.{Configuration}
 abbrev pub schedule_words : List EventRun → List ℕ
 schedule_words runs = utf8_lossy (schedule_text runs)
 
--- the launch of a ticket over this index space
-pub record TellsLaunch (ticket : ℕ) (range : Range) (facts : LaunchFacts) : Type 0 where
+-- the launch of a ticket, whose command stands at this place in the script, over this index space
+pub record TellsLaunch (ticket : ℕ) (place : CommandPlace) (range : Range) (facts : LaunchFacts) : Type 0 where
   pub command : facts.command ≡ ticket
+  pub script_line : facts.script_line ≡ place.line
   pub global_size : facts.global_size.items ≡ range.global
   pub local_size : facts.local_size.items ≡ range.local
   pub offset : facts.offset.items ≡ range.offset
@@ -73,27 +76,31 @@ pub record TellsItems (launch : Launch) (context : Context) (f : Fault) (runs : 
   pub told : AreTold context played.marks.items (told_items f played) e.items.items
 
 -- an explanation of a launch and its fault by a schedule
-pub record IsExplained (launch : Launch) (context : Context) (ticket : ℕ) (range : Range) (f : Fault) (runs : List EventRun) (e : Explanation) : Type 0 where
-  pub launched : TellsLaunch ticket range e.launch
+pub record IsExplained (launch : Launch) (context : Context) (ticket : ℕ) (place : CommandPlace) (range : Range) (f : Fault) (runs : List EventRun) (e : Explanation) : Type 0 where
+  pub launched : TellsLaunch ticket place range e.launch
   pub faulted : TellsFault f e.fault
   pub schedule : string_bytes e.schedule.short ≡ schedule_words runs
   pub items : TellsItems launch context f runs e
 
--- the source of a kernel's program, where these commands were done: that of one of them; an empty one, where none of
--- them made the kernel, or before it its program
-abbrev pub IsSourceOf : List Command → List Bool → List ℕ → ProgramSource → Type 0
-IsSourceOf commands done kernel source =
+-- the source of a program begins in the line of the script behind that of its command
+abbrev pub BeginsBehind : List ℕ → List Command → ProgramSource → Type 0
+BeginsBehind script commands source = (place : CommandPlace) × StandsAt script commands source.program_command place × (source.first_line ≡ place.source_line)
+
+-- the source of a kernel's program, where these commands of a script were done: that of one of them, by the line in
+-- which it begins; an empty one, where none of them made the kernel, or before it its program
+abbrev pub IsSourceOf : List ℕ → List Command → List Bool → List ℕ → ProgramSource → Type 0
+IsSourceOf script commands done kernel source =
     ((source.text.now ≡ []) × HasNoSource commands done kernel)
-    ⊎ ((at : ℕ) × IsSource commands done kernel source.kernel_command source.program.now source.function.now source.text.now at)
+    ⊎ (IsSource commands done kernel source.kernel_command source.program.now source.function.now source.text.now source.program_command × BeginsBehind script commands source)
 
 -- the schedule that is told: where it is wanted as it is given, the given one
 abbrev pub IsAsWanted : Bool → List EventRun → List EventRun → Type 0
 IsAsWanted as_given given runs = MatchBool as_given (runs ≡ given) ⊤
 
 -- An explanation of the launch of a ticket, whose schedule leads the launch to the fault and isn't longer than the
--- given one, or is that very one; its places are those in the source of the kernel's program. The launch runs this
--- kernel's code.
-pub record HasWhole (m : Machine) (as_given : Bool) (commands : List Command) (ticket : ℕ) (f : Fault) (given runs : List EventRun) (e : Explanation) : Type 0 where
+-- given one, or is that very one; its places are those in the source of the kernel's program, and its line that of the
+-- launch's command. The launch runs this kernel's code.
+pub record HasWhole (m : Machine) (as_given : Bool) (script : List ℕ) (commands : List Command) (ticket : ℕ) (f : Fault) (given runs : List EventRun) (e : Explanation) : Type 0 where
   pub kernel : List ℕ
   pub range : Range
   pub at : slice_get commands ticket ≡ Some (command.Launch kernel range)
@@ -102,8 +109,10 @@ pub record HasWhole (m : Machine) (as_given : Bool) (commands : List Command) (t
   pub context : Context
   pub same : launches.setup_of context.launch.now ≡ setup_of m (kernel_of m kernel) range
   pub code : IsCodeOf (program_of m (kernel_of m kernel).program) (kernel_of m kernel).function (launches.code_of context.launch.now)
-  pub source : IsSourceOf commands context.done.now kernel context.program
-  pub explained : IsExplained (launch_of (setup_of m (kernel_of m kernel) range) (bytes_of m)) context ticket range f runs e
+  pub source : IsSourceOf script commands context.done.now kernel context.program
+  pub place : CommandPlace
+  pub stands : StandsAt script commands ticket place
+  pub explained : IsExplained (launch_of (setup_of m (kernel_of m kernel) range) (bytes_of m)) context ticket place range f runs e
   pub schedule : string_bytes e.schedule.given ≡ schedule_words given
 
 -- the text of an explanation: one that is defined, or the line of JSON of the explanation's value
@@ -117,10 +126,10 @@ AnswersTo f word None answer = string_bytes answer.text ≡ word
 AnswersTo f word (Some told) answer = IsTextOf f told.whole (string_bytes answer.text)
 
 -- what is told of a case on a new device, to which the commands before its ticket led
-pub record IsToldThere (configuration : Configuration) (as_given : Bool) (commands : List Command) (ticket : ℕ) (f : Fault) (given : List EventRun) (told : ExplainedCase) : Type 0 where
+pub record IsToldThere (configuration : Configuration) (as_given : Bool) (script : List ℕ) (commands : List Command) (ticket : ℕ) (f : Fault) (given : List EventRun) (told : ExplainedCase) : Type 0 where
   pub machine : Machine
   pub led : Leads (opening configuration) (take ticket commands) machine
-  pub whole : HasWhole machine as_given commands ticket f given told.schedule told.whole
+  pub whole : HasWhole machine as_given script commands ticket f given told.schedule told.whole
 
 -- what is told of the case of a schedule file
 pub record IsToldOf (configuration : Configuration) (as_given : Bool) (script schedule : List ℕ) (told : ExplainedCase) : Type 0 where
@@ -130,7 +139,7 @@ pub record IsToldOf (configuration : Configuration) (as_given : Bool) (script sc
   pub runs : List EventRun
   pub is : IsScript script commands
   pub file : IsScheduleFile schedule ticket f runs
-  pub there : IsToldThere configuration as_given commands ticket f runs told
+  pub there : IsToldThere configuration as_given script commands ticket f runs told
 
 -- the text for a schedule file
 abbrev pub SaysOf : Configuration → Bool → Format → List ℕ → List ℕ → Bool → List ℕ → Type 0
@@ -138,12 +147,12 @@ SaysOf configuration as_given f script schedule true text = (told : ExplainedCas
 SaysOf configuration as_given f script schedule false text = text ≡ codes "no\n"
 
 -- what is told of the first fault of a script, and its text
-pub record TellsFirst (configuration : Configuration) (as_given : Bool) (f : Format) (commands : List Command) (machine : Machine) (ticket : ℕ) (text : List ℕ) : Type 0 where
+pub record TellsFirst (configuration : Configuration) (as_given : Bool) (f : Format) (script : List ℕ) (commands : List Command) (machine : Machine) (ticket : ℕ) (text : List ℕ) : Type 0 where
   pub fault : Fault
   pub runs : List EventRun
   pub first : IsFirst (opening configuration) commands machine ticket (reply.Fault fault runs)
   pub told : ExplainedCase
-  pub whole : HasWhole machine as_given commands ticket fault runs told.schedule told.whole
+  pub whole : HasWhole machine as_given script commands ticket fault runs told.schedule told.whole
   pub written : IsTextOf f told.whole text
 
 -- the text for a script: an explanation of its first fault, or any text where its first such reply is a refused build
@@ -152,7 +161,7 @@ pub record SaysFirst (configuration : Configuration) (as_given : Bool) (f : Form
   pub ticket : ℕ
   pub machine : Machine
   pub is : IsScript script commands
-  pub found : TellsFirst configuration as_given f commands machine ticket text
+  pub found : TellsFirst configuration as_given f script commands machine ticket text
       ⊎ ((why : BuildFault) × IsFirst (opening configuration) commands machine ticket (reply.Refused (refusal.BuildFailed why)))
 
 abbrev pub SaysScript : Configuration → Bool → Format → List ℕ → Bool → List ℕ → Type 0

@@ -7,13 +7,14 @@ ghost use Rattle.explaining.specs.Whole.{SaysSource};
 
 use crate::answers::{Answer, word_answer};
 use crate::facts::Format;
-use crate::faults::ExplainFault;
 use crate::walks::Unbuilt;
 use build_hints::{Refused, refusal_text};
 use device::{BuildFault, Command};
 use explain_json::refused_json;
 use host_commands::build::{NotBuilt, build};
 use limits::Limits;
+use simfile::faults::RunFault;
+use simfile::script::CommandPlace;
 use std::alloc::{AllocError, Global};
 
 /// Turns the fault of a build into the one that a refusal is written for.
@@ -39,21 +40,24 @@ fn refusal_in(
     }
 }
 
-/// The refused build of a script whose command stands in a line, in a format.
+/// The refused build of a script, whose commands stand at these places, in a format.
 pub(crate) fn explain_unbuilt(
     alloc: Global,
     format: Format,
     name: &[u8],
     commands: &[Command],
+    places: &[CommandPlace],
     unbuilt: Unbuilt,
-    line: usize,
 ) -> Result<String, AllocError> {
     let name = String::from_utf8_lossy(alloc, name)?;
     let source = match commands.get(unbuilt.ticket) {
         Some(Command::Program { source, .. }) => source.as_slice(),
         _ => &[],
     };
-    let first = line.saturating_add(1);
+    let first = match places.get(unbuilt.ticket) {
+        Some(place) => place.source_line,
+        None => 1,
+    };
     refusal_in(
         alloc,
         format,
@@ -71,14 +75,14 @@ pub(crate) fn explain_source(
     format: Format,
     name: &[u8],
     source: &[u8],
-) -> Result<Answer, ExplainFault>
+) -> Result<Answer, RunFault>
     ensures refused { IfOk result (λ answer. IsRefused limits source.now answer.yes) }
     ensures says { IfOk result (λ answer. SaysSource answer.yes (string_bytes answer.text)) }
-    ensures failed { IfErr result (λ why. why ≡ ExplainFault.OutOfMemory) }
+    ensures failed { IfErr result (λ why. why ≡ RunFault.OutOfMemory) }
 {
     let fault = match build(alloc, limits, source) {
         Ok(_) => return Ok(word_answer(alloc, "ok\n")?),
-        Err(NotBuilt::OutOfMemory) => return Err(ExplainFault::OutOfMemory),
+        Err(NotBuilt::OutOfMemory) => return Err(RunFault::OutOfMemory),
         Err(NotBuilt::Fault(fault)) => fault,
     };
     let name = String::from_utf8_lossy(alloc, name)?;

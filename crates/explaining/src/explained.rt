@@ -1,19 +1,19 @@
 //! A script, or a script with a schedule, explained.
 #![tactic(auto)]
 
-ghost use Rattle.std.specs.Prelude.{◌≡◌, [], IfOk, IfErr, IfSome, OnOk, List, ℕ, true, take, is_some, string_bytes};
+ghost use Rattle.std.specs.Prelude.{◌≡◌, ◌≤◌, [], IfOk, IfErr, IfSome, OnOk, List, ℕ, true, length, is_some, string_bytes};
 ghost use Rattle.byte_io.specs.Sink.{Wrote};
 ghost use Rattle.device.specs.Machine.{machine_of, opening};
-ghost use Rattle.host_commands.specs.declared.command.Command.{Command};
+ghost use Rattle.simfile.specs.Faults.{NoScript};
+ghost use Rattle.simfile.specs.Places.{AreAt};
 ghost use Rattle.simfile.specs.Script.{IsScript};
-ghost use Rattle.explaining.specs.Explaining.{Explained, Explains, Found, IsTold, Unanswered, Unexplained, Unled, Unread, Unwritten};
+ghost use Rattle.explaining.specs.Explaining.{Explained, Explains, Found, IsTold, Unanswered, Unexplained, Unled, Unwritten};
 ghost use Rattle.explaining.specs.Leading.{WalkedTo};
 ghost use Rattle.explaining.specs.Whole.{IsToldOf, IsToldThere, Says, SaysOf, SaysScript};
 
 use crate::answers::{Answer, answer_of, tell, word_answer};
 use crate::building::{explain_source, explain_unbuilt};
-use crate::facts::{ExplainOptions, Format, Given, lines_before};
-use crate::faults::ExplainFault;
+use crate::facts::{ExplainOptions, Format, Given};
 use crate::told::{ExplainedCase, PerformedScript, explain_case};
 use crate::walks::{Performed, Unbuilt, Walked, perform_all, walk_anew};
 use byte_io::Write;
@@ -21,19 +21,10 @@ use clmodel::fault::Fault;
 use clmodel::schedule::Schedule;
 use device::{Command, Device};
 use fault_lines::read;
-use launch_facts::line_of;
-use simfile::script::read_script;
+use simfile::copies::copies_of;
+use simfile::faults::RunFault;
+use simfile::script::{CommandPlace, Script, read_script};
 use std::alloc::{AllocError, Global};
-
-/// The same commands, and the first of them.
-fn read_first(alloc: Global, script: &[u8], count: usize) -> Result<Vec<Command>, ExplainFault>
-    ensures first { (commands : List Command) → IsScript script.now commands → IfOk result (λ first. first.items ≡ take count commands) }
-    ensures failed { IfErr result (Unread script.now) }
-{
-    let mut commands = read_script(alloc, script)?;
-    commands.truncate(count);
-    Ok(commands)
-}
 
 /// Explains a case on a new device, to which the commands before its ticket lead.
 fn told_at(
@@ -41,22 +32,26 @@ fn told_at(
     given: Given<'_>,
     options: ExplainOptions,
     commands: &[Command],
+    places: &[CommandPlace],
     ticket: usize,
     fault: &Fault,
     schedule: Schedule,
-) -> Result<Option<ExplainedCase>, ExplainFault>
-    requires { IsScript given.script.now commands.now }
+) -> Result<Option<ExplainedCase>, RunFault>
+    requires placed { AreAt given.script.now commands.now places.now }
+    requires within { ticket ≤ length commands.now }
     ensures told { IfOk result (λ found. IsTold options.configuration commands.now ticket fault.now schedule (is_some found)) }
-    ensures whole { IfOk result (λ found. IfSome found (IsToldThere options.configuration options.as_given commands.now ticket fault.now schedule)) }
-    ensures failed { IfErr result (Unled options.configuration given.entry.script.now commands.now ticket) }
+    ensures whole { IfOk result (λ found. IfSome found (IsToldThere options.configuration options.as_given given.entry.script.now commands.now ticket fault.now schedule)) }
+    ensures failed { IfErr result (Unled options.configuration commands.now ticket) }
 {
-    let before = read_first(alloc, given.script, ticket)?;
+    let (first, _) = commands.split_at(ticket);
+    let before = copies_of(alloc, first)?;
     let mut device = Device::new(alloc, options.configuration);
     let done = perform_all(alloc, &mut device, before)?;
     let performed = PerformedScript {
         given,
         options,
         commands,
+        places,
         done: done.as_slice(),
     };
     explain_case(alloc, &device, &performed, ticket, fault, schedule)
@@ -68,22 +63,25 @@ fn told_in(
     given: Given<'_>,
     options: ExplainOptions,
     commands: &[Command],
+    places: &[CommandPlace],
     schedule: &[u8],
-) -> Result<Option<ExplainedCase>, ExplainFault>
-    requires { IsScript given.script.now commands.now }
+) -> Result<Option<ExplainedCase>, RunFault>
+    requires script { IsScript given.script.now commands.now }
+    requires placed { AreAt given.script.now commands.now places.now }
     ensures explained { IfOk result (λ found. Explained options.configuration given.entry.script.now schedule.now (is_some found)) }
     ensures whole { IfOk result (λ found. IfSome found (IsToldOf options.configuration options.as_given given.entry.script.now schedule.now)) }
     ensures failed { IfErr result (Unexplained options.configuration given.entry.script.now schedule.now) }
 {
     let (number, fault, runs) = read(alloc, schedule)?;
     if number >= commands.len() as u64 {
-        return Err(ExplainFault::NotALaunch(number));
+        return Err(RunFault::NotALaunch(number));
     }
     told_at(
         alloc,
         given,
         options,
         commands,
+        places,
         number as usize,
         &fault,
         runs,
@@ -96,13 +94,20 @@ fn explain_schedule(
     given: Given<'_>,
     schedule: &[u8],
     options: ExplainOptions,
-) -> Result<Answer, ExplainFault>
+) -> Result<Answer, RunFault>
     ensures explained { IfOk result (λ answer. Explained options.configuration given.entry.script.now schedule.now answer.yes) }
     ensures says { IfOk result (λ answer. SaysOf options.configuration options.as_given options.format given.entry.script.now schedule.now answer.yes (string_bytes answer.text)) }
     ensures failed { IfErr result (Unexplained options.configuration given.entry.script.now schedule.now) }
 {
-    let commands = read_script(alloc, given.script)?;
-    let told = told_in(alloc, given, options, commands.as_slice(), schedule)?;
+    let Script { commands, places } = read_script(alloc, given.script)?;
+    let told = told_in(
+        alloc,
+        given,
+        options,
+        commands.as_slice(),
+        places.as_slice(),
+        schedule,
+    )?;
     Ok(answer_of(alloc, told, options.format, "no\n")?)
 }
 
@@ -110,14 +115,19 @@ fn explain_schedule(
 fn unbuilt_answer(
     alloc: Global,
     format: Format,
-    given: Given<'_>,
-    commands: &[Command],
+    performed: &PerformedScript<'_>,
     unbuilt: Unbuilt,
 ) -> Result<Answer, AllocError>
     ensures { IfOk result (λ answer. answer.yes ≡ true) }
 {
-    let line = line_of(commands, unbuilt.ticket, lines_before(given.script));
-    let text = explain_unbuilt(alloc, format, given.name, commands, unbuilt, line)?;
+    let text = explain_unbuilt(
+        alloc,
+        format,
+        performed.given.name,
+        performed.commands,
+        performed.places,
+        unbuilt,
+    )?;
     Ok(Answer { text, yes: true })
 }
 
@@ -127,23 +137,18 @@ fn answer_at(
     device: &Device,
     performed: &PerformedScript<'_>,
     end: Walked,
-) -> Result<Answer, ExplainFault>
+) -> Result<Answer, RunFault>
     requires script { IsScript performed.now.given.script.now performed.now.commands.now }
+    requires placed { AreAt performed.now.given.script.now performed.now.commands.now performed.now.places.now }
     requires walked { WalkedTo (opening performed.now.options.configuration) performed.now.commands.now (machine_of device.now) end }
     ensures found { IfOk result (λ answer. Found performed.now.options.configuration performed.now.given.script.now answer.yes) }
     ensures says { IfOk result (λ answer. SaysScript performed.now.options.configuration performed.now.options.as_given performed.now.options.format performed.now.given.script.now answer.yes (string_bytes answer.text)) }
-    ensures failed { IfErr result (Unread performed.now.given.script.now) }
+    ensures failed { IfErr result (NoScript performed.now.given.script.now) }
 {
     match end {
         Walked::Clean => Ok(word_answer(alloc, "clean\n")?),
         Walked::Unbuilt(unbuilt) => {
-            Ok(unbuilt_answer(
-                alloc,
-                performed.options.format,
-                performed.given,
-                performed.commands,
-                unbuilt,
-            )?)
+            Ok(unbuilt_answer(alloc, performed.options.format, performed, unbuilt)?)
         }
         Walked::Faulted(case) => {
             let (ticket, fault) = (case.ticket, case.fault);
@@ -159,18 +164,21 @@ fn explain_commands(
     given: Given<'_>,
     options: ExplainOptions,
     commands: &[Command],
-) -> Result<Answer, ExplainFault>
-    requires { IsScript given.script.now commands.now }
+    places: &[CommandPlace],
+) -> Result<Answer, RunFault>
+    requires script { IsScript given.script.now commands.now }
+    requires placed { AreAt given.script.now commands.now places.now }
     ensures found { IfOk result (λ answer. Found options.configuration given.entry.script.now answer.yes) }
     ensures says { IfOk result (λ answer. SaysScript options.configuration options.as_given options.format given.entry.script.now answer.yes (string_bytes answer.text)) }
-    ensures failed { IfErr result (Unread given.entry.script.now) }
+    ensures failed { IfErr result (NoScript given.entry.script.now) }
 {
-    let same = read_script(alloc, given.script)?;
+    let same = copies_of(alloc, commands)?;
     let Performed { device, end, done } = walk_anew(alloc, options, same)?;
     let performed = PerformedScript {
         given,
         options,
         commands,
+        places,
         done: done.as_slice(),
     };
     answer_at(alloc, &device, &performed, end)
@@ -181,21 +189,23 @@ fn explain_script(
     alloc: Global,
     given: Given<'_>,
     options: ExplainOptions,
-) -> Result<Answer, ExplainFault>
+) -> Result<Answer, RunFault>
     ensures found { IfOk result (λ answer. Found options.configuration given.entry.script.now answer.yes) }
     ensures says { IfOk result (λ answer. SaysScript options.configuration options.as_given options.format given.entry.script.now answer.yes (string_bytes answer.text)) }
-    ensures failed { IfErr result (Unread given.entry.script.now) }
+    ensures failed { IfErr result (NoScript given.entry.script.now) }
 {
-    let commands = read_script(alloc, given.script)?;
-    explain_commands(alloc, given, options, commands.as_slice())
+    let Script { commands, places } = read_script(alloc, given.script)?;
+    explain_commands(
+        alloc,
+        given,
+        options,
+        commands.as_slice(),
+        places.as_slice(),
+    )
 }
 
 /// What is explained of what is given.
-fn answer_to(
-    alloc: Global,
-    given: Given<'_>,
-    options: ExplainOptions,
-) -> Result<Answer, ExplainFault>
+fn answer_to(alloc: Global, given: Given<'_>, options: ExplainOptions) -> Result<Answer, RunFault>
     ensures explains { IfOk result (λ answer. Explains options.configuration given.entry answer.yes) }
     ensures says { IfOk result (λ answer. Says options.configuration options.as_given options.format given.entry answer.yes (string_bytes answer.text)) }
     ensures failed { IfErr result (Unanswered options.configuration given.entry) }
@@ -222,7 +232,7 @@ pub fn explain<W: Write>(
     given: Given<'_>,
     options: ExplainOptions,
     writer: &mut W,
-) -> Result<bool, ExplainFault>
+) -> Result<bool, RunFault>
     ensures explains { IfOk result (Explains options.configuration given.entry) }
     ensures wrote { OnOk result ((text : List ℕ) × Wrote (W.sink writer.old) (W.sink writer.new) text) }
     ensures says { IfOk result (λ answer. (text : List ℕ) × Wrote (W.sink writer.old) (W.sink writer.new) text × Says options.configuration options.as_given options.format given.entry answer text) }

@@ -17,14 +17,14 @@ use fault_play::{Mark, Played, Stand, event_of};
 use host_commands::kernel::parameters_of;
 use item_step::Launch;
 use launch_facts::{
-    fault_name, fault_number, fault_words, line_of, memory_of, parameters_given, parameters_named,
+    fault_name, fault_number, fault_words, memory_of, parameters_given, parameters_named,
     schedule_words,
 };
 use limits::Configuration;
 use shortening::{Named, Shortened, event_count};
+use simfile::script::CommandPlace;
 use spaces::Buffers;
 use std::alloc::{AllocError, Global};
-use text_lines::line_text;
 
 /// How an explanation is written.
 #[derive(Clone, Copy, Debug, PartialEq, Eq)]
@@ -50,29 +50,6 @@ pub struct Given<'a> {
     pub name: &'a [u8],
     pub script: &'a [u8],
     pub schedule: Option<&'a [u8]>,
-}
-
-/// How many lines stand before the first command of a script: that of its version, if it has one.
-pub(crate) fn lines_before(script: &[u8]) -> usize {
-    if script.starts_with(b"clsim 2\n") {
-        1
-    } else {
-        0
-    }
-}
-
-/// The text of a line of a script, by its number from 1.
-fn text_at(alloc: Global, script: &[u8], number: usize) -> Result<String, AllocError> {
-    let mut line = 1usize;
-    for at in 0..script.len() {
-        if line == number {
-            return String::from_utf8_lossy(alloc, line_text(script, at));
-        }
-        if script[at] == b'\n' {
-            line = line.saturating_add(1);
-        }
-    }
-    Ok(String::new(alloc))
 }
 
 /// The two items that a fault names; where it names one, that one twice.
@@ -224,6 +201,10 @@ fn text(alloc: Global, bytes: &[u8]) -> Result<String, AllocError> {
 pub(crate) struct LaunchTexts<'a> {
     pub given: Given<'a>,
     pub ticket: usize,
+    /// Where its command stands in the script
+    pub place: CommandPlace,
+    /// The text of that line
+    pub line: &'a [u8],
     pub range: &'a Range,
     pub budget: u32,
 }
@@ -269,17 +250,15 @@ fn sizes_of(alloc: Global, range: &Range) -> Result<Sizes, AllocError>
 
 /// What is told of a launch: its line in the script, its names and its sizes. An error is out of memory.
 fn launch_facts(context: &Context<'_>, place: &LaunchTexts<'_>) -> Result<LaunchFacts, AllocError>
-    ensures { IfOk result (TellsLaunch place.now.ticket place.now.range.now) }
+    ensures { IfOk result (TellsLaunch place.now.ticket place.now.place place.now.range.now) }
 {
     let alloc = context.alloc;
-    let script = place.given.script;
-    let script_line = line_of(context.commands, place.ticket, lines_before(script));
-    let text = text_at(alloc, script, script_line)?;
+    let text = text(alloc, place.line)?;
     let names = names_of(context)?;
     let sizes = sizes_of(alloc, place.range)?;
     Ok(LaunchFacts {
         command: place.ticket as u64,
-        script_line,
+        script_line: place.place.line,
         text,
         kernel: names.kernel,
         function: names.function,
@@ -338,7 +317,7 @@ fn head_of(
     place: &LaunchTexts<'_>,
     fault: &Fault,
 ) -> Result<Head, AllocError>
-    ensures launch { IfOk result (λ head. TellsLaunch place.now.ticket place.now.range.now head.launch) }
+    ensures launch { IfOk result (λ head. TellsLaunch place.now.ticket place.now.place place.now.range.now head.launch) }
     ensures fault { IfOk result (λ head. TellsFault fault.now head.fault) }
 {
     Ok(Head {
@@ -381,7 +360,7 @@ pub(crate) fn explanation_of(
     played: &Played,
     schedule: ScheduleFacts,
 ) -> Result<Explanation, AllocError>
-    ensures launch { IfOk result (λ whole. TellsLaunch place.now.ticket place.now.range.now whole.launch) }
+    ensures launch { IfOk result (λ whole. TellsLaunch place.now.ticket place.now.place place.now.range.now whole.launch) }
     ensures fault { IfOk result (λ whole. TellsFault fault.now whole.fault) }
     ensures schedule { IfOk result (λ whole. whole.schedule ≡ schedule) }
     ensures items { IfOk result (λ whole. AreToldInside context.now played.now.marks.items (told_items fault.now played.now) whole.items.items) }

@@ -9,10 +9,8 @@ mod answers;
 mod building;
 mod explained;
 mod facts;
-mod faults;
 mod told;
 mod walks;
 
 pub use explained::explain;
 pub use facts::{ExplainOptions, Format, Given};
-pub use faults::ExplainFault;

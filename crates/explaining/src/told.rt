@@ -1,7 +1,7 @@
 //! A fault of a launch explained, where a schedule leads to it.
 #![tactic(auto)]
 
-ghost use Rattle.std.specs.Prelude.{◌≡◌, Some, IfOk, IfErr, IfSome, IfNone, is_some, slice_get, string_bytes};
+ghost use Rattle.std.specs.Prelude.{◌≡◌, ◌<◌, Some, length, IfOk, IfErr, IfSome, IfNone, is_some, slice_get, string_bytes};
 ghost use Rattle.clmodel.specs.Law.{Reaches};
 ghost use Rattle.clmodel.specs.Next.{launch_of};
 ghost use Rattle.clmodel.specs.Outcome.{events_of};
@@ -10,15 +10,14 @@ ghost use Rattle.device.specs.Machine.{machine_of};
 ghost use Rattle.explain_items.specs.Marked.{CodeIsMarked};
 ghost use Rattle.item_step.specs.Launches.{code_of, setup_of};
 ghost use Rattle.launches.specs.Groups.{HasGroups};
+ghost use Rattle.simfile.specs.Places.{AreAt};
 ghost use Rattle.spaces.specs.Buffers.{bytes_in};
 ghost use Rattle.explaining.specs.Explaining.{HasShort, IsShort, NoLaunch, Tells, Untold};
 ghost use Rattle.explaining.specs.Whole.{HasWhole, IsAsWanted, IsExplained, IsSourceOf, schedule_words};
 
 use crate::facts::{
-    ExplainOptions, Given, LaunchTexts, explanation_of, items_of, lines_before, named_of,
-    schedule_facts,
+    ExplainOptions, Given, LaunchTexts, explanation_of, items_of, named_of, schedule_facts,
 };
-use crate::faults::ExplainFault;
 use clmodel::fault::Fault;
 use clmodel::schedule::Schedule;
 use clmodel::setup::Range;
@@ -32,8 +31,11 @@ use launch_facts::{ProgramSource, schedule_words, source_of};
 use origins::code_is_marked;
 use replay::replay;
 use shortening::{Named, Shortened, event_count};
+use simfile::faults::RunFault;
+use simfile::script::CommandPlace;
 use spaces::Buffers;
 use std::alloc::{AllocError, Global};
+use text_lines::line_text;
 
 /// A case that is explained: its explanation, and the schedule that it tells.
 #[derive(Drop)]
@@ -121,7 +123,7 @@ fn whole_of(
     ensures none { IfOk result (λ found. IfNone found (Reaches (launch_of (setup_of context.now.launch.now) (bytes_in buffers.now)) (events_of short.now.schedule) fault.now → ⊥)) }
     ensures given { IfOk result (λ found. IfSome found (λ whole. whole.schedule.given ≡ given.text)) }
     ensures whole { IfOk result (λ found. IfSome found (IsExplained (launch_of (setup_of context.now.launch.now) (bytes_in buffers.now)) context.now
-        place.now.ticket place.now.range.now fault.now short.now.schedule)) }
+        place.now.ticket place.now.place place.now.range.now fault.now short.now.schedule)) }
 {
     let (alloc, launch) = (context.alloc, context.launch);
     let (items, schedule) = (items_of(fault), &short.schedule);
@@ -159,7 +161,7 @@ fn told_of(
     ensures wanted { IfOk result (λ found. IfSome found (λ told. IsAsWanted as_given schedule told.schedule)) }
     ensures given { IfOk result (λ found. IfSome found (λ told. string_bytes told.whole.schedule.given ≡ schedule_words schedule)) }
     ensures whole { IfOk result (λ found. IfSome found (λ told. IsExplained (launch_of (setup_of context.now.launch.now) (bytes_in buffers.now)) context.now
-        place.now.ticket place.now.range.now fault.now told.schedule told.whole)) }
+        place.now.ticket place.now.place place.now.range.now fault.now told.schedule told.whole)) }
 {
     let given = given_schedule(context.alloc, &schedule)?;
     let short = chosen(context, buffers, fault, schedule, as_given)?;
@@ -188,7 +190,7 @@ fn explain_launch(
     ensures wanted { IfOk result (λ found. IfSome found (λ told. IsAsWanted as_given schedule told.schedule)) }
     ensures given { IfOk result (λ found. IfSome found (λ told. string_bytes told.whole.schedule.given ≡ schedule_words schedule)) }
     ensures whole { IfOk result (λ found. IfSome found (λ told. IsExplained (launch_of (setup_of context.now.launch.now) (bytes_in buffers.now)) context.now
-        place.now.ticket place.now.range.now fault.now told.schedule told.whole)) }
+        place.now.ticket place.now.place place.now.range.now fault.now told.schedule told.whole)) }
 {
     let (alloc, launch) = (context.alloc, context.launch);
     if !replay(alloc, launch, buffers, &schedule, fault)? {
@@ -197,16 +199,23 @@ fn explain_launch(
     told_of(context, buffers, place, fault, schedule, as_given)
 }
 
+/// A script that was performed up to a launch: what is given of it, its commands with their places, and of those before
+/// the launch whether they were done.
+#[derive(Clone, Copy)]
+pub(crate) struct PerformedScript<'a> {
+    pub given: Given<'a>,
+    pub options: ExplainOptions,
+    pub commands: &'a [Command],
+    pub places: &'a [CommandPlace],
+    pub done: &'a [bool],
+}
+
 /// The source of a launch's program; an empty one, without a line, where none of the commands made it.
-fn program_of<'a>(
-    commands: &'a [Command],
-    done: &[bool],
-    kernel: &'a Name,
-    before: usize,
-) -> ProgramSource<'a>
-    ensures { IsSourceOf commands.now done.now kernel.entry.now result }
+fn program_of<'a>(performed: &PerformedScript<'a>, kernel: &'a Name) -> ProgramSource<'a>
+    requires { AreAt performed.now.given.script.now performed.now.commands.now performed.now.places.now }
+    ensures { IsSourceOf performed.now.given.script.now performed.now.commands.now performed.now.done.now kernel.entry.now result }
 {
-    match source_of(commands, done, kernel, before) {
+    match source_of(performed.commands, performed.places, performed.done, kernel) {
         Some(program) => program,
         None => ProgramSource {
             text: &[],
@@ -214,18 +223,17 @@ fn program_of<'a>(
             program: kernel,
             function: kernel,
             kernel_command: 0,
+            program_command: 0,
         },
     }
 }
 
-/// A script that was performed up to a launch: what is given of it, its commands, and of those before the launch
-/// whether they were done.
-#[derive(Clone, Copy)]
-pub(crate) struct PerformedScript<'a> {
-    pub given: Given<'a>,
-    pub options: ExplainOptions,
-    pub commands: &'a [Command],
-    pub done: &'a [bool],
+/// The place of the command of a number.
+fn place_of(places: &[CommandPlace], number: usize) -> CommandPlace
+    requires { number < length places.now }
+    ensures { slice_get places.now number ≡ Some result }
+{
+    places[number]
 }
 
 /// What a command of a script launches, if it is a launch.
@@ -255,26 +263,27 @@ pub(crate) fn explain_case(
     ticket: usize,
     fault: &Fault,
     schedule: Schedule,
-) -> Result<Option<ExplainedCase>, ExplainFault>
+) -> Result<Option<ExplainedCase>, RunFault>
+    requires { AreAt performed.now.given.script.now performed.now.commands.now performed.now.places.now }
     ensures told { IfOk result (λ found. Tells (machine_of device.now) performed.now.commands.now ticket fault.now schedule (is_some found)) }
     ensures short { IfOk result (λ found. IfSome found (λ told. HasShort (machine_of device.now) performed.now.commands.now ticket fault.now schedule told.schedule)) }
-    ensures whole { IfOk result (λ found. IfSome found (λ told. HasWhole (machine_of device.now) performed.now.options.as_given performed.now.commands.now ticket fault.now schedule told.schedule told.whole)) }
+    ensures whole { IfOk result (λ found. IfSome found (λ told. HasWhole (machine_of device.now) performed.now.options.as_given performed.now.given.script.now performed.now.commands.now ticket fault.now schedule told.schedule told.whole)) }
     ensures failed { IfErr result (Untold (machine_of device.now) performed.now.commands.now ticket) }
 {
     let Some((kernel, range)) = launch_in(performed.commands, ticket) else {
-        return Err(ExplainFault::NotALaunch(ticket as u64));
+        return Err(RunFault::NotALaunch(ticket as u64));
     };
+    let at = place_of(performed.places, ticket);
     let launch = match device.prepare(kernel, range) {
         Ok(launch) => launch,
-        Err(Refusal::OutOfMemory) => return Err(ExplainFault::OutOfMemory),
-        Err(_) => return Err(ExplainFault::CommandRefused(ticket as u64)),
+        Err(Refusal::OutOfMemory) => return Err(RunFault::OutOfMemory),
+        Err(_) => return Err(RunFault::CommandRefused(ticket as u64)),
     };
     launch_is_marked(&launch);
-    let before = lines_before(performed.given.script);
     let context = Context {
         alloc,
         launch: &launch,
-        program: program_of(performed.commands, performed.done, kernel, before),
+        program: program_of(performed, kernel),
         commands: performed.commands,
         done: performed.done,
         kernel,
@@ -282,6 +291,8 @@ pub(crate) fn explain_case(
     let place = LaunchTexts {
         given: performed.given,
         ticket,
+        place: at,
+        line: line_text(performed.given.script, at.at),
         range,
         budget: performed.options.configuration.budget,
     };

@@ -1,12 +1,10 @@
 -- What the commands before a launch, each of which was done or refused, tell of its program (own; OpenCL 1.2, sections
 -- 5.6 and 5.7).
-use Rattle.std.specs.Prelude.{◌≡◌, ◌⊎◌, ℕ, ◌+◌, ◌-◌, ◌^◌, ◌<◌, ◌&&◌, Bool, true, false, Option, None, Some, List, take, length, min, slice_get, option_and_then}
-use Rattle.std.specs.List.{sum_by}
+use Rattle.std.specs.Prelude.{◌≡◌, ◌⊎◌, ℕ, ◌<◌, ◌&&◌, Bool, true, false, Option, None, Some, List, length, slice_get, option_and_then}
 use Rattle.std.specs.Option.{option_map_or, unwrap_or}
 use Rattle.clmodel.specs.Setup.{same_text}
 use Rattle.host_commands.specs.declared.command.Command.{Command}
 use Rattle.host_commands.specs.declared.command.Command.TheVariants as command
-use Rattle.text_lines.specs.Lines.{line_feeds}
 
 abbrev pub makes_kernel : List ℕ → Command → Bool
 makes_kernel wanted (command.Kernel name program function) = same_text name wanted
@@ -37,15 +35,6 @@ did is_such commands done number = option_map_or is_such (slice_get commands num
 abbrev pub IsLast : (ℕ → Bool) → ℕ → Option ℕ → Type 0
 IsLast p n None = (k : ℕ) → k < n → p k ≡ false
 IsLast p n (Some last) = (last < n) × (p last ≡ true) × ((k : ℕ) → last < k → k < n → p k ≡ false)
-
--- how many lines of a script a command takes: one, and behind that of a program its source
-abbrev pub lines_of : Command → ℕ
-lines_of (command.Program name source) = line_feeds source + 1
-lines_of _ = 1
-
--- the line of a script in which a command begins, from 1, where so many lines stand before the first command
-abbrev pub line_of : List Command → ℕ → ℕ → ℕ
-line_of commands number before = min (before + 1 + sum_by lines_of (take number commands)) (2 ^ 64 - 1)
 
 -- the kernel of a name is that of the last command that was done and made it, and the source that of the last one
 -- before it that made its program

@@ -1,12 +1,13 @@
-//! The commands of a script, by their lines.
+//! The commands of a script that made a kernel and its program.
 #![tactic(auto)]
 
-ghost use Rattle.std.specs.Prelude.{◌≡◌, ℕ, ◌+◌, ◌-◌, ◌^◌, length, min, slice_get, option_map, option_and_then, IfNone, IfSome, if◌then◌else◌};
-ghost use Rattle.launch_facts.specs.Commands.{makes_kernel, makes_program, kernel_names, program_source, was_done, did, lines_of, line_of, IsLast, IsSource, HasNoSource};
+ghost use Rattle.std.specs.Prelude.{◌≡◌, ◌<◌, ◌≤◌, Some, length, slice_get, option_map, option_and_then, IfNone, IfSome, if◌then◌else◌};
+ghost use Rattle.launch_facts.specs.Commands.{makes_kernel, makes_program, kernel_names, program_source, was_done, did, IsLast, IsSource, HasNoSource};
+ghost use Rattle.simfile.specs.declared.script.CommandPlace.{CommandPlace};
 
 use clmodel::text::Name;
 use host_commands::command::Command;
-use text_lines::line_feeds;
+use simfile::script::CommandPlace;
 
 /// The source of a kernel's program: its bytes, the line of the script in which it begins, from 1, and the names of the
 /// program and of the function.
@@ -18,28 +19,8 @@ pub struct ProgramSource<'a> {
     pub function: &'a Name,
     /// The number of the command that made the kernel
     pub kernel_command: usize,
-}
-
-/// How many lines of a script a command takes.
-fn lines_of(command: &Command) -> usize
-    ensures { result ≡ lines_of command.now }
-{
-    match command {
-        Command::Program { source, .. } => line_feeds(source.as_slice()) + 1,
-        _ => 1,
-    }
-}
-
-/// The line of a script in which a command stands, from 1, where so many lines stand before the first command. It takes
-/// the time of the sources before it.
-pub fn line_of(commands: &[Command], number: usize, before: usize) -> usize
-    ensures { result ≡ line_of commands.now number before }
-{
-    let mut line = before.saturating_add(1);
-    for command in &commands[..number.min(commands.len())] {
-        line = line.saturating_add(lines_of(command));
-    }
-    line
+    /// The number of the command that made the program
+    pub program_command: usize,
 }
 
 /// Whether a command was done.
@@ -147,30 +128,37 @@ fn program_source(commands: &[Command], number: usize) -> Option<&[u8]>
     }
 }
 
-/// The source of the program of a kernel, by the commands before a launch of it, of which each was done or not, where
-/// so many lines stand before the first one. None where no command that was done made the kernel, or before it its
-/// program.
+/// The line in which the source begins of the program that a command makes, by the places of the commands.
+fn source_line(places: &[CommandPlace], number: usize) -> usize
+    requires { number < length places.now }
+    ensures { (place : CommandPlace) × (slice_get places.now number ≡ Some place) × (result ≡ place.source_line) }
+{
+    places[number].source_line
+}
+
+/// The source of the program of a kernel, by the commands before a launch of it, of which each was done or not, and
+/// their places in the script. None where no command that was done made the kernel, or before it its program.
 pub fn source_of<'a>(
     commands: &'a [Command],
+    places: &[CommandPlace],
     done: &[bool],
     kernel: &Name,
-    before: usize,
 ) -> Option<ProgramSource<'a>>
-    ensures source { IfSome result (λ s. (program_at : ℕ)
-        × IsSource commands.now done.now kernel.now s.kernel_command s.program.now s.function.now s.text.now program_at
-        × (s.first_line ≡ min (line_of commands.now program_at before + 1) (2 ^ 64 - 1))) }
+    requires { length commands.now ≤ length places.now }
+    ensures source { IfSome result (λ s. IsSource commands.now done.now kernel.now s.kernel_command s.program.now s.function.now s.text.now s.program_command) }
+    ensures line { IfSome result (λ s. (place : CommandPlace) × (slice_get places.now s.program_command ≡ Some place) × (s.first_line ≡ place.source_line)) }
     ensures none { IfNone result (HasNoSource commands.now done.now kernel.now) }
 {
     let kernel_command = last_kernel(commands, done, kernel)?;
     let (program, function) = kernel_names(commands, kernel_command)?;
-    let number = last_program(commands, done, program, kernel_command)?;
-    let text = program_source(commands, number)?;
-    let line = line_of(commands, number, before);
+    let program_command = last_program(commands, done, program, kernel_command)?;
+    let text = program_source(commands, program_command)?;
     Some(ProgramSource {
         text,
-        first_line: line.saturating_add(1),
+        first_line: source_line(places, program_command),
         program,
         function,
         kernel_command,
+        program_command,
     })
 }

@@ -11,7 +11,7 @@ const BUDGET: u32 = 1000;
 /// The commands of a script. None where memory is refused.
 pub fn commands_of(alloc: Global, script: &str) -> Option<Vec<Command>> {
     match read_script(alloc, script.as_bytes()) {
-        Ok(commands) => Some(commands),
+        Ok(script) => Some(script.commands),
         Err(_) => None,
     }
 }

@@ -11,8 +11,8 @@ use Rattle.host_commands.specs.declared.command.Reply.{Reply}
 use Rattle.byte_io.specs.Talk.{Event, Heard, Told, Conversation, heard, hearing, Said}
 use Rattle.byte_io.proofs.Talks.{said_none, said_then}
 use Rattle.serving.specs.declared.server.Server.{Server}
-use Rattle.serving.specs.declared.server.ServeFault.{ServeFault}
-use Rattle.serving.specs.declared.server.ServeFault.TheVariants as fault
+use Rattle.simfile.specs.declared.faults.RunFault.{RunFault}
+use Rattle.simfile.specs.declared.faults.RunFault.TheVariants as fault
 use Rattle.serving.specs.Hearing.{IsHeardLine, EndsWith, HeardLine, HeardSource, HearFails, NotHeard, NotHeardSource, AreSource}
 use Rattle.serving.specs.Turns.{greeting, BeginsNone, IsBad}
 use Rattle.serving.specs.Serving.{HeardOpening, NotOpened, HasLine, IsRest, HeardRest, HeardPart, HeardCommand, HeardBad, NoCommand, up_to_most}
@@ -55,10 +55,10 @@ opening_two {old} {mid} {new} {before} {first} {cleared} {text} {w} {whole} empt
       ended = λ e. ends_then old.rest mid.rest new.rest (heard (Heard h.line ∷ [])) h.said.heard (second.ended e);
     }
 
-pub not_opened : {old new : Conversation} (why : ServeFault) → NotHeard old new why → NotOpened old new why
+pub not_opened : {old new : Conversation} (why : RunFault) → NotHeard old new why → NotOpened old new why
 not_opened why h = record { version = version.One; bytes = h.bytes; said = h.said; fails = h.fails }
 
-pub not_opened_two : {old mid new : Conversation} {before first : List ℕ} {w : Bool} (why : ServeFault) → before ≡ [] → HeardLine old mid before first w → first ≡ head version.Two → NotHeard mid new why → NotOpened old new why
+pub not_opened_two : {old mid new : Conversation} {before first : List ℕ} {w : Bool} (why : RunFault) → before ≡ [] → HeardLine old mid before first w → first ≡ head version.Two → NotHeard mid new why → NotOpened old new why
 not_opened_two {old} {mid} {new} {before} {first} {w} why empty h two k =
     let line : h.line ≡ head version.Two = sym (h.added ∙ ap (λ l. l ++ h.line) empty) ∙ two in
     let greeted : Said old mid (greeting version.Two) = subst (λ (l : List ℕ). Said old mid (Heard l ∷ [])) line h.said in
@@ -108,15 +108,19 @@ with_source {old} {new} server server' n whole has e some same count h = record 
   is true pieces k = (one, subst (λ (o : Option ℕ). MatchOption o (joined pieces ≡ []) (λ m. AreLines (joined pieces) m)) (sym some) (k.1 (some_lines server.text.items n some)))
   is false pieces k = (too_few server.version server.text.items (joined pieces) n one some k.0, inr (record { whole = one; count = n; says = some; fewer = k.0; cut = k.1 }))
 
-pub part_of : {old new : Conversation} {why : ServeFault} → NotHeardSource old new why → HeardPart old new why
+pub part_of : {old new : Conversation} {why : RunFault} → NotHeardSource old new why → HeardPart old new why
 part_of h = record { pieces = h.pieces; said = h.said; fails = h.fails }
 
 -- a failure to hear is no bad line
-pub no_command : {old new : Conversation} (server : Server) (why : ServeFault) → HeardPart old new why → NoCommand old new server why
-no_command server fault.Hear h = h
+pub no_command : {old new : Conversation} (server : Server) (why : RunFault) → HeardPart old new why → NoCommand old new server why
+no_command server (fault.Read by) h = h
 no_command server fault.OutOfMemory h = h
-no_command server fault.Tell h = absurd h.fails
+no_command server fault.Write h = absurd h.fails
 no_command server (fault.BadLine n) h = absurd h.fails
+no_command server fault.NoSuchKernel h = absurd h.fails
+no_command server fault.BadSchedule h = absurd h.fails
+no_command server (fault.NotALaunch ticket) h = absurd h.fails
+no_command server (fault.CommandRefused ticket) h = absurd h.fails
 
 begins_none : (v : Version) (bytes : List ℕ) → command_at v bytes ≡ None → BeginsNone v bytes
 begins_none v bytes none c text rest split tells =

@@ -13,9 +13,11 @@ use Rattle.byte_io.specs.declared.counted.ReadFault.{ReadFault}
 use Rattle.byte_io.specs.declared.counted.ReadFault.TheVariants as read
 use Rattle.byte_io.specs.Talk.{Conversation, Hears}
 use Rattle.byte_io.proofs.Talks.{said_heard}
-use Rattle.serving.specs.Faults.{hear_fault}
 use Rattle.serving.specs.Hearing.{IsHeardLine, EndsWith, HeardLine, NotHeard}
+use Rattle.simfile.specs.Faults.{read_fault}
 use Rattle.simfile.specs.Script.{line_feeds}
+use Rattle.simfile.specs.declared.faults.Reader.TheVariants as reader
+use Rattle.simfile.specs.declared.faults.RunFault.{RunFault}
 use Rattle.simfile.proofs.LineLaws.{feeds_append}
 
 not_first : (x n : ℕ) (v : Bool) → (x == 10) ≡ v → (x ≡ 10 → ⊥) → n ≡ 0 → (if v then 1 + n else n) ≡ 0
@@ -103,6 +105,9 @@ heard_some {old} {new} {before} {after} n h other b is = record {
   ended = all_heard old.rest new.rest h.bytes h.ends.2 h.taken;
 }
 
-pub not_heard : {old new : Conversation} {before after : List ℕ} (e : ReadFault) → Hears old new before after (Err e) → NotHeard old new (hear_fault e)
+not_heard : {old new : Conversation} {before after : List ℕ} (e : ReadFault) → Hears old new before after (Err e) → NotHeard old new (read_fault reader.First e)
 not_heard read.Failed h = record { bytes = h.bytes; said = said_heard h; fails = h.ends }
 not_heard read.OutOfMemory h = record { bytes = h.bytes; said = said_heard h; fails = h.ends }
+
+pub not_heard_by : {old new : Conversation} {before after : List ℕ} (e : ReadFault) (why : RunFault) → Hears old new before after (Err e) → why ≡ read_fault reader.First e → NotHeard old new why
+not_heard_by {old} {new} e why h is = subst (λ (f : RunFault). NotHeard old new f) (sym is) (not_heard e h)

@@ -4,8 +4,7 @@ use Rattle.std.proofs.lemmas.List.{append-nil}
 use Rattle.byte_io.specs.Pieces.{joined}
 use Rattle.byte_io.specs.Talk.{Event, Heard, Conversation, hearing, Said}
 use Rattle.byte_io.proofs.Talks.{said_none, said_then, hearing-append}
-use Rattle.serving.specs.declared.server.ServeFault.{ServeFault}
-use Rattle.serving.specs.declared.server.ServeFault.TheVariants as fault
+use Rattle.simfile.specs.declared.faults.RunFault.{RunFault}
 use Rattle.serving.specs.Hearing.{HeardLine, HeardSource, HearFails, NotHeard, NotHeardSource}
 use Rattle.simfile.specs.Script.{AreLines, line_feeds}
 use Rattle.simfile.proofs.LineLaws.{feeds_append}
@@ -61,10 +60,10 @@ source_cut {n = n} count less h k = record {
   );
 }
 
-pub fails_then : {a b : ℕ} (c : ℕ) (why : ServeFault) → b ≡ a → HearFails b c why → HearFails a c why
+pub fails_then : {a b : ℕ} (c : ℕ) (why : RunFault) → b ≡ a → HearFails b c why → HearFails a c why
 fails_then c why e h = subst (λ (n : ℕ). HearFails n c why) e h
 
-pub source_fails : {old now : Conversation} {new : Conversation} {n : ℕ} {before mid : List ℕ} (why : ServeFault) → HeardSource old now n before mid true → NotHeard now new why → NotHeardSource old new why
+pub source_fails : {old now : Conversation} {new : Conversation} {n : ℕ} {before mid : List ℕ} (why : RunFault) → HeardSource old now n before mid true → NotHeard now new why → NotHeardSource old new why
 source_fails {new = new} why h k = record {
   pieces = h.pieces ++ k.bytes ∷ [];
   said = said_more h.pieces k.bytes h.said k.said;

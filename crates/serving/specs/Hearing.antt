@@ -4,8 +4,9 @@ use Rattle.std.specs.Io.KnownBytes.{IsAtEnd}
 use Rattle.byte_io.specs.Pieces.{joined}
 use Rattle.byte_io.specs.Sink.{CountsUp}
 use Rattle.byte_io.specs.Talk.{Conversation, Heard, hearing, Said}
-use Rattle.serving.specs.declared.server.ServeFault.{ServeFault}
-use Rattle.serving.specs.declared.server.ServeFault.TheVariants as fault
+use Rattle.simfile.specs.declared.faults.Reader.TheVariants as reader
+use Rattle.simfile.specs.declared.faults.RunFault.{RunFault}
+use Rattle.simfile.specs.declared.faults.RunFault.TheVariants as fault
 use Rattle.simfile.specs.Script.{AreLines, line_feeds}
 use Rattle.simfile.specs.Stepwise.{source_lines}
 
@@ -28,14 +29,19 @@ pub record HeardLine (old new : Conversation) (before after : List ℕ) (whole :
   pub ended : line_feeds line ≡ 0 → EndsWith old new
 
 -- why the peer wasn't heard: it failed, which was counted, or no memory was left
-abbrev pub HearFails : ℕ → ℕ → ServeFault → Type 0
-HearFails failures failures' fault.Hear = CountsUp failures failures'
+abbrev pub HearFails : ℕ → ℕ → RunFault → Type 0
+HearFails failures failures' (fault.Read reader.First) = CountsUp failures failures'
+HearFails failures failures' (fault.Read reader.Second) = ⊥
 HearFails failures failures' fault.OutOfMemory = failures' ≡ failures
-HearFails failures failures' fault.Tell = ⊥
+HearFails failures failures' fault.Write = ⊥
 HearFails failures failures' (fault.BadLine n) = ⊥
+HearFails failures failures' fault.NoSuchKernel = ⊥
+HearFails failures failures' fault.BadSchedule = ⊥
+HearFails failures failures' (fault.NotALaunch ticket) = ⊥
+HearFails failures failures' (fault.CommandRefused ticket) = ⊥
 
 -- bytes were heard until that failed
-pub record NotHeard (old new : Conversation) (why : ServeFault) : Type 0 where
+pub record NotHeard (old new : Conversation) (why : RunFault) : Type 0 where
   pub bytes : List ℕ
   pub said : Said old new (Heard bytes ∷ [])
   pub fails : HearFails old.failures new.failures why
@@ -73,7 +79,7 @@ pub record HeardSource (old new : Conversation) (count : ℕ) (before after : Li
   pub is : AreSource whole count pieces
 
 -- lines were heard until that failed
-pub record NotHeardSource (old new : Conversation) (why : ServeFault) : Type 0 where
+pub record NotHeardSource (old new : Conversation) (why : RunFault) : Type 0 where
   pub pieces : List (List ℕ)
   pub said : Said old new (hearing pieces)
   pub fails : HearFails old.failures new.failures why

@@ -1,4 +1,3 @@
-pub mod Faults
 pub mod Hearing
 pub mod Turns
 pub mod Serving

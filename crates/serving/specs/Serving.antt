@@ -8,8 +8,8 @@ use Rattle.byte_io.specs.Talk.{Conversation, Heard, Told, hearing, Said}
 use Rattle.serving.specs.Hearing.{IsHeardLine, EndsWith, HearFails, IsShort}
 use Rattle.serving.specs.Turns.{greeting, IsBad}
 use Rattle.serving.specs.declared.server.Server.{Server}
-use Rattle.serving.specs.declared.server.ServeFault.{ServeFault}
-use Rattle.serving.specs.declared.server.ServeFault.TheVariants as fault
+use Rattle.simfile.specs.declared.faults.RunFault.{RunFault}
+use Rattle.simfile.specs.declared.faults.RunFault.TheVariants as fault
 use Rattle.simfile.specs.declared.lines.Version.{Version}
 use Rattle.simfile.specs.Lines.{line}
 use Rattle.simfile.specs.Reading.{command_at}
@@ -36,7 +36,7 @@ pub record Opened (old new : Conversation) (server : Server) : Type 0 where
   pub lines : server.lines ≡ line_feeds (head server.version)
 
 -- hearing the first line failed
-pub record NotOpened (old new : Conversation) (why : ServeFault) : Type 0 where
+pub record NotOpened (old new : Conversation) (why : RunFault) : Type 0 where
   pub version : Version
   pub bytes : List ℕ
   pub said : Said old new (greeting version ++ Heard bytes ∷ [])
@@ -85,17 +85,21 @@ pub record HeardBad (old new : Conversation) (server : Server) (n : ℕ) : Type 
   pub number : n ≡ up_to_most (server.lines + 1)
 
 -- hearing the rest of a command failed
-pub record HeardPart (old new : Conversation) (why : ServeFault) : Type 0 where
+pub record HeardPart (old new : Conversation) (why : RunFault) : Type 0 where
   pub pieces : List (List ℕ)
   pub said : Said old new (hearing pieces)
   pub fails : HearFails old.failures new.failures why
 
 -- why there is no command, and what was heard
-abbrev pub NoCommand : Conversation → Conversation → Server → ServeFault → Type 0
-NoCommand old new server fault.Hear = HeardPart old new fault.Hear
+abbrev pub NoCommand : Conversation → Conversation → Server → RunFault → Type 0
+NoCommand old new server (fault.Read by) = HeardPart old new (fault.Read by)
 NoCommand old new server fault.OutOfMemory = HeardPart old new fault.OutOfMemory
 NoCommand old new server (fault.BadLine n) = HeardBad old new server n
-NoCommand old new server fault.Tell = ⊥
+NoCommand old new server fault.Write = ⊥
+NoCommand old new server fault.NoSuchKernel = ⊥
+NoCommand old new server fault.BadSchedule = ⊥
+NoCommand old new server (fault.NotALaunch ticket) = ⊥
+NoCommand old new server (fault.CommandRefused ticket) = ⊥
 
 -- a reply's line was told, and nothing of it is held back
 pub record ToldReply (old new : Conversation) (server server' : Server) (reply : Reply) : Type 0 where
@@ -114,11 +118,15 @@ pub record ToldPart (old new : Conversation) (reply : Reply) : Type 0 where
   pub stopped : Stopped old.sink new.sink (line reply)
 
 -- why a reply wasn't told, and what was
-abbrev pub NotTold : Conversation → Conversation → Reply → ServeFault → Type 0
-NotTold old new reply fault.Hear = ⊥
+abbrev pub NotTold : Conversation → Conversation → Reply → RunFault → Type 0
+NotTold old new reply (fault.Read by) = ⊥
 NotTold old new reply fault.OutOfMemory = new ≡ old
 NotTold old new reply (fault.BadLine n) = ⊥
-NotTold old new reply fault.Tell = ToldPart old new reply
+NotTold old new reply fault.Write = ToldPart old new reply
+NotTold old new reply fault.NoSuchKernel = ⊥
+NotTold old new reply fault.BadSchedule = ⊥
+NotTold old new reply (fault.NotALaunch ticket) = ⊥
+NotTold old new reply (fault.CommandRefused ticket) = ⊥
 
 -- the first line of the next command was heard
 pub record HeardNext (old new : Conversation) (server server' : Server) : Type 0 where

@@ -13,4 +13,4 @@ mod answer;
 mod hearing;
 pub mod server;
 
-pub use server::{ServeFault, Server};
+pub use server::Server;

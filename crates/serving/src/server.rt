@@ -9,49 +9,13 @@ ghost use Rattle.serving.specs.Serving.{HasLine, HeardOpening, Opened, NotOpened
 
 use crate::answer::Answer;
 use crate::hearing::{hear_line, hear_source};
-use byte_io::{Peer, ReadFault};
+use byte_io::Peer;
 use host_commands::command::{Command, Reply};
+use simfile::faults::RunFault;
 use simfile::lines::Version;
 use simfile::replies::write_reply;
 use simfile::stepwise::{count_lines, is_version_line, read_command, source_lines};
-use std::alloc::{AllocError, Global};
-
-/// Why a talk came to no good end.
-#[derive(Clone, Copy, Debug, PartialEq, Eq)]
-pub enum ServeFault {
-    /// The peer couldn't be heard
-    Hear,
-    /// The peer couldn't be told
-    Tell,
-    /// The number of a bad line, counted from 1
-    BadLine(usize),
-    OutOfMemory,
-}
-
-impl From<AllocError> for ServeFault {
-    ghost use Rattle.std.specs.Prelude.{◌≡◌};
-    ghost use Rattle.serving.specs.declared.server.ServeFault.TheVariants as serve_fault;
-
-    ghost from_gives = { λ _ made. made ≡ serve_fault.OutOfMemory };
-
-    fn from(_: AllocError) -> Self {
-        ServeFault::OutOfMemory
-    }
-}
-
-impl From<ReadFault> for ServeFault {
-    ghost use Rattle.std.specs.Prelude.{◌≡◌};
-    ghost use Rattle.serving.specs.Faults.{hear_fault};
-
-    ghost from_gives = { λ fault made. made ≡ hear_fault fault };
-
-    fn from(fault: ReadFault) -> Self {
-        match fault {
-            ReadFault::Failed => ServeFault::Hear,
-            ReadFault::OutOfMemory => ServeFault::OutOfMemory,
-        }
-    }
-}
+use std::alloc::Global;
 
 /// A talk with a peer, of whose next command the first line was heard.
 #[derive(Drop)]
@@ -79,7 +43,7 @@ fn lines_before(version: Version) -> usize
 }
 
 /// Hears the line of the version, where there is one, and a first line, which is all that the text has then.
-fn hear_opening<P: Peer>(peer: &mut P, text: &mut Vec<u8>) -> Result<(Version, bool), ServeFault>
+fn hear_opening<P: Peer>(peer: &mut P, text: &mut Vec<u8>) -> Result<(Version, bool), RunFault>
     requires { text.old.items ≡ [] }
     ensures heard { IfOk result (λ found. HeardOpening (P.view peer.old) (P.view peer.new) text.new.items found.0 found.1) }
     ensures failed { IfErr result (NotOpened (P.view peer.old) (P.view peer.new)) }
@@ -95,7 +59,7 @@ fn hear_opening<P: Peer>(peer: &mut P, text: &mut Vec<u8>) -> Result<(Version, b
 
 impl Server {
     /// Begins to serve a peer: hears its first line, and where this is the line of version 2 the one behind it.
-    pub fn open<P: Peer>(alloc: Global, peer: &mut P) -> Result<Self, ServeFault>
+    pub fn open<P: Peer>(alloc: Global, peer: &mut P) -> Result<Self, RunFault>
         ensures opened { IfOk result (Opened (P.view peer.old) (P.view peer.new)) }
         ensures failed { IfErr result (NotOpened (P.view peer.old) (P.view peer.new)) }
     {
@@ -112,7 +76,7 @@ impl Server {
     }
 
     /// Hears what is left of the next command: the source of a program. Answers whether all of it came.
-    fn hear_rest<P: Peer>(&mut self, peer: &mut P) -> Result<bool, ServeFault>
+    fn hear_rest<P: Peer>(&mut self, peer: &mut P) -> Result<bool, RunFault>
         requires { HasLine self.old }
         ensures heard { IfOk result (HeardRest (P.view peer.old) (P.view peer.new) self.old self.new) }
         ensures failed { IfErr result (HeardPart (P.view peer.old) (P.view peer.new)) }
@@ -127,16 +91,16 @@ impl Server {
     }
 
     /// The fault of the next command's first line.
-    fn bad_line(&self) -> ServeFault
-        ensures { result ≡ ServeFault.BadLine (up_to_most (self.now.lines + 1)) }
+    fn bad_line(&self) -> RunFault
+        ensures { result ≡ RunFault.BadLine (up_to_most (self.now.lines + 1)) }
     {
-        ServeFault::BadLine(self.lines.saturating_add(1))
+        RunFault::BadLine(self.lines.saturating_add(1))
     }
 
     /// Hears what is left of the next command and gives it, or `None` where there is none. A bad line is one with which
     /// no command's text begins: `BadLine` comes as soon as that is clear, or where the input ends in the midst of a
     /// command.
-    pub fn command<P: Peer>(&mut self, peer: &mut P) -> Result<Option<Command>, ServeFault>
+    pub fn command<P: Peer>(&mut self, peer: &mut P) -> Result<Option<Command>, RunFault>
         requires { HasLine self.old }
         ensures heard { IfOk result (λ next. MatchOption next (HeardNone (P.view peer.old) (P.view peer.new) self.old) (HeardCommand (P.view peer.old) (P.view peer.new) self.old self.new)) }
         ensures failed { IfErr result (NoCommand (P.view peer.old) (P.view peer.new) self.old) }
@@ -154,22 +118,22 @@ impl Server {
     }
 
     /// Tells the line of a reply.
-    pub fn tell<P: Peer>(&mut self, reply: &Reply, peer: &mut P) -> Result<(), ServeFault>
+    pub fn tell<P: Peer>(&mut self, reply: &Reply, peer: &mut P) -> Result<(), RunFault>
         ensures told { IfOk result (λ _. ToldReply (P.view peer.old) (P.view peer.new) self.old self.new reply.now) }
         ensures failed { IfErr result (NotTold (P.view peer.old) (P.view peer.new) reply.now) }
     {
         self.answer.clear();
         if write_reply(reply, &mut self.answer).is_err() {
-            return Err(ServeFault::OutOfMemory);
+            return Err(RunFault::OutOfMemory);
         }
         match peer.tell(self.answer.as_slice()) {
             Ok(()) => Ok(()),
-            Err(_) => Err(ServeFault::Tell),
+            Err(_) => Err(RunFault::Write),
         }
     }
 
     /// Hears the first line of the next command, once the one before was answered.
-    pub fn next<P: Peer>(&mut self, peer: &mut P) -> Result<(), ServeFault>
+    pub fn next<P: Peer>(&mut self, peer: &mut P) -> Result<(), RunFault>
         ensures heard { IfOk result (λ _. HeardNext (P.view peer.old) (P.view peer.new) self.old self.new) }
         ensures failed { IfErr result (NotHeard (P.view peer.old) (P.view peer.new)) }
     {

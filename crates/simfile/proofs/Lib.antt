@@ -3,3 +3,4 @@ pub mod FieldLaws
 pub mod Grammar
 pub mod Scripts
 pub mod LineLaws
+mod Places

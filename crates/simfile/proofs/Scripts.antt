@@ -38,12 +38,12 @@ begins_onto v front [] rest more h = ap (λ l. l ++ more) h
 begins_onto v front (c ∷ cs) rest more h = (h.0, h.1 ++ more, ap (λ l. l ++ more) h.2 ∙ append_assoc h.0 h.1 more, h.3, begins_onto v h.1 cs rest more h.4)
 
 -- the front of what was read
-record Fronts (v : Version) (bytes : List ℕ) (cs : List Command) (rest : List ℕ) : Type 0 where
-  front : List ℕ
-  split : bytes ≡ front ++ rest
-  begins : Begins v front cs []
+pub record Fronts (v : Version) (bytes : List ℕ) (cs : List Command) (rest : List ℕ) : Type 0 where
+  pub front : List ℕ
+  pub split : bytes ≡ front ++ rest
+  pub begins : Begins v front cs []
 
-reads_fronts : (v : Version) (bytes : List ℕ) (cs : List Command) (rest : List ℕ) → Reads v bytes cs rest → Fronts v bytes cs rest
+pub reads_fronts : (v : Version) (bytes : List ℕ) (cs : List Command) (rest : List ℕ) → Reads v bytes cs rest → Fronts v bytes cs rest
 reads_fronts v bytes [] rest h = record { front = []; split = h; begins = refl }
 reads_fronts v bytes (c ∷ cs) rest h =
     let t = command_takes v bytes c h.0 h.1 in
@@ -113,7 +113,7 @@ split_by bytes None is v lines e = let P : Version × List ℕ → Type 0 = λ p
 split_by bytes (Some more) is v lines e = let P : Version × List ℕ → Type 0 = λ p. bytes ≡ head p.0 ++ p.1 in subst P (sym e) (after_takes (head version.Two) bytes more is)
 
 -- the lines follow the first line of their version
-heads : (bytes : List ℕ) (v : Version) (lines : List ℕ) → (v, lines) ≡ version_at bytes → bytes ≡ head v ++ lines
+pub heads : (bytes : List ℕ) (v : Version) (lines : List ℕ) → (v, lines) ≡ version_at bytes → bytes ≡ head v ++ lines
 unfolding version_at
 heads bytes v lines is = split_by bytes (after (head version.Two) bytes) refl v lines is
 

@@ -5,6 +5,7 @@ pub mod Reading
 pub mod Views
 pub mod Laws
 pub mod Faults
+pub mod Places
 pub mod Stepwise
 pub use Rattle.byte_io.specs.Pieces
 pub use Rattle.fault_lines.specs.Text

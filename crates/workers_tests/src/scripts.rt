@@ -40,10 +40,10 @@ fn done(alloc: Global, commands: Vec<Command>) -> Device {
 
 /// A device that has done all commands of a script but the last, and that one. None where it is no script.
 pub fn all_but_the_last(alloc: Global, script: &str) -> Option<(Device, Command)> {
-    let Ok(commands) = read_script(alloc, script.as_bytes()) else {
+    let Ok(script) = read_script(alloc, script.as_bytes()) else {
         return None;
     };
-    let mut commands = commands;
+    let mut commands = script.commands;
     match commands.pop() {
         Some(last) => Some((done(alloc, commands), last)),
         None => None,

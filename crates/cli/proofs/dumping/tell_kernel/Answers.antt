@@ -9,5 +9,5 @@ use Rattle.cli.proofs.dumping.tell_kernel.Goals as goal
 pub returns-in_err-flush-clause-untold : goal.returns-in_err-flush-clause-untold
 returns-in_err-flush-clause-untold g c =
     let p = err_from_is_err_and c.from_residual-in_err-flush.result c.from_residual-in_err-flush.ensures.1 in
-    let both : Stopped (g.W.Write.sink c.args.writer.now) (g.W.Write.sink c.flush.new.self) (text_of c.in_ok-code.code.instructions ++ []) = stopped_then c.in_ok-dump.ensures c.in_err-flush.ensures.bytes in
-    rw (p.1, p.2) (record { code = c.in_ok-code.code; lowered = c.in_ok-code.ensures.code; stopped = rw append-nil at both })
+    let both : Stopped (g.W.Write.sink c.args.writer.now) (g.W.Write.sink c.flush.new.self) (text_of c.in-Ok.code.instructions ++ []) = stopped_then c.in_ok-write_code.ensures c.in_err-flush.ensures.bytes in
+    rw (p.1, p.2) (record { code = c.in-Ok.code; lowered = c.in-Ok.ensures.code; stopped = rw append-nil at both })

@@ -1,5 +1,12 @@
+use Rattle.std.proofs.lemmas.Result.{err_from_is_err_and}
+use Rattle.explaining.proofs.Schedules.{no_script}
 use Rattle.explaining.proofs.Writing.{says_of}
 use Rattle.explaining.proofs.explained.explain_schedule.Goals as goal
+
+pub returns-in_err-commands-clause-failed : goal.returns-in_err-commands-clause-failed
+returns-in_err-commands-clause-failed c =
+    let p = err_from_is_err_and c.from_residual.result c.from_residual.ensures.1 in
+    rw (p.1, p.2) (no_script c.args.options.configuration c.args.given.script.now c.args.schedule.now _ c.in_err-commands.ensures.bad)
 
 pub returns-clause-says : goal.returns-clause-says
 returns-clause-says c =

@@ -1,6 +1,5 @@
-use Rattle.std.specs.Prelude.{take}
-use Rattle.device.specs.Machine.{machine_of, opening}
-use Rattle.explaining.specs.Leading.{Leads}
+use Rattle.std.proofs.Common.{◌∙◌}
+use Rattle.device.specs.Machine.{machine_of}
 use Rattle.explaining.proofs.Schedules.{led_there, told_there, untold_there}
 use Rattle.explaining.proofs.Writing.{whole_there}
 use Rattle.explaining.proofs.explained.told_at.Goals as goal
@@ -9,19 +8,19 @@ pub returns-clause-told : goal.returns-clause-told
 returns-clause-told c =
     told_there c.args.options.configuration c.args.commands.now c.args.ticket c.args.fault.now c.args.schedule (machine_of c.perform_all.new.device) c.explain_case.result
     (led_there c.args.options.configuration c.args.commands.now c.in_ok-before.before.items c.args.ticket (machine_of c.new-device.result) (machine_of c.perform_all.new.device) c.new-device.ensures
-    (c.in_ok-before.ensures.first c.args.commands.now c.requires) c.in_ok-done.ensures)
+    (c.in_ok-before.ensures ∙ c.split_at.ensures.front) c.in_ok-done.ensures)
     c.explain_case.ensures.told
 
 pub returns-clause-whole : goal.returns-clause-whole
 returns-clause-whole c =
-    whole_there c.args.options.configuration c.args.options.as_given c.args.commands.now c.args.ticket c.args.fault.now c.args.schedule (machine_of c.perform_all.new.device) c.explain_case.result
+    whole_there c.args.options.configuration c.args.options.as_given c.args.given.script.now c.args.commands.now c.args.ticket c.args.fault.now c.args.schedule (machine_of c.perform_all.new.device) c.explain_case.result
     (led_there c.args.options.configuration c.args.commands.now c.in_ok-before.before.items c.args.ticket (machine_of c.new-device.result) (machine_of c.perform_all.new.device) c.new-device.ensures
-    (c.in_ok-before.ensures.first c.args.commands.now c.requires) c.in_ok-done.ensures)
+    (c.in_ok-before.ensures ∙ c.split_at.ensures.front) c.in_ok-done.ensures)
     c.explain_case.ensures.whole
 
 pub returns-clause-failed : goal.returns-clause-failed
 returns-clause-failed c =
-    untold_there c.args.options.configuration c.args.given.script.now c.args.commands.now c.args.ticket (machine_of c.perform_all.new.device) c.explain_case.result
+    untold_there c.args.options.configuration c.args.commands.now c.args.ticket (machine_of c.perform_all.new.device) c.explain_case.result
     (led_there c.args.options.configuration c.args.commands.now c.in_ok-before.before.items c.args.ticket (machine_of c.new-device.result) (machine_of c.perform_all.new.device) c.new-device.ensures
-    (c.in_ok-before.ensures.first c.args.commands.now c.requires) c.in_ok-done.ensures)
+    (c.in_ok-before.ensures ∙ c.split_at.ensures.front) c.in_ok-done.ensures)
     c.explain_case.ensures.failed

@@ -6,19 +6,19 @@ use Rattle.explaining.proofs.explained.told_in.Goals as goal
 pub returns-clause-explained : goal.returns-clause-explained
 returns-clause-explained c =
     explained c.args.options.configuration c.args.given.script.now c.args.schedule.now c.args.commands.now c.in_ok-number.number c.in_ok-number.fault c.in_ok-number.runs c.told_at.result
-    c.requires c.in_ok-number.ensures.found c.told_at.ensures.told
+    c.requires.script c.in_ok-number.ensures.found c.told_at.ensures.told
 
 pub returns-clause-failed : goal.returns-clause-failed
 returns-clause-failed c =
     unexplained c.args.options.configuration c.args.given.script.now c.args.schedule.now c.args.commands.now c.in_ok-number.number c.in_ok-number.fault c.in_ok-number.runs c.told_at.result
-    c.requires c.in_ok-number.ensures.found c.told_at.ensures.failed
+    c.requires.script c.in_ok-number.ensures.found c.told_at.ensures.failed
 
 pub returns-clause-whole : goal.returns-clause-whole
 returns-clause-whole c =
     whole_of c.args.options.configuration c.args.options.as_given c.args.given.script.now c.args.schedule.now c.args.commands.now c.in_ok-number.number c.in_ok-number.fault c.in_ok-number.runs c.told_at.result
-    c.requires c.in_ok-number.ensures.found c.told_at.ensures.whole
+    c.requires.script c.in_ok-number.ensures.found c.told_at.ensures.whole
 
 pub returns-then-number-commands-clause-failed : goal.returns-then-number-commands-clause-failed
 returns-then-number-commands-clause-failed c =
-    no_launch c.args.options.configuration c.args.given.script.now c.args.schedule.now c.args.commands.now c.in_ok-number.number c.in_ok-number.fault c.in_ok-number.runs c.requires
+    no_launch c.args.options.configuration c.args.given.script.now c.args.schedule.now c.args.commands.now c.in_ok-number.number c.in_ok-number.fault c.in_ok-number.runs c.requires.script
     c.in_ok-number.ensures.found (none_behind c.args.commands.now c.in_ok-number.number (omega (arith, c.if-number-commands.true)))
