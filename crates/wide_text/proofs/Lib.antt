@@ -1,0 +1,5 @@
+mod Asides
+mod Failing
+mod Floats
+mod Lines
+mod Runs
