@@ -9,7 +9,7 @@ pub place_of-place-requires-clause-placed : goal.place_of-place-requires-clause-
 place_of-place-requires-clause-placed c = record { at = refl; line = refl; few = omega arith; source_line = refl }
 
 pub place_of-place-requires-clause-onward : goal.place_of-place-requires-clause-onward
-place_of-place-requires-clause-onward c = omega (arith, rest_within c.args.bytes.now c.version_at-version.version [] c.version_at-version.lines.now (starts _ _ _ _ c.version_at-version.ensures refl))
+place_of-place-requires-clause-onward c = omega (arith, rest_within c.args.bytes.now c.version_at-version.result.0 [] c.version_at-version.result.1.now (starts _ _ _ _ c.version_at-version.ensures refl))
 
 pub loop-init : goal.loop-init
 loop-init c =
@@ -17,11 +17,11 @@ loop-init c =
     let empty : c.new-2.result.items ≡ [] = search rules in
     record { at = starts _ _ _ _ c.version_at-version.ensures none; count = ap length none; placed = none_at _ _ _ none empty; here = c.place_of-place.ensures }
 
-pub place_of-place-requires-2-clause-placed : goal.place_of-place-requires-2-clause-placed
-place_of-place-requires-2-clause-placed c = at_itself _ _ _ c.loop.invariant.here
+pub place_of-place-requires-in-loop-clause-placed : goal.place_of-place-requires-in-loop-clause-placed
+place_of-place-requires-in-loop-clause-placed c = at_itself _ _ _ c.loop.invariant.here
 
-pub place_of-place-requires-2-clause-onward : goal.place_of-place-requires-2-clause-onward
-place_of-place-requires-2-clause-onward c =
+pub place_of-place-requires-in-loop-clause-onward : goal.place_of-place-requires-in-loop-clause-onward
+place_of-place-requires-in-loop-clause-onward c =
     omega (arith, c.loop.invariant.here.at, takes_some _ c.loop.rest.now (command_of c.in-Some.line) c.in-Some.others.now (sym c.in-Some.ensures), rest_within c.args.bytes.now _ c.loop.script.commands.items c.loop.rest.now c.loop.invariant.at)
 
 pub loop-preserved : goal.loop-preserved
@@ -31,7 +31,7 @@ loop-preserved c = record {
   placed =
       rw (c.in_ok-add.ensures.command, c.in_ok-add.ensures.place)
       (one_more_at _ _ c.loop.script.commands.items c.loop.script.places.items c.loop.rest.now (command_of c.in-Some.line) c.in-Some.others.now c.loop.place c.loop.invariant.placed c.loop.invariant.at (sym c.in-Some.ensures) c.loop.invariant.here);
-  here = c.place_of-place-2.ensures;
+  here = c.place_of-place-in-loop.ensures;
 }
 
 pub returns-then-is_empty : goal.returns-then-is_empty
