@@ -12,9 +12,9 @@ mod performed;
 mod script;
 mod search;
 mod taint;
-mod walk;
+mod walks;
 
 pub use note::Note;
 pub use script::{WideScript, widen_script};
-pub use walk::walk;
+pub use walks::walk;
 pub use wide_launches::{Decision, Source, Why, Wide};

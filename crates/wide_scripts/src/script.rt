@@ -10,7 +10,7 @@ use crate::laws::walks_are_wide;
 use crate::note::Note;
 use crate::performed::{Performed, perform_all};
 use crate::search::free_commands;
-use crate::walk::{plain_walk, walk};
+use crate::walks::{plain_walk, walk};
 use device::{Command, Configuration, Reply};
 use std::alloc::{AllocError, Global};
 

@@ -9,8 +9,3 @@ pub returns-in-Ok : goal.returns-in-Ok
 returns-in-Ok c =
     IfOk-weaker c.launch_note.result _ _
     (λ n noted. prepared_noted (machine_of c.args.device.now) c.args.kernel.now c.args.range.now c.in-Ok.launch n c.in-Ok.ensures.prepared noted) c.launch_note.ensures
-
-pub returns-in-Err : goal.returns-in-Err
-returns-in-Err c =
-    refused_noted (machine_of c.args.device.now) c.args.kernel.now c.args.range.now c.in-Err.refusal c.in-Err.ensures.refused
-    (λ lack. false≢true (sym c.if-is_lack.false ∙ c.is_lack.ensures.1 lack))

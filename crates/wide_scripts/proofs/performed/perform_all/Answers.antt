@@ -25,10 +25,10 @@ loop-command-preserved c =
     record {
       split = c.loop-command.invariant.split ∙ (ap (λ l. c.loop-command.yielded ++ l) c.in-Some.ensures.steps.0 ∙ sym (append_assoc c.loop-command.yielded (c.in-Some.command ∷ []) (into_iter_items c.next.new.self)));
       led =
-          subst (λ (rs : List Reply). AreNoted start (c.loop-command.yielded ++ c.in-Some.command ∷ []) rs c.push-2.new.self.items (machine_of c.perform.new.device)) (sym c.in_ok-push.ensures.items)
-          (subst (λ (ns : List Note). AreNoted start (c.loop-command.yielded ++ c.in-Some.command ∷ []) (c.loop-command.replies.items ++ c.in_ok-perform.field-0.0 ∷ []) ns (machine_of c.perform.new.device)) (sym c.in_ok-push-2.ensures.items)
-          (noted_more start (machine_of c.loop-command.device) (machine_of c.perform.new.device) c.loop-command.yielded c.in-Some.command c.loop-command.replies.items c.in_ok-perform.field-0.0
-          c.loop-command.notes.items c.in_ok-perform.field-0.1 c.loop-command.invariant.led c.in_ok-perform.ensures.answers c.in_ok-perform.ensures.noted));
+          subst (λ (rs : List Reply). AreNoted start (c.loop-command.yielded ++ c.in-Some.command ∷ []) rs c.push-in-loop-command.new.self.items (machine_of c.perform.new.device)) (sym c.in_ok-push.ensures.items)
+          (subst (λ (ns : List Note). AreNoted start (c.loop-command.yielded ++ c.in-Some.command ∷ []) (c.loop-command.replies.items ++ c.in_ok-reply.reply ∷ []) ns (machine_of c.perform.new.device)) (sym c.in_ok-push-2.ensures.items)
+          (noted_more start (machine_of c.loop-command.device) (machine_of c.perform.new.device) c.loop-command.yielded c.in-Some.command c.loop-command.replies.items c.in_ok-reply.reply
+          c.loop-command.notes.items c.in_ok-reply.note c.loop-command.invariant.led c.in_ok-reply.ensures.answers c.in_ok-reply.ensures.noted));
     }
 
 pub returns : goal.returns

@@ -3,7 +3,7 @@ use Rattle.std.proofs.lemmas.List.{drop_more}
 use Rattle.spaces.specs.Tables.{Table}
 use Rattle.wide_scripts.specs.Notes.{Includes, IsWalk, behind, marked, no_taint}
 use Rattle.wide_scripts.proofs.Marks.{Goes, goes_more, goes_to_end}
-use Rattle.wide_scripts.proofs.walk.walk.Goals as goal
+use Rattle.wide_scripts.proofs.walks.walk.Goals as goal
 
 pub loop-place-init : goal.loop-place-init
 loop-place-init c =
