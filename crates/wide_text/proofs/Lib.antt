@@ -1,5 +1,5 @@
-mod Asides
+mod Beside
 mod Failing
 mod Floats
-mod Lines
+mod Flagged
 mod Runs

@@ -123,7 +123,10 @@ fn deciding_text(alloc: Global, deciding: &Deciding) -> Result<String, AllocErro
     if let Some(code) = &deciding.code {
         let (line, column, text) = (code.line, code.column, code.text.as_str());
         let script_line = code.script_line;
-        write!(out, " at {line}:{column}, line {script_line} of the script: {text}")?;
+        write!(
+            out,
+            " at {line}:{column}, line {script_line} of the script: {text}"
+        )?;
     }
     Ok(out)
 }

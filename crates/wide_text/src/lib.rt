@@ -11,10 +11,10 @@ mod asides;
 mod data;
 mod gathering;
 mod json;
-mod launches;
 mod lines;
 mod sources;
 mod text;
+mod told_launches;
 mod widened;
 
 pub use data::{Deciding, Format, FreeArgument, FreeBuffer, WideEnd, WideLaunch, WideReport};

@@ -114,7 +114,10 @@ fn condition_of(statement: &Statement) -> Option<&Expression> {
         | Statement::IfElse { condition, .. }
         | Statement::While { condition, .. }
         | Statement::DoWhile { condition, .. } => Some(condition),
-        Statement::For { condition: Some(condition), .. } => Some(condition),
+        Statement::For {
+            condition: Some(condition),
+            ..
+        } => Some(condition),
         _ => None,
     }
 }
@@ -204,9 +207,10 @@ impl<'a> Sources<'a> {
         };
         let program = function.program;
         let name = function.name.copied(self.alloc)?;
-        let (Some(Command::Program { source, .. }), Some(place)) =
-            (self.commands.get(program), self.places.get(program))
-        else {
+        let (Some(Command::Program { source, .. }), Some(place)) = (
+            self.commands.get(program),
+            self.places.get(program),
+        ) else {
             return Ok(None);
         };
         self.build_once(program, source.as_slice())?;

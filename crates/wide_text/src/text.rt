@@ -142,11 +142,7 @@ fn replies_text(
 /// A script's replies with what is told of them, as text: the line of each reply, and behind that of a launch lines that
 /// begin with two blanks; and a last line. The launches of the report are in the order of their commands. An error is
 /// out of memory.
-pub fn text_of(
-    alloc: Global,
-    replies: &[Reply],
-    report: &WideReport,
-) -> Result<Vec<u8>, AllocError>
+pub fn text_of(alloc: Global, replies: &[Reply], report: &WideReport) -> Result<Vec<u8>, AllocError>
     ensures { IfOk result (λ text. IsText replies.now report.now.clean report.now.free.items report.now.reads.items text.items) }
 {
     let mut out = replies_text(alloc, replies, report.launches.as_slice())?;

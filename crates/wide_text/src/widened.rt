@@ -11,9 +11,9 @@ ghost use Rattle.wide_text.specs.Widened.{IsReport, IsTold, IsWidened, Unwidened
 
 use crate::data::{Format, WideEnd, WideReport};
 use crate::json::json_of;
-use crate::launches::{Performed, launches_of};
 use crate::lines::lines_of;
 use crate::text::text_of;
+use crate::told_launches::{Performed, launches_of};
 use byte_io::{Write, WriteFailed};
 use device::{Configuration, Reply};
 use simfile::copies::copies_of;

@@ -1,6 +1,6 @@
 use Rattle.std.proofs.Common.{sym, subst}
 use Rattle.wide_text.specs.Told.{AreAsides}
-use Rattle.wide_text.proofs.Asides.{aside_more, no_asides}
+use Rattle.wide_text.proofs.Beside.{aside_more, no_asides}
 use Rattle.wide_text.proofs.asides.asides_of.Goals as goal
 
 pub loop-deciding-init : goal.loop-deciding-init

@@ -1,4 +1,4 @@
-use Rattle.wide_text.proofs.Lines.{Gathers}
+use Rattle.wide_text.proofs.Flagged.{Gathers}
 use Rattle.wide_text.proofs.lines.lines_of.Given as goal
 
 abbrev pub invariant-loop-number : goal.invariant-loop-number

@@ -2,7 +2,7 @@ use Rattle.std.proofs.Common.{◌≡◌, ◌+◌, ◌<◌, [], ◌∷◌, ◌++�
 use Rattle.std.proofs.lemmas.List.{take_all, take_more}
 use Rattle.host_commands.specs.declared.command.Reply.{Reply}
 use Rattle.wide_text.specs.Told.{AreReplies}
-use Rattle.wide_text.proofs.Asides.{reply_more}
+use Rattle.wide_text.proofs.Beside.{reply_more}
 use Rattle.wide_text.proofs.text.replies_text.Goals as goal
 
 pub loop-number-preserved : goal.loop-number-preserved
