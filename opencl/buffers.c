@@ -68,6 +68,7 @@ void drop_memory(cl_mem m) {
     cl_context c = m->context;
     cl_mem parent = m->parent;
     if (m->number) session_askf(c->session, "release b%u\n", m->number);
+    free_accesses(m->accesses);
     let_go(m);
     if (parent) {
         parent->uses--;
@@ -85,8 +86,7 @@ void end_memory(cl_mem m) {
     while (m->mappings) {
         mapping *map = m->mappings;
         m->mappings = map->next;
-        if (!m->host) free(map->at);
-        free(map);
+        leave_mapping(m, map);
     }
     free(m);
 }
@@ -242,25 +242,47 @@ CL_API_ENTRY cl_int CL_API_CALL clSetMemObjectDestructorCallback(cl_mem m, void(
 static bool no_reading(cl_mem m) { return (m->flags & (CL_MEM_HOST_NO_ACCESS | CL_MEM_HOST_WRITE_ONLY)) != 0; }
 static bool no_writing(cl_mem m) { return (m->flags & (CL_MEM_HOST_NO_ACCESS | CL_MEM_HOST_READ_ONLY)) != 0; }
 
+// ---- commands ----
+
+// Moves the bytes of a command: out of a buffer into the client's memory, from there into it, or into another one.
+static cl_int move_bytes(command *c) {
+    for (size_t n = 0; n < c->bytes.count; n++) {
+        size_t x = row_at(&c->bytes, n), y = row_at(&c->other, n), width = c->bytes.width;
+        cl_int fault;
+        if (c->into) fault = read_memory(c->memory, x, c->into + y, width);
+        else if (c->from) fault = error_of(write_memory(c->memory, x, c->from + y, width));
+        else fault = copy_memory(c->memory, x, c->target, y, width);
+        if (fault) return fault;
+    }
+    return CL_SUCCESS;
+}
+
 CL_API_ENTRY cl_int CL_API_CALL clEnqueueReadBuffer(cl_command_queue q, cl_mem m, cl_bool blocking, size_t offset,
                                                     size_t n, void *to, cl_uint wait_count, const cl_event *wait_list,
                                                     cl_event *event) {
     BEGIN;
-    (void)blocking;
     MEMBER(m);
     if (!to || !n || is_outside(m, offset, n)) return CL_INVALID_VALUE;
     if (no_reading(m)) return CL_INVALID_OPERATION;
-    return finish(&made, CL_COMMAND_READ_BUFFER, read_memory(m, offset, to, n), event);
+    SUBMIT(blocking, .type = CL_COMMAND_READ_BUFFER, .act = move_bytes, .memory = m, .accesses = LOADS,
+           .bytes = range_of(offset, n), .other = range_of(0, n), .into = to);
 }
 CL_API_ENTRY cl_int CL_API_CALL clEnqueueWriteBuffer(cl_command_queue q, cl_mem m, cl_bool blocking, size_t offset,
                                                      size_t n, const void *from, cl_uint wait_count,
                                                      const cl_event *wait_list, cl_event *event) {
     BEGIN;
-    (void)blocking;
     MEMBER(m);
     if (!from || !n || is_outside(m, offset, n)) return CL_INVALID_VALUE;
     if (no_writing(m)) return CL_INVALID_OPERATION;
-    return finish(&made, CL_COMMAND_WRITE_BUFFER, error_of(write_memory(m, offset, from, n)), event);
+    SUBMIT(blocking, .type = CL_COMMAND_WRITE_BUFFER, .act = move_bytes, .memory = m, .accesses = STORES,
+           .bytes = range_of(offset, n), .other = range_of(0, n), .from = from);
+}
+static cl_int do_fill(command *c) {
+    char hex[2 * sizeof c->pattern + 1] = "";
+    cl_mem m = c->memory;
+    put_digits(hex, c->pattern, c->other.width);
+    return error_of(session_askf(m->context->session, "fill b%u %zu %zu %s\n", whole_of(m)->number,
+                                 m->origin + c->bytes.first, c->bytes.width, hex));
 }
 CL_API_ENTRY cl_int CL_API_CALL clEnqueueFillBuffer(cl_command_queue q, cl_mem m, const void *pattern, size_t length,
                                                     size_t offset, size_t n, cl_uint wait_count,
@@ -270,11 +292,16 @@ CL_API_ENTRY cl_int CL_API_CALL clEnqueueFillBuffer(cl_command_queue q, cl_mem m
     if (!pattern || !length || length > 128 || (length & (length - 1)) || offset % length || n % length || !n ||
         is_outside(m, offset, n))
         return CL_INVALID_VALUE;
-    char hex[2 * 128 + 1] = "";
-    put_digits(hex, pattern, length);
-    const char *reply =
-        session_askf(q->context->session, "fill b%u %zu %zu %s\n", whole_of(m)->number, m->origin + offset, n, hex);
-    return finish(&made, CL_COMMAND_FILL_BUFFER, error_of(reply), event);
+    command c = {.queue = q,
+                 .queued = queued,
+                 .type = CL_COMMAND_FILL_BUFFER,
+                 .act = do_fill,
+                 .memory = m,
+                 .accesses = STORES,
+                 .bytes = range_of(offset, n),
+                 .other = range_of(0, length)};
+    memcpy(c.pattern, pattern, length);
+    return submit(&c, false, wait_count, wait_list, event);
 }
 CL_API_ENTRY cl_int CL_API_CALL clEnqueueCopyBuffer(cl_command_queue q, cl_mem m, cl_mem target, size_t offset,
                                                     size_t to, size_t n, cl_uint wait_count, const cl_event *wait_list,
@@ -283,18 +310,13 @@ CL_API_ENTRY cl_int CL_API_CALL clEnqueueCopyBuffer(cl_command_queue q, cl_mem m
     MEMBER(m);
     MEMBER(target);
     if (!n || is_outside(m, offset, n) || is_outside(target, to, n)) return CL_INVALID_VALUE;
-    return finish(&made, CL_COMMAND_COPY_BUFFER, copy_memory(m, offset, target, to, n), event);
+    rectangle from = range_of(offset, n), at = range_of(to, n);
+    if (whole_of(m) == whole_of(target) && overlap(m->origin, &from, target->origin, &at)) return CL_MEM_COPY_OVERLAP;
+    SUBMIT(false, .type = CL_COMMAND_COPY_BUFFER, .act = move_bytes, .memory = m, .accesses = LOADS, .target = target,
+           .bytes = from, .other = at);
 }
 
 // Rectangles go row by row.
-
-// A rectangle in a buffer or in the client's memory: `count` rows of `width` bytes, `rows` of them in each slice.
-typedef struct {
-    size_t first, width, rows, count, row, slice; // `row` and `slice` are from one to the next
-} rectangle;
-
-// The first byte of a row. They ascend, and rows have no byte in common.
-static size_t row_at(const rectangle *a, size_t n) { return a->first + n / a->rows * a->slice + n % a->rows * a->row; }
 
 // Takes a rectangle as a client gives it. False where rows would have bytes in common, or a number is too large.
 static bool take_rectangle(rectangle *a, const size_t *origin, const size_t *region, size_t row, size_t slice) {
@@ -314,48 +336,34 @@ static bool take_rectangle(rectangle *a, const size_t *origin, const size_t *reg
 }
 static bool leaves(cl_mem m, const rectangle *a) { return is_outside(m, row_at(a, a->count - 1), a->width); }
 
-// Whether two rectangles in parts of one buffer that begin somewhere have a byte in common (OpenCL 1.2, 5.2.2). Each
-// row is looked at once, since rows ascend.
-static bool overlap(size_t begin, const rectangle *a, size_t other_begin, const rectangle *b) {
-    for (size_t i = 0, j = 0; i < a->count && j < b->count;) {
-        size_t x = begin + row_at(a, i), y = other_begin + row_at(b, j);
-        if (x + a->width <= y) i++;
-        else if (y + b->width <= x) j++;
-        else return true;
-    }
-    return false;
-}
-
-// Reads into `to`, writes `from`, or copies into the buffer `target`. What is wrong is found before anything is done.
-static cl_int rect(cl_mem m, cl_mem target, const size_t *o, const size_t *p, const size_t *r, size_t row, size_t slice,
-                   size_t row2, size_t slice2, char *to, const char *from) {
-    rectangle a, b;
+// Takes the two rectangles of a command. What is wrong with them is found before anything is done (OpenCL 1.2, 5.2.2).
+static cl_int take_rectangles(command *c, const size_t *o, const size_t *p, const size_t *r, size_t row, size_t slice,
+                              size_t row2, size_t slice2) {
+    rectangle *a = &c->bytes, *b = &c->other;
+    cl_mem m = c->memory, target = c->target;
     if (!o || !p || !r || !r[0] || !r[1] || !r[2]) return CL_INVALID_VALUE;
-    if (!take_rectangle(&a, o, r, row, slice) || !take_rectangle(&b, p, r, row2, slice2)) return CL_INVALID_VALUE;
-    if (leaves(m, &a) || (target && leaves(target, &b))) return CL_INVALID_VALUE;
-    if (m == target && a.row != b.row && a.slice != b.slice) return CL_INVALID_VALUE;
-    if (target && whole_of(m) == whole_of(target) && overlap(m->origin, &a, target->origin, &b))
-        return CL_MEM_COPY_OVERLAP;
-    for (size_t n = 0; n < a.count; n++) {
-        size_t x = row_at(&a, n), y = row_at(&b, n);
-        cl_int fault;
-        if (to) fault = read_memory(m, x, to + y, a.width);
-        else if (from) fault = error_of(write_memory(m, x, from + y, a.width));
-        else fault = copy_memory(m, x, target, y, a.width);
-        if (fault) return fault;
-    }
-    return CL_SUCCESS;
+    if (!take_rectangle(a, o, r, row, slice) || !take_rectangle(b, p, r, row2, slice2)) return CL_INVALID_VALUE;
+    if (leaves(m, a) || (target && leaves(target, b))) return CL_INVALID_VALUE;
+    if (m == target && a->row != b->row && a->slice != b->slice) return CL_INVALID_VALUE;
+    bool is_one = target && whole_of(m) == whole_of(target);
+    return is_one && overlap(m->origin, a, target->origin, b) ? CL_MEM_COPY_OVERLAP : CL_SUCCESS;
 }
 CL_API_ENTRY cl_int CL_API_CALL clEnqueueReadBufferRect(cl_command_queue q, cl_mem m, cl_bool blocking, const size_t *o,
                                                         const size_t *h, const size_t *r, size_t row, size_t slice,
                                                         size_t hrow, size_t hslice, void *to, cl_uint wait_count,
                                                         const cl_event *wait_list, cl_event *event) {
     BEGIN;
-    (void)blocking;
     MEMBER(m);
     if (no_reading(m)) return CL_INVALID_OPERATION;
-    return finish(&made, CL_COMMAND_READ_BUFFER_RECT,
-                  to ? rect(m, NULL, o, h, r, row, slice, hrow, hslice, to, NULL) : CL_INVALID_VALUE, event);
+    command c = {.queue = q,
+                 .queued = queued,
+                 .type = CL_COMMAND_READ_BUFFER_RECT,
+                 .act = move_bytes,
+                 .memory = m,
+                 .accesses = LOADS,
+                 .into = to};
+    cl_int fault = to ? take_rectangles(&c, o, h, r, row, slice, hrow, hslice) : CL_INVALID_VALUE;
+    return fault ? fault : submit(&c, blocking, wait_count, wait_list, event);
 }
 CL_API_ENTRY cl_int CL_API_CALL clEnqueueWriteBufferRect(cl_command_queue q, cl_mem m, cl_bool blocking,
                                                          const size_t *o, const size_t *h, const size_t *r, size_t row,
@@ -363,11 +371,17 @@ CL_API_ENTRY cl_int CL_API_CALL clEnqueueWriteBufferRect(cl_command_queue q, cl_
                                                          cl_uint wait_count, const cl_event *wait_list,
                                                          cl_event *event) {
     BEGIN;
-    (void)blocking;
     MEMBER(m);
     if (no_writing(m)) return CL_INVALID_OPERATION;
-    return finish(&made, CL_COMMAND_WRITE_BUFFER_RECT,
-                  from ? rect(m, NULL, o, h, r, row, slice, hrow, hslice, NULL, from) : CL_INVALID_VALUE, event);
+    command c = {.queue = q,
+                 .queued = queued,
+                 .type = CL_COMMAND_WRITE_BUFFER_RECT,
+                 .act = move_bytes,
+                 .memory = m,
+                 .accesses = STORES,
+                 .from = from};
+    cl_int fault = from ? take_rectangles(&c, o, h, r, row, slice, hrow, hslice) : CL_INVALID_VALUE;
+    return fault ? fault : submit(&c, blocking, wait_count, wait_list, event);
 }
 CL_API_ENTRY cl_int CL_API_CALL clEnqueueCopyBufferRect(cl_command_queue q, cl_mem m, cl_mem target, const size_t *o,
                                                         const size_t *p, const size_t *r, size_t row, size_t slice,
@@ -376,8 +390,15 @@ CL_API_ENTRY cl_int CL_API_CALL clEnqueueCopyBufferRect(cl_command_queue q, cl_m
     BEGIN;
     MEMBER(m);
     MEMBER(target);
-    return finish(&made, CL_COMMAND_COPY_BUFFER_RECT, rect(m, target, o, p, r, row, slice, row2, slice2, NULL, NULL),
-                  event);
+    command c = {.queue = q,
+                 .queued = queued,
+                 .type = CL_COMMAND_COPY_BUFFER_RECT,
+                 .act = move_bytes,
+                 .memory = m,
+                 .target = target,
+                 .accesses = LOADS};
+    cl_int fault = take_rectangles(&c, o, p, r, row, slice, row2, slice2);
+    return fault ? fault : submit(&c, false, wait_count, wait_list, event);
 }
 
 // Whether a buffer may be mapped so (OpenCL 1.2, 5.2.3).
@@ -388,58 +409,93 @@ static cl_int judge_mapping(cl_mem m, cl_map_flags flags) {
     return (flags & CL_MAP_READ && no_reading(m)) || (writes && no_writing(m)) ? CL_INVALID_OPERATION : CL_SUCCESS;
 }
 
+void leave_mapping(cl_mem m, mapping *map) {
+    if (--map->uses) return;
+    if (!m->host) free(map->at);
+    free(map);
+}
+void keep_mapping(cl_mem m, mapping *map) {
+    map->next = m->mappings;
+    m->mappings = map;
+}
+// Takes a mapping from its buffer. False where it isn't there.
+static bool take_mapping(cl_mem m, mapping *map) {
+    for (mapping **link = &m->mappings; *link; link = &(*link)->next)
+        if (*link == map) {
+            *link = map->next;
+            return true;
+        }
+    return false;
+}
+static mapping *new_mapping(cl_mem m, cl_map_flags flags, size_t offset, size_t n) {
+    mapping *map = malloc(sizeof *map);
+    void *at = m->host ? (char *)m->host + offset : aligned_alloc(128, (n + 127) / 128 * 128);
+    if (!map || !at) {
+        free(map);
+        if (!m->host) free(at);
+        return NULL;
+    }
+    *map = (mapping){m->mappings, at, offset, n, flags, 1};
+    return m->mappings = map;
+}
+
 // A mapped region is a copy: it is filled at the mapping, and written back where it was mapped for writing.
 CL_API_ENTRY void *CL_API_CALL clEnqueueMapBuffer(cl_command_queue q, cl_mem m, cl_bool blocking, cl_map_flags flags,
                                                   size_t offset, size_t n, cl_uint wait_count,
                                                   const cl_event *wait_list, cl_event *event, cl_int *errcode) {
     LOCKED;
-    cl_ulong start = now();
-    (void)blocking;
     if (!is_a(q, QUEUE)) return fail(errcode, CL_INVALID_COMMAND_QUEUE);
     if (!is_a(m, MEMORY)) return fail(errcode, CL_INVALID_MEM_OBJECT);
     if (m->context != q->context) return fail(errcode, CL_INVALID_CONTEXT);
-    cl_int fault = waits(q->context, wait_count, wait_list);
+    cl_int fault = judge_waits(q->context, wait_count, wait_list);
     if (fault) return fail(errcode, fault);
     if (!n || is_outside(m, offset, n)) return fail(errcode, CL_INVALID_VALUE);
     fault = judge_mapping(m, flags);
     if (fault) return fail(errcode, fault);
-    __attribute__((cleanup(drop_made))) cl_event made = event ? begun_event(q, start) : NULL;
-    if (event && !made) return fail(errcode, CL_OUT_OF_HOST_MEMORY);
-    mapping *map = calloc(1, sizeof *map);
-    void *at = m->host ? (char *)m->host + offset : aligned_alloc(128, (n + 127) / 128 * 128);
-    if (!map || !at) {
-        free(map);
-        if (!m->host) free(at);
-        return fail(errcode, CL_MAP_FAILURE);
-    }
-    if (!(flags & CL_MAP_WRITE_INVALIDATE_REGION)) fault = read_memory(m, offset, at, n);
+    mapping *map = new_mapping(m, flags, offset, n);
+    if (!map) return fail(errcode, CL_MAP_FAILURE);
+    bool is_read = !(flags & CL_MAP_WRITE_INVALIDATE_REGION);
+    command c = {.queue = q,
+                 .queued = now(),
+                 .type = CL_COMMAND_MAP_BUFFER,
+                 .act = is_read ? move_bytes : NULL,
+                 .memory = m,
+                 .accesses = is_read ? LOADS : 0,
+                 .bytes = range_of(offset, n),
+                 .other = range_of(0, n),
+                 .into = map->at,
+                 .map = map};
+    fault = submit(&c, blocking, wait_count, wait_list, event);
     if (fault) {
-        free(map);
-        if (!m->host) free(at);
+        if (take_mapping(m, map)) leave_mapping(m, map);
         return fail(errcode, fault);
     }
-    *map = (mapping){m->mappings, at, offset, n, flags};
-    m->mappings = map;
-    finish(&made, CL_COMMAND_MAP_BUFFER, CL_SUCCESS, event);
     done(errcode);
-    return at;
+    return map->at;
 }
 CL_API_ENTRY cl_int CL_API_CALL clEnqueueUnmapMemObject(cl_command_queue q, cl_mem m, void *at, cl_uint wait_count,
                                                         const cl_event *wait_list, cl_event *event) {
     BEGIN;
     MEMBER(m);
-    mapping **link = &m->mappings;
-    while (*link && (*link)->at != at) link = &(*link)->next;
-    if (!*link) return CL_INVALID_VALUE;
-    mapping *map = *link;
-    if (map->flags & (CL_MAP_WRITE | CL_MAP_WRITE_INVALIDATE_REGION)) {
-        cl_int fault = error_of(write_memory(m, map->offset, at, map->size));
-        if (fault) return fault; // it stays mapped, so that what the client wrote isn't lost
-    }
-    *link = map->next;
-    if (!m->host) free(at);
-    free(map);
-    return finish(&made, CL_COMMAND_UNMAP_MEM_OBJECT, CL_SUCCESS, event);
+    mapping *map = m->mappings;
+    while (map && map->at != at) map = map->next;
+    if (!map) return CL_INVALID_VALUE;
+    bool is_written = map->flags & (CL_MAP_WRITE | CL_MAP_WRITE_INVALIDATE_REGION);
+    command c = {.queue = q,
+                 .queued = queued,
+                 .type = CL_COMMAND_UNMAP_MEM_OBJECT,
+                 .act = is_written ? move_bytes : NULL,
+                 .memory = m,
+                 .accesses = is_written ? STORES : 0,
+                 .bytes = range_of(map->offset, map->size),
+                 .other = range_of(0, map->size),
+                 .from = at,
+                 .map = map};
+    take_mapping(m, map);
+    cl_int fault = submit(&c, false, wait_count, wait_list, event);
+    if (fault) keep_mapping(m, map); // it stays mapped, so that what the client wrote isn't lost
+    else leave_mapping(m, map);
+    return fault;
 }
 CL_API_ENTRY cl_int CL_API_CALL clEnqueueMigrateMemObjects(cl_command_queue q, cl_uint n, const cl_mem *list,
                                                            cl_mem_migration_flags flags, cl_uint wait_count,
@@ -448,17 +504,17 @@ CL_API_ENTRY cl_int CL_API_CALL clEnqueueMigrateMemObjects(cl_command_queue q, c
     cl_mem_migration_flags known = CL_MIGRATE_MEM_OBJECT_HOST | CL_MIGRATE_MEM_OBJECT_CONTENT_UNDEFINED;
     if (!n || !list || flags & ~known) return CL_INVALID_VALUE;
     for (cl_uint i = 0; i < n; i++) MEMBER(list[i]);
-    return finish(&made, CL_COMMAND_MIGRATE_MEM_OBJECTS, CL_SUCCESS, event);
+    SUBMIT(false, .type = CL_COMMAND_MIGRATE_MEM_OBJECTS);
 }
 CL_API_ENTRY cl_int CL_API_CALL clEnqueueMarkerWithWaitList(cl_command_queue q, cl_uint wait_count,
                                                             const cl_event *wait_list, cl_event *event) {
     BEGIN;
-    return finish(&made, CL_COMMAND_MARKER, CL_SUCCESS, event);
+    SUBMIT(false, .type = CL_COMMAND_MARKER);
 }
 CL_API_ENTRY cl_int CL_API_CALL clEnqueueBarrierWithWaitList(cl_command_queue q, cl_uint wait_count,
                                                              const cl_event *wait_list, cl_event *event) {
     BEGIN;
-    return finish(&made, CL_COMMAND_BARRIER, CL_SUCCESS, event);
+    SUBMIT(false, .type = CL_COMMAND_BARRIER);
 }
 CL_API_ENTRY cl_int CL_API_CALL clEnqueueMarker(cl_command_queue q, cl_event *event) {
     return event ? clEnqueueMarkerWithWaitList(q, 0, NULL, event) : CL_INVALID_VALUE;

@@ -1,15 +1,20 @@
 // Faults in the client's terms.
 #define _GNU_SOURCE
+#include "accessed.h"
 #include "digits.h"
-#include "json.h"
-#include "objects.h"
 #include "reasons.h"
 #include <stdio.h>
 #include <stdlib.h>
 #include <string.h>
 #include <unistd.h>
 
-enum { MAX_ARGUMENTS = 65536, MOST_TOLD = 4096, MAX_EXPLAINED = 16, MAX_EXPLAINED_BYTES = 32 << 20 };
+enum {
+    MOST_COLUMNS = 400,
+    MAX_ARGUMENTS = 65536,
+    MOST_TOLD = 4096,
+    MAX_EXPLAINED = 16,
+    MAX_EXPLAINED_BYTES = 32 << 20
+};
 
 static unsigned faults;
 
@@ -43,6 +48,7 @@ void check_settings(void) {
 
 // With CLSIM_STATUS=N the process ends with status N where a launch faulted, whatever it answers itself.
 __attribute__((destructor)) static void end_process(void) {
+    tell_never_done();
     if (!faults) return;
     tell("%u launch%s faulted", faults, faults == 1 ? "" : "es");
     if (status_setting(-1) < 0) return;
@@ -85,16 +91,7 @@ static void tell_item(unsigned long item, const launch_sizes *s) {
 
 // ---- memory ----
 
-// Where in an object of memory a fault lies, as its line has it: at a byte, or at an element, which may be outside.
-typedef struct {
-    const char *name; // of the buffer or the local object
-    size_t length;    // of the name
-    bool is_local;
-    unsigned long group, byte;
-    const char *element; // its number as text, NULL where it is a byte
-} memory_place;
-
-// Reads it from a fault's line. False where the line has none.
+// Reads the place of a fault from its line. False where the line has none.
 static bool read_place(const char *line, memory_place *m) {
     const char *buffer = strstr(line, " buffer "), *local = strstr(line, " local ");
     bool is_local = local && (!buffer || local < buffer);
@@ -205,14 +202,78 @@ static size_t shown_length(const char *line) {
 }
 #define CUT " .. (the rest is cut: CLSIM_LOG=FILE has all of it)"
 
-// A fault's line without the element that none is, and the word for its kind.
-static void tell_held_back(const char *reply, const memory_place *m) {
-    const char *begin = strstr(reply, " item ");
-    const char *before = strstr(reply, " element " HELD_ELEMENT);
-    if (!begin || !before) return;
-    const char *behind = m->element + strlen(HELD_ELEMENT);
+// ---- the fault in words ----
+
+// What a work-item does by the kind of its access.
+static const char *deed_of(const char *kind, size_t n) {
+    static const char *const deeds[][2] = {{"load", "loads"}, {"store", "stores"}, {"fetch", "fetches"}};
+    for (size_t i = 0; i < sizeof deeds / sizeof *deeds; i++)
+        if (strlen(deeds[i][0]) == n && !strncmp(kind, deeds[i][0], n)) return deeds[i][1];
+    return "updates";
+}
+
+// The words behind ` item ` in a fault's line: `0 load`.
+static size_t put_deed(char *room, size_t n, const char *item) {
+    char *kind;
+    unsigned long number = strtoul(item, &kind, 10);
+    kind += *kind == ' ';
+    return (size_t)snprintf(room, n, "work-item %lu %s", number, deed_of(kind, strcspn(kind, " ")));
+}
+
+// What has happened, by a fault's number (docs/use/script.md).
+static void put_words(char *room, size_t n, unsigned fault, const char *first, const char *second) {
+    unsigned long item = strtoul(first, NULL, 10);
+    size_t at = 0;
+    switch (fault) {
+    case 1:
+    case 2:
+        at = put_deed(room, n, first);
+        at += (size_t)snprintf(room + at, n - at, ", and ");
+        at += put_deed(room + at, n - at, second);
+        snprintf(room + at, n - at, ", the same bytes%s", fault == 1 ? "" : ", and it shows which of them is first");
+        break;
+    case 3:
+        snprintf(room, n, "work-items %lu and %lu of a group don't meet at one barrier", item,
+                 strtoul(second, NULL, 10));
+        break;
+    case 4:
+        at = put_deed(room, n, first);
+        snprintf(room + at, n - at, " outside of an object");
+        if (strstr(first, " private ")) snprintf(room, n, "work-item %lu has an index outside of an array", item);
+        break;
+    case 5: snprintf(room, n, "work-item %lu reads what nobody has set", item); break;
+    case 6: snprintf(room, n, "work-item %lu divides by zero", item); break;
+    case 7: snprintf(room, n, "work-item %lu divides, and the quotient is outside of its type", item); break;
+    default: snprintf(room, n, "work-item %lu makes more accesses, barriers and turns than its budget", item);
+    }
+}
+
+// The first line: `fault 1 race: work-item 0 loads, and work-item 1 stores, the same bytes, in kernel f`.
+static void tell_words(cl_kernel k, const char *reply, bool is_held) {
+    char words[256] = "";
+    const char *first = strstr(reply, " item "), *second = first ? strstr(first + 1, " item ") : NULL;
+    unsigned fault = (unsigned)strtoul(reply + 6, NULL, 10);
+    if (!first) {
+        tell("%s", reply);
+        return;
+    }
+    if (is_held) {
+        size_t at = put_deed(words, sizeof words, first + 6);
+        snprintf(words + at, sizeof words - at, ", which the flags of the buffer forbid");
+    } else put_words(words, sizeof words, fault, first + 6, second ? second + 6 : first + 6);
+    if (is_held) tell("fault flags: %s, in kernel %s", words, k->form->name);
+    else tell("%.*s: %s, in kernel %s", (int)(first - reply), reply, words, k->form->name);
+}
+
+// The last line: the device's reply as it came, with the schedule, which is cut. Of a fault of flags without the
+// element that none is, and with the word for its kind.
+static void tell_reply(const char *reply, const memory_place *held) {
+    const char *begin = held ? strstr(reply, " item ") : reply, *behind = reply;
+    const char *before = held ? strstr(reply, " element " HELD_ELEMENT) : NULL;
+    if (held && before) behind = held->element + strlen(HELD_ELEMENT);
     size_t shown = shown_length(behind);
-    tell("fault flags%.*s%.*s%s", (int)(before - begin), begin, (int)shown, behind, behind[shown] ? CUT : "");
+    tell("  reply: %s%.*s%.*s%s", held ? "fault flags" : "", before ? (int)(before - begin) : 0, begin, (int)shown,
+         behind, behind[shown] ? CUT : "");
 }
 
 // Moves a place in the buffer to where it is in an argument that is a part of it. False where it lies outside of that.
@@ -359,6 +420,7 @@ static bool add_script(text *t, cl_kernel k, const launch_sizes *s) {
     for (unsigned i = 0; i < form->judged_count; i++)
         if (form->judged[i].kind == TABLE_PARAMETER)
             addf(t, "arg k%u %u buffer b%u\n", k->number, i, k->program->tables[form->judged[i].argument]);
+    add_printing(t, k, s);
     addf(t, "launch k%u", k->number);
     add_sizes(t, s);
     return true;
@@ -372,6 +434,22 @@ static bool tell_at(cl_kernel k, const char *words, json site) {
         json_number(json_member(site, "offset"), &offset) && place_of(k->source, k->form, offset, place, sizeof place);
     if (known) tell("%s at %s", words, place);
     return known;
+}
+
+// The client's line at a place, with a mark below it. (Of UTF-8 a character has one column of the mark.)
+static void tell_line(cl_kernel k, json site) {
+    unsigned long offset;
+    unsigned row, column;
+    char mark[MOST_COLUMNS + 2], line[MOST_COLUMNS + 1];
+    size_t n = 0;
+    if (!json_number(json_member(site, "offset"), &offset) ||
+        !line_at(k->source, k->form, offset, &row, &column, line, sizeof line) || column > strlen(line) + 1)
+        return;
+    for (size_t i = 0; i + 1 < column; i++)
+        if (((unsigned char)line[i] & 0xc0) != 0x80) mark[n++] = line[i] == '\t' ? '\t' : ' ';
+    mark[n++] = '^';
+    tell("    %5u | %s", row, line);
+    tell("          | %.*s", (int)n, mark);
 }
 
 // Tells the calls of the source that are judged in their places, the innermost first.
@@ -441,7 +519,7 @@ static void tell_loops(cl_kernel k, json spot) {
 }
 
 // Tells what an item of an explanation does, and where. One that has ended is told with its last access.
-static void tell_spot(cl_kernel k, json item) {
+static void tell_spot(cl_kernel k, const memory_place *m, json whole, json item) {
     unsigned long number;
     char does[32], words[96];
     if (!json_number(json_member(item, "item"), &number) || !json_word(json_member(item, "does"), does, sizeof does))
@@ -450,60 +528,54 @@ static void tell_spot(cl_kernel k, json item) {
     json spot = json_member(item, ended ? "last_access" : "spot");
     if (ended) {
         tell("  item %lu: has ended", number);
-        tell_at(k, "    its last access is", spot);
+        if (tell_at(k, "    its last access is", spot)) tell_line(k, spot);
     } else {
         snprintf(words, sizeof words, "  item %lu: %s", number, strcmp(does, "waits") ? does : "waits at the barrier");
-        if (!tell_at(k, words, spot)) tell("%s, its place isn't known", words);
+        if (tell_at(k, words, spot)) tell_line(k, spot);
+        else tell("%s, its place isn't known", words);
+        if (m) tell_accessed(k, m, whole, item);
     }
     tell_calls_in_place(k, spot);
     tell_calls(k, json_member(spot, "calls"));
     tell_loops(k, spot);
 }
 
-// Tells the items of an explanation, whose members docs/use/explain.md has, and why it is a fault.
-static void tell_spots(cl_kernel k, const char *explanation, bool has_reasons) {
-    json whole = json_text(explanation, strlen(explanation)), items = json_member(whole, "items");
-    unsigned long version;
-    if (json_number(json_member(whole, "version"), &version) && version != 2) return;
-    for (json i = json_first(items); i.at; i = json_next(items, i)) tell_spot(k, i);
-    if (has_reasons) tell_reasons(k->source, k->form, json_member(whole, "why"));
-}
-
-static void explain(cl_kernel k, const launch_sizes *s, bool has_reasons) {
+// The explanation of a fault, whose members docs/use/explain.md has; NULL for none. The caller frees it.
+static char *explanation_of(cl_kernel k, const launch_sizes *s) {
     static unsigned explained;
     arena a = {0};
     text script = {.arena = &a};
     const char *command = getenv("CLSIM_EXPLAIN");
-    if ((command && !*command) || explained == MAX_EXPLAINED) return;
+    unsigned long version;
+    if ((command && !*command) || explained == MAX_EXPLAINED) return NULL;
     explained++;
     if (setjmp(a.failed)) {
         free_arena(&a);
-        return;
+        return NULL;
     }
     session_record(k->context->session, false); // reading changes nothing
     bool whole = add_script(&script, k, s) && script.length <= MAX_EXPLAINED_BYTES;
     session_record(k->context->session, true);
     char *explanation = whole ? explain_script(script.at, script.length) : NULL;
-    if (explanation) tell_spots(k, explanation, has_reasons);
-    free(explanation);
     free_arena(&a);
+    json all = json_text(explanation ? explanation : "", explanation ? strlen(explanation) : 0);
+    if (!explanation || !json_number(json_member(all, "version"), &version) || version == 2) return explanation;
+    free(explanation);
+    return NULL;
 }
 
 // ---- the whole ----
 
-// Tells what a fault's line, which goes with the next command, means to the client.
-static void tell_fault(cl_kernel k, const char *reply, const launch_sizes *s) {
-    char global[80], local[80], *line = strdup(reply);
-    memory_place place;
+// Tells the launch, the memory and the ids of a fault's line.
+static void tell_launch(cl_kernel k, const char *line, const launch_sizes *s, const memory_place *m, bool is_held) {
+    char global[80], local[80];
     unsigned long last = 0;
     bool first = true;
-    if (!line) return;
     sizes_text(global, sizeof global, s->dimensions, s->global);
     sizes_text(local, sizeof local, s->dimensions, s->local);
     tell("  kernel %s, launch %u of its context, global size %s, local size %s", k->form->name, k->context->launches,
          global, local);
-    bool has_place = read_place(line, &place), is_held = has_place && is_held_back(&place);
-    if (has_place) (is_held ? tell_flags : place.is_local ? tell_local : tell_buffer)(k, &place);
+    if (m) (is_held ? tell_flags : m->is_local ? tell_local : tell_buffer)(k, m);
     tell_name(k, line);
     const char *schedule = strstr(line, " schedule ");
     for (const char *at = strstr(line, " item "); at && (!schedule || at < schedule); at = strstr(at + 1, " item ")) {
@@ -512,20 +584,34 @@ static void tell_fault(cl_kernel k, const char *reply, const launch_sizes *s) {
         first = false;
         last = item;
     }
-    explain(k, s, !is_held);
-    if (is_held) tell("  why: such an access of a buffer with this flag is undefined (OpenCL 1.2, table 5.3)");
+}
+
+// Tells what a fault's line, which goes with the next command, means to the client: in words, where it is in the
+// source, in which launch, memory and ids, why, and the line itself.
+static void tell_fault(cl_kernel k, const char *reply, const launch_sizes *s) {
+    char *line = strdup(reply);
+    memory_place place;
+    if (!line) {
+        tell("%.*s", (int)shown_length(reply), reply);
+        return;
+    }
+    bool has_place = read_place(line, &place), is_held = has_place && is_held_back(&place);
+    tell_words(k, line, is_held);
+    char *explanation = explanation_of(k, s);
+    json whole = json_text(explanation ? explanation : "", explanation ? strlen(explanation) : 0),
+         items = json_member(whole, "items");
+    for (json i = json_first(items); i.at; i = json_next(items, i)) tell_spot(k, has_place ? &place : NULL, whole, i);
+    tell_launch(k, line, s, has_place ? &place : NULL, is_held);
+    if (!is_held) tell_reasons(k->source, k->form, json_member(whole, "why"));
+    else tell("  why: such an access of a buffer with this flag is undefined (OpenCL 1.2, table 5.3)");
+    tell_reply(line, is_held ? &place : NULL);
+    free(explanation);
     call_back(k->context, line);
     free(line);
 }
 
 void report_fault(cl_kernel k, const char *reply, const launch_sizes *s) {
-    memory_place place;
     faults++;
-    if (read_place(reply, &place) && is_held_back(&place)) tell_held_back(reply, &place);
-    else {
-        size_t shown = shown_length(reply);
-        tell("%.*s%s", (int)shown, reply, reply[shown] ? CUT : "");
-    }
     tell_fault(k, reply, s);
     const char *then = setting("CLSIM_ON_FAULT");
     bool aborts = then && !strcmp(then, "abort"), exits = then && !strcmp(then, "exit");

@@ -7,7 +7,7 @@
 //   of them are the one buffer, of which an index reaches its part alone. Others are buffers of their own, into which
 //   the launch's bytes are copied, and back.
 // - An argument that is NULL is the null pointer.
-#include "objects.h"
+#include "widening.h"
 #include <stdlib.h>
 #include <string.h>
 
@@ -29,8 +29,7 @@ static unsigned char forbidden_by(cl_mem_flags flags) {
     return flags & CL_MEM_READ_ONLY ? STORES : flags & CL_MEM_WRITE_ONLY ? LOADS : 0;
 }
 
-// Which accesses by an argument a kernel may make, as far as that is known before it is translated.
-static unsigned char possible_accesses(const kernel_form *form, unsigned argument) {
+unsigned char possible_accesses(const kernel_form *form, unsigned argument) {
     const type *of = form->parameters[argument].type->of;
     if (form->accesses) return form->accesses[argument];
     return of->is_const || of->space == CONSTANT_SPACE ? LOADS : LOADS | STORES;
@@ -92,7 +91,7 @@ static cl_int make_form(cl_kernel k, struct held *h) {
 
 static void drop_form(cl_context c, struct held *h) {
     if (h->number) session_askf(c->session, "release p%u\n", h->number);
-    free_prepared(&h->source);
+    leave_source(&h->source);
     free(h->accesses);
     free(h);
 }
@@ -137,6 +136,7 @@ void drop_held_kernel(cl_kernel k) {
     cl_kernel held = k->held;
     if (!held) return;
     session_askf(k->context->session, "release k%u\n", held->number);
+    drop_printing(held);
     for (unsigned i = 0; i < held->form->count; i++) free(held->arguments[i].command);
     free(held->arguments);
     free(held);

@@ -1,4 +1,4 @@
-#include "objects.h"
+#include "widening.h"
 #include <stdint.h>
 #include <stdio.h>
 #include <stdlib.h>
@@ -86,6 +86,32 @@ static const char *ask_launch(cl_kernel k, const launch_sizes *s) {
 // again after those.
 #define FAULTED CL_INVALID_OPERATION
 
+// Does a launch, by the arguments that its kernel has now.
+static cl_int do_launch(command *c) {
+    cl_kernel k = c->kernel, launched;
+    cl_int fault = launched_kernel(k, &launched);
+    if (!fault) fault = copy_parts(k, launched, false);
+    if (!fault) fault = begin_printing(launched, &c->sizes);
+    if (fault) return fault;
+    const char *reply = ask_launch(launched, &c->sizes);
+    if (!reply) return CL_DEVICE_NOT_AVAILABLE;
+    bool is_clean = !strcmp(reply, "clean"), is_fault = !strncmp(reply, "fault ", 6);
+    if (is_clean || is_fault) note_launch(launched, reply);
+    if (is_clean) {
+        fault = copy_parts(k, launched, true);
+        return fault ? fault : end_printing(launched, &c->sizes);
+    }
+    if (!is_fault) {
+        refuse(k->context, "kernel %s: %s", k->form->name, reply);
+        return error_of(reply);
+    }
+    report_fault(launched, reply, &c->sizes);
+    const char *then = setting("CLSIM_ON_FAULT");
+    if (!then || strcmp(then, "go")) return FAULTED;
+    c->went = FAULTED;
+    return CL_SUCCESS;
+}
+
 // Launches a kernel by the call that the type of its event names.
 static cl_int launch(cl_command_queue q, cl_kernel k, cl_uint dimensions, const size_t *offset, const size_t *global,
                      const size_t *local, cl_command_type type, cl_uint wait_count, const cl_event *wait_list,
@@ -102,22 +128,7 @@ static cl_int launch(cl_command_queue q, cl_kernel k, cl_uint dimensions, const 
         }
     cl_int fault = take_sizes(k, &sizes, offset, global, local);
     if (fault) return fault;
-    cl_kernel launched;
-    fault = launched_kernel(k, &launched);
-    if (!fault) fault = copy_parts(k, launched, false);
-    if (fault) return fault;
-    const char *reply = ask_launch(launched, &sizes);
-    if (!reply) return CL_DEVICE_NOT_AVAILABLE;
-    if (!strcmp(reply, "clean")) return finish(&made, type, copy_parts(k, launched, true), event);
-    if (strncmp(reply, "fault ", 6)) {
-        refuse(q->context, "kernel %s: %s", k->form->name, reply);
-        return error_of(reply);
-    }
-    report_fault(launched, reply, &sizes);
-    const char *then = setting("CLSIM_ON_FAULT");
-    if (!then || strcmp(then, "go")) return FAULTED;
-    give_event(&made, type, FAULTED, event);
-    return CL_SUCCESS;
+    SUBMIT(false, .type = type, .act = do_launch, .kernel = k, .sizes = sizes);
 }
 CL_API_ENTRY cl_int CL_API_CALL clEnqueueNDRangeKernel(cl_command_queue q, cl_kernel k, cl_uint dimensions,
                                                        const size_t *offset, const size_t *global, const size_t *local,

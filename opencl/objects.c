@@ -87,6 +87,7 @@ typedef struct notice {
 
 static notice *notices, **notices_end = &notices; // in their order
 static cl_mem gone, *gone_end = &gone;
+static event_end *ended, **ended_end = &ended;
 
 void let_go(cl_mem m) {
     remove_living((object *)m);
@@ -105,13 +106,37 @@ void call_back(cl_context c, const char *line) {
     notices_end = &t->next;
 }
 
+void call_back_event(event_end *end) {
+    use_event(end->event);
+    see(end->event->context, &end->event->at);
+    end->next = NULL;
+    *ended_end = end;
+    ended_end = &end->next;
+}
+
+static void end_events(event_end *e) {
+    while (e) {
+        event_end *end = e;
+        cl_int status = end->event->status;
+        e = e->next;
+        end->call(end->event, status < 0 ? status : end->when, end->user);
+        lock();
+        leave_event(end->event);
+        free(end);
+        end_call();
+    }
+}
+
 void end_call(void) {
     notice *t = notices;
     cl_mem m = gone;
+    event_end *e = ended;
     notices = NULL;
     notices_end = &notices;
     gone = NULL;
     gone_end = &gone;
+    ended = NULL;
+    ended_end = &ended;
     unlock();
     while (t) {
         notice *said = t;
@@ -120,10 +145,11 @@ void end_call(void) {
         free(said);
     }
     while (m) {
-        cl_mem ended = m;
+        cl_mem last = m;
         m = m->next_gone;
-        end_memory(ended);
+        end_memory(last);
     }
+    end_events(e);
 }
 
 // ---- errors ----

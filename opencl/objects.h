@@ -1,12 +1,13 @@
 // The objects of OpenCL, and what all calls share: the lock, reference counts, errors, infos.
-// Each context is a session with a simulated device of its own. Commands are done as they are enqueued, in the order in
-// which the calls come.
+// Each context is a session with a simulated device of its own. A command is done when its call comes, unless it waits
+// for a user event: then it is done when that is set (commands.c).
 #ifndef CLSIM_OBJECTS_H
 #define CLSIM_OBJECTS_H
 #define CL_TARGET_OPENCL_VERSION 120
 #define CL_USE_DEPRECATED_OPENCL_1_0_APIS
 #define CL_USE_DEPRECATED_OPENCL_1_1_APIS
 #include "options.h"
+#include "order.h"
 #include "session.h"
 #include "source.h"
 #include <CL/cl.h>
@@ -15,6 +16,9 @@
 #ifndef CLSIM_OUTER
 #include "inner.h"
 #endif
+
+typedef struct kept_source kept_source;
+typedef struct noted_launch noted_launch;
 
 typedef enum { CONTEXT = 1, QUEUE, MEMORY, PROGRAM, KERNEL, EVENT } object_kind;
 
@@ -43,12 +47,25 @@ struct _cl_context {
     size_t property_count;
     void(CL_CALLBACK *notify)(const char *, const void *, size_t, void *);
     void *user;
+    // of CLSIM_WIDEN (widening.c)
+    noted_launch *noted, **noted_end; // its launches
+    kept_source *sources;             // that they were made by
+    bool lost_launches;               // memory was refused for one
+    // of its commands
+    unsigned commands;                  // how many were enqueued
+    unsigned waiting;                   // how many of them wait
+    struct command *ready, **ready_end; // those that have waited, in the order in which they are done
+    cl_ulong chains[CHAINS];            // how many commands each chain has
+    moment seen;                        // what calls have waited for
 };
 
 struct _cl_command_queue {
     HEAD;
     cl_context context;
     cl_command_queue_properties properties;
+    struct command *waiting, **waiting_end; // its commands that wait, in the order of their calls
+    cl_event last;                          // of the last one of them whose end all that is enqueued then waits for
+    moment done, fenced;                    // behind all that is done of it; behind its barriers
 };
 
 typedef struct mapping {
@@ -56,6 +73,7 @@ typedef struct mapping {
     void *at;
     size_t offset, size;
     cl_map_flags flags;
+    unsigned uses; // by its buffer, and by commands
 } mapping;
 typedef struct memory_end {
     struct memory_end *next;
@@ -73,6 +91,8 @@ struct _cl_mem {
     cl_mem_flags flags;
     void *host;
     mapping *mappings;
+    buffer_access
+        *accesses; // that commands made of its bytes, the last ones first; those of a sub-buffer are its buffer's
     memory_end *ends;
     cl_mem next_gone; // among those that go at the end of a call
 };
@@ -111,10 +131,13 @@ struct _cl_kernel {
     argument *arguments;
     cl_kernel held;                 // that is launched in its place, with the same arguments; NULL for none
     const unsigned char *held_back; // in such a one: which accesses, a set for each argument
+    unsigned print_number;          // of the buffer for printf of its last launch, 0 before
+    size_t print_words;             // that each work-item has in it
 };
 
 typedef struct event_end {
     struct event_end *next;
+    cl_event event;
     cl_int when;
     void(CL_CALLBACK *call)(cl_event, cl_int, void *);
     void *user;
@@ -126,8 +149,10 @@ struct _cl_event {
     cl_command_queue queue;
     cl_command_type type;
     cl_int status;
-    cl_ulong start, end;
+    cl_ulong queued, start, end;
+    moment at; // when it was done
     event_end *ends;
+    struct wait_link *waits, **waits_end; // of the commands that wait for it
 };
 
 extern struct _cl_icd_dispatch dispatch_table;
@@ -159,6 +184,8 @@ void let_go(cl_mem m);
 void end_memory(cl_mem m);
 // Leaves a line for the callback of a context, if it has one, to the end of the call.
 void call_back(cl_context c, const char *line);
+// Leaves the callback of an event to the end of the call.
+void call_back_event(event_end *end);
 // Lets an object go that has no reference and no use.
 void drop_context(cl_context c);
 void drop_queue(cl_command_queue q);
@@ -201,38 +228,92 @@ cl_int give_text(const char *s, size_t room, void *to, size_t *size);
         return give(&given_, sizeof given_, room, to, size); \
     } while (0)
 
-// ---- queues ----
-// The properties that a queue may have.
-cl_command_queue_properties queue_properties(void);
-
 // ---- commands ----
 cl_ulong now(void); // nanoseconds
-// What a wait list comes to: every command is done when its call returns, so it holds what is done, or a user event
-// that isn't.
-cl_int waits(cl_context c, cl_uint n, const cl_event *list);
-// The event of a command that begins, NULL where memory is refused. It is made before the command is done,
-// which is left undone then.
-cl_event begun_event(cl_command_queue q, cl_ulong start);
-// Lets an event go that wasn't handed out.
-void drop_made(cl_event *made);
-// The end of a command: hands out its event, if one is wanted, with what became of the command.
-void give_event(cl_event *made, cl_command_type type, cl_int status, cl_event *event);
-// The same of a command whose call answers a status, which has an event only where it is done.
-cl_int finish(cl_event *made, cl_command_type type, cl_int status, cl_event *event);
+
+typedef struct {
+    cl_uint dimensions;
+    size_t global[3], local[3], offset[3];
+    bool uniform;
+} launch_sizes;
+
+// That a command waits for an event.
+typedef struct wait_link {
+    struct wait_link *next; // for the same event
+    struct command *command;
+    bool is_listed; // in its wait list, so that it isn't done where the event stands for an error
+} wait_link;
+
+// What a call asks for. It is done in the call, or, where it waits for a user event, kept until that is set.
+typedef struct command {
+    cl_command_queue queue;
+    cl_command_type type;
+    cl_ulong queued;
+    cl_int (*act)(struct command *); // does it; NULL for nothing
+    cl_mem memory, target;           // of the second one a copy's
+    unsigned char accesses;          // of the bytes in `memory`
+    rectangle bytes, other;          // in `memory`, and in `target` or the client's memory
+    char *into;                      // the client's memory, to be written
+    const char *from;                // and to be read
+    unsigned char pattern[128];
+    mapping *map;
+    cl_kernel kernel;
+    launch_sizes sizes;
+    // what becomes of it
+    unsigned number; // in its context
+    cl_int went;     // with what its event ends where the call answers success (CLSIM_ON_FAULT=go)
+    unsigned chain;
+    moment after; // what it comes after, and itself
+    // where it waits
+    cl_event event;
+    unsigned awaited; // how many waits are left
+    bool is_failed;   // an event in its wait list stands for an error
+    bool is_done;
+    struct command *next_ready, *next, **link; // the next ones of its queue, and what leads to it
+    wait_link waits[];
+} command;
+
+// What a wait list comes to: an error, or CL_SUCCESS.
+cl_int judge_waits(cl_context c, cl_uint n, const cl_event *list);
+// Does a command, or keeps it until what it waits for has come. One that is blocking is done then. An event is handed
+// out, if one is wanted, where the answer is CL_SUCCESS; it is made before the command is done.
+cl_int submit(command *c, bool is_blocking, cl_uint n, const cl_event *list, cl_event *event);
 // What each command of a queue begins with.
 #define BEGIN \
     LOCKED; \
-    cl_ulong start = now(); \
+    cl_ulong queued = now(); \
     if (!is_a(q, QUEUE)) return CL_INVALID_COMMAND_QUEUE; \
-    cl_int waited = waits(q->context, wait_count, wait_list); \
-    if (waited) return waited; \
-    __attribute__((cleanup(drop_made))) cl_event made = event ? begun_event(q, start) : NULL; \
-    if (event && !made) return CL_OUT_OF_HOST_MEMORY
+    cl_int waited = judge_waits(q->context, wait_count, wait_list); \
+    if (waited) return waited
 #define MEMBER(m) \
     do { \
         if (!is_a(m, MEMORY)) return CL_INVALID_MEM_OBJECT; \
         if ((m)->context != q->context) return CL_INVALID_CONTEXT; \
     } while (0)
+#define SUBMIT(IS_BLOCKING, ...) \
+    do { \
+        command made_ = {.queue = q, .queued = queued, __VA_ARGS__}; \
+        return submit(&made_, IS_BLOCKING, wait_count, wait_list, event); \
+    } while (0)
+// Waits until a queue has nothing more that waits.
+void wait_for_queue(cl_command_queue q, const char *call);
+// Tells how many commands were never done.
+void tell_never_done(void);
+
+// ---- events ----
+// A new event, NULL where memory is refused.
+cl_event new_event(cl_context c, cl_command_queue q, cl_command_type type, cl_int status, cl_ulong start);
+// An event is used while a call has let the lock go, so that it stays when another thread releases it.
+void use_event(cl_event e);
+void leave_event(cl_event e);
+// Ends an event: its callbacks are left to the end of the call, and the commands that wait for it have one wait less.
+void end_event(cl_event e, cl_int status);
+// Does the commands of a context that have nothing more to wait for.
+void do_ready(cl_context c);
+// A call has waited for what a moment is behind: all that is enqueued from then on comes after it.
+static inline void see(cl_context c, const moment *m) { come_after(&c->seen, m); }
+// Lets other threads call for a while. That a call waits long is told once; the number counts its turns.
+void let_others(const char *call, unsigned *turns);
 
 // ---- buffers ----
 // The most bytes that a line `write` has (docs/use/script.md).
@@ -249,6 +330,10 @@ cl_int number_part(cl_mem m);
 enum { BASE_ALIGN = 128 };
 // The buffer that holds the bytes of a memory object: itself, or that of a sub-buffer.
 static inline cl_mem whole_of(cl_mem m) { return m->parent ? m->parent : m; }
+// Lets a mapping go by one use, and frees it by the last one.
+void leave_mapping(cl_mem m, mapping *map);
+// Gives a mapping that was to end back to its buffer.
+void keep_mapping(cl_mem m, mapping *map);
 
 // ---- programs ----
 // A new program, which the source belongs to from then on. NULL, and the source is freed, where memory is refused.
@@ -288,10 +373,25 @@ unsigned given_number(cl_kernel k, cl_uint argument, cl_mem m);
 const char *ask_commands(cl_kernel k, const char *commands);
 // Makes a kernel of the device, with its tables, by the number that it has.
 cl_int ask_kernel(cl_kernel k);
+// A kernel of the same form with the same arguments, whatever the client gives to the first one then.
+cl_int copy_kernel(cl_kernel k, cl_kernel *to);
+// Which accesses by an argument a kernel may make, as far as that is known.
+unsigned char possible_accesses(const kernel_form *form, unsigned argument);
 // The kernel that is launched: itself, or one that is written for its arguments.
 cl_int launched_kernel(cl_kernel k, cl_kernel *to);
 // Copies what the sub-buffers of a launch have into the buffers that its kernel is given, or back behind the launch.
 cl_int copy_parts(cl_kernel k, cl_kernel launched, bool is_back);
+
+// ---- printing ----
+// Gives a kernel that calls printf the buffer for a launch.
+cl_int begin_printing(cl_kernel k, const launch_sizes *sizes);
+// Writes on standard output what printf wrote in a launch that was clean.
+cl_int end_printing(cl_kernel k, const launch_sizes *sizes);
+// How many bytes that buffer may have.
+size_t printing_bytes(void);
+// The same buffer in a script of the launch.
+void add_printing(text *t, cl_kernel k, const launch_sizes *sizes);
+void drop_printing(cl_kernel k);
 // Releases what was made for that.
 void drop_held_kernel(cl_kernel k);
 void drop_held_forms(cl_program p);
@@ -299,11 +399,6 @@ void drop_held_forms(cl_program p);
 cl_ulong local_bytes(cl_kernel k, const local_object *l);
 
 // ---- faults ----
-typedef struct {
-    cl_uint dimensions;
-    size_t global[3], local[3], offset[3];
-    bool uniform;
-} launch_sizes;
 // Sizes as a launch has them, with commas.
 void sizes_text(char *room, size_t n, cl_uint dimensions, const size_t *sizes);
 // Tells each setting whose value isn't known; it is as if it weren't set.

@@ -136,7 +136,8 @@ CL_API_ENTRY cl_int CL_API_CALL clGetDeviceInfo(cl_device_id d, cl_device_info n
     case CL_DEVICE_COMPILER_AVAILABLE:
     case CL_DEVICE_LINKER_AVAILABLE: GIVE(cl_bool, CL_TRUE);
     case CL_DEVICE_EXECUTION_CAPABILITIES: GIVE(cl_device_exec_capabilities, CL_EXEC_KERNEL);
-    case CL_DEVICE_QUEUE_PROPERTIES: GIVE(cl_command_queue_properties, queue_properties());
+    case CL_DEVICE_QUEUE_PROPERTIES:
+        GIVE(cl_command_queue_properties, CL_QUEUE_PROFILING_ENABLE | CL_QUEUE_OUT_OF_ORDER_EXEC_MODE_ENABLE);
     case CL_DEVICE_BUILT_IN_KERNELS: return give_text("", room, to, size);
     case CL_DEVICE_PLATFORM: GIVE(cl_platform_id, &the_platform);
     case CL_DEVICE_NAME: return give_text("Clsim", room, to, size);
@@ -146,7 +147,7 @@ CL_API_ENTRY cl_int CL_API_CALL clGetDeviceInfo(cl_device_id d, cl_device_info n
     case CL_DEVICE_VERSION: return give_text("OpenCL 1.2 Clsim", room, to, size);
     case CL_DEVICE_OPENCL_C_VERSION: return give_text("OpenCL C 1.2 Clsim", room, to, size);
     case CL_DEVICE_EXTENSIONS: return give_text(EXTENSIONS, room, to, size);
-    case CL_DEVICE_PRINTF_BUFFER_SIZE: GIVE(size_t, 0);
+    case CL_DEVICE_PRINTF_BUFFER_SIZE: GIVE(size_t, printing_bytes());
     case CL_DEVICE_PREFERRED_INTEROP_USER_SYNC: GIVE(cl_bool, CL_TRUE);
     case CL_DEVICE_PARENT_DEVICE: GIVE(cl_device_id, NULL);
     case CL_DEVICE_PARTITION_MAX_SUB_DEVICES: GIVE(cl_uint, 0);

@@ -1,4 +1,4 @@
-#include "objects.h"
+#include "widening.h"
 #include <inttypes.h>
 #include <stdio.h>
 #include <stdlib.h>
@@ -15,7 +15,7 @@ void release_built(cl_program p) {
     for (unsigned i = 0; p->tables && i < p->form.table_count; i++) session_askf(s, "release b%u\n", p->tables[i]);
     free(p->tables);
     free(p->numbers);
-    free_prepared(&p->form);
+    leave_source(&p->form);
     free(p->options);
     p->numbers = NULL;
     p->count = 0;
@@ -330,6 +330,7 @@ void drop_kernel(cl_kernel k) {
     cl_program p = k->program;
     drop_held_kernel(k);
     session_askf(c->session, "release k%u\n", k->number);
+    drop_printing(k);
     for (unsigned i = 0; i < k->form->count; i++) {
         free(k->arguments[i].command);
         free(k->arguments[i].value);
@@ -435,7 +436,7 @@ static void add_commands(text *commands, cl_kernel k, cl_uint argument, size_t n
     add(commands, "");
     for (unsigned i = 0; i < k->form->judged_count; i++) {
         const judged_parameter *q = &k->form->judged[i];
-        if (q->kind == TABLE_PARAMETER || q->argument != argument) continue;
+        if (q->kind == TABLE_PARAMETER || q->kind >= PRINT_PARAMETER || q->argument != argument) continue;
         if (q->kind == VALUE_PARAMETER) add_value(commands, k, i, q, value);
         else if (q->kind == ORIGIN_PARAMETER) addf(commands, "arg k%u %u value %zu\n", k->number, i, m->origin);
         else if (q->kind == SIZE_PARAMETER) addf(commands, "arg k%u %u value %zu\n", k->number, i, m->size);
@@ -543,6 +544,33 @@ char *commands_of(cl_kernel k, cl_uint index, size_t n, const void *value, cl_me
     char *kept = strdup(commands.at);
     free_arena(&a);
     return kept;
+}
+
+// Gives a copy the argument that its kernel has.
+static cl_int copy_argument(cl_kernel copy, cl_uint i, const argument *a) {
+    if (a->is_null) return give_null(copy, i);
+    size_t n = a->value ? copy->form->parameters[i].type->size : a->local;
+    char *commands = commands_of(copy, i, n, a->value, a->memory);
+    void *value = a->value && commands ? malloc(n + 1) : NULL;
+    if (!commands || (a->value && !value)) {
+        free(commands);
+        return CL_OUT_OF_HOST_MEMORY;
+    }
+    if (value) memcpy(value, a->value, n);
+    return give_commands(copy, i, commands, value, a->memory, a->local);
+}
+
+cl_int copy_kernel(cl_kernel k, cl_kernel *to) {
+    cl_int fault;
+    cl_kernel copy = new_kernel(k->program, k->form, &fault);
+    for (cl_uint i = 0; !fault && i < k->form->count; i++) fault = copy_argument(copy, i, &k->arguments[i]);
+    if (copy && fault) {
+        copy->references = 0;
+        drop_kernel(copy);
+        return fault;
+    }
+    *to = copy;
+    return fault;
 }
 
 CL_API_ENTRY cl_int CL_API_CALL clSetKernelArg(cl_kernel k, cl_uint index, size_t n, const void *value) {

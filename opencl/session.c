@@ -177,11 +177,21 @@ static bool serve_command(char *room, size_t n) {
     return put > 0 && (size_t)put < n;
 }
 
+bool widens(void) {
+    const char *wanted = setting("CLSIM_WIDEN");
+    return wanted && strcmp(wanted, "0");
+}
+
+// The recorded script: a file, or where only `clsim widen` needs it, memory.
 static FILE *open_record(void) {
     static int number;
     const char *record = setting("CLSIM_SCRIPT");
     char path[COMMAND_ROOM];
-    if (!record) return NULL;
+    if (!record && !widens()) return NULL;
+    if (!record) {
+        int fd = memfd_create("clsim", MFD_CLOEXEC);
+        return fd < 0 ? NULL : fdopen(fd, "wb");
+    }
     snprintf(path, sizeof path, number ? "%s.%d" : "%s", record, number);
     number++;
     FILE *file = fopen(path, "wbe");
@@ -353,17 +363,18 @@ void session_record(session *s, bool on) { s->recording = on; }
 
 // ---- explanations ----
 
-// The command: $CLSIM_EXPLAIN, or that of `serve` with `explain` in place of its last word.
-static bool explain_command(char *room, size_t n, const char *file) {
-    const char *command = getenv("CLSIM_EXPLAIN"), *serve = setting("CLSIM_SERVE");
-    char base[COMMAND_ROOM] = "clsim explain", options[COMMAND_ROOM];
+// A command on a file that writes JSON: one that is given, or that of `serve` with a word in place of its last one.
+static bool command_on(char *room, size_t n, const char *command, const char *word, const char *file) {
+    const char *serve = setting("CLSIM_SERVE");
+    char base[COMMAND_ROOM], options[COMMAND_ROOM];
+    snprintf(base, sizeof base, "clsim %s", word);
     if (command) {
         if (!*command) return false;
         snprintf(base, sizeof base, "%s", command);
     } else if (serve) {
         size_t length = strlen(serve);
         if (length < 6 || strcmp(serve + length - 6, " serve") || length + 2 >= sizeof base) return false;
-        snprintf(base, sizeof base, "%.*s explain", (int)(length - 6), serve);
+        snprintf(base, sizeof base, "%.*s %s", (int)(length - 6), serve, word);
     }
     put_options(options, sizeof options, base);
     int put = snprintf(room, n, "%s %s --format json%s", base, file, options);
@@ -406,8 +417,9 @@ static bool start_explaining(char *command, int nothing, int out, pid_t *child) 
     return !fault;
 }
 
-// What a command writes, NULL where it can't be started, fails, or memory is refused.
-static char *explanation_by(char *command, int nothing) {
+// What a command writes, NULL where it can't be started, fails, or memory is refused. (One that gives a verdict ends
+// with 1 where that is a fault.)
+static char *written_by(char *command, int nothing, bool is_verdict) {
     int ends[2], status = 0;
     pid_t child, ended;
     char *read = NULL;
@@ -419,7 +431,8 @@ static char *explanation_by(char *command, int nothing) {
     if (!started) return NULL;
     while ((ended = waitpid(child, &status, 0)) < 0 && errno == EINTR) {}
     // (a client that ignores the ends of its children took the status along)
-    if (ended < 0 || !status) return read;
+    bool has_ended = ended < 0 || (WIFEXITED(status) && WEXITSTATUS(status) <= (is_verdict ? 1 : 0));
+    if (has_ended) return read;
     free(read);
     return NULL;
 }
@@ -428,10 +441,22 @@ char *explain_script(const char *script, size_t length) {
     char path[64], command[COMMAND_ROOM], *read = NULL;
     int fd = memfd_create("clsim", MFD_CLOEXEC), nothing = open("/dev/null", O_RDONLY | O_CLOEXEC);
     snprintf(path, sizeof path, "/proc/%ld/fd/%d", (long)getpid(), fd);
-    if (script && fd >= 0 && nothing >= 0 && explain_command(command, sizeof command, path) &&
+    if (script && fd >= 0 && nothing >= 0 &&
+        command_on(command, sizeof command, getenv("CLSIM_EXPLAIN"), "explain", path) &&
         write(fd, script, length) == (ssize_t)length)
-        read = explanation_by(command, nothing);
+        read = written_by(command, nothing, false);
     if (fd >= 0) close(fd);
+    if (nothing >= 0) close(nothing);
+    return read;
+}
+
+char *widen_session(session *s) {
+    char path[64], command[COMMAND_ROOM], *read = NULL;
+    int nothing = open("/dev/null", O_RDONLY | O_CLOEXEC);
+    if (s->record && nothing >= 0 && getpid() == s->owner) {
+        snprintf(path, sizeof path, "/proc/%ld/fd/%d", (long)getpid(), fileno(s->record));
+        if (command_on(command, sizeof command, NULL, "widen", path)) read = written_by(command, nothing, true);
+    }
     if (nothing >= 0) close(nothing);
     return read;
 }

@@ -22,6 +22,11 @@ void session_record(session *s, bool on);
 // it.
 char *explain_script(const char *script, size_t length);
 
+// Whether `clsim widen` is asked for (CLSIM_WIDEN).
+bool widens(void);
+// Runs `clsim widen` on all commands of a session so far. What it wrote, NULL where it didn't; the caller frees it.
+char *widen_session(session *s);
+
 // What a device allows (docs/use/script.md, "Limits"; OpenCL 1.2, table 4.3). The numbers are Clsim's.
 typedef struct {
     const char *name;    // the word behind `--limits`

@@ -38,16 +38,16 @@ static const char *text_of(const prepared *p, const char *name) {
 }
 
 // The client's line at a place; NULL where it isn't found.
-static const char *line_of(prepared *p, const place *at) {
+static const char *line_of(const prepared *p, arena *a, const place *at) {
     const char *whole = text_of(p, at->file);
-    if (!whole) return file_line(&p->arena, at->file, at->line);
+    if (!whole) return file_line(a, at->file, at->line);
     const char *line = start_of_line(whole, at->line);
-    return line ? copy_text(&p->arena, line, strcspn(line, "\n")) : NULL;
+    return line ? copy_text(a, line, strcspn(line, "\r\n")) : NULL;
 }
 
 // A message in clang's form, with the line and a caret under the place.
 static void add_message(prepared *p, text *log, const place *at, const char *message) {
-    const char *line = at->line ? line_of(p, at) : NULL;
+    const char *line = at->line ? line_of(p, &p->arena, at) : NULL;
     addf(log, "%s:%u:%u: error: %s\n", at->file, at->line, at->column, message);
     if (!line) return;
     addf(log, "%s\n", line);
@@ -99,6 +99,24 @@ bool place_of(const prepared *p, const kernel_form *k, size_t offset, char *room
     return true;
 }
 
+bool line_at(const prepared *p, const kernel_form *k, size_t offset, unsigned *row, unsigned *column, char *room,
+             size_t n) {
+    arena a = {0};
+    place at;
+    if (offset >= k->length || !find_place(p, k->begin + offset, &at) || !at.line) return false;
+    if (setjmp(a.failed)) {
+        free_arena(&a);
+        return false;
+    }
+    const char *line = line_of(p, &a, &at);
+    bool fits = line && at.column && strlen(line) < n;
+    if (fits) memcpy(room, line, strlen(line) + 1);
+    *row = at.line;
+    *column = at.column;
+    free_arena(&a);
+    return fits;
+}
+
 void put_place(char *room, size_t n, const place *at) { snprintf(room, n, "%s:%u:%u", at->file, at->line, at->column); }
 
 const call_site *calls_round(const prepared *p, size_t offset) {
@@ -140,6 +158,22 @@ void put_part(char *room, size_t n, const type *type, uint64_t offset) {
         offset %= type->of->size;
         type = type->of;
     }
+}
+
+const type *number_at(const type *type, uint64_t offset) {
+    while (type->kind == RECORD_TYPE || type->kind == ARRAY_TYPE || type->kind == VECTOR_TYPE) {
+        if (type->kind == RECORD_TYPE) {
+            const field *f = field_at(type->record, offset);
+            if (!f) return NULL;
+            offset -= f->offset;
+            type = f->type;
+        } else {
+            if (!type->of->size) return NULL;
+            offset %= type->of->size;
+            type = type->of;
+        }
+    }
+    return (type->kind == INTEGER_TYPE || type->kind == FLOATING_TYPE) && !offset ? type : NULL;
 }
 
 // ---- what a refusal means ----
@@ -241,6 +275,8 @@ static void list_kernel(arena *a, const prepared *p, kernel_form *k, const judge
                        .length = judged->length,
                        .function = f,
                        .accesses = judged->accesses,
+                       .printed = judged->printed,
+                       .printed_count = judged->printed_count,
                        .lines = lines_in(p->text + judged->begin, judged->length)};
     for (unsigned i = 0; i < f->part_count; i++) {
         const node *q = f->parts[i];

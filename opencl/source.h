@@ -28,6 +28,8 @@ typedef struct {
     const char *attributes;        // those of its function, with a space between each two
     const node *function;          // NULL where it is judged as it is
     const unsigned char *accesses; // of each argument: which accesses of its buffer are written; NULL where unknown
+    const printed_call *printed;   // its calls of printf, by their numbers from 1 on
+    unsigned printed_count;
 } kernel_form;
 
 typedef struct {
@@ -48,6 +50,7 @@ typedef struct {
     const tree *tree;        // NULL where it is judged as it is
     unsigned *table_numbers; // as in `judged_source`
     unsigned table_room;
+    struct kept_source *kept; // that launches by it are noted (widening.c); NULL for none
 } prepared;
 
 typedef enum { PREPARED, NOT_PREPARED, NO_MEMORY } preparation;
@@ -70,6 +73,9 @@ const char *build_log(prepared *p, size_t begin, const char *reply);
 // Where a byte of the program of a kernel comes from, as FILE:LINE:COLUMN; false where that isn't known, or there is no
 // such byte.
 bool place_of(const prepared *p, const kernel_form *k, size_t offset, char *room, size_t n);
+// The client's line there with its row and column; false too where it has no room.
+bool line_at(const prepared *p, const kernel_form *k, size_t offset, unsigned *row, unsigned *column, char *room,
+             size_t n);
 // The calls of the source round a byte, which are judged in their places; NULL for none.
 const call_site *calls_round(const prepared *p, size_t offset);
 void put_place(char *room, size_t n, const place *at);
@@ -81,4 +87,6 @@ bool is_of_turn_before(const prepared *p, size_t offset, size_t loop);
 const char *shown_as(const kernel_form *k, const char *name, size_t length);
 // An object's part at a byte as the source names it behind the object's name: `[3].x`.
 void put_part(char *room, size_t n, const type *type, uint64_t offset);
+// The number that begins at a byte of an object of a type; NULL for none.
+const type *number_at(const type *type, uint64_t offset);
 #endif

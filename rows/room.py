@@ -42,9 +42,9 @@ ASKED = [
 
 # what is told on standard error
 TOLD = [
-    ("run MISSING", "", "clsim: cannot read MISSING\n"),
+    ("run MISSING", "", "clsim: cannot read MISSING\nclsim: No such file or directory (os error 2)\n"),
     ("run FILE", "buffer a\n", "clsim: line 1: bad line\n"),
-    ("check FOLDER", "", "clsim: cannot read FOLDER\n"),
+    ("check FOLDER", "", "clsim: cannot read FOLDER\nclsim: Is a directory (os error 21)\n"),
     ("dump FILE g", STORE, "clsim: no such kernel\n"),
 ]
 
@@ -67,7 +67,7 @@ def cut(asked, text, whole, room, end="ROOM"):
     """The row of an output that takes some bytes of the whole, and fails."""
     title = f"{asked} of {text.splitlines()[0][:80]}: {end} for {room} bytes of {len(whole)}"
     return dict(title=title, text=text, schedule=schedule_of(asked), output=whole[:room],
-                error="clsim: cannot write\n", status=2, command=f"clsim {asked} > {end} {room}")
+                error="" if end == "PIPE" else "clsim: cannot write\n", status=2, command=f"clsim {asked} > {end} {room}")
 
 
 def schedules():

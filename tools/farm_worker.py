@@ -1,11 +1,13 @@
 #!/usr/bin/env python3
 """Judges scripts one after another in the folder of a farm's results, as an engine of tools/farm calls it.
 
-    farm_worker.py judge|chunk SECONDS MEMORY WORKERS BUDGET LIMITS KEY..
+    farm_worker.py judge|queue|chunk SECONDS MEMORY WORKERS BUDGET LIMITS [KEY..]
 
-`judge` judges the scripts of keys and writes a result of each, `chunk` those of chunks, whose results go into one file.
-SECONDS and MEMORY (MB, 0 for no limit) are of each script, the others the options of the program (BUDGET is - for its
-own). It loads few modules, and starts programs without copying itself, since a small script takes few milliseconds.
+`judge` judges the scripts of keys, `queue` those of the keys that stand in the pipe at standard input, from which other
+workers take theirs meanwhile, and `chunk` those of chunks, which hold their texts. The result of each script is a line
+of JSON, in a file of this worker's own; one of `chunk` is there whole or not at all. SECONDS and MEMORY (MB, 0 for no
+limit) are of each script, the others the options of the program (BUDGET is - for its own). A small script takes few
+milliseconds: so the worker loads few modules, starts programs without copying itself, and makes no file for a script.
 Status 0, or 2 with a line on standard error.
 """
 import json
@@ -18,19 +20,23 @@ import time
 PASSED, FAULTY = "clean", "fault"
 # How long a program has run when its memory is looked at first, and how long is waited for each look behind it.
 FIRST_LOOK, NEXT_LOOK = 0.02, 0.1
+# The bytes of a key and a line feed, and how much of outputs is kept.
+KEY_LINE, MOST_KEPT = 25, 1 << 20
 
 
-def write_whole(path, text):
-    """Writes a file, whole or not at all; a machine that stops may leave an empty one, which counts as none."""
-    new = f"{path}.{os.getpid()}.new"
-    try:
-        with open(new, "w", encoding="utf-8") as file:
-            file.write(text)
-        os.replace(new, path)
-    except OSError:
-        if os.path.exists(new):
-            os.remove(new)
-        raise
+class Results:
+    """The file of a worker's results, a line of JSON each. A line that isn't whole counts as none."""
+
+    def __init__(self, path):
+        self.path, self.file = path, None
+
+    def add(self, result):
+        """Adds a result at once, so that what is judged stays where the worker ends."""
+        if self.file is None:
+            self.file = os.open(self.path, os.O_WRONLY | os.O_CREAT | os.O_APPEND, 0o644)
+        left = (json.dumps(result) + "\n").encode()
+        while left:
+            left = left[os.write(self.file, left) :]
 
 
 class Options:
@@ -56,7 +62,10 @@ class Program:
     def __init__(self, options):
         self.options, self.number, self.late, self.peak = options, 0, False, 0
         self.outputs = [os.memfd_create(name) for name in ("said", "told")]
-        self.nothing = os.open("/dev/null", os.O_RDONLY)
+        self.begins, self.own = [0, 0], peak_of("self")
+        self.moves = [(os.POSIX_SPAWN_DUP2, os.open("/dev/null", os.O_RDONLY), 0)]
+        self.moves += [(os.POSIX_SPAWN_DUP2, file, to) for to, file in enumerate(self.outputs, 1)]
+        self.environment = dict(os.environb)
         resource.setrlimit(resource.RLIMIT_CORE, (0, 0))
         signal.signal(signal.SIGALRM, self.look)
 
@@ -72,22 +81,22 @@ class Program:
             # (it has just ended)
             pass
 
-    def start(self, words, moves):
+    def start(self, words):
         """Starts the program in a group of its own, with its limit of memory: its number."""
-        how = {"file_actions": moves, "setpgroup": 0, "setsigdef": [signal.SIGPIPE, signal.SIGXFSZ]}
+        how = {"file_actions": self.moves, "setpgroup": 0, "setsigdef": [signal.SIGPIPE, signal.SIGXFSZ]}
         limit, number = self.options.memory << 20, None
         if not limit:
-            return os.posix_spawn(words[0], words, os.environ, **how)
+            return os.posix_spawn(words[0], words, self.environment, **how)
         before = resource.getrlimit(resource.RLIMIT_AS)
         resource.setrlimit(resource.RLIMIT_AS, (limit, before[1]))
         try:
-            number = os.posix_spawn(words[0], words, os.environ, **how)
+            number = os.posix_spawn(words[0], words, self.environment, **how)
         except (OSError, MemoryError):
             # (the worker itself has more than the limit: the program gets it once it runs)
             pass
         finally:
             resource.setrlimit(resource.RLIMIT_AS, before)
-        number = number or os.posix_spawn(words[0], words, os.environ, **how)
+        number = number or os.posix_spawn(words[0], words, self.environment, **how)
         try:
             resource.prlimit(number, resource.RLIMIT_AS, (limit, limit))
         except ProcessLookupError:
@@ -95,28 +104,45 @@ class Program:
             pass
         return number
 
+    def stop(self):
+        """Ends the program where it runs."""
+        try:
+            if self.number:
+                os.killpg(self.number, signal.SIGKILL)
+        except ProcessLookupError:
+            pass
+
+    def text_of(self, output):
+        """What the program has written on an output since the last time."""
+        file, begin = self.outputs[output], self.begins[output]
+        end = os.lseek(file, 0, os.SEEK_CUR)
+        if end == begin:
+            return ""
+        text = os.pread(file, end - begin, begin).decode(errors="replace")
+        if end > MOST_KEPT:
+            os.ftruncate(file, 0)
+            end = os.lseek(file, 0, os.SEEK_SET)
+        self.begins[output] = end
+        return text
+
     def run(self, words):
         """Runs the program with these words: its two outputs, its status, negative for a signal or None for too long,
         its seconds, its most memory in MB, and whether it took no more than that, or just that."""
-        for file in self.outputs:
-            os.ftruncate(file, 0)
-            os.lseek(file, 0, os.SEEK_SET)
         self.late, self.peak = False, 0
         begun = time.monotonic()
         self.end = begun + self.options.seconds
-        moves = [(os.POSIX_SPAWN_DUP2, file, to) for to, file in enumerate([self.nothing, *self.outputs])]
-        self.number = self.start(words, moves)
+        self.number = self.start(words)
         signal.setitimer(signal.ITIMER_REAL, FIRST_LOOK, NEXT_LOOK)
         _, ended, used = os.wait4(self.number, 0)
         signal.setitimer(signal.ITIMER_REAL, 0)
         passed = time.monotonic() - begun
         # (what the system notes begins with the memory of the one who started it)
-        own = peak_of("self")
-        small = used.ru_maxrss <= own
-        memory = used.ru_maxrss if not small else self.peak or own
-        texts = [os.pread(file, os.fstat(file).st_size, 0).decode(errors="replace") for file in self.outputs]
+        if used.ru_maxrss > self.own:
+            self.own = peak_of("self")
+        small = used.ru_maxrss <= self.own
+        memory = used.ru_maxrss if not small else self.peak or self.own
         status = None if self.late else os.waitstatus_to_exitcode(ended)
-        return *texts, status, passed, memory / 1024, small and not self.peak
+        return self.text_of(0), self.text_of(1), status, passed, memory / 1024, small and not self.peak
 
 
 def verdict_of(status, lines):
@@ -192,33 +218,48 @@ def judge(program, key):
             "explanation": explanation_of(program, script, verdict, shown)}
 
 
-def judge_key(program, key):
-    """Judges the script of a key, and writes its result."""
-    write_whole(f"cases/{key}.json", json.dumps(judge(program, key)))
+def judge_keys(program, results, keys):
+    """Judges the scripts of keys, and adds their results."""
+    for key in keys:
+        results.add(judge(program, key))
+
+
+def keys_of_queue():
+    """The keys in the pipe at standard input, each taken when it is asked for."""
+    while len(line := os.read(0, KEY_LINE)) == KEY_LINE:
+        yield line[:-1].decode()
 
 
 def judge_chunk(program, name):
     """Judges the scripts of a chunk, and writes their results as one file."""
-    results = []
+    new = f"chunks/{name}.new"
+    results = Results(new)
     os.makedirs("scripts", exist_ok=True)
     with open(f"chunks/{name}.in", encoding="utf-8") as file:
         texts = json.load(file)
     for key, text in texts.items():
         with open(f"scripts/{key}.txt", "w", encoding="latin-1", newline="") as file:
             file.write(text)
-        results.append(judge(program, key))
+        results.add(judge(program, key))
         os.remove(f"scripts/{key}.txt")
-    write_whole(f"chunks/{name}.out", json.dumps(results))
+    os.replace(new, f"chunks/{name}.out")
 
 
 def main():
-    form, program = sys.argv[1], Program(Options(sys.argv[2:7]))
+    form, program, names = sys.argv[1], Program(Options(sys.argv[2:7])), sys.argv[7:]
+    results = Results(f"cases/{os.uname().nodename}.{os.getpid()}.{time.time_ns()}.jsonl")
     try:
-        for name in sys.argv[7:]:
-            (judge_key if form == "judge" else judge_chunk)(program, name)
+        if form == "chunk":
+            for name in names:
+                judge_chunk(program, name)
+        else:
+            judge_keys(program, results, names if form == "judge" else keys_of_queue())
     except OSError as fault:
-        print(f"tools/farm: {fault.filename or sys.argv[7]}: {fault.strerror}", file=sys.stderr)
+        print(f"tools/farm: {fault.filename or results.path}: {fault.strerror}", file=sys.stderr)
         return 2
+    except KeyboardInterrupt:
+        program.stop()
+        return 130
     return 0
 
 

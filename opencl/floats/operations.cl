@@ -1,69 +1,94 @@
 /* ---- addition (5.4.1) ---- */
 
-/* The difference of two magnitudes, x above y, both with the leading one of x's exponent at bit WIDTH - 3; `upper` has
-   the sign and that exponent. The result is exact if it is subnormal. */
-WORD FORMAT_subtract_aligned(WORD upper, WORD x, WORD y) {
-    x -= y;
-    WORD most = (upper & MAGNITUDE_MASK) >> FRACTION_BITS;
-    WORD up = min(clz(x) - UNIT, most);
-    WORD result = FORMAT_pack(upper - (up << FRACTION_BITS), x << up);
-    return result;
-}
-
-/* a + b where y, the magnitude of b, is 0 or subnormal, and x, that of a, isn't larger than the largest such. */
-WORD FORMAT_add_small(WORD a, WORD y, WORD signs) {
+/* a + b of which y is the smaller magnitude, where a isn't finite, or both are 0 or subnormal: their sum has the bits
+   of a whole number's. `signs` has the sign bit where the signs differ. */
+WORD FORMAT_add_special(WORD a, WORD y, WORD signs) {
+    WORD x = a & MAGNITUDE_MASK;
+    if (x > INFINITY_BITS) return NAN_BITS;
+    if (x == INFINITY_BITS) return y == INFINITY_BITS && signs >= SIGN_BIT ? NAN_BITS : a;
     if (signs < SIGN_BIT) return a + y;
-    if ((a & MAGNITUDE_MASK) == y) return 0;
+    if (x == y) return 0;
     return a - y;
 }
 
-/* a + b. The exact sum 0 is +0, but for two zeros of one sign (6.3). */
+/* a + b. The exact sum 0 is +0, but for two zeros of one sign (6.3). Here a has the larger magnitude, and b the sign
+   bit where the signs differ. The significands x and y have the leading one at bit WIDTH - 1; y is moved to its place
+   below x, its lowest bit sticky. (A variable that is declared costs a step: each has several uses.) */
 WORD FORMAT_add(WORD a, WORD b) {
     WORD x = a & MAGNITUDE_MASK;
     WORD y = b & MAGNITUDE_MASK;
-    WORD signs = a ^ b;
+    b ^= a;
     if (x < y) {
+        a ^= b;
         y = x;
-        x = b & MAGNITUDE_MASK;
-        a = b;
+        x = a & MAGNITUDE_MASK;
     }
     if (x >= INFINITY_BITS) {
-        if (x > INFINITY_BITS) return NAN_BITS;
-        return y == INFINITY_BITS && signs >= SIGN_BIT ? NAN_BITS : a;
+        a = FORMAT_add_special(a, y, b);
+        return a;
     }
-    int shift = (int)((x >> FRACTION_BITS) - (y >> FRACTION_BITS));
     if (y < SMALLEST_NORMAL) {
         if (x < SMALLEST_NORMAL) {
-            a = FORMAT_add_small(a, y, signs);
+            a = FORMAT_add_special(a, y, b);
             return a;
         }
         if (y == 0) return a;
-        int up = (int)clz(y) - TOP_SHIFT;
+        WORD up = clz(y) - TOP_SHIFT;
         y <<= up;
-        shift += up - 1;
+        x >>= FRACTION_BITS;
+        x += up - 1;
+    } else {
+        x = (x >> FRACTION_BITS) - (y >> FRACTION_BITS);
     }
-    x &= FRACTION_MASK;
-    x |= SMALLEST_NORMAL;
-    x <<= GUARD_BITS - 1;
-    y &= FRACTION_MASK;
-    y |= SMALLEST_NORMAL;
-    y <<= GUARD_BITS - 1;
-    if (shift < GUARD_BITS) y >>= shift;
-    else y = FORMAT_shift_right(y, shift);
-    a &= EXPONENT_AND_SIGN;
-    if (signs >= SIGN_BIT) {
-        if (x == y) return 0;
-        a = FORMAT_subtract_aligned(a, x, y);
+    y <<= TOP_SHIFT;
+    y |= TOP_BIT;
+    if (x <= TOP_SHIFT) y >>= x;
+    else y = FORMAT_shift_right(y, (int)x);
+    x = a << TOP_SHIFT;
+    x |= TOP_BIT;
+    if (b < SIGN_BIT) {
+        x += y;
+        if (x >= y) {
+            a += y >> TOP_SHIFT;
+            y &= REST_MASK;
+            if (y >= REST_HALF) {
+                if (y == REST_HALF) a += a & UNIT;
+                else a += UNIT;
+            }
+            return a;
+        }
+        /* The sum is 2^WIDTH + x: the next exponent, which may be that of infinity. */
+        a &= EXPONENT_AND_SIGN;
+        a += SMALLEST_NORMAL;
+        a += x >> (TOP_SHIFT + 1);
+        x &= CARRY_MASK;
+        if (x >= CARRY_HALF) {
+            if (x == CARRY_HALF) a += a & UNIT;
+            else a += UNIT;
+        }
+        y = a & MAGNITUDE_MASK;
+        if (y >= INFINITY_BITS) a &= EXPONENT_AND_SIGN;
         return a;
     }
-    x += y;
-    if (x < SECOND_BIT) {
-        x <<= 1;
-        a -= SMALLEST_NORMAL;
-    } else if ((a & MAGNITUDE_MASK) == INFINITY_BITS - SMALLEST_NORMAL) {
-        return a + SMALLEST_NORMAL;
+    /* The leading one moves up, at most to the exponent 1: below that the difference is subnormal, and exact. */
+    x -= y;
+    if (x < TOP_BIT) {
+        if (x == 0) return 0;
+        y = a & MAGNITUDE_MASK;
+        y >>= FRACTION_BITS;
+        y -= 1;
+        y = min(clz(x), y);
+        x <<= y;
+        a -= y << FRACTION_BITS;
     }
-    a = FORMAT_pack(a, x);
+    a &= EXPONENT_AND_SIGN;
+    a -= SMALLEST_NORMAL;
+    a += x >> TOP_SHIFT;
+    x &= REST_MASK;
+    if (x >= REST_HALF) {
+        if (x == REST_HALF) a += a & UNIT;
+        else a += UNIT;
+    }
     return a;
 }
 
@@ -83,43 +108,59 @@ WORD FORMAT_mul_special(WORD sign, WORD x, WORD y) {
     return sign | INFINITY_BITS;
 }
 
-/* a * b. `exponent` is the sum of the biased exponents. */
-WORD FORMAT_mul(WORD a, WORD b) {
-    WORD sign = a ^ b;
-    sign &= SIGN_BIT;
+/* a * b, whatever they are. */
+WORD FORMAT_mul_rare(WORD a, WORD b) {
+    WORD sign = (a ^ b) & SIGN_BIT;
     a &= MAGNITUDE_MASK;
     b &= MAGNITUDE_MASK;
     if (a != 0) if (b != 0) if (a < INFINITY_BITS) if (b < INFINITY_BITS) {
-        WORD exponent = (a >> FRACTION_BITS) + (b >> FRACTION_BITS);
-        if (a < SMALLEST_NORMAL) {
-            WORD up = clz(a) - TOP_SHIFT;
-            a <<= up;
-            exponent += 1 - up;
-        }
-        if (b < SMALLEST_NORMAL) {
-            WORD up = clz(b) - TOP_SHIFT;
-            b <<= up;
-            exponent += 1 - up;
-        }
-        a <<= TOP_SHIFT;
-        a |= TOP_BIT;
-        b &= FRACTION_MASK;
-        b |= SMALLEST_NORMAL;
-        b <<= TOP_SHIFT - 1;
+        int exponent = FORMAT_exponent_of(a);
+        int other = FORMAT_exponent_of(b);
+        a = FORMAT_significand_of(a);
+        b = FORMAT_significand_of(b);
         a = FORMAT_product(a, b);
-        if (a < SECOND_BIT) a <<= 1;
+        if (a < TOP_BIT) a <<= 1;
         else exponent += 1;
-        if (exponent > BIAS) {
-            if (exponent < BIAS + LARGEST_EXPONENT) {
-                exponent -= BIAS + 1;
-                a = FORMAT_pack(sign + (exponent << FRACTION_BITS), a);
-                return a;
-            }
-        }
-        a = FORMAT_round(sign, (int)exponent - BIAS, a);
+        a = FORMAT_shift_right(a, 1);
+        a = FORMAT_round(sign, exponent + other - BIAS, a);
         return a;
     }
     a = FORMAT_mul_special(sign, a, b);
+    return a;
+}
+
+/* a * b. Where both exponents are far from their ends, that of the product is none of them. `upper` has the sum of the
+   exponents with that of the signs, whose carry leaves the word. Both significands have their leading one at bit
+   WIDTH - 1; the upper word x of their product has it there, or at the next one, and is doubled then: its lowest bit is
+   one of the lower word a * b. */
+WORD FORMAT_mul(WORD a, WORD b) {
+    WORD upper = a & MAGNITUDE_MASK;
+    if (upper >= SMALL_BITS) if (upper < LARGE_BITS) {
+        upper = b & MAGNITUDE_MASK;
+        if (upper >= SMALL_BITS) if (upper < LARGE_BITS) {
+            upper = (a >> FRACTION_BITS) + (b >> FRACTION_BITS);
+            a <<= TOP_SHIFT;
+            a |= TOP_BIT;
+            b <<= TOP_SHIFT;
+            b |= TOP_BIT;
+            WORD x = UPPER_PRODUCT(a, b);
+            if (x < TOP_BIT) {
+                x <<= 1;
+                upper -= 1;
+            }
+            upper -= BIAS;
+            upper <<= FRACTION_BITS;
+            upper += x >> TOP_SHIFT;
+            x &= REST_MASK;
+            if (x >= REST_HALF) {
+                if (x > REST_HALF) upper += UNIT;
+                else if (a * b != 0) upper += UNIT;
+                else upper += upper & UNIT;
+            }
+            return upper;
+        }
+    }
+    a = FORMAT_mul_rare(a, b);
     return a;
 }
 

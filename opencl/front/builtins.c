@@ -423,6 +423,7 @@ static value barrier_value(translator *t, const node *n) {
     static const char *const fences[] = {"CLK_LOCAL_MEM_FENCE", "CLK_GLOBAL_MEM_FENCE",
                                          "CLK_LOCAL_MEM_FENCE | CLK_GLOBAL_MEM_FENCE"};
     emit(t, "%sbarrier(%s);", mark_here(t, &n->place), fences[v.value - 1]);
+    count_barrier(t);
     return (value){.kind = NO_VALUE};
 }
 
@@ -446,7 +447,9 @@ value builtin_value(translator *t, const node *n, const char *name, bool is_used
     if (!strcmp(name, "barrier")) return barrier_value(t, n);
     if (IS_OF(name, fences)) return left_out(t, n, "fences order nothing between work-items, and are left out");
     if (!strcmp(name, "prefetch")) return left_out(t, n, "prefetch changes nothing, and is left out");
-    if (!strcmp(name, "printf")) return left_out(t, n, "printf writes nothing");
+    if (!strcmp(name, "printf"))
+        return printf_value(t, n, is_used, &v) ? v : left_out(t, n, "a printf writes nothing whose format isn't known, "
+                                                                    "or isn't that of its arguments");
     if (is_atomic(name, &operation)) return atomic_value(t, n, operation, is_used);
     if (is_vector_access(name, &flag, &count)) return vector_access(t, n, flag, count);
     if (float_function_value(t, n, name, &v)) return v;

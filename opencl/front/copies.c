@@ -58,6 +58,7 @@ void wait_for_copies(translator *t, const node *n) {
     emit(t, "atomic_min(&clsim_lo[clsim_k],clsim_h);");
     emit(t, "atomic_max(&clsim_hi[clsim_k],clsim_h);");
     emit(t, "%sbarrier(CLK_LOCAL_MEM_FENCE | CLK_GLOBAL_MEM_FENCE);", mark_here(t, at));
+    count_barrier(t);
     list differs = one_text(t, format(t, "%sclsim_async[-1]=1;", mark_here(t, at)), at);
     append(t, new_branch(t, "clsim_lo[clsim_k]!=clsim_hi[clsim_k]", differs, (list){NULL, NULL}, at));
     emit(t, "clsim_k=(clsim_k+1)%%3;");

@@ -239,6 +239,7 @@ typedef struct translator {
     unsigned pass_number;
     bool is_changed;    // something new was learnt in this pass
     bool is_incomplete; // this pass left something out that wasn't known yet
+    bool prints;        // it calls printf
 
     // of the pass
     list out;
@@ -263,6 +264,8 @@ typedef struct translator {
     object **locals;
     unsigned local_count, local_room;
     bool *helpers; // of each helper of floats.h, whether the kernel reaches it
+    printed_call *printed;
+    unsigned printed_count, printed_room;
 } translator;
 
 // ---- translate.c ----
@@ -503,6 +506,13 @@ value builtin_value(translator *t, const node *n, const char *name, bool is_used
 // ---- float_functions.c ----
 // A function on floating-point numbers; false where it is none.
 bool float_function_value(translator *t, const node *n, const char *name, value *result);
+
+// ---- printing.c ----
+// A call of printf; false, and nothing is written, where what it prints isn't known by its format and its arguments.
+bool printf_value(translator *t, const node *n, bool is_used, value *result);
+// What a kernel that calls it begins with, and what stands behind each barrier.
+list begin_of_printing(translator *t, const place *at);
+void count_barrier(translator *t);
 
 // ---- atomics.c ----
 bool is_atomic(const char *name, const char **operation);

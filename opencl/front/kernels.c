@@ -179,6 +179,12 @@ static void write_head(translator *t, judged_kernel *k, const written_parameters
         judged_parameter p = {.kind = TABLE_PARAMETER, .argument = t->hidden[i]->table};
         write_views(t, k, &room, to, t->hidden[i], p);
     }
+    if (t->prints) {
+        *add_parameter(t, k, &room, to) = (judged_parameter){.kind = PRINT_PARAMETER, .type = UINT};
+        add(to, "__global uint *clsim_print");
+        *add_parameter(t, k, &room, to) = (judged_parameter){.kind = ROOM_PARAMETER, .type = ULONG};
+        add(to, "ulong clsim_print_words");
+    }
     add(to, "){\n");
 }
 
@@ -223,7 +229,8 @@ static const char reserved[] =
     "private get_work_dim get_global_id get_local_id get_group_id get_global_offset get_global_size get_local_size "
     "get_num_groups min max abs clz popcount rotate barrier atomic_add atomic_sub atomic_min atomic_max atomic_and "
     "atomic_or atomic_xor atomic_inc atomic_dec atomic_xchg atomic_cmpxchg CLK_LOCAL_MEM_FENCE CLK_GLOBAL_MEM_FENCE "
-    "clsim_lo clsim_hi clsim_async clsim_k clsim_h clsim_null clsim_kernel";
+    "clsim_lo clsim_hi clsim_async clsim_k clsim_h clsim_null clsim_kernel clsim_print clsim_print_words "
+    "clsim_print_at clsim_print_end clsim_barriers";
 
 static void take_reserved_names(translator *t) {
     for (const char *at = reserved; *at;) {
@@ -271,6 +278,8 @@ static void begin_pass(translator *t, const node *function) {
     t->break_count = t->break_room = 0;
     t->jumps = NULL;
     t->common = NULL;
+    t->printed = NULL;
+    t->printed_count = t->printed_room = 0;
     t->hidden = NULL;
     t->hidden_count = t->hidden_room = 0;
     t->shown = NULL;
@@ -313,6 +322,7 @@ void translate_kernel(translator *t, const node *function, judged_kernel *k, tex
     const place *at = &function->place;
     *k = (judged_kernel){.function = function};
     begin_kernel_of_objects(t);
+    t->prints = false;
     do {
         if (t->pass_number == MAX_PASSES) refuse_at(t, at, "Clsim can't follow the pointers of this kernel");
         all = (written_parameters){NULL, 0, 0};
@@ -327,6 +337,7 @@ void translate_kernel(translator *t, const node *function, judged_kernel *k, tex
     write_helpers(t, to);
     write_head(t, k, &all, to);
     list begin = t->uses_null ? one_text(t, "uchar clsim_null[1];", at) : (list){NULL, NULL};
+    if (t->prints) append_list(&begin, begin_of_printing(t, at));
     if (t->uses_copies) append_list(&begin, begin_of_copies(t, at));
     append_list(&begin, t->out);
     write_list(t, to, begin);
@@ -335,4 +346,7 @@ void translate_kernel(translator *t, const node *function, judged_kernel *k, tex
     keep_names(t, k);
     keep_locals(t, k);
     keep_accesses(t, k, &all);
+    k->printed = take(t->result, (t->printed_count + 1) * sizeof *k->printed);
+    k->printed_count = t->printed_count;
+    if (t->printed_count) memcpy(k->printed, t->printed, t->printed_count * sizeof *k->printed);
 }

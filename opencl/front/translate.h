@@ -1,6 +1,7 @@
 // From the tree of an OpenCL C source to Clsim's language.
 #ifndef CLSIM_FRONT_TRANSLATE_H
 #define CLSIM_FRONT_TRANSLATE_H
+#include "../formats.h"
 #include "ast.h"
 #include "integers.h"
 
@@ -10,7 +11,9 @@ typedef enum {
     VALUE_PARAMETER,
     TABLE_PARAMETER,
     ORIGIN_PARAMETER, // of an argument that is a part of its buffer: where that begins, in bytes
-    SIZE_PARAMETER    // and how many bytes it has
+    SIZE_PARAMETER,   // and how many bytes it has
+    PRINT_PARAMETER,  // the words that printf writes
+    ROOM_PARAMETER    // and how many of them each work-item has
 } parameter_kind;
 
 // A parameter of a kernel as it is judged. A client's buffer has one for each type that it is accessed by, a struct or
@@ -48,6 +51,8 @@ typedef struct {
     local_object *locals;
     unsigned local_count;
     unsigned char *accesses; // of each of the client's arguments: which accesses of its buffer are written
+    printed_call *printed;   // its calls of printf, by their numbers from 1 on
+    unsigned printed_count;
 } judged_kernel;
 
 // Accesses of a buffer, a bit for each; and what else an argument may be: a part of its buffer, or NULL.

@@ -18,7 +18,7 @@ static char *whole_file(arena *a, const char *path) {
 }
 
 static void show_kernel(const judged_kernel *k) {
-    static const char *const kinds[] = {"buffer", "local", "value", "table", "origin", "size"};
+    static const char *const kinds[] = {"buffer", "local", "value", "table", "origin", "size", "print", "room"};
     fprintf(stderr, "kernel %s:", k->function->name);
     for (unsigned i = 0; i < k->parameter_count; i++) {
         const judged_parameter *p = &k->parameters[i];

@@ -262,7 +262,7 @@ static bool launch(run *r) {
     cl_int fault = clEnqueueNDRangeKernel(r->queue, r->kernel.kernel, q->dimensions, q->offset, q->global,
                                           q->has_local ? q->local : NULL, 0, NULL, NULL);
     if (fault == CL_INVALID_OPERATION) {
-        if (!tell_verdict(r->arena)) stop("the launch answers %d, and it isn't known why", fault);
+        if (!tell_verdict()) stop("the launch answers %d, and it isn't known why", fault);
         return true;
     }
     tell_errors();
@@ -327,7 +327,7 @@ static int judge(run *r, int count, char **words) {
     read_command(q, count, words);
     set_driver(r->arena, q->script);
     const char *source = read_file(r->arena, q->file, NULL, &length);
-    keep_lines(q->file, source);
+    keep_lines(q->file);
     open_device(r);
     build(r, source, length);
     find_kernel(r);

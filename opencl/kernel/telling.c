@@ -14,7 +14,7 @@ static const char command[] = "clsim-kernel";
 // How the driver calls the client's own text, and what its lines begin with.
 static const char driver_source[] = "source:", driver_head[] = "clsim: ";
 
-static const char *path_of_source = "source", *text_of_source = "";
+static const char *path_of_source = "source";
 static int log_file = -1;
 static off_t log_seen;
 static bool script_is_lost;
@@ -48,10 +48,9 @@ char *read_file(arena *a, const char *path, const char *from, size_t *n) {
 
 // ---- the driver's lines ----
 
-void keep_lines(const char *path, const char *source) {
+void keep_lines(const char *path) {
     char name[64];
     path_of_source = path;
-    text_of_source = source;
     log_file = memfd_create(command, MFD_CLOEXEC);
     snprintf(name, sizeof name, "/proc/self/fd/%d", log_file);
     if (log_file >= 0) setenv("CLSIM_LOG", name, 1); // (else they stay on standard error)
@@ -118,63 +117,7 @@ void tell_log(const char *log, const char *in_front) {
 
 // ---- the verdict ----
 
-// A line of a text by its number from 1, NULL where it has fewer.
-static const char *line_of(const char *text, unsigned long number) {
-    for (; number > 1; number--) {
-        text = strchr(text, '\n');
-        if (!text) return NULL;
-        text++;
-    }
-    return *text ? text : NULL;
-}
-
-// Shows the line of a place with a mark below it.
-static void show_line(const char *line, unsigned long number, unsigned long column) {
-    size_t n = strcspn(line, "\r\n");
-    if (!column || column > n + 1) return;
-    printf("    %5lu | %.*s\n          | ", number, (int)n, line);
-    for (unsigned long i = 0; i + 1 < column; i++) {
-        if (((unsigned char)line[i] & 0xc0) != 0x80) putchar(line[i] == '\t' ? '\t' : ' '); // (UTF-8: once a character)
-    }
-    puts("^");
-}
-
-// The place at the end of a line of n bytes: ` at FILE:LINE:COLUMN`. False where there is none.
-static bool ends_with_place(const char *line, size_t n, char *file, size_t room, unsigned long *row,
-                            unsigned long *column) {
-    size_t at = n;
-    while (at && isdigit((unsigned char)line[at - 1])) at--;
-    if (at == n || !at || line[at - 1] != ':') return false;
-    *column = strtoul(line + at, NULL, 10);
-    size_t colon = --at;
-    while (at && isdigit((unsigned char)line[at - 1])) at--;
-    if (at == colon || !at || line[at - 1] != ':') return false;
-    *row = strtoul(line + at, NULL, 10);
-    size_t end = at - 1;
-    for (at = end; at >= 4 && strncmp(line + at - 4, " at ", 4); at--) {}
-    if (at < 4 || end - at >= room) return false;
-    memcpy(file, line + at, end - at);
-    file[end - at] = 0;
-    return true;
-}
-
-// Shows the source's line behind a line that tells where a work-item is.
-static void show_place(arena *a, const char *line, size_t n) {
-    char file[4096];
-    unsigned long row, column;
-    size_t length;
-    bool is_item = !strncmp(line, "  item ", 7) || !strncmp(line, "    its last access is ", 23);
-    if (!is_item || !ends_with_place(line, n, file, sizeof file, &row, &column)) return;
-    const char *text = text_of_source;
-    if (strncmp(file, driver_source, strlen(file)) || strlen(file) != sizeof driver_source - 2) {
-        if (access(file, R_OK)) return;
-        text = read_file(a, file, NULL, &length);
-    }
-    const char *found = line_of(text, row);
-    if (found) show_line(found, row, column);
-}
-
-bool tell_verdict(arena *a) {
+bool tell_verdict(void) {
     static const char launch[] = ", launch 1 of its context";
     char *lines = new_lines();
     bool is_fault = lines && !strncmp(behind_head(lines), "fault ", 6);
@@ -188,7 +131,6 @@ bool tell_verdict(arena *a) {
             n -= sizeof launch - 1;
         }
         put_named(stdout, line, n);
-        show_place(a, line, n);
     }
     free(lines);
     return is_fault;

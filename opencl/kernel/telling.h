@@ -11,13 +11,13 @@ _Noreturn void stop(const char *format, ...) __attribute__((format(printf, 1, 2)
 char *read_file(arena *a, const char *path, const char *from, size_t *n);
 
 // Has the driver's lines kept from here on, for the functions below. The source is named by the path of its file.
-void keep_lines(const char *path, const char *source);
+void keep_lines(const char *path);
 // Tells what the driver said since the last look.
 void tell_errors(void);
 // Whether it said at any time that it lost a part of the script.
 bool is_script_lost(void);
 // Tells on standard output what it said of a launch that faulted. False where it didn't say of a fault.
-bool tell_verdict(arena *a);
+bool tell_verdict(void);
 // Tells the log of a build on standard error, each line with words in front.
 void tell_log(const char *log, const char *in_front);
 #endif

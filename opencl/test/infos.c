@@ -273,25 +273,23 @@ static void made_of_nothing(void) {
     WANT(fault == CL_INVALID_VALUE && state == CL_INVALID_VALUE);
 }
 
-// The device names each property that a queue can have (table 4.3), and no other (5.1): CLSIM_OUT_OF_ORDER decides.
+// The device names each property that a queue can have (table 4.3), and no other is taken (5.1).
 static void queues(void) {
-    static const cl_command_queue_properties out = CL_QUEUE_OUT_OF_ORDER_EXEC_MODE_ENABLE,
-                                             times = CL_QUEUE_PROFILING_ENABLE;
-    for (int may = 0; may < 2; may++) {
-        cl_command_queue_properties got = 99;
-        cl_int fault;
-        if (may) setenv("CLSIM_OUT_OF_ORDER", "1", 1);
-        else unsetenv("CLSIM_OUT_OF_ORDER");
-        OK(clGetDeviceInfo(h.device, CL_DEVICE_QUEUE_PROPERTIES, sizeof got, &got, NULL));
-        WANT(got == (may ? out | times : times));
-        cl_command_queue q = clCreateCommandQueue(h.context, h.device, out | times, &fault);
-        WANT(!q == !may && fault == (may ? CL_SUCCESS : CL_INVALID_QUEUE_PROPERTIES));
-        if (!q) continue;
+    static const cl_command_queue_properties of[] = {
+        0, CL_QUEUE_OUT_OF_ORDER_EXEC_MODE_ENABLE, CL_QUEUE_PROFILING_ENABLE,
+        CL_QUEUE_OUT_OF_ORDER_EXEC_MODE_ENABLE | CL_QUEUE_PROFILING_ENABLE};
+    cl_command_queue_properties got = 99;
+    cl_int fault;
+    OK(clGetDeviceInfo(h.device, CL_DEVICE_QUEUE_PROPERTIES, sizeof got, &got, NULL));
+    WANT(got == of[3]);
+    for (int i = 0; i < 4; i++) {
+        cl_command_queue q = clCreateCommandQueue(h.context, h.device, of[i], &fault);
+        OK(fault);
         OK(clGetCommandQueueInfo(q, CL_QUEUE_PROPERTIES, sizeof got, &got, NULL));
-        WANT(got == (out | times));
+        WANT(got == of[i]);
         OK(clReleaseCommandQueue(q));
     }
-    unsetenv("CLSIM_OUT_OF_ORDER");
+    WANT(!clCreateCommandQueue(h.context, h.device, 4, &fault) && fault == CL_INVALID_VALUE);
 }
 
 // What a program answers for its binary: the bytes that are wanted, and no more.

@@ -55,7 +55,7 @@ __kernel __attribute__((reqd_work_group_size(4, 1, 1))) void sum(__global int *a
     part[get_local_id(0)] = a[get_global_id(0)];
     barrier(CLK_LOCAL_MEM_FENCE);
     if (get_local_id(0) == 0) out[get_group_id(0)] = part[0] + part[1] + part[2] + part[3];
-    printf("%d", a[0]);
+    if (get_local_id(0) == 0) printf("%d\\n", out[get_group_id(0)]);
 }
 """
 MANY_LISTED = """\
@@ -99,6 +99,33 @@ __kernel void structs(box s, __global int *to) {
 HEADED = '#include "part.h"\n__kernel void headed(__global int *a) {\n    store(a, N);\n}\n'
 PART = "void store(__global int *a, int n) {\n    a[n] = 1;\n}\n"
 REFUSED = "__kernel void wrong(__global float *a) {\n    a[0] = *(__global float *)8L;\n}\n"
+PRINTS = """\
+__kernel void prints(__global const float *a, __global const double *d) {
+    int i = get_global_id(0);
+    float4 v = (float4)(a[i], 1, -0.1f, 1e10f);
+    printf("%d: %f %e %G|%5.1f|%-6s|%c%%\\n", i, a[i], a[i], d[i], a[i], i & 1 ? "odd" : "even", 'A' + i);
+    barrier(CLK_LOCAL_MEM_FENCE);
+    int none = printf("%v4hlf %5v2hhd|%#x %hhd %lu %a\\n", v, (char2)(i, -1), i + 16, 300, ~0ul, a[i]);
+    if (none) printf("never");
+}
+__kernel void much(__global int *a) {
+    for (int i = 0; i < 400; i++)
+        if (printf("%d\\n", i) < 0) {
+            a[get_global_id(0)] = i;
+            return;
+        }
+}
+__kernel void left(__global int *a, __constant char *text) {
+    printf(text, a[0]);
+    printf("%d %s", a[0]);
+    printf("%p", a);
+    printf("%f", a[0]);
+}
+__kernel void races(__global float *a) {
+    printf("never");
+    a[0] = get_global_id(0) * 0.1f;
+}
+"""
 SIMULATION = """\
 add.cl   # the source
 add
@@ -114,23 +141,30 @@ FILES = {"add.cl": ADD, "shift.cl": SHIFT, "nothing.cl": NOTHING, "tile.cl": TIL
          "values.cl": VALUES, "many.cl": MANY, "help.h": "#define TOUCH(p) (p)[0] = 1\n", "vectors.cl": VECTORS,
          "structs.cl": STRUCTS, "headed.cl": HEADED, "part.h": PART, "refused.cl": REFUSED, "empty.cl": "",
          "no_kernel.cl": "void f() {\n}\n", "add.sim": SIMULATION, "a.bin": "abcdefgh", "odd.bin": "abc",
+         "prints.cl": PRINTS,
          "zero.cl": "__kernel void f(__global int *a) {\n\0}\n"}
 
 SHIFT_FAULT = """\
-fault 1 race item 0 load item 1 store buffer b3 byte 4 schedule 0*2 1*2
+fault 1 race: work-item 0 loads, and work-item 1 stores, the same bytes, in kernel shift
+  item 0: load at shift.cl:3:12
+        3 | \tdata[i] = data[(i + 1) % get_global_size(0)];
+          | \t          ^
+    data[1] is 1
+  item 1: store at shift.cl:3:2
+        3 | \tdata[i] = data[(i + 1) % get_global_size(0)];
+          | \t^
+    data[1] = 2
   kernel shift, global size 4, local size 4
   buffer b3 has 16 bytes and is argument 0, data: data[1]
   item 0 is global id (0), group (0), local id (0)
   item 1 is global id (1), group (0), local id (1)
-  item 0: load at shift.cl:3:12
-        3 | \tdata[i] = data[(i + 1) % get_global_size(0)];
-          | \t          ^
-  item 1: store at shift.cl:3:2
-        3 | \tdata[i] = data[(i + 1) % get_global_size(0)];
-          | \t^
   why: both work-items are of group 0, and no barrier of it stands between the two accesses
   why: one of the two stores: what the other one finds depends on which comes first
+  reply: fault 1 race item 0 load item 1 store buffer b3 byte 4 schedule 0*2 1*2
 """
+
+# the same where the buffer is of zeros
+ZEROS_FAULT = SHIFT_FAULT.replace("data[1] is 1", "data[1] is 0").replace("data[1] = 2", "data[1] = 0")
 
 
 def want(condition, text):
@@ -282,7 +316,8 @@ def local_memory(bench):
     for form in ["16", "0x10", "int[4]", "uchar[16]", "int4[1]"]:
         command.writes(f"{words} --arg t=local:{form}", "clean\na[0]: 3 2 1 0 7 6 5 4\n")
     told = command.run(f"{words} --arg t=local:12", 1)
-    want(told.startswith("fault 4 bounds item 3 store local 0 t element 3 schedule 0*2 1*2 2*2 3*1\n")
+    want("\n  reply: fault 4 bounds item 3 store local 0 t element 3 schedule 0*2 1*2 2*2 3*1\n" in told
+         and told.startswith("fault 4 bounds: work-item 3 stores outside of an object, in kernel tile\n")
          and "\n  t of group 0: t[3], of 3 elements\n" in told and told.endswith("\na[0]: 0 1 2 3 4 5 6 7\n")
          and "\n  item 3: store at tile.cl:2:5\n        2 |     t[get_local_id(0)] = a[get_global_id(0)];\n"
              "          |     ^\n" in told, told)
@@ -296,9 +331,9 @@ def told_at_its_line(bench):
     command.writes("shift.cl shift --global 4 --arg data=int[4]:range --dump data", SHIFT_FAULT + "data[0]: 0 1 2 3\n", 1)
     beside = command.folder.replace(" ", "_")
     told = command.run(f"{beside}/shift.cl shift --global 4 --arg data=int[4]", 1)
-    want(told == SHIFT_FAULT.replace("at shift.cl", f"at {beside}/shift.cl"), told)
+    want(told == ZEROS_FAULT.replace("at shift.cl", f"at {beside}/shift.cl"), told)
     # (the settings of other host programs aren't for it)
-    command.writes("shift.cl shift --global 4 --arg data=int[4]", SHIFT_FAULT, 1, CLSIM_ON_FAULT="abort",
+    command.writes("shift.cl shift --global 4 --arg data=int[4]", ZEROS_FAULT, 1, CLSIM_ON_FAULT="abort",
                    CLSIM_STATUS="7", CLSIM_LOG=command.path("log"), CLSIM_SCRIPT=command.path("script"))
     want(not os.path.exists(command.path("log")) and not os.path.exists(command.path("script")), "a file was written")
 
@@ -335,10 +370,10 @@ def settings(bench):
     command = Command(bench, "settings")
     words = "flag.cl flag --global 2 --local 1 --arg a=int[1] --dump a"
     told = command.run(words, 1)
-    want(told.startswith("fault 1 race item 0 store item 1 store buffer b3 byte 0 ") and "a[0]: 0\n" in told, told)
+    want("\n  reply: fault 1 race item 0 store item 1 store buffer b3 byte 0 " in told and "a[0]: 0\n" in told, told)
     command.writes(f"{words} --uniform", "clean\na[0]: 1\n")
     words = "loop.cl loop --global 1 --arg a=int[1] --dump a"
-    want(command.run(f"{words} --budget 199", 1).startswith("fault 8 budget item 0 schedule "), "it has enough")
+    want(command.run(f"{words} --budget 199", 1).startswith("fault 8 budget: work-item 0 "), "it has enough")
     command.writes(f"{words} --budget 200 --workers 2", "clean\na[0]: 99\n")
     words = "nothing.cl f --global 1024 --local 512 --arg a=int[1]"
     command.writes(words, "clean\n")
@@ -368,10 +403,37 @@ def beside(bench):
         want(told == "clean\n", told)
 
 
+# ---- printf -------------------------------------------------------------------------------------
+
+PRINTED = """\
+0: 0.500000 5.000000e-01 0.1|  0.5|even  |A%
+1: -1.250000 -1.250000e+00 1E+100| -1.2|odd   |B%
+0.500000,1.000000,-0.100000,10000000000.000000     0,   -1|0x10 44 18446744073709551615 0x1p-1
+-1.250000,1.000000,-0.100000,10000000000.000000     1,   -1|0x11 44 18446744073709551615 -0x1.4p+0
+2: inf inf -0|  inf|even  |C%
+3: 0.100000 1.000000e-01 3|  0.1|odd   |D%
+inf,1.000000,-0.100000,10000000000.000000     2,   -1|0x12 44 18446744073709551615 inf
+0.100000,1.000000,-0.100000,10000000000.000000     3,   -1|0x13 44 18446744073709551615 0x1.99999ap-4
+clean
+"""
+NOTED = "clsim-kernel: note: a printf writes nothing whose format isn't known, or isn't that of its arguments\n"
+
+
+def printf(bench):
+    """What printf writes, in which order; what has no room; what writes nothing."""
+    command = Command(bench, "printf")
+    words = "--global 4 --local 2 --arg a=float:0.5,-1.25,inf,0.1 --arg d=double:0.1,1e100,-0.0,3"
+    command.writes(f"prints.cl prints {words}", PRINTED + NOTED)
+    some = "".join(f"{i}\n" for i in range(341)) * 2
+    command.writes("prints.cl much --global 2 --arg a=int[2] --dump a",
+                   f"{some}clean\na[0]: 341 341\n{NOTED}clsim-kernel: kernel much: 2 work-items had no room for all "
+                   "that printf wrote: each has 4092 bytes in a launch of 2 work-items\n")
+    command.writes("prints.cl left --global 2 --arg a=int[1] --arg text=char[4]", f"clean\n{NOTED}")
+    told = command.run("prints.cl races --global 2 --arg a=float[1]", 1)
+    want("never" not in told and "\n    a[0] = 0.1f\n" in told, told)
+
+
 # ---- listing, dumps, scripts --------------------------------------------------------------------
-
-NOTE = "clsim-kernel: note: printf writes nothing\n"
-
 
 def listing(bench):
     """Kernels with their parameters, and what is missing."""
@@ -391,12 +453,12 @@ def listing(bench):
 
 def listing_by_clang(bench):
     command = Command(bench, "listing by clang")
-    command.writes("many.cl", f"{MANY_LISTED}{SUM_LISTED}{NOTE}clsim-kernel: missing: KERNEL, --global SIZES\n", 2)
+    command.writes("many.cl", f"{MANY_LISTED}{SUM_LISTED}clsim-kernel: missing: KERNEL, --global SIZES\n", 2)
     words = "many.cl sum --global 8 --arg a=int[8]:range --arg out=int[2] --dump out"
-    command.writes(words, f"clean\nout[0]: 6 22\n{NOTE}")
-    command.writes(f"{words} --local 4", f"clean\nout[0]: 6 22\n{NOTE}")
+    command.writes(words, "6\n22\nclean\nout[0]: 6 22\n")
+    command.writes(f"{words} --local 4", "6\n22\nclean\nout[0]: 6 22\n")
     command.writes(f"{words} --local 8",
-                   f"{NOTE}clsim-kernel: the kernel sum asks for groups of 4,1,1 (reqd_work_group_size)\n", 2)
+                   "clsim-kernel: the kernel sum asks for groups of 4,1,1 (reqd_work_group_size)\n", 2)
 
 
 def dumps(bench):
@@ -421,7 +483,8 @@ def scripts(bench):
                    SHIFT_FAULT + "data[0]: 0 1 2 3\n", 1)
     replies = bench.replies(command.path("out.txt"))
     data = "data " + struct.pack("<4i", 0, 1, 2, 3).hex()
-    want([line for line in replies if line != "ok"] == [SHIFT_FAULT.split("\n")[0], data], replies)
+    fault = SHIFT_FAULT.splitlines()[-1].removeprefix("  reply: ")
+    want([line for line in replies if line != "ok"] == [fault, data], replies)
     before = command.read("out.txt")
     command.writes("tile.cl tile --global 4 --script out.txt --arg a=int[4] --arg t=5",
                    "clsim-kernel: --arg t=5: __local int *t is in local memory, whose bytes are given: t=local:BYTES\n", 2)
@@ -606,6 +669,6 @@ def tests(bench, is_with_clang):
     calls = [buffers, by_chance, values, local_memory, told_at_its_line, settings, beside, listing, dumps, scripts,
              simulations, bad_words]
     if is_with_clang:
-        calls += [vectors, told_in_headers, refused_sources, listing_by_clang]
+        calls += [vectors, told_in_headers, refused_sources, listing_by_clang, printf]
     for call in calls:
         yield f"clsim-kernel: {call.__name__.replace('_', ' ')}", lambda call=call: call(bench)

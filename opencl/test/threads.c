@@ -58,7 +58,8 @@ static void events(void) {
     cl_event e = clCreateUserEvent(h.context, &fault);
     OK(fault);
     OK(clSetEventCallback(e, CL_COMPLETE, set_flag, &flag));
-    if (flag || clEnqueueBarrierWithWaitList(h.queue, 1, &e, NULL) != CL_INVALID_OPERATION) exit(6);
+    if (flag) exit(6);
+    OK(clEnqueueBarrierWithWaitList(h.queue, 1, &e, NULL));
     OK(clSetUserEventStatus(e, CL_COMPLETE));
     if (flag != 7) exit(7);
     OK(clEnqueueBarrierWithWaitList(h.queue, 1, &e, NULL));
@@ -268,7 +269,8 @@ static void waiting_for_memory(void) {
     *order = 0;
 }
 
-// Callbacks of a context: a buffer is refused, a command that waits for an event, and a launch has a fault.
+// Callbacks of a context: a buffer is refused, a user event that a command waits for is released, and a launch has a
+// fault.
 static void waiting_in_errors(void) {
     cl_int fault, at = 16;
     host other = h;
@@ -279,15 +281,16 @@ static void waiting_in_errors(void) {
     OK(fault);
     if (clCreateBuffer(other.context, 0, (size_t)1 << 31, NULL, &fault) || strcmp(order, "x")) exit(30);
     cl_event never = clCreateUserEvent(other.context, &fault);
-    if (clEnqueueMarkerWithWaitList(other.queue, 1, &never, NULL) != CL_INVALID_OPERATION) exit(31);
+    OK(clEnqueueMarkerWithWaitList(other.queue, 1, &never, NULL));
+    if (strcmp(order, "x")) exit(31);
     OK(clReleaseEvent(never));
-    if (strcmp(order, "xx")) exit(32);
+    if (strcmp(order, "xxx")) exit(32);
     cl_program p = build_program(&other, "__kernel void f(__global int *a, int i) { a[i] = 1; }", "");
     cl_kernel k = clCreateKernel(p, "f", &fault);
     cl_mem m = clCreateBuffer(other.context, 0, 64, NULL, &fault);
     OK(clSetKernelArg(k, 0, sizeof m, &m));
     OK(clSetKernelArg(k, 1, sizeof at, &at));
-    if (clEnqueueTask(other.queue, k, 0, NULL, NULL) != CL_INVALID_OPERATION || strcmp(order, "xxx")) exit(33);
+    if (clEnqueueTask(other.queue, k, 0, NULL, NULL) != CL_INVALID_OPERATION || strcmp(order, "xxxx")) exit(33);
     OK(clReleaseMemObject(m));
     OK(clReleaseKernel(k));
     OK(clReleaseProgram(p));

@@ -100,16 +100,20 @@ as_given = record (new_rule (codes "as-given")) { long = Some (codes "as-given")
 abbrev pub explain_form : App
 explain_form = with_rule (configured (with_rule (with_rule (with_rule (new_app (codes "explain")) script) some_schedule) format)) as_given
 
--- one of the forms must be named
+abbrev pub version_form : App
+version_form = with_rule (new_app (codes "version")) format
+
+-- one of the forms must be named, but for `--version`
 abbrev pub no_form : App
-no_form = on_top (λ top. record top { subcommand_required = true }) (new_app (codes "clsim"))
+no_form = on_top (λ top. record top { subcommand_required = true; has_version = true }) (new_app (codes "clsim"))
 
 -- `clsim run FILE [--workers N] [--budget N] [--limits LIMITS]`, `clsim check FILE [--limits LIMITS]`,
 -- `clsim dump FILE KERNEL [--limits LIMITS]`,
--- `clsim replay SCRIPT SCHEDULE [--limits LIMITS]`, `clsim serve [--workers N] [--budget N] [--limits LIMITS]` or
--- `clsim explain SCRIPT [SCHEDULE] [--format text|json] [--budget N] [--limits LIMITS] [--as-given]`
+-- `clsim replay SCRIPT SCHEDULE [--limits LIMITS]`, `clsim serve [--workers N] [--budget N] [--limits LIMITS]`,
+-- `clsim explain SCRIPT [SCHEDULE] [--format text|json] [--budget N] [--limits LIMITS] [--as-given]` or
+-- `clsim version [--format text|json]`
 abbrev pub program : App
-program = with_subcommand (with_subcommand (with_subcommand (with_subcommand (with_subcommand (with_subcommand no_form run_form.top) check_form.top) dump_form.top) replay_form.top) serve_form.top) explain_form.top
+program = with_subcommand (with_subcommand (with_subcommand (with_subcommand (with_subcommand (with_subcommand (with_subcommand no_form run_form.top) check_form.top) dump_form.top) replay_form.top) serve_form.top) explain_form.top) version_form.top
 
 -- what is read is asked for, and nothing is read only where nothing is asked for (own)
 abbrev pub Reads : {A : Type 0} → (A → Type 0) → Option A → Type 0
@@ -171,6 +175,7 @@ IsRun rows (invocation.Dump path name limits) = ⊥
 IsRun rows (invocation.Replay script schedule configuration) = ⊥
 IsRun rows (invocation.Serve options) = ⊥
 IsRun rows (invocation.Explain script schedule wish) = ⊥
+IsRun rows (invocation.Version json) = ⊥
 
 -- a check of the file of these matches, within their limits
 abbrev pub IsCheck : List Row → Invocation → Type 0
@@ -180,6 +185,7 @@ IsCheck rows (invocation.Dump path name limits) = ⊥
 IsCheck rows (invocation.Replay script schedule configuration) = ⊥
 IsCheck rows (invocation.Serve options) = ⊥
 IsCheck rows (invocation.Explain script schedule wish) = ⊥
+IsCheck rows (invocation.Version json) = ⊥
 
 -- a dump of the kernel and of the file of these matches, within their limits
 abbrev pub IsDump : List Row → Invocation → Type 0
@@ -190,6 +196,7 @@ IsDump rows (invocation.Dump path name limits) =
 IsDump rows (invocation.Replay script schedule configuration) = ⊥
 IsDump rows (invocation.Serve options) = ⊥
 IsDump rows (invocation.Explain script schedule wish) = ⊥
+IsDump rows (invocation.Version json) = ⊥
 
 -- a replay of the schedule file on the script of these matches, under their limits
 abbrev pub IsReplay : List Row → Invocation → Type 0
@@ -200,6 +207,7 @@ IsReplay rows (invocation.Replay script schedule configuration) =
     (first_of (codes "SCRIPT") rows ≡ Some script.now) × (first_of (codes "SCHEDULE") rows ≡ Some schedule.now) × GivesDefault rows configuration
 IsReplay rows (invocation.Serve options) = ⊥
 IsReplay rows (invocation.Explain script schedule wish) = ⊥
+IsReplay rows (invocation.Version json) = ⊥
 
 -- serving, by these matches' workers and under their limits and budget
 abbrev pub IsServe : List Row → Invocation → Type 0
@@ -209,6 +217,7 @@ IsServe rows (invocation.Dump path name limits) = ⊥
 IsServe rows (invocation.Replay script schedule configuration) = ⊥
 IsServe rows (invocation.Serve options) = GivesWorkers rows options.workers × GivesConfiguration rows options.configuration
 IsServe rows (invocation.Explain script schedule wish) = ⊥
+IsServe rows (invocation.Version json) = ⊥
 
 -- an explanation of the script and of the schedule file of these matches, if one is named
 abbrev pub IsExplain : List Row → Invocation → Type 0
@@ -220,6 +229,17 @@ IsExplain rows (invocation.Serve options) = ⊥
 IsExplain rows (invocation.Explain script schedule wish) =
     (first_of (codes "SCRIPT") rows ≡ Some script.now) × (first_of (codes "SCHEDULE") rows ≡ option_map (λ s. s.now) schedule)
     × GivesConfiguration rows wish.configuration × GivesFormat rows wish.json × GivesFlag rows wish.as_given
+IsExplain rows (invocation.Version json) = ⊥
+
+-- the version, in the format of these matches
+abbrev pub IsVersion : List Row → Invocation → Type 0
+IsVersion rows (invocation.Run path options) = ⊥
+IsVersion rows (invocation.Check path limits) = ⊥
+IsVersion rows (invocation.Dump path name limits) = ⊥
+IsVersion rows (invocation.Replay script schedule configuration) = ⊥
+IsVersion rows (invocation.Serve options) = ⊥
+IsVersion rows (invocation.Explain script schedule wish) = ⊥
+IsVersion rows (invocation.Version json) = GivesFormat rows json
 
 -- the subcommand that was met, with its matches, is the form that is asked for
 abbrev pub Holds : Option (Text × List Row) → Invocation → Type 0
@@ -230,7 +250,8 @@ Holds (Some (name, rows)) asked =
     ⊎ ((name ≡ codes "dump") × IsDump rows asked
     ⊎ ((name ≡ codes "replay") × IsReplay rows asked
     ⊎ ((name ≡ codes "serve") × IsServe rows asked
-    ⊎ (name ≡ codes "explain") × IsExplain rows asked))))
+    ⊎ ((name ≡ codes "explain") × IsExplain rows asked
+    ⊎ (name ≡ codes "version") × IsVersion rows asked)))))
 
 -- the forms take the words, whose matches hold what is asked for
 abbrev pub AsksFor : List Text → Invocation → Type 0

@@ -2,8 +2,8 @@
 #![tactic(auto)]
 
 ghost use Rattle.std.specs.Prelude.{◌≡◌, ◌≤◌, false, map, Ok, IfOk, IfErr, IfSome};
-ghost use Rattle.clap.specs.Words.{App, app_of, new_app, rule_of, found_of, rows_of, subcommand_rows_of, with_rule, with_subcommand};
-ghost use Rattle.cli.specs.CommandLine.{IsForm, needed, option, number, limits, script, some_schedule, format, as_given, configured, working, run_form, check_form, dump_form, replay_form, serve_form, explain_form, no_form, program, GivesWorkers, GivesLimits, GivesBudget, GivesConfiguration, GivesFormat, GivesFlag, IsRun, IsCheck, IsDump, IsReplay, IsServe, IsExplain, Reads, Holds, AsksFor, IsRefused};
+ghost use Rattle.clap.specs.Words.{App, app_of, kind_of, new_app, rule_of, found_of, rows_of, subcommand_rows_of, with_rule, with_subcommand};
+ghost use Rattle.cli.specs.CommandLine.{IsForm, needed, option, number, limits, script, some_schedule, format, as_given, configured, working, run_form, check_form, dump_form, replay_form, serve_form, explain_form, version_form, no_form, program, GivesWorkers, GivesLimits, GivesBudget, GivesConfiguration, GivesFormat, GivesFlag, IsRun, IsCheck, IsDump, IsReplay, IsServe, IsExplain, IsVersion, Reads, Holds, AsksFor, IsRefused};
 
 use crate::session::Options;
 use crate::wish::ExplainWish;
@@ -47,6 +47,10 @@ pub enum Invocation<'a> {
         script: &'a str,
         schedule: Option<&'a str>,
         wish: ExplainWish,
+    },
+    /// Tells the version, as JSON or as text
+    Version {
+        json: bool,
     },
 }
 
@@ -231,6 +235,17 @@ fn serve_form<'a>(alloc: Global) -> Result<Command<'a>, AllocError>
     working(alloc, Ok(form))
 }
 
+/// A form with `--format FORMAT`, and what help says of it.
+fn formatted<'a>(
+    alloc: Global,
+    form: Result<Command<'a>, AllocError>,
+    help: &'a str,
+) -> Result<Command<'a>, AllocError>
+    ensures { (shape : App) → IfOk form.entry (IsForm shape) → IfOk result (IsForm (with_rule shape format)) }
+{
+    with(form, option(alloc, "format", "FORMAT", help))
+}
+
 /// The arguments of `explain`: `SCRIPT [SCHEDULE] [--format text|json]`.
 fn explained<'a>(
     alloc: Global,
@@ -239,13 +254,11 @@ fn explained<'a>(
     ensures { (shape : App) → IfOk form.entry (IsForm shape) → IfOk result (IsForm (with_rule (with_rule (with_rule shape script) some_schedule) format)) }
 {
     let with_script = with(form, needed(alloc, "SCRIPT", "The script"));
-    let format = option(
+    formatted(
         alloc,
-        "format",
-        "FORMAT",
+        with(with_script, some_schedule(alloc)),
         "How the explanation is written: text or json",
-    );
-    with(with(with_script, some_schedule(alloc)), format)
+    )
 }
 
 /// The form `explain SCRIPT [SCHEDULE] [--format text|json] [--budget N] [--limits LIMITS] [--as-given]`.
@@ -259,6 +272,18 @@ fn explain_form<'a>(alloc: Global) -> Result<Command<'a>, AllocError>
     );
     let whole = configured(alloc, explained(alloc, Ok(form)));
     with(whole, as_given(alloc))
+}
+
+/// The form `version [--format text|json]`.
+fn version_form<'a>(alloc: Global) -> Result<Command<'a>, AllocError>
+    ensures { IfOk result (IsForm version_form) }
+{
+    let form = named(
+        alloc,
+        "version",
+        "Prints the version and what was proved of it",
+    );
+    formatted(alloc, Ok(form), "How the version is written: text or json")
 }
 
 /// The limits of a device, the profile's where the option isn't there, and `None` where it names none.
@@ -379,11 +404,11 @@ fn serve_of<'a>(serve: &ArgMatches<'a>) -> Option<Invocation<'a>>
     })
 }
 
-/// Whether the format of an explanation is JSON, and `None` where it is neither this nor text.
-fn format_of(explain: &ArgMatches<'_>) -> Option<bool>
-    ensures { Reads (GivesFormat (rows_of (found_of explain.now))) result }
+/// Whether the format is JSON, and `None` where it is neither this nor text.
+fn format_of(matches: &ArgMatches<'_>) -> Option<bool>
+    ensures { Reads (GivesFormat (rows_of (found_of matches.now))) result }
 {
-    let Some(format) = explain.get_str("format") else {
+    let Some(format) = matches.get_str("format") else {
         return Some(false);
     };
     if format == "text" {
@@ -415,6 +440,14 @@ fn explain_of<'a>(explain: &ArgMatches<'a>) -> Option<Invocation<'a>>
     })
 }
 
+/// What the matches of `version` ask for.
+fn version_of<'a>(version: &ArgMatches<'a>) -> Option<Invocation<'a>>
+    ensures { Reads (IsVersion (rows_of (found_of version.now))) result }
+{
+    let json = format_of(version)?;
+    Some(Invocation::Version { json })
+}
+
 /// What the matches of a command line ask for, by the form that they hold.
 fn asked<'a>(matches: &ArgMatches<'a>) -> Option<Invocation<'a>>
     ensures { Reads (Holds (subcommand_rows_of matches.now)) result }
@@ -434,14 +467,20 @@ fn asked<'a>(matches: &ArgMatches<'a>) -> Option<Invocation<'a>>
     if let Some(serve) = matches.subcommand_matches("serve") {
         return serve_of(serve);
     }
-    explain_of(matches.subcommand_matches("explain")?)
+    if let Some(explain) = matches.subcommand_matches("explain") {
+        return explain_of(explain);
+    }
+    version_of(matches.subcommand_matches("version")?)
 }
 
-/// The forms of the command line, without any of them yet.
+/// The forms of the command line, without any of them yet. That there is a version gives them `--version`; what the
+/// program tells of it is its own.
 fn no_form<'a>(alloc: Global) -> Command<'a>
     ensures { app_of result ≡ no_form }
 {
-    named(alloc, "clsim", "A simulated OpenCL 1.2 device").subcommand_required(true)
+    named(alloc, "clsim", "A simulated OpenCL 1.2 device")
+        .subcommand_required(true)
+        .version("of clsim")
 }
 
 /// Forms with one more, where both were made. In `forms` each `?` would add a path.
@@ -464,11 +503,61 @@ fn forms<'a>(alloc: Global) -> Result<Command<'a>, AllocError>
     let with_dumps = with_form(with_checks, dump_form(alloc));
     let with_replays = with_form(with_dumps, replay_form(alloc));
     let with_serving = with_form(with_replays, serve_form(alloc));
-    with_form(with_serving, explain_form(alloc))
+    let with_explaining = with_form(with_serving, explain_form(alloc));
+    with_form(with_explaining, version_form(alloc))
+}
+
+/// A form whose usage is shown by this name.
+fn shown<'a>(form: Result<Command<'a>, AllocError>, name: &str) -> Result<Command<'a>, AllocError> {
+    form?.bin_name(name)
+}
+
+/// The form of this name, as its usage is shown.
+fn form_of<'a>(alloc: Global, name: &str) -> Result<Command<'a>, AllocError> {
+    if name == "run" {
+        return shown(run_form(alloc), "clsim run");
+    }
+    if name == "check" {
+        return shown(check_form(alloc), "clsim check");
+    }
+    if name == "dump" {
+        return shown(dump_form(alloc), "clsim dump");
+    }
+    if name == "replay" {
+        return shown(replay_form(alloc), "clsim replay");
+    }
+    if name == "serve" {
+        return shown(serve_form(alloc), "clsim serve");
+    }
+    if name == "explain" {
+        return shown(explain_form(alloc), "clsim explain");
+    }
+    shown(version_form(alloc), "clsim version")
+}
+
+/// The error of a form that holds limits without a name, or else a format without one, with the form's usage.
+fn wrong_value(alloc: Global, matches: &ArgMatches<'_>) -> Result<Error, AllocError>
+    ensures { IfOk result (λ error. kind_of error ≡ ErrorKind.InvalidValue) }
+{
+    let Some((name, values)) = matches.subcommand() else {
+        let mut forms = no_form(alloc);
+        return forms.error(ErrorKind::InvalidValue, "a form is missing");
+    };
+    let mut form = form_of(alloc, name)?;
+    let message = if limits_of(values).is_none() {
+        "the limits are profile or large"
+    } else {
+        "the format is text or json"
+    };
+    form.error(ErrorKind::InvalidValue, message)
 }
 
 /// Reads the words of a command line by its forms.
-fn command_by<'a>(forms: &mut Command<'a>, words: &'a [&'a str]) -> Result<Invocation<'a>, Error>
+fn command_by<'a>(
+    alloc: Global,
+    forms: &mut Command<'a>,
+    words: &'a [&'a str],
+) -> Result<Invocation<'a>, Error>
     requires { app_of forms.old ≡ program }
     ensures asked { IfOk result (AsksFor (map (λ word. word.now) words.entry.now)) }
     ensures refused { IfErr result (IsRefused (map (λ word. word.now) words.entry.now)) }
@@ -476,22 +565,21 @@ fn command_by<'a>(forms: &mut Command<'a>, words: &'a [&'a str]) -> Result<Invoc
     let matches = forms.try_get_matches_from_mut(words)?;
     match asked(&matches) {
         Some(asked) => Ok(asked),
-        None => Err(forms.error(
-            ErrorKind::InvalidValue,
-            "the format is text or json, and the limits are profile or large",
-        )?),
+        None => Err(wrong_value(alloc, &matches)?),
     }
 }
 
 /// Reads the words of a command line, the program's name first. The forms are
 /// `clsim run FILE [--workers N] [--budget N] [--limits LIMITS]`, `clsim check FILE [--limits LIMITS]`,
 /// `clsim dump FILE KERNEL [--limits LIMITS]`,
-/// `clsim replay SCRIPT SCHEDULE [--limits LIMITS]`, `clsim serve [--workers N] [--budget N] [--limits LIMITS]` and
-/// `clsim explain SCRIPT [SCHEDULE] [--format text|json] [--budget N] [--limits LIMITS] [--as-given]`.
+/// `clsim replay SCRIPT SCHEDULE [--limits LIMITS]`, `clsim serve [--workers N] [--budget N] [--limits LIMITS]`,
+/// `clsim explain SCRIPT [SCHEDULE] [--format text|json] [--budget N] [--limits LIMITS] [--as-given]` and
+/// `clsim version [--format text|json]`. The errors of the words `--help`, `help` with a form or without, and `--version`
+/// have the kinds `DisplayHelp` and `DisplayVersion`.
 pub fn command<'a>(alloc: Global, words: &'a [&'a str]) -> Result<Invocation<'a>, Error>
     ensures asked { IfOk result (AsksFor (map (λ word. word.now) words.entry.now)) }
     ensures refused { IfErr result (IsRefused (map (λ word. word.now) words.entry.now)) }
 {
     let mut forms = forms(alloc)?;
-    command_by(&mut forms, words)
+    command_by(alloc, &mut forms, words)
 }

@@ -8,7 +8,7 @@ ghost use Rattle.cli.specs.Reading.{ReadFails, ReadsScript, ScriptFails};
 use byte_io::Read;
 use host_commands::command::Command;
 use simfile::faults::{Reader, RunFault, read_fault};
-use simfile::script::read_script;
+use simfile::script::{Script, read_script};
 use std::alloc::Global;
 
 /// All that a reader has left.
@@ -29,5 +29,9 @@ pub fn commands_of<R: Read>(alloc: Global, reader: &mut R) -> Result<Vec<Command
 {
     let bytes = bytes_of(alloc, reader, Reader::First)?;
     let script = read_script(alloc, bytes.as_slice())?;
-    Ok(script.commands)
+    let Script {
+        commands,
+        places: _,
+    } = script;
+    Ok(commands)
 }

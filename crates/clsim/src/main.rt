@@ -1,7 +1,8 @@
 //! The program `clsim`: a simulated OpenCL 1.2 device for scripts, schedules and host programs.
 //!
-//! It calls `cli` and `explaining` with the files and the output of the system. The status is the one that `cli`
-//! defines, whether standard error can be written or not; the process ends with 0, 1 or 2.
+//! It calls `cli` and `explaining` with the files and the output of the system; a file named `-` is standard input. The
+//! status is the one that `cli` defines, whether standard error can be written or not; the process ends with 0, 1 or 2.
+//! What stands on standard error is only tested.
 #![tactic(auto)]
 
 ghost use Rattle.std.specs.Prelude.{◌≡◌, ◌≤◌, IfOk};
@@ -11,11 +12,21 @@ ghost use Rattle.cli.specs.Replaying.{replay_status_of};
 ghost use Rattle.cli.specs.Session.{status_of};
 
 mod explain_files;
+mod looks;
 mod named_file;
+mod piped;
+mod telling;
+mod version;
 
 use crate::explain_files::{explain_schedule, explain_script};
-use crate::named_file::NamedFile;
-use byte_io::{Input, Output, StreamPeer};
+use crate::looks::Looks;
+use crate::named_file::{NamedFile, STANDARD_INPUT};
+use crate::piped::Piped;
+use crate::telling::{Told, tell, tell_place, tell_script};
+use crate::version::print_version;
+use byte_io::{Output, StreamPeer};
+use clap::Error;
+use clap::error::ErrorKind;
 use cli::checking::{check_file, source_status};
 use cli::command_line::{Invocation, command};
 use cli::dialogue::serve;
@@ -28,36 +39,35 @@ use explaining::{ExplainOptions, Format};
 use limits::{Configuration, Limits};
 use simfile::faults::{Reader, RunFault};
 use std::env::Env;
-use std::io::{BufReader, BufWriter, Printer};
+use std::io::{BufReader, BufWriter, IsTerminal, Printer};
 use std::marker::Sync;
 use std::process::ExitCode;
 use std::rt::Files;
 use std::sync::Wait;
 use std::thread::Threads;
-use std::{env, fs, io};
+use std::{env, io};
 
-/// Opens a file to read, and standard output to be written.
-fn open<'a, R: Files + Print + AllocGlobal>(
+/// Standard output, to be written.
+fn output_of<'a, R: Print + AllocGlobal>(
     rt: &'a R,
-    file: &str,
-) -> Result<(Input<R::File>, Output<Printer<'a, R>>), RunFault> {
-    let Ok(reader) = fs::open(rt, file) else {
-        return Err(RunFault::Read(Reader::First));
-    };
-    let Ok(writer) = BufWriter::new(rt.alloc(), io::writer(rt)) else {
+) -> Result<Output<Piped<Printer<'a, R>>>, RunFault> {
+    let Ok(writer) = BufWriter::new(rt.alloc(), Piped::new(io::writer(rt))) else {
         return Err(RunFault::OutOfMemory);
     };
-    Ok((Input::new(reader), Output::new(writer)))
+    Ok(Output::new(writer))
 }
 
-/// Runs the script of a file, with the replies on standard output.
-fn run_script<R: Files + Print + AllocGlobal + Threads + Wait + Sync>(
+/// Runs a script, with the replies on standard output, and notes whether its reader is gone.
+fn run_script<R: Files + io::Input + Print + AllocGlobal + Threads + Wait + Sync>(
     rt: &R,
-    file: &str,
+    script: &mut NamedFile<'_, R>,
     options: Options,
+    gone: &mut bool,
 ) -> Result<RunEnd, RunFault> {
-    let (mut reader, mut writer) = open(rt, file)?;
-    run(rt, rt.alloc(), &mut reader, &mut writer, options)
+    let mut writer = output_of(rt)?;
+    let outcome = run(rt, rt.alloc(), script, &mut writer, options);
+    *gone = writer.into_inner().is_gone();
+    outcome
 }
 
 /// How many bytes of standard input are read at once.
@@ -78,45 +88,48 @@ fn serve_input<R: io::Input + Print + AllocGlobal + Threads + Wait + Sync>(
     serve(rt, rt.alloc(), &mut peer, options)
 }
 
-/// Checks the source of a file within limits, with the line that tells what was found on standard output.
-fn check_source<R: Files + Print + AllocGlobal>(
+/// Checks a source within limits, with the line that tells what was found on standard output.
+fn check_source<R: Files + io::Input + Print + AllocGlobal>(
     rt: &R,
-    file: &str,
+    source: &mut NamedFile<'_, R>,
     limits: Limits,
+    gone: &mut bool,
 ) -> Result<bool, RunFault> {
-    let (mut reader, mut writer) = open(rt, file)?;
-    check_file(rt.alloc(), limits, &mut reader, &mut writer)
+    let mut writer = output_of(rt)?;
+    let outcome = check_file(rt.alloc(), limits, source, &mut writer);
+    *gone = writer.into_inner().is_gone();
+    outcome
 }
 
-/// Writes the code of a kernel of the source of a file, which is built within limits, on standard output, or the line of
-/// the source's fault.
-fn dump_kernel<R: Files + Print + AllocGlobal>(
+/// Writes the code of a kernel of a source, which is built within limits, on standard output, or the line of the
+/// source's fault.
+fn dump_kernel<R: Files + io::Input + Print + AllocGlobal>(
     rt: &R,
-    file: &str,
+    source: &mut NamedFile<'_, R>,
     kernel: &str,
     limits: Limits,
+    gone: &mut bool,
 ) -> Result<bool, RunFault> {
-    let (mut reader, mut writer) = open(rt, file)?;
-    dump_file(rt.alloc(), limits, &mut reader, kernel, &mut writer)
+    let mut writer = output_of(rt)?;
+    let outcome = dump_file(rt.alloc(), limits, source, kernel, &mut writer);
+    *gone = writer.into_inner().is_gone();
+    outcome
 }
 
-/// Replays a schedule file on the script of a file, with the answer on standard output. The schedule file is opened
-/// once the script was read and found good.
-fn replay_schedule<R: Files + Print + AllocGlobal>(
+/// Replays a schedule file on a script, with the answer on standard output. The schedule file is opened once the script
+/// was read and found good.
+fn replay_schedule<R: Files + io::Input + Print + AllocGlobal>(
     rt: &R,
-    script: &str,
+    script: &mut NamedFile<'_, R>,
     schedule: &str,
     configuration: Configuration,
+    gone: &mut bool,
 ) -> Result<bool, RunFault> {
-    let (mut reader, mut writer) = open(rt, script)?;
+    let mut writer = output_of(rt)?;
     let mut file = NamedFile::new(rt, schedule);
-    replay_files(
-        rt.alloc(),
-        configuration,
-        &mut reader,
-        &mut file,
-        &mut writer,
-    )
+    let outcome = replay_files(rt.alloc(), configuration, script, &mut file, &mut writer);
+    *gone = writer.into_inner().is_gone();
+    outcome
 }
 
 /// How an explanation is made, as it is wished.
@@ -132,122 +145,259 @@ fn options_of(wish: ExplainWish) -> ExplainOptions {
     }
 }
 
-/// Explains the fault of a schedule file, or without one the first fault of a script, with the explanation on standard
-/// output.
-fn explain_fault<R: Files + Print + AllocGlobal>(
+/// Explains the fault of a schedule file, or without one the first fault of a script of this name, with the explanation
+/// on standard output.
+fn explain_fault<R: Files + io::Input + Print + AllocGlobal>(
     rt: &R,
-    script: &str,
+    name: &str,
+    script: &mut NamedFile<'_, R>,
     schedule: Option<&str>,
-    wish: ExplainWish,
+    options: ExplainOptions,
+    gone: &mut bool,
 ) -> Result<bool, RunFault> {
-    let (mut reader, mut writer) = open(rt, script)?;
-    let options = options_of(wish);
-    let Some(schedule) = schedule else {
-        return explain_script(rt.alloc(), script, &mut reader, options, &mut writer);
+    let mut writer = output_of(rt)?;
+    let outcome = match schedule {
+        None => explain_script(rt.alloc(), name, script, options, &mut writer),
+        Some(schedule) => {
+            let mut file = NamedFile::new(rt, schedule);
+            explain_schedule(rt.alloc(), name, script, &mut file, options, &mut writer)
+        }
     };
-    let mut file = NamedFile::new(rt, schedule);
-    explain_schedule(
-        rt.alloc(),
-        script,
-        &mut reader,
-        &mut file,
-        options,
-        &mut writer,
-    )
-}
-
-/// Tells on standard error why a file came to no end. If standard error fails too, only the status shows it.
-fn tell(rt: &impl Eprint, fault: RunFault, file: &str) {
-    let _ = match fault {
-        RunFault::Read(_) => eprintln!(rt; "clsim: {fault} {file}"),
-        _ => eprintln!(rt; "clsim: {fault}"),
-    };
+    *gone = writer.into_inner().is_gone();
+    outcome
 }
 
 /// The status of a run. A fault is told.
-fn end_run(rt: &impl Eprint, outcome: Result<RunEnd, RunFault>, file: &str) -> u8
+fn end_run<R: Files + Eprint>(rt: &R, outcome: Result<RunEnd, RunFault>, told: Told<'_>) -> u8
     ensures { result ≡ status_of outcome }
 {
     if let Err(fault) = outcome {
-        tell(rt, fault, file);
+        tell(rt, fault, told);
     }
     status(&outcome)
 }
 
-/// The status of a check or a dump. A fault is told.
-fn end_source(rt: &impl Eprint, outcome: Result<bool, RunFault>, file: &str) -> u8
+/// The status of a check or a dump. A fault is told, and of a source that looks like a script that it does.
+fn end_source<R: Files + Eprint>(rt: &R, outcome: Result<bool, RunFault>, told: Told<'_>) -> u8
     ensures { result ≡ source_status_of outcome }
 {
-    if let Err(fault) = outcome {
-        tell(rt, fault, file);
+    match outcome {
+        Ok(true) => {}
+        Ok(false) => tell_script(rt, told),
+        Err(fault) => tell(rt, fault, told),
     }
     source_status(&outcome)
 }
 
 /// The status of a replay or of an explanation. A fault is told, with the file that couldn't be read.
-fn end_replay(rt: &impl Eprint, outcome: Result<bool, RunFault>, script: &str, schedule: &str) -> u8
+fn end_replay<R: Files + Eprint>(
+    rt: &R,
+    outcome: Result<bool, RunFault>,
+    schedule: &str,
+    told: Told<'_>,
+) -> u8
     ensures { result ≡ replay_status_of outcome }
 {
     match outcome {
         Ok(_) => {}
-        Err(RunFault::Read(Reader::Second)) => tell(rt, RunFault::Read(Reader::Second), schedule),
-        Err(fault) => tell(rt, fault, script),
+        Err(RunFault::Read(Reader::Second)) => {
+            let told = Told {
+                file: schedule,
+                ..told
+            };
+            tell(rt, RunFault::Read(Reader::Second), told)
+        }
+        Err(fault) => tell(rt, fault, told),
     }
     replay_status(&outcome)
 }
 
-/// Does what the words of the command line ask for, and gives the status.
+/// Runs the script of a file, and gives the status.
+fn do_run<R: Files + io::Input + Print + Eprint + AllocGlobal + Threads + Wait + Sync>(
+    rt: &R,
+    file: &str,
+    options: Options,
+) -> u8
+    ensures { result ≤ 2 }
+{
+    let mut script = NamedFile::new(rt, file);
+    let mut gone = false;
+    let outcome = run_script(rt, &mut script, options, &mut gone);
+    let looks = script.looks();
+    end_run(rt, outcome, Told { file, looks, gone })
+}
+
+/// Serves standard input, and gives the status.
+fn do_serve<R: Files + io::Input + Print + Eprint + AllocGlobal + Threads + Wait + Sync>(
+    rt: &R,
+    options: Options,
+) -> u8
+    ensures { result ≤ 2 }
+{
+    let outcome = serve_input(rt, options);
+    let told = Told {
+        file: STANDARD_INPUT,
+        looks: Looks::Unknown,
+        gone: false,
+    };
+    end_run(rt, outcome, told)
+}
+
+/// Checks the source of a file, and gives the status. Where a person looks on, the line and the column of its fault are
+/// told.
+fn do_check<R: Files + io::Input + Print + Eprint + AllocGlobal>(
+    rt: &R,
+    file: &str,
+    limits: Limits,
+    watched: bool,
+) -> u8
+    ensures { result ≤ 2 }
+{
+    let mut source = NamedFile::new(rt, file).keeping(watched);
+    let mut gone = false;
+    let outcome = check_source(rt, &mut source, limits, &mut gone);
+    let looks = source.looks();
+    if let Ok(false) = outcome {
+        if let Some(text) = source.kept() {
+            tell_place(rt, limits, file, text);
+        }
+    }
+    end_source(rt, outcome, Told { file, looks, gone })
+}
+
+/// Writes the code of a kernel of the source of a file, and gives the status.
+fn do_dump<R: Files + io::Input + Print + Eprint + AllocGlobal>(
+    rt: &R,
+    file: &str,
+    kernel: &str,
+    limits: Limits,
+) -> u8
+    ensures { result ≤ 2 }
+{
+    let mut source = NamedFile::new(rt, file);
+    let mut gone = false;
+    let outcome = dump_kernel(rt, &mut source, kernel, limits, &mut gone);
+    let looks = source.looks();
+    end_source(rt, outcome, Told { file, looks, gone })
+}
+
+/// Replays a schedule file on the script of a file, and gives the status.
+fn do_replay<R: Files + io::Input + Print + Eprint + AllocGlobal>(
+    rt: &R,
+    file: &str,
+    schedule: &str,
+    configuration: Configuration,
+) -> u8
+    ensures { result ≤ 2 }
+{
+    let mut script = NamedFile::new(rt, file);
+    let mut gone = false;
+    let outcome = replay_schedule(rt, &mut script, schedule, configuration, &mut gone);
+    let looks = script.looks();
+    end_replay(rt, outcome, schedule, Told { file, looks, gone })
+}
+
+/// Explains a fault of the script of a file, and gives the status.
+fn do_explain<R: Files + io::Input + Print + Eprint + AllocGlobal>(
+    rt: &R,
+    file: &str,
+    schedule: Option<&str>,
+    wish: ExplainWish,
+) -> u8
+    ensures { result ≤ 2 }
+{
+    let mut script = NamedFile::new(rt, file);
+    let mut gone = false;
+    let options = options_of(wish);
+    let outcome = explain_fault(rt, file, &mut script, schedule, options, &mut gone);
+    let looks = script.looks();
+    end_replay(
+        rt,
+        outcome,
+        schedule.unwrap_or(file),
+        Told { file, looks, gone },
+    )
+}
+
+/// The status of what was printed on standard output. That it can't be written is told, but where its reader is gone.
+fn end_printed(rt: &impl Eprint, printed: io::Result<()>) -> u8
+    ensures { result ≤ 2 }
+{
+    let Err(error) = printed else {
+        return 0;
+    };
+    if error.kind() != io::ErrorKind::BrokenPipe {
+        let _ = eprintln!(rt; "clsim: {}", RunFault::Write);
+    }
+    2
+}
+
+/// Whether the words are of the form `help`.
+fn asks_for_help(words: &[&str]) -> bool {
+    match words.get(1) {
+        Some(word) => *word == "help",
+        None => false,
+    }
+}
+
+/// Tells what is said of words that name no command, and gives the status. The version and the help of the form `help`
+/// are answers, on standard output and with status 0; else the text goes to standard error.
+fn answer_words<R: Print + Eprint>(rt: &R, words: &[&str], error: &Error) -> u8
+    ensures { result ≤ 2 }
+{
+    match error.kind() {
+        ErrorKind::DisplayVersion => end_printed(rt, print_version(rt, false)),
+        ErrorKind::DisplayHelp if asks_for_help(words) => end_printed(rt, rt.print(error)),
+        _ => {
+            let _ = rt.eprint(error);
+            2
+        }
+    }
+}
+
+/// Does what the words of the command line ask for, and gives the status. `watched` says that a person reads standard
+/// error.
 fn perform<R: Files + io::Input + Print + Eprint + AllocGlobal + Threads + Wait + Sync>(
     rt: &R,
     words: &[&str],
+    watched: bool,
 ) -> u8
     ensures { result ≤ 2 }
 {
     match command(rt.alloc(), words) {
-        Ok(Invocation::Run { file, options }) => end_run(rt, run_script(rt, file, options), file),
-        Ok(Invocation::Check { file, limits }) => {
-            end_source(rt, check_source(rt, file, limits), file)
-        }
+        Ok(Invocation::Run { file, options }) => do_run(rt, file, options),
+        Ok(Invocation::Check { file, limits }) => do_check(rt, file, limits, watched),
         Ok(
             Invocation::Dump {
                 file,
                 kernel,
                 limits,
             },
-        ) => end_source(rt, dump_kernel(rt, file, kernel, limits), file),
+        ) => do_dump(rt, file, kernel, limits),
         Ok(
             Invocation::Replay {
                 script,
                 schedule,
                 configuration,
             },
-        ) => {
-            let outcome = replay_schedule(rt, script, schedule, configuration);
-            end_replay(rt, outcome, script, schedule)
-        }
-        Ok(Invocation::Serve { options }) => {
-            end_run(rt, serve_input(rt, options), "standard input")
-        }
+        ) => do_replay(rt, script, schedule, configuration),
+        Ok(Invocation::Serve { options }) => do_serve(rt, options),
         Ok(
             Invocation::Explain {
                 script,
                 schedule,
                 wish,
             },
-        ) => {
-            let outcome = explain_fault(rt, script, schedule, wish);
-            end_replay(rt, outcome, script, schedule.unwrap_or(script))
-        }
-        Err(error) => {
-            let _ = rt.eprint(&error);
-            2
-        }
+        ) => do_explain(rt, script, schedule, wish),
+        Ok(Invocation::Version { json }) => end_printed(rt, print_version(rt, json)),
+        Err(error) => answer_words(rt, words, &error),
     }
 }
 
 /// Does what the command line asks for, and gives the status. No memory may be left for its words.
 fn ask<R: Env + Files + io::Input + Print + Eprint + AllocGlobal + Threads + Wait + Sync>(
     rt: &R,
+    watched: bool,
 ) -> io::Result<u8>
     ensures { IfOk result (λ status. status ≤ 2) }
 {
@@ -257,17 +407,18 @@ fn ask<R: Env + Files + io::Input + Print + Eprint + AllocGlobal + Threads + Wai
     for word in words.iter().skip(1) {
         texts.push(word.as_str())?;
     }
-    Ok(perform(rt, texts.as_slice()))
+    Ok(perform(rt, texts.as_slice(), watched))
 }
 
 /// Does what the command line asks for, and gives the status of the process: where anything is told on standard error,
 /// it is 2, whatever that takes.
 fn end<R: Env + Files + io::Input + Print + Eprint + AllocGlobal + Threads + Wait + Sync>(
     rt: &R,
+    watched: bool,
 ) -> ExitCode
     ensures { exit_status result ≤ 2 }
 {
-    match ask(rt) {
+    match ask(rt, watched) {
         Ok(status) => ExitCode::from(status),
         Err(_) => {
             let _ = eprintln!(rt; "clsim: out of memory");
@@ -278,5 +429,5 @@ fn end<R: Env + Files + io::Input + Print + Eprint + AllocGlobal + Threads + Wai
 
 /// Does what the command line asks for, and ends the process with the status 0, 1 or 2.
 fn main(rt: HostRuntime) -> ExitCode {
-    end(&rt)
+    end(&rt, rt.stderr().is_terminal())
 }

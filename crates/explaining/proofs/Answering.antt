@@ -1,5 +1,5 @@
 -- What is given, explained by its kind: a source, a script with a schedule file, a script.
-use Rattle.std.proofs.Common.{◌≡◌, Bool, true, false, Option, None, Some, refl, sym, subst}
+use Rattle.std.proofs.Common.{◌≡◌, ℕ, Bool, true, false, List, Option, None, Some, refl, sym, subst}
 use Rattle.std.specs.Prelude.{MatchBool, MatchOption}
 use Rattle.std.proofs.lemmas.Bool.{false≢true}
 use Rattle.byte_io.specs.Sink.{Sink}

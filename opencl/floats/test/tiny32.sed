@@ -1,4 +1,6 @@
 # a format of 8 bits: a sign, 4 bits of exponent, 3 of fraction; in words of 32 bits
+# (what leaves the format at its upper end stays in so much longer words)
+s/upper <<= FRACTION_BITS;/upper <<= FRACTION_BITS;\n        upper \&= 0xffu;/
 s/FORMAT_/tiny32_/g
 s/SIGNED_WORD/int/g
 s/WORD/uint/g
@@ -9,6 +11,13 @@ s/FRACTION_MASK/0x07u/g
 s/GUARD_BITS/27/g
 s/GUARD_MASK/0x7ffffffu/g
 s/GUARD_HALF/0x4000000u/g
+s/UPPER_PRODUCT(a, b)/(ulong)a * b >> 32/g
+s/SMALL_BITS/0x20u/g
+s/LARGE_BITS/0x58u/g
+s/REST_MASK/0xfffffffu/g
+s/REST_HALF/0x8000000u/g
+s/CARRY_MASK/0x1fffffffu/g
+s/CARRY_HALF/0x10000000u/g
 s/TOP_SHIFT/28/g
 s/TOP_BIT/0x80000000u/g
 s/SECOND_BIT/0x40000000u/g

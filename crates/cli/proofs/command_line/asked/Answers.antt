@@ -1,6 +1,6 @@
 use Rattle.std.proofs.Common.{codes, refl}
 use Rattle.std.proofs.lemmas.Bool.{false≢true}
-use Rattle.cli.proofs.CommandLines.{reads_run, reads_check, reads_dump, reads_replay, reads_serve, reads_explain, not_found, holds_nothing}
+use Rattle.cli.proofs.CommandLines.{reads_run, reads_check, reads_dump, reads_replay, reads_serve, reads_explain, reads_version, not_found, holds_nothing}
 use Rattle.cli.proofs.command_line.asked.Goals as goal
 
 pub returns-in-Some : goal.returns-in-Some
@@ -23,9 +23,13 @@ pub returns-in-Some-subcommand_matches-4 : goal.returns-in-Some-subcommand_match
 returns-in-Some-subcommand_matches-4 c =
     reads_serve c.args.matches.now _ c.serve_of.result (c.in-Some-subcommand_matches-4.ensures.found.0 refl) c.in-Some-subcommand_matches-4.ensures.rows c.serve_of.ensures
 
+pub returns-in-Some-subcommand_matches-5 : goal.returns-in-Some-subcommand_matches-5
+returns-in-Some-subcommand_matches-5 c =
+    reads_explain c.args.matches.now _ c.explain_of.result (c.in-Some-subcommand_matches-5.ensures.found.0 refl) c.in-Some-subcommand_matches-5.ensures.rows c.explain_of.ensures
+
 pub returns : goal.returns
 returns c =
-    reads_explain c.args.matches.now _ c.explain_of.result (c.in_ok-subcommand_matches.ensures.found.0 refl) c.in_ok-subcommand_matches.ensures.rows c.explain_of.ensures
+    reads_version c.args.matches.now _ c.version_of.result (c.in_ok-subcommand_matches.ensures.found.0 refl) c.in_ok-subcommand_matches.ensures.rows c.version_of.ensures
 
 pub returns-in_err-subcommand_matches : goal.returns-in_err-subcommand_matches
 returns-in_err-subcommand_matches c =
@@ -36,4 +40,5 @@ returns-in_err-subcommand_matches c =
     (not_found c.subcommand_matches-3.result (codes "dump") m (c.in_default-subcommand_matches-2).not-Some c.subcommand_matches-3.ensures.found)
     (not_found c.subcommand_matches-4.result (codes "replay") m (c.in_default-subcommand_matches-3).not-Some c.subcommand_matches-4.ensures.found)
     (not_found c.subcommand_matches-5.result (codes "serve") m (c.in_default-subcommand_matches-4).not-Some c.subcommand_matches-5.ensures.found)
+    (not_found c.subcommand_matches-6.result (codes "explain") m (c.in_default-subcommand_matches-5).not-Some c.subcommand_matches-6.ensures.found)
     (λ named. false≢true (c.in_err-subcommand_matches.ensures.found.1 named)))

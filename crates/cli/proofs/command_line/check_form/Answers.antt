@@ -1,5 +1,5 @@
 use Rattle.std.proofs.Common.{codes}
-use Rattle.clap.specs.Words.{new_app, with_rule}
+use Rattle.clap.specs.Words.{new_app}
 use Rattle.cli.proofs.CommandLines.{by_rule}
 use Rattle.cli.proofs.command_line.check_form.Goals as goal
 

@@ -31,11 +31,11 @@ returns-clause-refused c =
     let simple : is_simple (app_of c.args.forms.now) ≡ true = subst (λ (a : App). is_simple a ≡ true) (sym c.requires) refl in
     let free : is_simple_and_free (app_of c.args.forms.now) ≡ true = subst (λ (a : App). is_simple_and_free a ≡ true) (sym c.requires) refl in
     let held : subcommand_rows_of c.in_ok-matches.matches ≡ subcommand_of (app_of c.args.forms.now) words = (c.in_ok-matches.ensures.ok.2 simple).1 in
-    refused_by_format words c.in_ok-error-in-None.field-0 c.in_ok-error-in-None.ensures.kind (subst (λ (a : App). fault_of a words ≡ []) c.requires (c.in_ok-matches.ensures.kinds free))
+    refused_by_format words c.in_ok-wrong_value-in-None.field-0 c.in_ok-wrong_value-in-None.ensures (subst (λ (a : App). fault_of a words ≡ []) c.requires (c.in_ok-matches.ensures.kinds free))
     (subst (λ (a : App). (asked : Invocation) → ¬ Holds (subcommand_of a words) asked) c.requires
     (subst (λ (o : Option (Text × List Row)). (asked : Invocation) → ¬ Holds o asked) held c.in-None.ensures))
 
-pub returns-in_err-error-in-None-clause-refused : goal.returns-in_err-error-in-None-clause-refused
-returns-in_err-error-in-None-clause-refused c =
-    let p = err_from_is_err_and c.from_residual-in_err-error-in-None.result c.from_residual-in_err-error-in-None.ensures.1 in
+pub returns-in_err-wrong_value-in-None-clause-refused : goal.returns-in_err-wrong_value-in-None-clause-refused
+returns-in_err-wrong_value-in-None-clause-refused c =
+    let p = err_from_is_err_and c.from_residual-in_err-wrong_value-in-None.result c.from_residual-in_err-wrong_value-in-None.ensures.1 in
     rw p.1 (inl p.2)

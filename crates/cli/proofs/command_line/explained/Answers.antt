@@ -1,5 +1,5 @@
 use Rattle.clap.specs.Words.{with_rule}
-use Rattle.cli.specs.CommandLine.{script, some_schedule}
+use Rattle.cli.specs.CommandLine.{script}
 use Rattle.cli.proofs.CommandLines.{by_rule}
 use Rattle.cli.proofs.command_line.explained.Goals as goal
 
@@ -7,4 +7,4 @@ pub returns : goal.returns
 returns c shape is =
     let with_script = by_rule shape c.with-with_script.result c.needed.ensures.rule (c.with-with_script.ensures shape is c.needed.ensures.local) in
     let with_schedule = by_rule (with_rule shape script) c.with.result c.some_schedule.ensures.rule (c.with.ensures _ with_script c.some_schedule.ensures.local) in
-    by_rule (with_rule (with_rule shape script) some_schedule) c.with-2.result c.option-format.ensures.rule (c.with-2.ensures _ with_schedule c.option-format.ensures.local)
+    c.formatted.ensures _ with_schedule

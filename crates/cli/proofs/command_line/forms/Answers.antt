@@ -8,4 +8,5 @@ returns c =
     let dumps = c.with_form-with_dumps.ensures _ _ checks c.dump_form.ensures in
     let replays = c.with_form-with_replays.ensures _ _ dumps c.replay_form.ensures in
     let serving = c.with_form-with_serving.ensures _ _ replays c.serve_form.ensures in
-    c.with_form.ensures _ _ serving c.explain_form.ensures
+    let explaining = c.with_form-with_explaining.ensures _ _ serving c.explain_form.ensures in
+    c.with_form.ensures _ _ explaining c.version_form.ensures

@@ -1,0 +1,6 @@
+use Rattle.std.proofs.Common.{codes}
+use Rattle.clap.specs.Words.{new_app}
+use Rattle.cli.proofs.command_line.version_form.Goals as goal
+
+pub returns : goal.returns
+returns c = c.formatted.ensures (new_app (codes "version")) c.named-form.ensures

@@ -1,0 +1,110 @@
+//! What is told on standard error. Where it can't be written, only the status shows it.
+#![tactic(auto)]
+
+use crate::looks::Looks;
+use crate::named_file::{STANDARD_INPUT, reason_of};
+use clsyntax_lex::token::SyntaxFault;
+use host_commands::build::{NotBuilt, build};
+use host_commands::command::BuildFault;
+use limits::Limits;
+use simfile::faults::RunFault;
+use std::alloc::Global;
+use std::rt::Files;
+use text_lines::{LineAndColumn, position_of};
+
+/// What is told of a command that came to no end.
+#[derive(Clone, Copy)]
+pub(crate) struct Told<'a> {
+    /// The file, as it was named
+    pub(crate) file: &'a str,
+    /// What its text looks like
+    pub(crate) looks: Looks,
+    /// Whether the reader of standard output is gone
+    pub(crate) gone: bool,
+}
+
+/// The name by which a file is told.
+fn name_of(file: &str) -> &str {
+    if file == STANDARD_INPUT {
+        "standard input"
+    } else {
+        file
+    }
+}
+
+/// Tells why the system gives no bytes of a file, where it says so again.
+fn tell_reason<R: Files + Eprint>(rt: &R, file: &str) {
+    if let Some(reason) = reason_of(rt, file) {
+        let _ = eprintln!(rt; "clsim: {reason}");
+    }
+}
+
+/// Tells why a command came to no end. Of a file that can't be read the system's reason stands in a second line, of a
+/// script with a bad line that it looks like a source. Nothing is told where the reader of standard output is gone: it
+/// has read what it wanted.
+pub(crate) fn tell<R: Files + Eprint>(rt: &R, fault: RunFault, told: Told<'_>) {
+    let name = name_of(told.file);
+    match fault {
+        RunFault::Read(_) => {
+            let _ = eprintln!(rt; "clsim: {fault} {name}");
+            tell_reason(rt, told.file);
+        }
+        RunFault::Write if told.gone => {}
+        RunFault::BadLine(_) if told.looks == Looks::Source => {
+            let _ = eprintln!(rt;
+                "clsim: {fault}\nclsim: {name} looks like a source, not like a script: clsim check {}",
+                told.file
+            );
+        }
+        _ => {
+            let _ = eprintln!(rt; "clsim: {fault}");
+        }
+    }
+}
+
+/// Tells of a source with a fault that it looks like a script.
+pub(crate) fn tell_script(rt: &impl Eprint, told: Told<'_>) {
+    if told.looks == Looks::Script {
+        let name = name_of(told.file);
+        let _ = eprintln!(rt;
+            "clsim: {name} looks like a script, not like a source: clsim run {}",
+            told.file
+        );
+    }
+}
+
+/// The byte of a source at which a fault stands.
+fn byte_of(fault: BuildFault) -> u32 {
+    match fault {
+        BuildFault::Type(fault) => fault.offset(),
+        BuildFault::Syntax(
+            SyntaxFault::BadByte { at }
+            | SyntaxFault::NumberTooLarge { at }
+            | SyntaxFault::Unexpected { at }
+            | SyntaxFault::TooDeep { at }
+            | SyntaxFault::TooLong { at },
+        ) => at,
+        BuildFault::Syntax(SyntaxFault::OutOfMemory) => 0,
+    }
+}
+
+/// The line and the column of the fault of a source, where it has one.
+fn place_of(alloc: Global, limits: Limits, source: &[u8]) -> Option<LineAndColumn> {
+    let Err(NotBuilt::Fault(fault)) = build(alloc, limits, source) else {
+        return None;
+    };
+    Some(position_of(source, (byte_of(fault) as usize).min(source.len())))
+}
+
+/// Tells at which line and column the fault of a source stands.
+pub(crate) fn tell_place<R: Eprint + AllocGlobal>(
+    rt: &R,
+    limits: Limits,
+    file: &str,
+    source: &[u8],
+) {
+    if let Some(place) = place_of(rt.alloc(), limits, source) {
+        let name = name_of(file);
+        let _ = eprintln!(rt; "clsim: {name}:{}:{}", place.line, place.column);
+    }
+}
