@@ -47,7 +47,7 @@ use std::rt::Files;
 use std::sync::Wait;
 use std::thread::Threads;
 use std::{env, io};
-use wide_text::{WideEnd, widen};
+use wide_text::{Format as WideFormat, WideEnd, status as wide_status, widen};
 
 /// Standard output, to be written.
 fn output_of<'a, R: Print + AllocGlobal>(
@@ -180,9 +180,9 @@ fn widen_script<R: Files + io::Input + Print + AllocGlobal>(
     let mut writer = output_of(rt)?;
     let text = bytes_of(rt.alloc(), script, Reader::First)?;
     let format = if json {
-        wide_text::Format::Json
+        WideFormat::Json
     } else {
-        wide_text::Format::Text
+        WideFormat::Text
     };
     let configuration = Configuration::of(limits);
     let outcome = widen(
@@ -364,7 +364,7 @@ fn do_widen<R: Files + io::Input + Print + Eprint + AllocGlobal>(
     if let Err(fault) = outcome {
         tell(rt, fault, Told { file, looks, gone });
     }
-    wide_text::status(&outcome)
+    wide_status(&outcome)
 }
 
 /// The status of what was printed on standard output. That it can't be written is told, but where its reader is gone.
