@@ -60,7 +60,7 @@ fn report_of(
     performed: Performed<'_>,
     end: WideEnd,
 ) -> Result<WideReport, AllocError>
-    ensures { IfOk result (IsReport (is_clean end) (lines_of performed.wide.now.free.items performed.places.now) (lines_of performed.wide.now.reads.items performed.places.now)) }
+    ensures { IfOk result (IsReport (is_clean end) (lines_of performed.entry.wide.now.free.items performed.entry.places.now) (lines_of performed.entry.wide.now.reads.items performed.entry.places.now)) }
 {
     Ok(WideReport {
         launches: launches_of(alloc, configuration.limits, performed)?,
