@@ -1,0 +1,68 @@
+-- Steps of the loops over words and numbers.
+use Rattle.std.proofs.Common.{◌≡◌, ℕ, zero, suc, ◌+◌, ◌-◌, ◌<◌, ℤ, Bool, true, false, nat_lt, if◌then◌else◌, List, [], ◌∷◌, ◌++◌, length, take, get_or, Option, None, Some, refl, ap, sym, ◌∙◌, arith, append_assoc}
+use Rattle.std.proofs.lemmas.Bool.Decides.{nat_tests}
+use Rattle.std.specs.Prelude.{option_map}
+use Rattle.std.specs.List.{join_with_byte}
+use Rattle.clmodel.specs.Setup.{same_text}
+use Rattle.clnum.specs.declared.int_type.IntType.{IntType}
+use Rattle.simfile.specs.Script.{line_feed}
+use Rattle.text_lines.specs.Fronts.{◌>>=◌, after, value_at}
+use Rattle.script_lines.specs.Numbers.{is_in, bytes_of}
+use Rattle.script_lines.specs.Reading.{bytes_at}
+
+regrouped : (w before word : List ℕ) → w ++ 32 ∷ ((before ++ 32 ∷ []) ++ word) ≡ ((w ++ 32 ∷ before) ++ 32 ∷ []) ++ word
+regrouped w before word =
+    ap (λ l. w ++ 32 ∷ l) (append_assoc before (32 ∷ []) word) ∙ sym (append_assoc (w ++ 32 ∷ before) (32 ∷ []) word ∙ append_assoc w (32 ∷ before) (32 ∷ word))
+
+-- one word more
+pub join_more : (words : List (List ℕ)) (i : ℕ) → i < length words → join_with_byte 32 (take (i + 1) words) ≡ (join_with_byte 32 (take i words) ++ (if nat_lt 0 i then 32 ∷ [] else [])) ++ get_or words i []
+join_more [] i h = absurd (omega (arith, h))
+join_more (w ∷ []) zero h = refl
+join_more (w ∷ []) (suc i) h = absurd (omega (arith, h))
+join_more (w ∷ x ∷ words) zero h = refl
+join_more (w ∷ x ∷ words) (suc zero) h = sym (append_assoc w (32 ∷ []) x)
+join_more (w ∷ x ∷ words) (suc (suc i)) h =
+    let before = join_with_byte 32 (x ∷ take i words) in
+    let word = get_or (x ∷ words) (suc i) [] in
+    let three : suc (suc i) + 1 ≡ suc (suc (suc i)) = omega arith in
+    let two : suc i + 1 ≡ suc (suc i) = omega arith in
+    let later : nat_lt 0 (suc i) ≡ true = grind (arith, nat_tests) in
+    let later_too : nat_lt 0 (suc (suc i)) ≡ true = grind (arith, nat_tests) in
+    let more : join_with_byte 32 (x ∷ take (suc i) words) ≡ (before ++ 32 ∷ []) ++ word =
+    sym (ap (λ n. join_with_byte 32 (take n (x ∷ words))) two) ∙ rw later at (join_more (x ∷ words) (suc i) (omega (arith, h))) in
+    ap (λ n. join_with_byte 32 (take n (w ∷ x ∷ words))) three ∙ (ap (λ l. w ++ 32 ∷ l) more ∙ rw later_too (regrouped w before word))
+
+-- numbers that are behind others
+abbrev pub behind : List ℕ → Option (List ℕ) → Option (List ℕ)
+behind front read = option_map (λ more. front ++ more) read
+
+then : (front bytes : List ℕ) (o : Option (List ℕ)) → behind front (o >>= (λ more. Some (bytes ++ more))) ≡ behind (front ++ bytes) o
+then front bytes None = refl
+then front bytes (Some more) = ap Some (sym (append_assoc front bytes more))
+
+pub none_left : (kind : IntType) (n : ℕ) (front rest : List ℕ) (whole : Option (List ℕ)) → n ≡ 0 → behind front (bytes_at kind n rest) ≡ whole → whole ≡ None
+none_left kind zero front rest whole e h = sym h
+none_left kind (suc n) front rest whole e h = absurd (omega (arith, e))
+
+pub none_value : (kind : IntType) (n : ℕ) (front rest : List ℕ) (whole : Option (List ℕ)) → 0 < n → value_at rest ≡ None → behind front (bytes_at kind n rest) ≡ whole → whole ≡ None
+none_value kind zero front rest whole some e h = absurd (omega (arith, some))
+none_value kind (suc n) front rest whole some e h = sym h ∙ rw e refl
+
+pub none_range : (kind : IntType) (n : ℕ) (front rest more : List ℕ) (number : ℤ) (whole : Option (List ℕ)) → 0 < n → value_at rest ≡ Some (number, more) → is_in kind number ≡ false → behind front (bytes_at kind n rest) ≡ whole → whole ≡ None
+none_range kind zero front rest more number whole some e out h = absurd (omega (arith, some))
+none_range kind (suc n) front rest more number whole some e out h = sym h ∙ rw (e, out) refl
+
+pub last_value : (kind : IntType) (n : ℕ) (front rest more : List ℕ) (number : ℤ) (whole : Option (List ℕ)) → 0 < n → value_at rest ≡ Some (number, more) → is_in kind number ≡ true → same_text more line_feed ≡ true → behind front (bytes_at kind n rest) ≡ whole → whole ≡ Some (front ++ bytes_of kind number)
+last_value kind zero front rest more number whole some e fits end h = absurd (omega (arith, some))
+last_value kind (suc n) front rest more number whole some e fits end h = sym h ∙ rw (e, fits, end) refl
+
+pub none_space : (kind : IntType) (n : ℕ) (front rest more : List ℕ) (number : ℤ) (whole : Option (List ℕ)) → 0 < n → value_at rest ≡ Some (number, more) → is_in kind number ≡ true → same_text more line_feed ≡ false → after (32 ∷ []) more ≡ None
+    → behind front (bytes_at kind n rest) ≡ whole → whole ≡ None
+none_space kind zero front rest more number whole some e fits end none h = absurd (omega (arith, some))
+none_space kind (suc n) front rest more number whole some e fits end none h = sym h ∙ rw (e, fits, end, none) refl
+
+pub next_value : (kind : IntType) (n m : ℕ) (front rest more others : List ℕ) (number : ℤ) (whole : Option (List ℕ)) → n ≡ suc m → value_at rest ≡ Some (number, more) → is_in kind number ≡ true → same_text more line_feed ≡ false → after (32 ∷ []) more ≡ Some others
+    → behind front (bytes_at kind n rest) ≡ whole → behind (front ++ bytes_of kind number) (bytes_at kind m others) ≡ whole
+next_value kind n m front rest more others number whole one e fits end onto h =
+    let read : behind front (bytes_at kind (suc m) rest) ≡ behind front (bytes_at kind m others >>= (λ bytes. Some (bytes_of kind number ++ bytes))) = rw (e, fits, end, onto) refl in
+    sym (then front (bytes_of kind number) (bytes_at kind m others)) ∙ (sym read ∙ (ap (λ k. behind front (bytes_at kind k rest)) (sym one) ∙ h))

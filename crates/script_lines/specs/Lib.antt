@@ -1,0 +1,4 @@
+pub mod Plain
+pub mod Numbers
+pub mod Says
+pub mod Reading

@@ -1,0 +1,17 @@
+//! Lines of scripts of version 3, which people write by hand.
+//!
+//! A line may have blanks, a comment behind `#`, and the line end of another system. `line_says` gives exactly what it
+//! says: nothing, a command as version 2 has it, a `write`, a `fill` or a `read` of numbers in decimal, or the beginning
+//! of a program whose source follows or is that of a file. A line that says nothing of these has none (out of memory
+//! aside). The crate reads single lines: what follows a program's line is its caller's, and so are the files.
+#![tactic(auto)]
+
+mod forms;
+mod numbers;
+mod plain;
+mod reading;
+mod says;
+
+pub use plain::comment_of;
+pub use reading::line_says;
+pub use says::LineSays;
