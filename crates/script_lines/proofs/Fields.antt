@@ -1,17 +1,21 @@
 -- Fields of a line: what is read is the text of the field, and that text is read.
-use Rattle.std.proofs.Common.{◌≡◌, ℕ, zero, suc, ◌+◌, ◌-◌, ◌*◌, ◌/◌, ◌<◌, ◌≤◌, ◌^◌, ◌==◌, ℤ, pos, negsuc, Bool, true, false, not, ◌&&◌, ◌||◌, nat_lt, nat_le, nat_eq, IsTrue, if◌then◌else◌, List, [], ◌∷◌, ◌++◌, map, length, take, drop, Option, None, Some, ◌⊎◌, inl, inr, refl, ap, sym, ◌∙◌, subst, arith, codes, decimal, append_assoc, length-append}
+use Rattle.std.proofs.Common.{◌≡◌, ℕ, zero, suc, ◌+◌, ◌-◌, ◌*◌, ◌/◌, ◌<◌, ◌≤◌, ◌^◌, ◌==◌, ℤ, pos, negsuc, neg_ℤ, ◌≤ℤ◌, ◌<ℤ◌, Bool, true, false, not, ◌&&◌, ◌||◌, T, nat_lt, nat_le, nat_eq, IsTrue, if◌then◌else◌, List, [], ◌∷◌, ◌++◌, map, length, take, drop, Option, None, Some, ◌⊎◌, inl, inr, refl, ap, ap₂, sym, ◌∙◌, subst, arith, codes, decimal, append_assoc, length-append}
 use Rattle.std.proofs.lemmas.Bool.{eqb-true, ne_eqb}
 use Rattle.std.proofs.lemmas.Option.{same_Some}
 use Rattle.std.proofs.lemmas.Bool.Decides.{nat_tests}
+use Rattle.std.proofs.lemmas.Int.{ints}
 use Rattle.std.proofs.lemmas.List.{append-nil, take-append-drop}
+use Rattle.std.proofs.lemmas.List.Elements.{All-nil, All-cons, All-head, All-tail}
 use Rattle.std.proofs.lemmas.Fmt.{decimal_nonempty}
 use Rattle.std.proofs.Math.Seq.{take-append_seam, drop-append_seam}
 use Rattle.std.specs.Char.{is_ascii_digit}
 use Rattle.std.specs.Fmt.{signed_decimal}
-use Rattle.std.specs.List.{list_all, flat_map, join_with_byte}
+use Rattle.std.specs.List.{All, list_all, flat_map, join_with_byte}
+use Rattle.std.specs.Prelude.{int_le}
 use lib.Pointwise.{pointwise, bytes_decides}
 use Rattle.clmodel.specs.Setup.{same_text}
-use Rattle.clnum.specs.Integer.{bits, is_signed, type_word}
+use Rattle.clnum.proofs.Formulas.{IsIn-within}
+use Rattle.clnum.specs.Integer.{bits, least, greatest, type_word, IsIn, IsWithin}
 use Rattle.clnum.specs.declared.int_type.IntType.{IntType}
 use Rattle.clnum.specs.declared.int_type.IntType.TheVariants.{Char, Uchar, Short, Ushort, Int, Uint, Long, Ulong}
 use Rattle.fault_lines.proofs.FieldLaws.{number_before, number_before_again}
@@ -23,8 +27,8 @@ use Rattle.simfile.specs.Script.{space, line_feed}
 use Rattle.text_lines.proofs.FieldLaws.{bind_some, read_then, if_some, and_true, after_takes, after_again, front_of, before_is, value_takes, value_again, decimal_digits, feed_ends}
 use Rattle.text_lines.specs.Fronts.{◌>>=◌, after, before, front_length, name_to, number_at, value_at}
 use Rattle.text_lines.specs.Texts.{is_later, is_name_to, IsValue}
-use Rattle.script_lines.specs.Numbers.{is_in, size_of, bytes_of, kind_named, numbers_text, AreNumbers}
-use Rattle.script_lines.specs.Reading.{kind_at, bytes_at, numbers_at, alone, last_number, last_name, last_path}
+use Rattle.script_lines.specs.Numbers.{size_of, bytes_of, numbers_text, AreNumbers}
+use Rattle.script_lines.specs.Reading.{is_in, kind_named, kind_at, bytes_at, numbers_at, alone, last_number, last_name, last_path}
 use Rattle.script_lines.specs.Says.{is_path}
 
 -- tests and what they say
@@ -96,23 +100,47 @@ kind_at_again kind rest = rw (name_before_again 32 (type_word kind) (type_name k
 
 -- numbers of a type
 
+-- a test that passes
+passes : (b : Bool) → b ≡ true → T b
+passes true e = tt
+passes false e = absurd (cc)
+
+passed_is : (b : Bool) → T b → b ≡ true
+passed_is true t = refl
+passed_is false t = absurd t
+
+-- the test of the reader is the range of the type
+pub in_type : (kind : IntType) (number : ℤ) → is_in kind number ≡ true → IsIn kind number
+in_type kind number h =
+    let both = and_true (int_le (least kind) number) (int_le number (greatest kind)) h in
+    record { from = record { le = passes _ both.0 }; to = record { le = passes _ both.1 } }
+
+pub in_type_again : (kind : IntType) (number : ℤ) → IsIn kind number → is_in kind number ≡ true
+in_type_again kind number h = ap₂ (λ a b. a && b) (passed_is _ h.from.le) (passed_is _ h.to.le)
+
+each_in : (kind : IntType) (numbers : List ℤ) → list_all (is_in kind) numbers ≡ true → All (IsIn kind) numbers
+each_in kind [] h = All-nil (IsIn kind)
+each_in kind (n ∷ ns) h =
+    let both = and_true (is_in kind n) (list_all (is_in kind) ns) h in
+    All-cons (IsIn kind) n ns (in_type kind n both.0) (each_in kind ns both.1)
+
+each_in_again : (kind : IntType) (numbers : List ℤ) → All (IsIn kind) numbers → list_all (is_in kind) numbers ≡ true
+each_in_again kind [] h = refl
+each_in_again kind (n ∷ ns) h =
+    ap₂ (λ a b. a && b) (in_type_again kind n (All-head (IsIn kind) n ns h)) (each_in_again kind ns (All-tail (IsIn kind) n ns h))
+
+value_below : (n : ℕ) → pos n <ℤ pos (2 ^ 64) → n < 2 ^ 64
+value_below n h = omega (arith, ints)
+
+value_from : (n : ℕ) → neg_ℤ (pos (2 ^ 63)) ≤ℤ negsuc n → suc n ≤ 2 ^ 63
+value_from n h = omega (arith, ints)
+
+value_within : (number : ℤ) → IsWithin number → IsValue number
+value_within (pos n) h = value_below n h.below
+value_within (negsuc n) h = value_from n h.at_least
+
 value_in : (kind : IntType) (number : ℤ) → is_in kind number ≡ true → IsValue number
-value_in Char (pos n) h = grind (arith, nat_tests)
-value_in Uchar (pos n) h = grind (arith, nat_tests)
-value_in Short (pos n) h = grind (arith, nat_tests)
-value_in Ushort (pos n) h = grind (arith, nat_tests)
-value_in Int (pos n) h = grind (arith, nat_tests)
-value_in Uint (pos n) h = grind (arith, nat_tests)
-value_in Long (pos n) h = grind (arith, nat_tests)
-value_in Ulong (pos n) h = grind (arith, nat_tests)
-value_in Char (negsuc n) h = grind (arith, nat_tests)
-value_in Uchar (negsuc n) h = absurd (cc)
-value_in Short (negsuc n) h = grind (arith, nat_tests)
-value_in Ushort (negsuc n) h = absurd (cc)
-value_in Int (negsuc n) h = grind (arith, nat_tests)
-value_in Uint (negsuc n) h = absurd (cc)
-value_in Long (negsuc n) h = grind (arith, nat_tests)
-value_in Ulong (negsuc n) h = absurd (cc)
+value_in kind number h = value_within number (IsIn-within kind number (in_type kind number h))
 
 -- numbers that are read, and their text
 pub record AreRead (kind : IntType) (text bytes : List ℕ) : Type 0 where
@@ -188,7 +216,7 @@ numbers_takes kind text bytes e =
     let r = bytes_takes kind (length text) text s1.0 s1.1 in
     let few : length s1.0 ≤ 1048576 = le_is (length s1.0) s2.0 in
     let numbers : List ℤ = r.first ∷ r.more in
-    (numbers, record { some = omega arith; each = r.each; are = sym s2.1 ∙ r.are; few = subst (λ (l : List ℕ). length l ≤ 1048576) s2.1 few }, r.is) where
+    (numbers, record { some = omega arith; each = each_in kind numbers r.each; are = sym s2.1 ∙ r.are; few = subst (λ (l : List ℕ). length l ≤ 1048576) s2.1 few }, r.is) where
       le_is : (n : ℕ) → nat_le n 1048576 ≡ true → n ≤ 1048576
       le_is n h = grind (arith, nat_tests)
 
@@ -197,7 +225,7 @@ unfolding numbers_at
 numbers_again kind [] bytes h = absurd (omega (arith, h.some))
 numbers_again kind (first ∷ more) bytes h =
     let text = numbers_text (first ∷ more) ++ line_feed in
-    let read = bytes_again kind first more (length text) (h.each) (some_each first more) in
+    let read = bytes_again kind first more (length text) (each_in_again kind (first ∷ more) h.each) (some_each first more) in
     let few : nat_le (length (flat_map (bytes_of kind) (first ∷ more))) 1048576 ≡ true = rw (← h.are) (is_le (length bytes) h.few) in
     rw (read, few) (ap Some (sym h.are)) where
       is_le : (n : ℕ) → n ≤ 1048576 → nat_le n 1048576 ≡ true

@@ -1,5 +1,5 @@
 -- Lines: what is read of a plain text is what it says, and what it says is read.
-use Rattle.std.proofs.Common.{◌≡◌, ℕ, suc, ◌+◌, ◌*◌, ◌/◌, ◌%◌, ◌<◌, ◌≤◌, ◌^◌, ◌==◌, ℤ, Bool, true, false, not, ◌||◌, ◌&&◌, nat_lt, nat_le, IsTrue, if◌then◌else◌, List, [], ◌∷◌, ◌++◌, length, Option, None, Some, ◌⊎◌, inl, inr, refl, ap, sym, ◌∙◌, subst, arith, codes, decimal}
+use Rattle.std.proofs.Common.{◌≡◌, ℕ, suc, ◌+◌, ◌*◌, ◌/◌, ◌%◌, ◌<◌, ◌≤◌, ◌^◌, ◌==◌, ℤ, Bool, true, false, not, ◌||◌, ◌&&◌, nat_lt, nat_le, IsTrue, IfSome, if◌then◌else◌, List, [], ◌∷◌, ◌++◌, length, Option, None, Some, ◌⊎◌, inl, inr, refl, ap, sym, ◌∙◌, subst, arith, codes, decimal}
 use Rattle.std.proofs.lemmas.Bool.Decides.{nat_tests}
 use Rattle.std.proofs.lemmas.List.{append-nil}
 use Rattle.std.specs.Char.{is_ascii_digit}
@@ -23,8 +23,9 @@ use Rattle.text_lines.proofs.FieldLaws.{bind_some, read_then, if_some, and_true,
 use Rattle.text_lines.specs.Fronts.{◌>>=◌, or_else, after, before}
 use Rattle.text_lines.specs.Texts.{is_later}
 use Rattle.script_lines.specs.Numbers.{AreNumbers, numbers_text, size_of}
+use Rattle.script_lines.specs.Plain.{plain}
 use Rattle.script_lines.specs.Reading.{kind_at, numbers_at, last_number, write_numbers_at, fill_numbers_at, read_numbers_at, source_lines_at, source_until_at, source_file_at, program_at, plain_command_at, numbers_say_at, says_at}
-use Rattle.script_lines.specs.Says.{is_program, IsSaid}
+use Rattle.script_lines.specs.Says.{is_program, IsSaid, Says}
 use Rattle.script_lines.specs.declared.says.LineSays.{LineSays}
 use Rattle.script_lines.specs.declared.says.LineSays.TheVariants as says
 use Rattle.script_lines.proofs.Fields.{chosen, same_is, empty_is, kind_takes, kind_at_again, numbers_takes, numbers_again, number_alone, number_alone_again, name_alone, name_alone_again, path_alone, path_alone_again, no_word, no_word_before}
@@ -274,3 +275,12 @@ says_again text (says.SourceLines name count) (n, some, most, is) =
     rw is (rw (name_before_again, no_word_before, no_word_before, number_alone_again count small, few_lines count some most) refl)
 says_again text (says.SourceUntil name word) (n, w, is) = rw is (rw (name_before_again, name_alone_again word w) refl)
 says_again text (says.SourceFile name path) (n, f, is) = rw is (rw (name_before_again, path_alone_again path f) refl)
+
+-- what is read of a line's plain text is what the line says, and all that it says
+
+pub read_said : (line text : List ℕ) (told : Option LineSays) → text ≡ plain line → told ≡ says_at text → IfSome told (λ said. Says line said)
+read_said line text None is e = tt
+read_said line text (Some said) is e = subst (λ l. IsSaid l said) is (says_takes text said (sym e))
+
+pub said_read : (line text : List ℕ) (said : LineSays) (told : Option LineSays) → text ≡ plain line → Says line said → told ≡ says_at text → told ≡ Some said
+said_read line text said told is h e = e ∙ (ap says_at is ∙ says_again (plain line) said h)

@@ -1,14 +1,15 @@
 -- Steps of the loops over words and numbers.
-use Rattle.std.proofs.Common.{◌≡◌, ℕ, zero, suc, ◌+◌, ◌-◌, ◌<◌, ℤ, Bool, true, false, nat_lt, if◌then◌else◌, List, [], ◌∷◌, ◌++◌, length, take, get_or, Option, None, Some, refl, ap, sym, ◌∙◌, arith, append_assoc}
+use Rattle.std.proofs.Common.{◌≡◌, ℕ, zero, suc, ◌+◌, ◌-◌, ◌<◌, ℤ, Bool, true, false, nat_lt, if◌then◌else◌, List, [], ◌∷◌, ◌++◌, map, length, take, get_or, Option, None, Some, refl, ap, sym, ◌∙◌, arith, append_assoc}
 use Rattle.std.proofs.lemmas.Bool.Decides.{nat_tests}
+use Rattle.std.proofs.lemmas.List.{length-map, get_or-map}
 use Rattle.std.specs.Prelude.{option_map}
 use Rattle.std.specs.List.{join_with_byte}
 use Rattle.clmodel.specs.Setup.{same_text}
 use Rattle.clnum.specs.declared.int_type.IntType.{IntType}
 use Rattle.simfile.specs.Script.{line_feed}
 use Rattle.text_lines.specs.Fronts.{◌>>=◌, after, value_at}
-use Rattle.script_lines.specs.Numbers.{is_in, bytes_of}
-use Rattle.script_lines.specs.Reading.{bytes_at}
+use Rattle.script_lines.specs.Numbers.{bytes_of}
+use Rattle.script_lines.specs.Reading.{is_in, bytes_at}
 
 regrouped : (w before word : List ℕ) → w ++ 32 ∷ ((before ++ 32 ∷ []) ++ word) ≡ ((w ++ 32 ∷ before) ++ 32 ∷ []) ++ word
 regrouped w before word =
@@ -31,6 +32,13 @@ join_more (w ∷ x ∷ words) (suc (suc i)) h =
     let more : join_with_byte 32 (x ∷ take (suc i) words) ≡ (before ++ 32 ∷ []) ++ word =
     sym (ap (λ n. join_with_byte 32 (take n (x ∷ words))) two) ∙ rw later at (join_more (x ∷ words) (suc i) (omega (arith, h))) in
     ap (λ n. join_with_byte 32 (take n (w ∷ x ∷ words))) three ∙ (ap (λ l. w ++ 32 ∷ l) more ∙ rw later_too (regrouped w before word))
+
+-- one word more of those that references show
+pub words_more : {A : Type 0} (f : A → List ℕ) (words : List A) (i : ℕ) (word : A) → i < length words → get_or words i word ≡ word
+    → join_with_byte 32 (take (i + 1) (map f words)) ≡ (join_with_byte 32 (take i (map f words)) ++ (if nat_lt 0 i then 32 ∷ [] else [])) ++ f word
+words_more f words i word h is =
+    let within : i < length (map f words) = omega (arith, h, length-map words f) in
+    join_more (map f words) i within ∙ ap (λ l. (join_with_byte 32 (take i (map f words)) ++ (if nat_lt 0 i then 32 ∷ [] else [])) ++ l) (get_or-map f words i word [] h ∙ ap f is)
 
 -- numbers that are behind others
 abbrev pub behind : List ℕ → Option (List ℕ) → Option (List ℕ)

@@ -1,17 +1,36 @@
 -- Reading what a plain text says, as functions: each gives what is said of all of the bytes.
-use Rattle.std.specs.Prelude.{ℕ, ◌-◌, ◌/◌, suc, zero, Bool, ◌&&◌, ◌||◌, not, nat_lt, nat_le, ◌==◌, Option, None, Some, List, [], ◌∷◌, ◌++◌, length, take, drop, codes, if◌then◌else◌}
+use Rattle.std.specs.Prelude.{ℕ, ◌-◌, ◌/◌, suc, zero, ℤ, int_le, Bool, ◌&&◌, ◌||◌, not, nat_lt, nat_le, ◌==◌, Option, None, Some, List, [], ◌∷◌, ◌++◌, length, take, drop, codes, if◌then◌else◌}
 use Rattle.clmodel.specs.Setup.{same_text}
+use Rattle.clnum.specs.Integer.{least, greatest, type_word}
 use Rattle.clnum.specs.declared.int_type.IntType.{IntType}
+use Rattle.clnum.specs.declared.int_type.IntType.TheVariants.{Char, Uchar, Short, Ushort, Int, Uint, Long, Ulong}
 use Rattle.host_commands.specs.declared.command.Command.{Command}
 use Rattle.host_commands.specs.declared.command.Command.TheVariants as command
 use Rattle.simfile.specs.declared.lines.Version.TheVariants as version
 use Rattle.simfile.specs.Reading.{name_at, command_at}
 use Rattle.simfile.specs.Script.{line_feed}
 use Rattle.text_lines.specs.Fronts.{◌>>=◌, or_else, after, before, number_at, value_at}
-use Rattle.script_lines.specs.Numbers.{is_in, bytes_of, kind_named, size_of}
+use Rattle.script_lines.specs.Numbers.{bytes_of, size_of}
 use Rattle.script_lines.specs.Says.{is_program, is_path}
 use Rattle.script_lines.specs.declared.says.LineSays.{LineSays}
 use Rattle.script_lines.specs.declared.says.LineSays.TheVariants as says
+
+-- whether a number lies in the range of a type
+abbrev pub is_in : IntType → ℤ → Bool
+is_in kind number = int_le (least kind) number && int_le number (greatest kind)
+
+-- the type that a word names
+abbrev pub kind_named : List ℕ → Option IntType
+kind_named word =
+    if same_text word (type_word Char) then Some Char
+    else (if same_text word (type_word Uchar) then Some Uchar
+    else (if same_text word (type_word Short) then Some Short
+    else (if same_text word (type_word Ushort) then Some Ushort
+    else (if same_text word (type_word Int) then Some Int
+    else (if same_text word (type_word Uint) then Some Uint
+    else (if same_text word (type_word Long) then Some Long
+    else (if same_text word (type_word Ulong) then Some Ulong
+    else None)))))))
 
 -- the name of a type in front of a space, and the rest behind it
 unfoldable pub kind_at : List ℕ → Option (IntType × List ℕ)

@@ -2,7 +2,8 @@
 #![tactic(auto)]
 
 ghost use Rattle.std.specs.Prelude.{◌≡◌, IfOk, option_map};
-ghost use Rattle.script_lines.specs.Reading.{is_path, last_name, last_number, last_path, write_numbers_at, fill_numbers_at, read_numbers_at, source_lines_at, source_until_at, source_file_at, program_at};
+ghost use Rattle.script_lines.specs.Reading.{last_name, last_number, last_path, write_numbers_at, fill_numbers_at, read_numbers_at, source_lines_at, source_until_at, source_file_at, program_at};
+ghost use Rattle.script_lines.specs.Says.{is_path};
 
 use crate::numbers::{MAX_NAME, kind_at, numbers_at};
 use crate::says::LineSays;

@@ -3,9 +3,9 @@
 
 ghost use Rattle.std.specs.Prelude.{◌≡◌, ◌++◌, length, IsTrue, IfOk, OnOk, option_map};
 ghost use Rattle.clmodel.specs.Setup.{same_text};
-ghost use Rattle.clnum.specs.Integer.{IsIn, type_word};
-ghost use Rattle.script_lines.specs.Numbers.{is_in, bytes_of, kind_named};
-ghost use Rattle.script_lines.specs.Reading.{kind_at, bytes_at, numbers_at};
+ghost use Rattle.clnum.specs.Integer.{least, greatest, IsIn, type_word};
+ghost use Rattle.script_lines.specs.Numbers.{bytes_of};
+ghost use Rattle.script_lines.specs.Reading.{is_in, kind_named, kind_at, bytes_at, numbers_at};
 
 use clmodel::text::Bytes;
 use clnum::{IntType, Value};
@@ -18,21 +18,41 @@ pub(crate) const MAX_NAME: usize = 63;
 /// The most bytes that a line writes.
 const MAX_BYTES: usize = 1_048_576;
 
+/// The least number of a type.
+fn least(kind: IntType) -> i128
+    ensures { result ≡ least kind }
+{
+    match kind {
+        IntType::Char => -0x80,
+        IntType::Short => -0x8000,
+        IntType::Int => -0x8000_0000,
+        IntType::Long => -0x8000_0000_0000_0000,
+        IntType::Uchar | IntType::Ushort | IntType::Uint | IntType::Ulong => 0,
+    }
+}
+
+/// The greatest number of a type.
+fn greatest(kind: IntType) -> i128
+    ensures { result ≡ greatest kind }
+{
+    match kind {
+        IntType::Char => 0x7f,
+        IntType::Uchar => 0xff,
+        IntType::Short => 0x7fff,
+        IntType::Ushort => 0xffff,
+        IntType::Int => 0x7fff_ffff,
+        IntType::Uint => 0xffff_ffff,
+        IntType::Long => 0x7fff_ffff_ffff_ffff,
+        IntType::Ulong => 0xffff_ffff_ffff_ffff,
+    }
+}
+
 /// Whether a number is one of a type.
 fn is_in(kind: IntType, number: i128) -> bool
     ensures value { result ≡ is_in kind number }
     ensures in_range { IsTrue result → IsIn kind number }
 {
-    match kind {
-        IntType::Char => number >= -0x80 && number < 0x80,
-        IntType::Uchar => number >= 0 && number < 0x100,
-        IntType::Short => number >= -0x8000 && number < 0x8000,
-        IntType::Ushort => number >= 0 && number < 0x1_0000,
-        IntType::Int => number >= -0x8000_0000 && number < 0x8000_0000,
-        IntType::Uint => number >= 0 && number < 0x1_0000_0000,
-        IntType::Long => number >= -0x8000_0000_0000_0000 && number < 0x8000_0000_0000_0000,
-        IntType::Ulong => number >= 0 && number < 0x1_0000_0000_0000_0000,
-    }
+    least(kind) <= number && number <= greatest(kind)
 }
 
 /// Whether a word is the name of a type.

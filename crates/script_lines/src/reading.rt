@@ -2,8 +2,8 @@
 #![tactic(auto)]
 
 ghost use Rattle.std.specs.Prelude.{◌≡◌, Some, IfOk, IfSome};
-ghost use Rattle.script_lines.specs.Reading.{is_program, plain_command_at, numbers_say_at, says_at};
-ghost use Rattle.script_lines.specs.Says.{Says};
+ghost use Rattle.script_lines.specs.Reading.{plain_command_at, numbers_say_at, says_at};
+ghost use Rattle.script_lines.specs.Says.{is_program, Says};
 ghost use Rattle.script_lines.specs.declared.says.LineSays.{LineSays};
 
 use crate::forms::{fill_numbers, program, read_numbers, write_numbers};
