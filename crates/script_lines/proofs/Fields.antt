@@ -208,17 +208,21 @@ some_each first (second ∷ more) =
     let h = some_each second more in
     omega (arith, h, length-append rest line_feed, length-append (numbers_text (first ∷ second ∷ more)) line_feed, length-append (signed_decimal first) (32 ∷ rest))
 
+le_is : (n : ℕ) → nat_le n 1048576 ≡ true → n ≤ 1048576
+le_is n h = grind (arith, nat_tests)
+
+is_le : (n : ℕ) → n ≤ 1048576 → nat_le n 1048576 ≡ true
+is_le n h = grind (arith, nat_tests)
+
 pub numbers_takes : (kind : IntType) (text bytes : List ℕ) → numbers_at kind text ≡ Some bytes → (numbers : List ℤ) × AreNumbers kind numbers bytes × (text ≡ numbers_text numbers ++ line_feed)
 unfolding numbers_at
 numbers_takes kind text bytes e =
     let s1 = bind_some (bytes_at kind (length text) text) _ bytes e in
     let s2 = if_some (nat_le (length s1.0) 1048576) s1.0 bytes s1.2 in
     let r = bytes_takes kind (length text) text s1.0 s1.1 in
-    let few : length s1.0 ≤ 1048576 = le_is (length s1.0) s2.0 in
+    let short : length s1.0 ≤ 1048576 = le_is (length s1.0) s2.0 in
     let numbers : List ℤ = r.first ∷ r.more in
-    (numbers, record { some = omega arith; each = each_in kind numbers r.each; are = sym s2.1 ∙ r.are; few = subst (λ (l : List ℕ). length l ≤ 1048576) s2.1 few }, r.is) where
-      le_is : (n : ℕ) → nat_le n 1048576 ≡ true → n ≤ 1048576
-      le_is n h = grind (arith, nat_tests)
+    (numbers, record { some = omega arith; each = each_in kind numbers r.each; are = sym s2.1 ∙ r.are; few = subst (λ (l : List ℕ). length l ≤ 1048576) s2.1 short }, r.is)
 
 pub numbers_again : (kind : IntType) (numbers : List ℤ) (bytes : List ℕ) → AreNumbers kind numbers bytes → numbers_at kind (numbers_text numbers ++ line_feed) ≡ Some bytes
 unfolding numbers_at
@@ -227,9 +231,7 @@ numbers_again kind (first ∷ more) bytes h =
     let text = numbers_text (first ∷ more) ++ line_feed in
     let read = bytes_again kind first more (length text) (each_in_again kind (first ∷ more) h.each) (some_each first more) in
     let few : nat_le (length (flat_map (bytes_of kind) (first ∷ more))) 1048576 ≡ true = rw (← h.are) (is_le (length bytes) h.few) in
-    rw (read, few) (ap Some (sym h.are)) where
-      is_le : (n : ℕ) → n ≤ 1048576 → nat_le n 1048576 ≡ true
-      is_le n h = grind (arith, nat_tests)
+    rw (read, few) (ap Some (sym h.are))
 
 -- what ends a text
 
@@ -272,28 +274,30 @@ path_alone bytes path e =
 pub path_alone_again : (path : List ℕ) → IsTrue (is_path path) → last_path (path ++ line_feed) ≡ Some path
 unfolding last_path
 path_alone_again path h =
+    let fits : is_path path ≡ true = h in
     let long : length (path ++ line_feed) - 1 ≡ length path = omega (arith, length-append path line_feed) in
-    rw (long, take-append_seam path line_feed, drop-append_seam path line_feed, h) refl
+    rw (long, take-append_seam path line_feed, drop-append_seam path line_feed, fits) refl
 
 -- no field in front of a space
 
+feed_only : (name : List ℕ) (v : Bool) → before 32 (if v then Some (name, 10 ∷ []) else None) ≡ None
+unfolding before after
+feed_only name true = refl
+feed_only name false = refl
+
 -- letters, digits and _ in front of a line feed are no name in front of a space
 pub no_word : (front : List ℕ) → list_all is_later front ≡ true → before 32 (name_at (front ++ line_feed)) ≡ None
-unfolding before name_to after is_later
-no_word front h =
-    let n = front_of is_later front 10 [] h feed_ends in
-    rw (n, take-append_seam front (10 ∷ []), drop-append_seam front (10 ∷ [])) (by_test (is_name_to 63 front)) where
-      by_test : (v : Bool) → before 32 (if v then Some (front, 10 ∷ []) else None) ≡ None
-      by_test true = refl
-      by_test false = refl
+unfolding name_to
+no_word front h = rw (front_of is_later front 10 [] h feed_ends, take-append_seam front (10 ∷ []), drop-append_seam front (10 ∷ [])) (feed_only front (is_name_to 63 front))
+
+digits_apart : (w : ℕ) (word ds rest : List ℕ) → is_ascii_digit w ≡ false → 0 < length ds → list_all is_ascii_digit ds ≡ true → after (w ∷ word) (ds ++ rest) ≡ None
+unfolding after
+digits_apart w word [] rest other some all = absurd (omega (arith, some))
+digits_apart w word (d ∷ ds) rest other some all =
+    let both = and_true (is_ascii_digit d) (list_all is_ascii_digit ds) all in
+    let unlike : nat_eq d w ≡ false = ne_eqb d w (λ e. let f : is_ascii_digit w ≡ true = ap is_ascii_digit (sym e) ∙ both.0 in absurd (cc)) in
+    rw unlike refl
 
 -- a word that begins with no digit doesn't stand in front of a number
 pub no_word_before : (w : ℕ) (word : List ℕ) (n : ℕ) (rest : List ℕ) → n < 2 ^ 64 → is_ascii_digit w ≡ false → after (w ∷ word) (decimal n ++ rest) ≡ None
-unfolding after
-no_word_before w word n rest h other = by_digits (decimal n) (decimal_nonempty n h) (decimal_digits n h) where
-  by_digits : (ds : List ℕ) → 0 < length ds → list_all is_ascii_digit ds ≡ true → after (w ∷ word) (ds ++ rest) ≡ None
-  by_digits [] some all = absurd (omega (arith, some))
-  by_digits (d ∷ ds) some all =
-      let both = and_true (is_ascii_digit d) (list_all is_ascii_digit ds) all in
-      let unlike : nat_eq d w ≡ false = ne_eqb d w (λ e. let f : is_ascii_digit w ≡ true = ap is_ascii_digit (sym e) ∙ both.0 in absurd (cc)) in
-      rw unlike refl
+no_word_before w word n rest h other = digits_apart w word (decimal n) rest other (decimal_nonempty n h) (decimal_digits n h)

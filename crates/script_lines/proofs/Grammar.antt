@@ -191,31 +191,37 @@ says_takes text said e = elim (chosen (same_text text line_feed) says.Nothing _ 
 
 -- and what is said is read
 
-number_later : (n : ℕ) → n < 2 ^ 64 → list_all is_later (decimal n) ≡ true
+digit_later : (b : ℕ) → is_ascii_digit b ≡ true → is_later b ≡ true
 unfolding is_later
-number_later n h = all_later (decimal n) (decimal_digits n h) where
-  digit_later : (b : ℕ) → is_ascii_digit b ≡ true → is_later b ≡ true
-  digit_later b h = grind (arith, nat_tests)
+digit_later b h = grind (arith, nat_tests)
 
-  all_later : (ds : List ℕ) → list_all is_ascii_digit ds ≡ true → list_all is_later ds ≡ true
-  all_later [] h = refl
-  all_later (d ∷ ds) h = let both = and_true (is_ascii_digit d) (list_all is_ascii_digit ds) h in rw (digit_later d both.0) (all_later ds both.1)
+digits_later : (ds : List ℕ) → list_all is_ascii_digit ds ≡ true → list_all is_later ds ≡ true
+digits_later [] h = refl
+digits_later (d ∷ ds) h = let both = and_true (is_ascii_digit d) (list_all is_ascii_digit ds) h in rw (digit_later d both.0) (digits_later ds both.1)
+
+number_later : (n : ℕ) → n < 2 ^ 64 → list_all is_later (decimal n) ≡ true
+number_later n h = digits_later (decimal n) (decimal_digits n h)
+
+hex_digit_later : (n : ℕ) → n < 16 → is_later (hex_digit n) ≡ true
+unfolding is_later
+hex_digit_later n h = grind (arith, nat_tests)
+
+byte_is : (b : ℕ) → nat_lt b 256 ≡ true → b < 256
+byte_is b h = grind (arith, nat_tests)
+
+bytes_later : (bytes : List ℕ) → list_all (λ b. nat_lt b 256) bytes ≡ true → list_all is_later (hex bytes) ≡ true
+bytes_later [] h = refl
+bytes_later (b ∷ bytes) h =
+    let both = and_true (nat_lt b 256) (list_all (λ c. nat_lt c 256) bytes) h in
+    let under = byte_is b both.0 in
+    rw (hex_digit_later (b / 16) (omega (arith, under)), hex_digit_later (b % 16) (omega (arith, under))) (bytes_later bytes both.1)
 
 hex_later : (bytes : List ℕ) → AreBytes bytes → list_all is_later (hex bytes) ≡ true
-unfolding is_later
-hex_later bytes h = all_later bytes h.2 where
-  digit_later : (n : ℕ) → n < 16 → is_later (hex_digit n) ≡ true
-  digit_later n h = grind (arith, nat_tests)
+hex_later bytes h = bytes_later bytes h.2
 
-  byte_is : (b : ℕ) → nat_lt b 256 ≡ true → b < 256
-  byte_is b h = grind (arith, nat_tests)
-
-  all_later : (bytes : List ℕ) → list_all (λ b. nat_lt b 256) bytes ≡ true → list_all is_later (hex bytes) ≡ true
-  all_later [] h = refl
-  all_later (b ∷ bytes) h =
-      let both = and_true (nat_lt b 256) (list_all (λ c. nat_lt c 256) bytes) h in
-      let under = byte_is b both.0 in
-      rw (digit_later (b / 16) (omega (arith, under)), digit_later (b % 16) (omega (arith, under))) (all_later bytes both.1)
+false_is : (v : Bool) → not v ≡ true → v ≡ false
+false_is true e = absurd (cc)
+false_is false e = refl
 
 -- a text of version 2 that no other form has in front is read as its command
 plain_again : (text : List ℕ) (c : Command) → not (is_program c) ≡ true → IsText version.Two text c → same_text text line_feed ≡ false → after (codes "program ") text ≡ None → numbers_say_at text ≡ None → says_at text ≡ Some (says.Command c)
@@ -223,10 +229,7 @@ unfolding says_at plain_command_at
 plain_again text c other told some no_program no_numbers =
     let again : command_at version.Two text ≡ Some (c, []) = rw append-nil at (command_again version.Two text c [] told) in
     let test : is_program c ≡ false = false_is (is_program c) other in
-    rw (some, no_program, no_numbers, again, test) refl where
-      false_is : (v : Bool) → not v ≡ true → v ≡ false
-      false_is true e = absurd (cc)
-      false_is false e = refl
+    rw (some, no_program, no_numbers, again, test) refl
 
 write_apart : (buffer : List ℕ) (offset : ℕ) (digits : List ℕ) → IsTrue (is_name buffer) → offset < 2 ^ 64 → list_all is_later digits ≡ true → write_numbers_at (joined (buffer ∷ space ∷ decimal offset ∷ space ∷ digits ∷ line_feed ∷ [])) ≡ None
 unfolding write_numbers_at kind_at is_later
@@ -267,12 +270,19 @@ says_again text (says.Command (command.Write buffer offset bytes)) (inr (n, o, (
     rw is (rw (name_before_again, number_before_again, kind_at_again, numbers_again kind numbers bytes are) refl)
 says_again text (says.Command (command.Fill buffer offset count pattern)) (inr (n, o, k, (kind, numbers, are, is))) =
     rw is (rw (name_before_again, number_before_again, number_before_again, kind_at_again, numbers_again kind numbers pattern are) refl)
-says_again text (says.Command c) (inr h) = absurd h
+says_again text (says.Command (command.Buffer name size)) (inr h) = absurd h
+says_again text (says.Command (command.Copy source offset target target_offset count)) (inr h) = absurd h
+says_again text (says.Command (command.Read buffer offset count)) (inr h) = absurd h
+says_again text (says.Command (command.Release name)) (inr h) = absurd h
+says_again text (says.Command (command.Program name source)) (inr h) = absurd h
+says_again text (says.Command (command.Kernel name program function)) (inr h) = absurd h
+says_again text (says.Command (command.Arg kernel index argument)) (inr h) = absurd h
+says_again text (says.Command (command.Launch kernel range)) (inr h) = absurd h
 says_again text (says.ReadNumbers buffer offset kind count) (n, o, k, is) =
     rw is (rw (name_before_again, number_before_again, kind_at_again, number_alone_again count (count_fits kind count k), few_count kind count k) refl)
 says_again text (says.SourceLines name count) (n, some, most, is) =
     let small : count < 2 ^ 64 = omega (arith, most) in
-    rw is (rw (name_before_again, no_word_before, no_word_before, number_alone_again count small, few_lines count some most) refl)
+    rw is (rw (name_before_again, no_word_before 117 (codes "ntil ") count (10 ∷ []) small refl, no_word_before 102 (codes "ile ") count (10 ∷ []) small refl, number_alone_again count small, few_lines count some most) refl)
 says_again text (says.SourceUntil name word) (n, w, is) = rw is (rw (name_before_again, name_alone_again word w) refl)
 says_again text (says.SourceFile name path) (n, f, is) = rw is (rw (name_before_again, path_alone_again path f) refl)
 
@@ -280,7 +290,7 @@ says_again text (says.SourceFile name path) (n, f, is) = rw is (rw (name_before_
 
 pub read_said : (line text : List ℕ) (told : Option LineSays) → text ≡ plain line → told ≡ says_at text → IfSome told (λ said. Says line said)
 read_said line text None is e = tt
-read_said line text (Some said) is e = subst (λ l. IsSaid l said) is (says_takes text said (sym e))
+read_said line text (Some said) is e = subst (λ (l : List ℕ). IsSaid l said) is (says_takes text said (sym e))
 
 pub said_read : (line text : List ℕ) (said : LineSays) (told : Option LineSays) → text ≡ plain line → Says line said → told ≡ says_at text → told ≡ Some said
 said_read line text said told is h e = e ∙ (ap says_at is ∙ says_again (plain line) said h)

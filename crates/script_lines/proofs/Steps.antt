@@ -15,6 +15,13 @@ regrouped : (w before word : List ℕ) → w ++ 32 ∷ ((before ++ 32 ∷ []) ++
 regrouped w before word =
     ap (λ l. w ++ 32 ∷ l) (append_assoc before (32 ∷ []) word) ∙ sym (append_assoc (w ++ 32 ∷ before) (32 ∷ []) word ∙ append_assoc w (32 ∷ before) (32 ∷ word))
 
+one_space : (v : Bool) → v ≡ true → (if v then 32 ∷ [] else []) ≡ 32 ∷ []
+one_space true e = refl
+one_space false e = absurd (cc)
+
+some_before : (i : ℕ) → nat_lt 0 (suc i) ≡ true
+some_before i = grind (arith, nat_tests)
+
 -- one word more
 pub join_more : (words : List (List ℕ)) (i : ℕ) → i < length words → join_with_byte 32 (take (i + 1) words) ≡ (join_with_byte 32 (take i words) ++ (if nat_lt 0 i then 32 ∷ [] else [])) ++ get_or words i []
 join_more [] i h = absurd (omega (arith, h))
@@ -27,11 +34,10 @@ join_more (w ∷ x ∷ words) (suc (suc i)) h =
     let word = get_or (x ∷ words) (suc i) [] in
     let three : suc (suc i) + 1 ≡ suc (suc (suc i)) = omega arith in
     let two : suc i + 1 ≡ suc (suc i) = omega arith in
-    let later : nat_lt 0 (suc i) ≡ true = grind (arith, nat_tests) in
-    let later_too : nat_lt 0 (suc (suc i)) ≡ true = grind (arith, nat_tests) in
     let more : join_with_byte 32 (x ∷ take (suc i) words) ≡ (before ++ 32 ∷ []) ++ word =
-    sym (ap (λ n. join_with_byte 32 (take n (x ∷ words))) two) ∙ rw later at (join_more (x ∷ words) (suc i) (omega (arith, h))) in
-    ap (λ n. join_with_byte 32 (take n (w ∷ x ∷ words))) three ∙ (ap (λ l. w ++ 32 ∷ l) more ∙ rw later_too (regrouped w before word))
+    sym (ap (λ n. join_with_byte 32 (take n (x ∷ words))) two) ∙ (join_more (x ∷ words) (suc i) (omega (arith, h)) ∙ ap (λ l. (before ++ l) ++ word) (one_space (nat_lt 0 (suc i)) (some_before i))) in
+    ap (λ n. join_with_byte 32 (take n (w ∷ x ∷ words))) three
+    ∙ (ap (λ l. w ++ 32 ∷ l) more ∙ (regrouped w before word ∙ ap (λ l. ((w ++ 32 ∷ before) ++ l) ++ word) (sym (one_space (nat_lt 0 (suc (suc i))) (some_before (suc i))))))
 
 -- one word more of those that references show
 pub words_more : {A : Type 0} (f : A → List ℕ) (words : List A) (i : ℕ) (word : A) → i < length words → get_or words i word ≡ word
@@ -44,9 +50,9 @@ words_more f words i word h is =
 abbrev pub behind : List ℕ → Option (List ℕ) → Option (List ℕ)
 behind front read = option_map (λ more. front ++ more) read
 
-then : (front bytes : List ℕ) (o : Option (List ℕ)) → behind front (o >>= (λ more. Some (bytes ++ more))) ≡ behind (front ++ bytes) o
-then front bytes None = refl
-then front bytes (Some more) = ap Some (sym (append_assoc front bytes more))
+pushed : (front bytes : List ℕ) (o : Option (List ℕ)) → behind front (o >>= (λ more. Some (bytes ++ more))) ≡ behind (front ++ bytes) o
+pushed front bytes None = refl
+pushed front bytes (Some more) = ap Some (sym (append_assoc front bytes more))
 
 pub none_left : (kind : IntType) (n : ℕ) (front rest : List ℕ) (whole : Option (List ℕ)) → n ≡ 0 → behind front (bytes_at kind n rest) ≡ whole → whole ≡ None
 none_left kind zero front rest whole e h = sym h
@@ -73,4 +79,4 @@ pub next_value : (kind : IntType) (n m : ℕ) (front rest more others : List ℕ
     → behind front (bytes_at kind n rest) ≡ whole → behind (front ++ bytes_of kind number) (bytes_at kind m others) ≡ whole
 next_value kind n m front rest more others number whole one e fits end onto h =
     let read : behind front (bytes_at kind (suc m) rest) ≡ behind front (bytes_at kind m others >>= (λ bytes. Some (bytes_of kind number ++ bytes))) = rw (e, fits, end, onto) refl in
-    sym (then front (bytes_of kind number) (bytes_at kind m others)) ∙ (sym read ∙ (ap (λ k. behind front (bytes_at kind k rest)) (sym one) ∙ h))
+    sym (pushed front (bytes_of kind number) (bytes_at kind m others)) ∙ (sym read ∙ (ap (λ k. behind front (bytes_at kind k rest)) (sym one) ∙ h))
