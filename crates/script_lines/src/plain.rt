@@ -1,7 +1,7 @@
 //! The words of a line, without its comment and its blanks.
 #![tactic(auto)]
 
-ghost use Rattle.std.specs.Prelude.{◌≡◌, [], ◌∷◌, ◌++◌, nat_lt, map, if◌then◌else◌, IfOk, OnOk};
+ghost use Rattle.std.specs.Prelude.{◌≡◌, ◌<◌, [], ◌∷◌, ◌++◌, nat_lt, map, length, position, if◌then◌else◌, IfSome, IfOk, OnOk};
 ghost use Rattle.std.specs.List.{join_with_byte, before_first, after_first};
 ghost use Rattle.clmodel.specs.Setup.{same_text};
 ghost use Rattle.script_lines.specs.Plain.{is_blank, words_of, spaced, begins_comment, plain, comment_of, first_line};
@@ -23,7 +23,7 @@ fn words_of(alloc: Global, text: &[u8]) -> Result<Vec<&[u8]>, AllocError>
     ensures { IfOk result (λ words. map (λ word. word.now) words.items ≡ words_of text.now) }
 {
     let parts = text.split(|byte| is_blank(*byte));
-    Ok(parts.filter(|part| !part.is_empty()).collect(alloc)?)
+    parts.filter(|part| !part.is_empty()).collect(alloc)
 }
 
 /// Adds the space in front of the word of a number, which only the first one lacks.
@@ -56,11 +56,19 @@ fn spaced(alloc: Global, text: &[u8]) -> Result<Vec<u8>, AllocError>
     joined_words(alloc, words.as_slice())
 }
 
+/// The place of the first `#` of a line, if there is one.
+fn mark_at(line: &[u8]) -> Option<usize>
+    ensures value { result ≡ position begins_comment line.now }
+    ensures within { IfSome result (λ at. at < length line.now) }
+{
+    line.iter().position(|byte| *byte == b'#')
+}
+
 /// What stands in front of a line's comment.
 fn before_comment(line: &[u8]) -> &[u8]
     ensures { result.now ≡ before_first begins_comment line.now }
 {
-    match line.iter().position(|byte| *byte == b'#') {
+    match mark_at(line) {
         Some(at) => &line[..at],
         None => line,
     }
@@ -70,7 +78,7 @@ fn before_comment(line: &[u8]) -> &[u8]
 fn after_mark(line: &[u8]) -> &[u8]
     ensures { result.now ≡ after_first begins_comment line.now }
 {
-    match line.iter().position(|byte| *byte == b'#') {
+    match mark_at(line) {
         Some(at) => &line[at + 1..],
         None => &[],
     }
