@@ -1,10 +1,10 @@
 #!/bin/sh
 # Runs each script that is named with $CLSIM, or with the clsim on the path, and shows the first fault, refusal or bad
 # line of each: FILE:LINE of its command, and below it the explanation where `clsim explain` has one of that fault or
-# refusal, else the line itself. Where $SARIF names a file, these and the explanations are written there as
-# SARIF 2.1.0, which takes Python 3. $CLSIM_WORKERS, $CLSIM_BUDGET and $CLSIM_LIMITS, where they are set, are the options
-# of the program by these names. Status 0 if there are none, else 1, and 2 where there is no such program, no script is
-# named, or the file can't be written.
+# refusal, else the line itself. Where $SARIF names a file, these and the explanations are written there as SARIF 2.1.0,
+# which takes Python 3. $CLSIM_WORKERS, $CLSIM_BUDGET and $CLSIM_LIMITS, where they are set, are the options of the
+# program by these names. Status 0 if there are none, else 1, and 2 where there is no such program, no script is named,
+# or the file can't be written.
 CLSIM=${CLSIM:-clsim}
 if ! command -v "$CLSIM" >/dev/null; then
     echo "ci.sh: no program: $CLSIM" >&2

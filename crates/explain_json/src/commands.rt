@@ -109,7 +109,12 @@ impl ToJson for WordSpot {
 }
 
 /// A name that is taken.
-fn taken_value(alloc: Global, made: &Option<MadeName>, name: &String, text: &str) -> Result<Value, AllocError>
+fn taken_value(
+    alloc: Global,
+    made: &Option<MadeName>,
+    name: &String,
+    text: &str,
+) -> Result<Value, AllocError>
     ensures { IfOk result (λ value. view value ≡ taken_data made.now name.now text.now) }
 {
     Object::new(alloc)
@@ -121,7 +126,14 @@ fn taken_value(alloc: Global, made: &Option<MadeName>, name: &String, text: &str
 }
 
 /// A name that is unknown.
-fn unknown_value(alloc: Global, known: &Vec<MadeName>, name: &String, other: &Option<MadeName>, wanted: Option<NameKind>, text: &str) -> Result<Value, AllocError>
+fn unknown_value(
+    alloc: Global,
+    known: &Vec<MadeName>,
+    name: &String,
+    other: &Option<MadeName>,
+    wanted: Option<NameKind>,
+    text: &str,
+) -> Result<Value, AllocError>
     ensures { IfOk result (λ value. view value ≡ unknown_data known.now.items name.now other.now wanted text.now) }
 {
     Object::new(alloc)
@@ -135,7 +147,13 @@ fn unknown_value(alloc: Global, known: &Vec<MadeName>, name: &String, other: &Op
 }
 
 /// A number that passes its limit.
-fn limit_value(alloc: Global, limit: u64, number: u64, limited: Limited, text: &str) -> Result<Value, AllocError>
+fn limit_value(
+    alloc: Global,
+    limit: u64,
+    number: u64,
+    limited: Limited,
+    text: &str,
+) -> Result<Value, AllocError>
     ensures { IfOk result (λ value. view value ≡ limit_data limit number limited text.now) }
 {
     Object::new(alloc)
@@ -171,7 +189,13 @@ fn pattern_value(alloc: Global, bytes: u64, text: &str) -> Result<Value, AllocEr
 }
 
 /// A number that is no multiple of another one.
-fn multiple_value(alloc: Global, divided: Divided, number: u64, of: u64, text: &str) -> Result<Value, AllocError>
+fn multiple_value(
+    alloc: Global,
+    divided: Divided,
+    number: u64,
+    of: u64,
+    text: &str,
+) -> Result<Value, AllocError>
     ensures { IfOk result (λ value. view value ≡ multiple_data divided number of text.now) }
 {
     Object::new(alloc)
@@ -185,7 +209,14 @@ fn multiple_value(alloc: Global, divided: Divided, number: u64, of: u64, text: &
 }
 
 /// A range that passes the end of its buffer.
-fn outside_value(alloc: Global, bytes: u64, count: u64, name: &String, offset: u64, text: &str) -> Result<Value, AllocError>
+fn outside_value(
+    alloc: Global,
+    bytes: u64,
+    count: u64,
+    name: &String,
+    offset: u64,
+    text: &str,
+) -> Result<Value, AllocError>
     ensures { IfOk result (λ value. view value ≡ outside_data bytes count name.now offset text.now) }
 {
     Object::new(alloc)
@@ -199,7 +230,14 @@ fn outside_value(alloc: Global, bytes: u64, count: u64, name: &String, offset: u
 }
 
 /// Two ranges that share bytes.
-fn overlap_value(alloc: Global, count: u64, name: &String, offset: u64, other_offset: u64, text: &str) -> Result<Value, AllocError>
+fn overlap_value(
+    alloc: Global,
+    count: u64,
+    name: &String,
+    offset: u64,
+    other_offset: u64,
+    text: &str,
+) -> Result<Value, AllocError>
     ensures { IfOk result (λ value. view value ≡ overlap_data count name.now offset other_offset text.now) }
 {
     Object::new(alloc)
@@ -213,7 +251,13 @@ fn overlap_value(alloc: Global, count: u64, name: &String, offset: u64, other_of
 }
 
 /// Numbers of sizes that no launch may have.
-fn counts_value(alloc: Global, global: u64, local: u64, offset: u64, text: &str) -> Result<Value, AllocError>
+fn counts_value(
+    alloc: Global,
+    global: u64,
+    local: u64,
+    offset: u64,
+    text: &str,
+) -> Result<Value, AllocError>
     ensures { IfOk result (λ value. view value ≡ counts_data global local offset text.now) }
 {
     Object::new(alloc)
@@ -226,7 +270,13 @@ fn counts_value(alloc: Global, global: u64, local: u64, offset: u64, text: &str)
 }
 
 /// An offset that passes the last number with its size.
-fn large_offset_value(alloc: Global, dimension: u64, offset: u64, size: u64, text: &str) -> Result<Value, AllocError>
+fn large_offset_value(
+    alloc: Global,
+    dimension: u64,
+    offset: u64,
+    size: u64,
+    text: &str,
+) -> Result<Value, AllocError>
     ensures { IfOk result (λ value. view value ≡ large_offset_data dimension offset size text.now) }
 {
     Object::new(alloc)
@@ -250,7 +300,13 @@ fn zero_value(alloc: Global, dimension: u64, text: &str) -> Result<Value, AllocE
 }
 
 /// A kernel that a program hasn't.
-fn kernel_value(alloc: Global, function: &String, known: &Vec<String>, program: &String, text: &str) -> Result<Value, AllocError>
+fn kernel_value(
+    alloc: Global,
+    function: &String,
+    known: &Vec<String>,
+    program: &String,
+    text: &str,
+) -> Result<Value, AllocError>
     ensures { IfOk result (λ value. view value ≡ kernel_data function.now known.now.items program.now text.now) }
 {
     Object::new(alloc)
@@ -263,7 +319,12 @@ fn kernel_value(alloc: Global, function: &String, known: &Vec<String>, program: 
 }
 
 /// An index behind the parameters.
-fn no_parameter_value(alloc: Global, index: u64, parameters: u64, text: &str) -> Result<Value, AllocError>
+fn no_parameter_value(
+    alloc: Global,
+    index: u64,
+    parameters: u64,
+    text: &str,
+) -> Result<Value, AllocError>
     ensures { IfOk result (λ value. view value ≡ no_parameter_data index parameters text.now) }
 {
     Object::new(alloc)
@@ -275,7 +336,11 @@ fn no_parameter_value(alloc: Global, index: u64, parameters: u64, text: &str) ->
 }
 
 /// An argument of another kind.
-fn other_argument_value(alloc: Global, parameter: &ParameterFacts, text: &str) -> Result<Value, AllocError>
+fn other_argument_value(
+    alloc: Global,
+    parameter: &ParameterFacts,
+    text: &str,
+) -> Result<Value, AllocError>
     ensures { IfOk result (λ value. view value ≡ other_argument_data parameter.now text.now) }
 {
     Object::new(alloc)
@@ -286,7 +351,12 @@ fn other_argument_value(alloc: Global, parameter: &ParameterFacts, text: &str) -
 }
 
 /// A number outside of its type.
-fn outside_type_value(alloc: Global, number: i128, parameter: &ParameterFacts, text: &str) -> Result<Value, AllocError>
+fn outside_type_value(
+    alloc: Global,
+    number: i128,
+    parameter: &ParameterFacts,
+    text: &str,
+) -> Result<Value, AllocError>
     ensures { IfOk result (λ value. view value ≡ outside_type_data number parameter.now text.now) }
 {
     Object::new(alloc)
@@ -298,7 +368,11 @@ fn outside_type_value(alloc: Global, number: i128, parameter: &ParameterFacts, t
 }
 
 /// Parameters without an argument.
-fn missing_value(alloc: Global, parameters: &Vec<ParameterFacts>, text: &str) -> Result<Value, AllocError>
+fn missing_value(
+    alloc: Global,
+    parameters: &Vec<ParameterFacts>,
+    text: &str,
+) -> Result<Value, AllocError>
     ensures { IfOk result (λ value. view value ≡ missing_data parameters.now.items text.now) }
 {
     Object::new(alloc)
@@ -309,7 +383,12 @@ fn missing_value(alloc: Global, parameters: &Vec<ParameterFacts>, text: &str) ->
 }
 
 /// A name that kernels use.
-fn used_value(alloc: Global, kernels: &Vec<MadeName>, name: &String, text: &str) -> Result<Value, AllocError>
+fn used_value(
+    alloc: Global,
+    kernels: &Vec<MadeName>,
+    name: &String,
+    text: &str,
+) -> Result<Value, AllocError>
     ensures { IfOk result (λ value. view value ≡ used_data kernels.now.items name.now text.now) }
 {
     Object::new(alloc)
@@ -326,21 +405,63 @@ fn reason_value(alloc: Global, reason: &RefusalReason, text: &str) -> Result<Val
 {
     match reason {
         RefusalReason::NameTaken { name, made } => taken_value(alloc, made, name, text),
-        RefusalReason::NameUnknown { name, wanted, known, other } => unknown_value(alloc, known, name, other, *wanted, text),
+        RefusalReason::NameUnknown {
+            name,
+            wanted,
+            known,
+            other,
+        } => unknown_value(alloc, known, name, other, *wanted, text),
         RefusalReason::NoBytes => plain_value(alloc, "no_bytes", text),
-        RefusalReason::PastLimit { limited, number, limit } => limit_value(alloc, *limit, *number, *limited, text),
+        RefusalReason::PastLimit {
+            limited,
+            number,
+            limit,
+        } => limit_value(alloc, *limit, *number, *limited, text),
         RefusalReason::ManyBuffers { buffers, limit } => many_value(alloc, *buffers, *limit, text),
         RefusalReason::PatternBytes { bytes } => pattern_value(alloc, *bytes, text),
-        RefusalReason::NotMultiple { divided, number, of } => multiple_value(alloc, *divided, *number, *of, text),
-        RefusalReason::OutsideBuffer { name, offset, count, bytes } => outside_value(alloc, *bytes, *count, name, *offset, text),
-        RefusalReason::Overlapping { name, offset, other_offset, count } => overlap_value(alloc, *count, name, *offset, *other_offset, text),
-        RefusalReason::DimensionCounts { global, local, offset } => counts_value(alloc, *global, *local, *offset, text),
-        RefusalReason::OffsetTooLarge { dimension, offset, size } => large_offset_value(alloc, *dimension, *offset, *size, text),
+        RefusalReason::NotMultiple {
+            divided,
+            number,
+            of,
+        } => multiple_value(alloc, *divided, *number, *of, text),
+        RefusalReason::OutsideBuffer {
+            name,
+            offset,
+            count,
+            bytes,
+        } => outside_value(alloc, *bytes, *count, name, *offset, text),
+        RefusalReason::Overlapping {
+            name,
+            offset,
+            other_offset,
+            count,
+        } => overlap_value(alloc, *count, name, *offset, *other_offset, text),
+        RefusalReason::DimensionCounts {
+            global,
+            local,
+            offset,
+        } => counts_value(alloc, *global, *local, *offset, text),
+        RefusalReason::OffsetTooLarge {
+            dimension,
+            offset,
+            size,
+        } => large_offset_value(alloc, *dimension, *offset, *size, text),
         RefusalReason::ZeroSize { dimension } => zero_value(alloc, *dimension, text),
-        RefusalReason::KernelUnknown { function, program, known } => kernel_value(alloc, function, known, program, text),
-        RefusalReason::NoParameter { index, parameters } => no_parameter_value(alloc, *index, *parameters, text),
+        RefusalReason::KernelUnknown {
+            function,
+            program,
+            known,
+        } => kernel_value(alloc, function, known, program, text),
+        RefusalReason::NoParameter { index, parameters } => no_parameter_value(
+            alloc,
+            *index,
+            *parameters,
+            text,
+        ),
         RefusalReason::OtherArgument { parameter } => other_argument_value(alloc, parameter, text),
-        RefusalReason::OutsideType { parameter, number } => outside_type_value(alloc, *number, parameter, text),
+        RefusalReason::OutsideType { parameter, number } => outside_type_value(
+            alloc, *number, parameter, text,
+        ),
         RefusalReason::ArgumentsMissing { parameters } => missing_value(alloc, parameters, text),
         RefusalReason::StillUsed { name, kernels } => used_value(alloc, kernels, name, text),
     }

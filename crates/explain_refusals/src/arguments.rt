@@ -41,7 +41,9 @@ pub(crate) fn arguments_of<'a>(
     kernel: &Made<'a>,
 ) -> Result<Vec<Option<&'a Argument>>, AllocError> {
     let mut arguments = Vec::new(refusing.alloc);
-    let (_, behind) = refusing.before.split_at(kernel.number.min(refusing.before.len()));
+    let (_, behind) = refusing
+        .before
+        .split_at(kernel.number.min(refusing.before.len()));
     for command in behind {
         if let Some((index, argument)) = given_by(command, kernel.name) {
             put_argument(&mut arguments, index as usize, argument)?;

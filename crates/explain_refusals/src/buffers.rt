@@ -4,6 +4,7 @@
 ghost use Rattle.std.specs.Prelude.{◌≡◌, IfOk, None};
 ghost use Rattle.host_commands.specs.declared.command.Command.{Command as CommandOf};
 ghost use Rattle.host_commands.specs.declared.command.Command.TheVariants as command;
+ghost use Rattle.host_commands.specs.Fills.{is_pattern_size};
 ghost use Rattle.spaces.specs.Tables.{find};
 ghost use Rattle.explain_refusals.specs.Reasons.{Divides, Holds, HoldsOf, IsCount, IsLimited, IsRange, NamesBuffer};
 
@@ -15,11 +16,7 @@ use refused_commands::{Divided, Limited, NameKind, RefusalReason};
 use std::alloc::AllocError;
 
 /// A buffer that isn't there.
-fn unknown_buffer(
-    refusing: &Refusing<'_>,
-    name: &Name,
-    word: usize,
-) -> Result<Found, AllocError>
+fn unknown_buffer(refusing: &Refusing<'_>, name: &Name, word: usize) -> Result<Found, AllocError>
     requires { find refusing.now.buffers.now name.now ≡ None }
     ensures { (c : CommandOf) → NamesBuffer c name.now → IfOk result (λ f. Holds refusing.now.limits refusing.now.buffers.now c f.reason) }
 {
@@ -198,11 +195,18 @@ fn no_multiple(
     Some(Found { reason, word })
 }
 
+/// Whether a pattern may have this many bytes.
+fn is_pattern_size(bytes: u64) -> bool
+    ensures { result ≡ is_pattern_size bytes }
+{
+    matches!(bytes, 1 | 2 | 4 | 8 | 16 | 32 | 64 | 128)
+}
+
 /// A pattern of a length that none may have, if it has one.
 fn bad_pattern(refusing: &Refusing<'_>, bytes: u64) -> Option<Found>
     ensures { (c : CommandOf) → HoldsOf refusing.now c result }
 {
-    if matches!(bytes, 1 | 2 | 4 | 8 | 16 | 32 | 64 | 128) {
+    if is_pattern_size(bytes) {
         return None;
     }
     Some(Found {

@@ -13,9 +13,10 @@ use crate::reasons::{Found, Refusing, Unknown, unknown};
 use crate::trees::{KernelTree, made_of, tree_of};
 use clmodel::setup::{Argument, Range};
 use clmodel::text::Name;
+use clmodel::tree::Statement;
+use clnum::{IntType, Value};
 use explanation::ParameterFacts;
 use host_commands::command::Refusal;
-use item_step::is_local_too_large;
 use refused_commands::{Divided, Limited, NameKind, RefusalReason};
 use std::alloc::{AllocError, Global};
 
@@ -93,12 +94,7 @@ fn bad_dimension(refusing: &Refusing<'_>, kernel: &Name, range: &Range) -> Optio
 }
 
 /// A size of a dimension that is 0, if one is.
-fn zero_at(
-    refusing: &Refusing<'_>,
-    kernel: &Name,
-    range: &Range,
-    dimension: usize,
-) -> Option<Found>
+fn zero_at(refusing: &Refusing<'_>, kernel: &Name, range: &Range, dimension: usize) -> Option<Found>
     ensures { HoldsOf refusing.now (command.Launch kernel.now range.now) result }
 {
     let global = *range.global.as_slice().get(dimension)?;
@@ -186,39 +182,58 @@ fn missing_of(
     Ok(parameters)
 }
 
-/// A copy of an argument.
-fn copy_of(alloc: Global, argument: &Option<&Argument>) -> Result<Option<Argument>, AllocError> {
+/// The bytes of local memory that an argument is.
+fn given_bytes(argument: &Option<&Argument>) -> u64 {
     match argument {
-        Some(Argument::Local(size)) => Ok(Some(Argument::Local(*size))),
-        Some(Argument::Value(number)) => Ok(Some(Argument::Value(*number))),
-        Some(Argument::Buffer(name)) => Ok(Some(Argument::Buffer(name.copied(alloc)?))),
-        None => Ok(None),
+        Some(Argument::Local(size)) => *size,
+        _ => 0,
     }
 }
 
-/// The bytes of the local objects of a kernel with its arguments: the least limit that they don't pass.
-fn local_bytes(
-    alloc: Global,
-    tree: &KernelTree<'_>,
-    arguments: &[Option<&Argument>],
-) -> Result<u64, AllocError> {
-    let mut given = Vec::new(alloc);
-    for argument in arguments {
-        given.push(copy_of(alloc, argument)?)?;
+/// The bytes of an array, or the greatest number where they are more.
+fn array_bytes(element: IntType, length: Value) -> u64 {
+    u64::from(element.bits() / 8).saturating_mul(length.natural())
+}
+
+/// The bytes of local memory that a statement declares, or the greatest number where they are more.
+fn declared_bytes(statement: &Statement) -> u64 {
+    match statement {
+        Statement::DeclareArray {
+            is_local,
+            element,
+            length,
+            ..
+        } => {
+            if *is_local {
+                array_bytes(*element, *length)
+            } else {
+                0
+            }
+        }
+        _ => 0,
     }
-    let number = match tree.function() {
-        Some(function) => function.name,
+}
+
+/// The bytes of local memory that the outermost block of a kernel declares, or the greatest number where they are more.
+fn body_bytes(body: &[Statement]) -> u64 {
+    let mut bytes = 0u64;
+    for statement in body {
+        bytes = bytes.saturating_add(declared_bytes(statement));
+    }
+    bytes
+}
+
+/// The bytes of the local objects of a kernel with its arguments, or the greatest number where they are more (OpenCL
+/// 1.2, section 6.5.2).
+fn local_bytes(tree: &KernelTree<'_>, arguments: &[Option<&Argument>]) -> u64 {
+    let mut bytes = match tree.function() {
+        Some(function) => body_bytes(function.body.as_slice()),
         None => 0,
     };
-    let mut below = 0u64;
-    for bit in 0..64u32 {
-        let step = 1u64 << (63 - bit);
-        let limit = below | (step - 1);
-        if is_local_too_large(limit, &tree.checked.tree, number, given.as_slice()) {
-            below |= step;
-        }
+    for argument in arguments {
+        bytes = bytes.saturating_add(given_bytes(argument));
     }
-    Ok(below)
+    bytes
 }
 
 /// Why a kernel that is there isn't launched with its arguments.
@@ -238,7 +253,7 @@ fn arguments_reason(
     };
     let arguments = arguments_of(refusing, &made)?;
     if refusal_is_local(refusal) {
-        let number = local_bytes(refusing.alloc, &tree, arguments.as_slice())?;
+        let number = local_bytes(&tree, arguments.as_slice());
         let limit = refusing.limits.local_bytes;
         return Ok(past_limit(refusing, Limited::LocalBytes, number, limit, 1));
     }

@@ -1,7 +1,7 @@
 //! The names that commands made.
 #![tactic(auto)]
 
-ghost use Rattle.std.specs.Prelude.{IfOk};
+ghost use Rattle.std.specs.Prelude.{◌<◌, length, IfOk, IfSome};
 ghost use Rattle.explain_refusals.specs.Reasons.{IsTold};
 
 use clmodel::text::Name;
@@ -36,13 +36,22 @@ fn released_by(command: &Command) -> Option<&Name> {
     }
 }
 
+/// Where a name stands among those that are there.
+fn place_in(there: &[Made<'_>], name: &Name) -> Option<usize>
+    ensures { IfSome result (λ place. place < length there.now) }
+{
+    for (place, made) in there.iter().enumerate() {
+        if made.name == name {
+            return Some(place);
+        }
+    }
+    None
+}
+
 /// Removes a name from those that are there.
 fn remove(there: &mut Vec<Made<'_>>, name: &Name) {
-    for place in 0..there.len() {
-        if there[place].name == name {
-            there.remove(place);
-            return;
-        }
+    if let Some(place) = place_in(there.as_slice(), name) {
+        there.remove(place);
     }
 }
 

@@ -19,8 +19,8 @@ use simfile::script::CommandPlace;
 use spaces::Buffers;
 use std::alloc::{AllocError, Global};
 
-/// What is known where a command is refused: the limits and the buffers of the device, and the commands before it, which
-/// were done, with their places in the script.
+/// What is known where a command is refused: the limits and the buffers of the device, and the commands before it,
+/// which were done, with their places in the script.
 #[derive(Clone, Copy)]
 pub struct Refusing<'a> {
     pub alloc: Global,

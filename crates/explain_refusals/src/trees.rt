@@ -7,7 +7,7 @@ use clmodel::text::Name;
 use clmodel::tree::{Function, Parameter, Tree};
 use cltypes::Checked;
 use explanation::ParameterFacts;
-use host_commands::build::build;
+use host_commands::build::{NotBuilt, build};
 use host_commands::command::Command;
 use launch_facts::type_text;
 use refused_commands::NameKind;
@@ -24,11 +24,7 @@ pub(crate) fn made_of<'a>(there: &[Made<'a>], name: &Name, kind: NameKind) -> Op
 }
 
 /// The source of the program of a name.
-fn source_of<'a>(
-    refusing: &Refusing<'a>,
-    there: &[Made<'a>],
-    program: &Name,
-) -> Option<&'a [u8]> {
+fn source_of<'a>(refusing: &Refusing<'a>, there: &[Made<'a>], program: &Name) -> Option<&'a [u8]> {
     let made = made_of(there, program, NameKind::Program)?;
     match refusing.before.get(made.number) {
         Some(Command::Program { source, .. }) => Some(source.as_slice()),
@@ -44,7 +40,8 @@ fn program_of(refusing: &Refusing<'_>, program: &Name) -> Result<Option<Checked>
     };
     match build(refusing.alloc, refusing.limits, source) {
         Ok(checked) => Ok(Some(checked)),
-        Err(_) => Ok(None),
+        Err(NotBuilt::Fault(_)) => Ok(None),
+        Err(NotBuilt::OutOfMemory) => Err(AllocError),
     }
 }
 

@@ -117,8 +117,8 @@ fn end_of(ticket: usize, reply: Reply) -> Option<Walked>
     }
 }
 
-/// Performs commands up to the first launch that has a fault, or to the first command that is refused, and notes of each
-/// whether it was done. Neither changes the device, so that it is then as before that command. An error is out of
+/// Performs commands up to the first launch that has a fault, or to the first command that is refused, and notes of
+/// each whether it was done. Neither changes the device, so that it is then as before that command. An error is out of
 /// memory.
 fn walk_commands(
     alloc: Global,

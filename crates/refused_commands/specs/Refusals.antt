@@ -1,5 +1,5 @@
--- The text of a command that was refused (own): its place, its refusal and a sentence that says why. The sentence and the
--- quoted line are any text.
+-- The text of a command that was refused (own): its place, its refusal and a sentence that says why. The sentence and
+-- the quoted line are any text.
 use Rattle.std.specs.Prelude.{◌≡◌, ℕ, List, ◌++◌, codes, decimal, string_bytes}
 use Rattle.refused_commands.specs.declared.told.RefusedCommand.{RefusedCommand}
 use Rattle.explain_text.specs.Texts.{place_text}

@@ -68,9 +68,14 @@ pub enum RefusalReason {
         limit: u64,
     },
     /// There are so many buffers, which are as many as there may be.
-    ManyBuffers { buffers: u64, limit: u64 },
+    ManyBuffers {
+        buffers: u64,
+        limit: u64,
+    },
     /// A pattern may not have this length.
-    PatternBytes { bytes: u64 },
+    PatternBytes {
+        bytes: u64,
+    },
     /// A number is no multiple of another one.
     NotMultiple {
         divided: Divided,
@@ -104,7 +109,9 @@ pub enum RefusalReason {
         size: u64,
     },
     /// A size of a dimension is 0.
-    ZeroSize { dimension: u64 },
+    ZeroSize {
+        dimension: u64,
+    },
     /// A program has no kernel of a name. It has these.
     KernelUnknown {
         function: String,
@@ -112,16 +119,23 @@ pub enum RefusalReason {
         known: Vec<String>,
     },
     /// A kernel has so many parameters, and none of this index.
-    NoParameter { index: u64, parameters: u64 },
+    NoParameter {
+        index: u64,
+        parameters: u64,
+    },
     /// A parameter wants an argument of another kind.
-    OtherArgument { parameter: ParameterFacts },
+    OtherArgument {
+        parameter: ParameterFacts,
+    },
     /// A number is outside of the type of a parameter.
     OutsideType {
         parameter: ParameterFacts,
         number: i128,
     },
     /// These parameters weren't given an argument.
-    ArgumentsMissing { parameters: Vec<ParameterFacts> },
+    ArgumentsMissing {
+        parameters: Vec<ParameterFacts>,
+    },
     /// A buffer that these kernels have as an argument, or a program of which these are kernels
     StillUsed {
         name: String,

@@ -44,7 +44,11 @@ fn name_list(alloc: Global, names: &[MadeName]) -> Result<String, AllocError> {
     for made in &names[..names.len().min(MOST_TOLD)] {
         texts.push(String::from_str(alloc, made.name.as_str())?)?;
     }
-    listed(alloc, texts.as_slice(), names.len().saturating_sub(MOST_TOLD))
+    listed(
+        alloc,
+        texts.as_slice(),
+        names.len().saturating_sub(MOST_TOLD),
+    )
 }
 
 /// Texts of a list, as far as they are told.
@@ -53,7 +57,11 @@ fn text_list(alloc: Global, names: &[String]) -> Result<String, AllocError> {
     for name in &names[..names.len().min(MOST_TOLD)] {
         texts.push(String::from_str(alloc, name.as_str())?)?;
     }
-    listed(alloc, texts.as_slice(), names.len().saturating_sub(MOST_TOLD))
+    listed(
+        alloc,
+        texts.as_slice(),
+        names.len().saturating_sub(MOST_TOLD),
+    )
 }
 
 /// A parameter with its type and its name.
@@ -74,11 +82,7 @@ fn parameter_list(alloc: Global, parameters: &[ParameterFacts]) -> Result<String
 }
 
 /// A name that is taken.
-fn taken_words(
-    alloc: Global,
-    name: &str,
-    made: &Option<MadeName>,
-) -> Result<String, AllocError> {
+fn taken_words(alloc: Global, name: &str, made: &Option<MadeName>) -> Result<String, AllocError> {
     match made {
         Some(made) => {
             let made = made_words(alloc, made)?;
@@ -156,7 +160,9 @@ fn multiple_words(
 ) -> Result<String, AllocError> {
     match divided {
         Divided::FillOffset => {
-            format!(in alloc; "the offset {number} is no multiple of {of}, the bytes of the pattern")
+            format!(in alloc;
+                "the offset {number} is no multiple of {of}, the bytes of the pattern"
+            )
         }
         Divided::FillCount => {
             format!(in alloc; "the count {number} is no multiple of {of}, the bytes of the pattern")
