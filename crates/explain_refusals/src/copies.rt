@@ -44,6 +44,13 @@ fn passing(refusing: &Refusing<'_>, copied: &Copied<'_>) -> Result<Option<Found>
     outside(refusing, copied.target, copied.target_offset, count, 4)
 }
 
+/// Whether two names are one.
+fn is_same(name: &Name, other: &Name) -> bool
+    ensures { result ≡ true → name.now ≡ other.now }
+{
+    name == other
+}
+
 /// Whether two ranges of as many bytes share one.
 fn do_overlap(first: u64, second: u64, count: u64) -> bool
     ensures { result ≡ true → (first < second + count) × (second < first + count) }
@@ -60,7 +67,7 @@ fn overlapping(refusing: &Refusing<'_>, copied: &Copied<'_>) -> Result<Option<Fo
     ensures { IfOk result (HoldsOf refusing.now (command.Copy copied.now.source.now copied.now.offset copied.now.target.now copied.now.target_offset copied.now.count)) }
 {
     let (offset, other_offset, count) = (copied.offset, copied.target_offset, copied.count);
-    if copied.source != copied.target || !do_overlap(offset, other_offset, count) {
+    if !is_same(copied.source, copied.target) || !do_overlap(offset, other_offset, count) {
         return Ok(None);
     }
     let reason = RefusalReason::Overlapping {

@@ -89,15 +89,15 @@ fn kind_of(wanted: Unknown) -> Option<NameKind>
     }
 }
 
-/// Whether a kernel is one of a program, or has a buffer as an argument.
-fn does_use(refusing: &Refusing<'_>, kernel: &Made<'_>, wanted: &Name) -> Result<bool, AllocError> {
-    let Some(Command::Kernel { program, .. }) = refusing.before.get(kernel.number) else {
+/// Whether what is there of a name is a kernel of a program, or one that has a buffer as an argument.
+fn does_use(refusing: &Refusing<'_>, made: &Made<'_>, wanted: &Name) -> Result<bool, AllocError> {
+    let Some(Command::Kernel { program, .. }) = refusing.before.get(made.number) else {
         return Ok(false);
     };
     if program == wanted {
         return Ok(true);
     }
-    let arguments = arguments_of(refusing, kernel)?;
+    let arguments = arguments_of(refusing, made)?;
     Ok(arguments.iter().any(|argument| is_buffer(argument, wanted)))
 }
 
@@ -107,7 +107,7 @@ fn users_of(refusing: &Refusing<'_>, name: &Name) -> Result<Vec<MadeName>, Alloc
     let there = names_there(alloc, refusing.before)?;
     let mut users = Vec::new(alloc);
     for made in there.as_slice() {
-        if made.kind == NameKind::Kernel && does_use(refusing, made, name)? {
+        if does_use(refusing, made, name)? {
             users.push(told_name(alloc, places, made)?)?;
         }
     }
