@@ -137,34 +137,16 @@ fn many_buffers(refusing: &Refusing<'_>) -> Option<Found>
     })
 }
 
-/// Why bytes aren't written.
-pub(crate) fn write_reason(
-    refusing: &Refusing<'_>,
-    buffer: &Name,
-    offset: u64,
-    bytes: &Bytes,
-    refusal: Refusal,
-) -> Result<Option<Found>, AllocError>
-    ensures { IfOk result (HoldsOf refusing.now (command.Write buffer.now offset bytes.now)) }
-{
-    let count = bytes.len() as u64;
-    match refusal {
-        Refusal::NoSuchName => missing_buffer(refusing, buffer, 1),
-        Refusal::BadSize => Ok(no_bytes(refusing, count, 3)),
-        Refusal::OutOfRange => outside(refusing, buffer, offset, count, 2),
-        _ => Ok(None),
-    }
-}
-
-/// Why bytes aren't read.
-pub(crate) fn read_reason(
+/// Why bytes of a range aren't written or read.
+pub(crate) fn range_reason(
     refusing: &Refusing<'_>,
     buffer: &Name,
     offset: u64,
     count: u64,
     refusal: Refusal,
 ) -> Result<Option<Found>, AllocError>
-    ensures { IfOk result (HoldsOf refusing.now (command.Read buffer.now offset count)) }
+    ensures { (c : CommandOf) → NamesBuffer c buffer.now → IsCount c count → IsRange c buffer.now offset count
+        → IfOk result (HoldsOf refusing.now c) }
 {
     match refusal {
         Refusal::NoSuchName => missing_buffer(refusing, buffer, 1),
@@ -245,9 +227,7 @@ pub(crate) fn fill_reason(
 {
     let of = pattern.len() as u64;
     match refusal {
-        Refusal::NoSuchName => missing_buffer(refusing, buffer, 1),
         Refusal::BadSize => Ok(bad_fill(refusing, offset, count, of)),
-        Refusal::OutOfRange => outside(refusing, buffer, offset, count, 2),
-        _ => Ok(None),
+        _ => range_reason(refusing, buffer, offset, count, refusal),
     }
 }

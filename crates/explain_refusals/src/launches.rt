@@ -252,7 +252,7 @@ fn arguments_reason(
         return Ok(None);
     };
     let arguments = arguments_of(refusing, &made)?;
-    if refusal_is_local(refusal) {
+    if matches!(refusal, Refusal::LocalTooLarge) {
         let number = local_bytes(&tree, arguments.as_slice());
         let limit = refusing.limits.local_bytes;
         return Ok(past_limit(refusing, Limited::LocalBytes, number, limit, 1));
@@ -260,11 +260,6 @@ fn arguments_reason(
     let parameters = missing_of(refusing.alloc, &tree, arguments.as_slice())?;
     let reason = RefusalReason::ArgumentsMissing { parameters };
     Ok(Some(Found { reason, word: 1 }))
-}
-
-/// Whether a refusal is that of too many bytes of local memory.
-fn refusal_is_local(refusal: Refusal) -> bool {
-    matches!(refusal, Refusal::LocalTooLarge)
 }
 
 /// Why a kernel isn't launched.
