@@ -17,13 +17,13 @@ reason_in (Some found) = Some found.reason
 
 -- The command of a number, which stands at a place of a script, and its refusal by number and name; with its line, the
 -- one that begins where the text of the command does, and a word of it.
-pub record TellsRefused (name script : List ℕ) (command : ℕ) (place : CommandPlace) (refusal : Refusal) (why : Option RefusalReason) (told : RefusedCommand) : Type 0 where
-  pub script : string_bytes told.script ≡ utf8_lossy name
-  pub command : told.command ≡ command
-  pub refusal : refusal_word refusal ≡ decimal told.number ++ codes " " ++ told.name.now
+pub record TellsRefused (file bytes : List ℕ) (number : ℕ) (place : CommandPlace) (refused : Refusal) (reason : Option RefusalReason) (told : RefusedCommand) : Type 0 where
+  pub script : string_bytes told.script ≡ utf8_lossy file
+  pub command : told.command ≡ number
+  pub refusal : refusal_word refused ≡ decimal told.number ++ codes " " ++ told.name.now
   pub line : told.spot.line ≡ place.line
   pub begins : told.spot.offset + 1 ≡ place.at + told.spot.column
   pub end : ℕ
-  pub ends : EndsLine script place.at end
-  pub text : string_bytes told.spot.text ≡ told_line (slice_range script place.at end)
-  pub why : told.why ≡ why
+  pub ends : EndsLine bytes place.at end
+  pub text : string_bytes told.spot.text ≡ told_line (slice_range bytes place.at end)
+  pub why : told.why ≡ reason

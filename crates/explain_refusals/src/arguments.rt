@@ -8,7 +8,7 @@ ghost use Rattle.explain_refusals.specs.Reasons.{Holds, HoldsOf};
 
 use crate::buffers::{bad_size, missing_buffer};
 use crate::names::{Made, names_there};
-use crate::reasons::{Found, Refusing, Unknown, unknown};
+use crate::reasons::{Found, Refusing, Wanted, unknown};
 use crate::trees::{KernelTree, made_of, tree_of};
 use clmodel::setup::Argument;
 use clmodel::text::Name;
@@ -181,7 +181,7 @@ pub(crate) fn arg_reason(
 {
     let there = names_there(refusing.alloc, refusing.before)?;
     let Some(made) = made_of(there.as_slice(), kernel, NameKind::Kernel) else {
-        return unknown(refusing, kernel, Unknown::Kernel, 1);
+        return unknown(refusing, kernel, Wanted::Kernel, 1);
     };
     match refusal {
         Refusal::NoSuchName => missing_argument(refusing, kernel, index, argument),

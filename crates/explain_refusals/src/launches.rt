@@ -9,7 +9,7 @@ ghost use Rattle.explain_refusals.specs.Reasons.{HoldsOf, IsLimited};
 
 use crate::arguments::arguments_of;
 use crate::names::names_there;
-use crate::reasons::{Found, Refusing, Unknown, unknown};
+use crate::reasons::{Found, Refusing, Wanted, unknown};
 use crate::trees::{KernelTree, made_of, tree_of};
 use clmodel::setup::{Argument, Range};
 use clmodel::text::Name;
@@ -272,7 +272,7 @@ pub(crate) fn launch_reason(
     ensures { IfOk result (HoldsOf refusing.now (command.Launch kernel.now range.now)) }
 {
     match refusal {
-        Refusal::NoSuchName => unknown(refusing, kernel, Unknown::Kernel, 1),
+        Refusal::NoSuchName => unknown(refusing, kernel, Wanted::Kernel, 1),
         Refusal::BadDimension => Ok(bad_dimension(refusing, kernel, range)),
         Refusal::BadGroupSize => Ok(bad_group(refusing, kernel, range)),
         Refusal::TooManyItems => {

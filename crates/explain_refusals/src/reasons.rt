@@ -53,7 +53,7 @@ pub(crate) fn taken(refusing: &Refusing<'_>, name: &Name) -> Result<Option<Found
 pub(crate) fn unknown(
     refusing: &Refusing<'_>,
     name: &Name,
-    wanted: Unknown,
+    wanted: Wanted,
     word: usize,
 ) -> Result<Option<Found>, AllocError>
     ensures { (c : CommandOf) → IfOk result (HoldsOf refusing.now c) }
@@ -72,20 +72,20 @@ pub(crate) fn unknown(
 
 /// What a name is wanted for, other than a buffer.
 #[derive(Clone, Copy, PartialEq, Eq)]
-pub(crate) enum Unknown {
+pub(crate) enum Wanted {
     Program,
     Kernel,
     Any,
 }
 
 /// The kind that is wanted, if one is.
-fn kind_of(wanted: Unknown) -> Option<NameKind>
+fn kind_of(wanted: Wanted) -> Option<NameKind>
     ensures { result ≢ Some NameKind.Buffer }
 {
     match wanted {
-        Unknown::Program => Some(NameKind::Program),
-        Unknown::Kernel => Some(NameKind::Kernel),
-        Unknown::Any => None,
+        Wanted::Program => Some(NameKind::Program),
+        Wanted::Kernel => Some(NameKind::Kernel),
+        Wanted::Any => None,
     }
 }
 
@@ -123,7 +123,7 @@ fn release_reason(
     ensures { (c : CommandOf) → IfOk result (HoldsOf refusing.now c) }
 {
     match refusal {
-        Refusal::NoSuchName => unknown(refusing, name, Unknown::Any, 1),
+        Refusal::NoSuchName => unknown(refusing, name, Wanted::Any, 1),
         Refusal::InUse => {
             let reason = RefusalReason::StillUsed {
                 name: text_of(refusing.alloc, name)?,
@@ -147,7 +147,7 @@ fn kernel_reason(
 {
     match refusal {
         Refusal::NameInUse => taken(refusing, name),
-        Refusal::NoSuchName => unknown(refusing, program, Unknown::Program, 2),
+        Refusal::NoSuchName => unknown(refusing, program, Wanted::Program, 2),
         Refusal::NoSuchKernel => {
             let reason = RefusalReason::KernelUnknown {
                 function: text_of(refusing.alloc, function)?,
