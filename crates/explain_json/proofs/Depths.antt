@@ -5,8 +5,6 @@ use Rattle.serde_json.specs.View.{items_of}
 use Rattle.explanation.specs.declared.places.CallSite.{CallSite}
 use Rattle.explanation.specs.declared.places.LoopSite.{LoopSite}
 use Rattle.explanation.specs.declared.places.Spot.{Spot}
-use Rattle.explanation.specs.declared.reasons.LoopTurns.{LoopTurns}
-use Rattle.explanation.specs.declared.reasons.OtherLoops.{OtherLoops}
 use Rattle.explanation.specs.declared.reasons.Reason.{Reason}
 use Rattle.explanation.specs.declared.reasons.Reason.TheVariants as reason
 use Rattle.explanation.specs.declared.reasons.StoredBytes.{StoredBytes}

@@ -1,13 +1,11 @@
 -- No number of an explanation or of a refusal is a float in JSON, so that the writer's text of its value is defined.
-use Rattle.std.proofs.Common.{◌≡◌, ◌||◌, ℕ, List, [], ◌∷◌, Option, None, Some, map, false, refl, sym, ap, ◌∙◌, option_copied}
+use Rattle.std.proofs.Common.{◌≡◌, ℕ, List, [], ◌∷◌, Option, None, Some, map, false, refl, ap, ◌∙◌, option_copied}
 use Rattle.serde_json.specs.Data.{Data}
 use Rattle.serde_json.specs.View.{items_of}
 use Rattle.serde_json.specs.Written.{has_float, items_have_float}
 use Rattle.build_hints.specs.declared.refusals.Refusal.{Refusal}
-use Rattle.explanation.specs.declared.places.CallSite.{CallSite}
 use Rattle.explanation.specs.declared.places.LoopSite.{LoopSite}
 use Rattle.explanation.specs.declared.places.Spot.{Spot}
-use Rattle.explanation.specs.declared.reasons.LoopTurns.{LoopTurns}
 use Rattle.explanation.specs.declared.reasons.Reason.{Reason}
 use Rattle.explanation.specs.declared.reasons.Reason.TheVariants as reason
 use Rattle.explanation.specs.declared.reasons.StoredBytes.{StoredBytes}

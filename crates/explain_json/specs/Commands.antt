@@ -1,6 +1,6 @@
 -- A command that was refused, in JSON (RFC 8259; the members are this project's own, version 2). Members stand in the
 -- order of their names. The sentence of a reason is told beside its members.
-use Rattle.std.specs.Prelude.{◌≡◌, ℕ, ℤ, String, Option, None, Some, List, codes, string_bytes}
+use Rattle.std.specs.Prelude.{◌≡◌, ℕ, ℤ, String, Option, None, Some, List, codes}
 use Rattle.std.specs.declared.alloc.Global.{Global}
 use Rattle.serde_json.specs.Data.{Data, string, array, object, member, no_members, item, no_items}
 use Rattle.refused_commands.specs.declared.told.Divided.{Divided}

@@ -75,9 +75,10 @@ fn wanted_value(alloc: Global, wanted: Option<NameKind>) -> Result<Value, AllocE
 }
 
 /// A number as text, since readers of JSON may keep 53 bits of a number alone.
-fn number_value(alloc: Global, number: i128) -> Result<Value, AllocError>
-    ensures { IfOk result (λ value. view value ≡ left_data number) }
+fn number_value(alloc: Global, number: &i128) -> Result<Value, AllocError>
+    ensures { IfOk result (λ value. view value ≡ left_data number.now) }
 {
+    let number = *number;
     Ok(Value::String(format!(in alloc; "{number}")?))
 }
 
@@ -353,11 +354,11 @@ fn other_argument_value(
 /// A number outside of its type.
 fn outside_type_value(
     alloc: Global,
-    number: i128,
+    number: &i128,
     parameter: &ParameterFacts,
     text: &str,
 ) -> Result<Value, AllocError>
-    ensures { IfOk result (λ value. view value ≡ outside_type_data number parameter.now text.now) }
+    ensures { IfOk result (λ value. view value ≡ outside_type_data number.now parameter.now text.now) }
 {
     Object::new(alloc)
         .with_text("text", text)
@@ -460,7 +461,7 @@ fn reason_value(alloc: Global, reason: &RefusalReason, text: &str) -> Result<Val
         ),
         RefusalReason::OtherArgument { parameter } => other_argument_value(alloc, parameter, text),
         RefusalReason::OutsideType { parameter, number } => outside_type_value(
-            alloc, *number, parameter, text,
+            alloc, number, parameter, text,
         ),
         RefusalReason::ArgumentsMissing { parameters } => missing_value(alloc, parameters, text),
         RefusalReason::StillUsed { name, kernels } => used_value(alloc, kernels, name, text),

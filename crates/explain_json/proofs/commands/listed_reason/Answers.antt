@@ -1,4 +1,4 @@
-use Rattle.std.proofs.Common.{◌≡◌, ap, string_bytes, ◌∙◌}
+use Rattle.std.proofs.Common.{ap, string_bytes, ◌∙◌}
 use Rattle.std.proofs.lemmas.Result.{IfOk-weaker}
 use Rattle.serde_json.specs.Data.{Data, array, item, no_items}
 use Rattle.explain_json.specs.Commands.{refusal_reason_data}
