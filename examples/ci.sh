@@ -1,10 +1,10 @@
 #!/bin/sh
 # Runs each script that is named with $CLSIM, or with the clsim on the path, and shows the first fault, refusal or bad
-# line of each: FILE:LINE of its command, and below it the explanation where `clsim explain` has one of that very fault
-# or source, else the line itself. Where $SARIF names a file, these and the explanations are written there as
-# SARIF 2.1.0, which takes Python 3. $CLSIM_WORKERS, $CLSIM_BUDGET and $CLSIM_LIMITS, where they are set, are the options
-# of the program by these names. Status 0 if there are none, else 1, and 2 where there is no such program, no script is
-# named, or the file can't be written.
+# line of each: FILE:LINE of its command, and below it the explanation where `clsim explain` has one of that fault or
+# refusal, else the line itself. Where $SARIF names a file, these and the explanations are written there as SARIF 2.1.0,
+# which takes Python 3. $CLSIM_WORKERS, $CLSIM_BUDGET and $CLSIM_LIMITS, where they are set, are the options of the
+# program by these names. Status 0 if there are none, else 1, and 2 where there is no such program, no script is named,
+# or the file can't be written.
 CLSIM=${CLSIM:-clsim}
 if ! command -v "$CLSIM" >/dev/null; then
     echo "ci.sh: no program: $CLSIM" >&2
@@ -68,9 +68,9 @@ for script in "$@"; do
     failed=1
     first=$(sed 1q "$folder/first")
     printf '%s:%s\n' "$script" "$first"
-    # (the explanation is that of the first fault or source that doesn't build, which may stand behind another refusal)
+    # (the explanation is that of the first fault or refusal; of want of memory and of a bad line there is none)
     case $first in
-        [0-9]*': fault '* | [0-9]*': refused 10 BuildFailed '*)
+        [0-9]*': fault '* | [0-9]*': refused '*)
             # shellcheck disable=SC2086
             told=$("$CLSIM" explain "$script" $device 2>/dev/null) || told= ;;
         *) told= ;;
@@ -82,7 +82,7 @@ for script in "$@"; do
     fi
     # shellcheck disable=SC2086
     told=$("$CLSIM" explain "$script" $device --format json 2>/dev/null)
-    # (of a script with neither a fault nor a source that doesn't build it is the word clean)
+    # (of a script that lacked memory or has a bad line there is none)
     case $told in '{'*) printf '%s\n' "$told" >>"$folder/explained" ;; esac
 done
 if [ -n "${SARIF:-}" ]; then

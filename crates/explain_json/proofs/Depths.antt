@@ -5,8 +5,6 @@ use Rattle.serde_json.specs.View.{items_of}
 use Rattle.explanation.specs.declared.places.CallSite.{CallSite}
 use Rattle.explanation.specs.declared.places.LoopSite.{LoopSite}
 use Rattle.explanation.specs.declared.places.Spot.{Spot}
-use Rattle.explanation.specs.declared.reasons.LoopTurns.{LoopTurns}
-use Rattle.explanation.specs.declared.reasons.OtherLoops.{OtherLoops}
 use Rattle.explanation.specs.declared.reasons.Reason.{Reason}
 use Rattle.explanation.specs.declared.reasons.Reason.TheVariants as reason
 use Rattle.explanation.specs.declared.reasons.StoredBytes.{StoredBytes}
@@ -23,14 +21,14 @@ use Rattle.explanation.specs.declared.told.ParameterFacts.{ParameterFacts}
 use Rattle.explain_json.specs.Members.{left_data, number_data, or_null, call_data, loop_data, spot_data, code_data, barrier_data, item_data, parameter_data, group_of, element_data, memory_data, value_data, step_data, launch_data, explanation_data}
 use Rattle.explain_json.specs.Reasons.{AreReasons, loop_turns_data, other_loops_data, reason_data, reasons_data, stored_data}
 
-many : {A : Type 0} (f : A → Data) (n : ℕ) → ((x : A) → depth (f x) ≤ n) → (xs : List A) → items_depth (items_of (map f xs)) ≤ n
+pub many : {A : Type 0} (f : A → Data) (n : ℕ) → ((x : A) → depth (f x) ≤ n) → (xs : List A) → items_depth (items_of (map f xs)) ≤ n
 many f n h [] = omega arith
 many f n h (x ∷ xs) =
     let here : depth (f x) ≤ n = h x in
     let rest : items_depth (items_of (map f xs)) ≤ n = many f n h xs in
     omega arith
 
-some : {A : Type 0} (f : A → Data) (n : ℕ) → ((x : A) → depth (f x) ≤ n) → (o : Option A) → depth (or_null f o) ≤ n
+pub some : {A : Type 0} (f : A → Data) (n : ℕ) → ((x : A) → depth (f x) ≤ n) → (o : Option A) → depth (or_null f o) ≤ n
 some f n h None = omega arith
 some f n h (Some x) = h x
 
@@ -72,7 +70,7 @@ item_depth i =
     let spot : depth (or_null spot_data i.spot) ≤ 3 = some spot_data 3 spot_depth i.spot in
     omega arith
 
-parameter_depth : (p : ParameterFacts) → depth (parameter_data p) ≤ 1
+pub parameter_depth : (p : ParameterFacts) → depth (parameter_data p) ≤ 1
 parameter_depth p = let element : depth (or_null number_data p.element) ≤ 0 = some number_data 0 number_depth p.element in omega arith
 
 memory_depth : (m : Memory) → depth (memory_data m) ≤ 3

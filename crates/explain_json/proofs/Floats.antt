@@ -1,13 +1,11 @@
 -- No number of an explanation or of a refusal is a float in JSON, so that the writer's text of its value is defined.
-use Rattle.std.proofs.Common.{◌≡◌, ◌||◌, ℕ, List, [], ◌∷◌, Option, None, Some, map, false, refl, sym, ap, ◌∙◌, option_copied}
+use Rattle.std.proofs.Common.{◌≡◌, ℕ, List, [], ◌∷◌, Option, None, Some, map, false, refl, ap, ◌∙◌, option_copied}
 use Rattle.serde_json.specs.Data.{Data}
 use Rattle.serde_json.specs.View.{items_of}
 use Rattle.serde_json.specs.Written.{has_float, items_have_float}
 use Rattle.build_hints.specs.declared.refusals.Refusal.{Refusal}
-use Rattle.explanation.specs.declared.places.CallSite.{CallSite}
 use Rattle.explanation.specs.declared.places.LoopSite.{LoopSite}
 use Rattle.explanation.specs.declared.places.Spot.{Spot}
-use Rattle.explanation.specs.declared.reasons.LoopTurns.{LoopTurns}
 use Rattle.explanation.specs.declared.reasons.Reason.{Reason}
 use Rattle.explanation.specs.declared.reasons.Reason.TheVariants as reason
 use Rattle.explanation.specs.declared.reasons.StoredBytes.{StoredBytes}
@@ -24,11 +22,11 @@ use Rattle.explain_json.specs.Members.{number_data, or_null, call_data, loop_dat
 use Rattle.explain_json.specs.Reasons.{AreReasons, loop_turns_data, other_loops_data, reason_data, reasons_data, stored_data}
 use Rattle.explain_json.specs.RefusalMembers.{hints_data, refusal_data}
 
-many : {A : Type 0} (f : A → Data) → ((x : A) → has_float (f x) ≡ false) → (xs : List A) → items_have_float (items_of (map f xs)) ≡ false
+pub many : {A : Type 0} (f : A → Data) → ((x : A) → has_float (f x) ≡ false) → (xs : List A) → items_have_float (items_of (map f xs)) ≡ false
 many f h [] = refl
 many f h (x ∷ xs) = rw (h x, many f h xs)
 
-some : {A : Type 0} (f : A → Data) → ((x : A) → has_float (f x) ≡ false) → (o : Option A) → has_float (or_null f o) ≡ false
+pub some : {A : Type 0} (f : A → Data) → ((x : A) → has_float (f x) ≡ false) → (o : Option A) → has_float (or_null f o) ≡ false
 some f h None = refl
 some f h (Some x) = h x
 
@@ -54,7 +52,7 @@ item_whole : (i : NamedItem) → has_float (item_data i) ≡ false
 item_whole i =
     rw (barrier_whole i.does, number_or_null i.event, numbers i.ids.global.items, numbers i.ids.group.items, numbers i.ids.local.items, some spot_data spot_whole i.last, some spot_data spot_whole i.spot)
 
-parameter_whole : (p : ParameterFacts) → has_float (parameter_data p) ≡ false
+pub parameter_whole : (p : ParameterFacts) → has_float (parameter_data p) ≡ false
 parameter_whole p = rw (number_or_null p.element)
 
 memory_whole : (m : Memory) → has_float (memory_data m) ≡ false

@@ -1,3 +1,4 @@
+mod CommandValues
 mod Depths
 mod Floats
 mod RefusalDepths

@@ -1,8 +1,10 @@
-//! An explanation as JSON, and a source that doesn't build: its fault, where it lies, and what to write. It knows both
-//! as data alone. What it writes, by the kit's `serde_json`, is one line: the writer's text of the value that was made
-//! of the data, whose member `version` is 2. It reads back as this value. The sentences are those of `explain_text`.
+//! An explanation as JSON, a source that doesn't build: its fault, where it lies, and what to write; and a command that
+//! was refused. It knows them as data alone. What it writes, by the kit's `serde_json`, is one line: the writer's text
+//! of the value that was made of the data, whose member `version` is 2. It reads back as this value. The sentences are
+//! those of `explain_text`.
 #![tactic(auto)]
 
+mod commands;
 mod items;
 mod memory;
 mod object;
@@ -13,5 +15,6 @@ mod steps;
 mod values;
 mod whole;
 
+pub use commands::command_json;
 pub use refusals::{refusal_value, refused_json};
 pub use whole::{json_of, value_of};

@@ -90,7 +90,7 @@ impl ToJson for OtherLoops {
 }
 
 /// A reason of which nothing is told but its kind.
-fn plain_value(alloc: Global, kind: &str, text: &str) -> Result<Value, AllocError>
+pub(crate) fn plain_value(alloc: Global, kind: &str, text: &str) -> Result<Value, AllocError>
     ensures { IfOk result (λ value. view value ≡ plain_data kind.now text.now) }
 {
     Object::new(alloc)

@@ -4,6 +4,7 @@ pub mod Inside
 pub mod Marking
 pub mod Performing
 pub mod Placing
+pub mod Refusals
 pub mod Schedules
 pub mod Telling
 pub mod Walking

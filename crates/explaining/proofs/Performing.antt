@@ -57,3 +57,4 @@ walk_ends old commands done rest c before new split led r step ticket counted w 
     go (walked.Faulted case) (same, is) = subst (λ n. IsFirst old commands new n (reply.Fault case.fault case.schedule)) (sym same) (subst (IsFirst old commands new ticket) is at)
     go (walked.Unbuilt build) (same, is) =
         subst (λ n. IsFirst old commands new n (reply.Refused (refusal.BuildFailed build.fault))) (sym same) (subst (IsFirst old commands new ticket) is at)
+    go (walked.Refused case) (same, is) = subst (λ n. IsFirst old commands new n (reply.Refused case.refusal)) (sym same) (subst (IsFirst old commands new ticket) is at)

@@ -1,9 +1,11 @@
 -- What a walk over the commands of a script came to, explained.
-use Rattle.std.proofs.Common.{◌≡◌, ℕ, Bool, true, false, List, inl, inr, sym, subst}
+use Rattle.std.proofs.Common.{◌≡◌, ◌<◌, ℕ, Bool, true, false, List, length, inl, inr, sym, subst}
+use Rattle.std.proofs.lemmas.Option.{slice_get_within}
 use Rattle.clmodel.specs.declared.fault.Fault.{Fault}
 use Rattle.clmodel.specs.declared.schedule.EventRun.{EventRun}
 use Rattle.device.specs.Machine.{Machine, opening}
 use Rattle.host_commands.specs.declared.command.Command.{Command}
+use Rattle.host_commands.specs.declared.command.Refusal.TheVariants as refusal
 use Rattle.host_commands.specs.declared.command.Reply.TheVariants as reply
 use Rattle.simfile.specs.Faults.{NoScript}
 use Rattle.simfile.specs.Script.{IsScript}
@@ -12,6 +14,7 @@ use Rattle.explaining.specs.Explaining.{Found, Tells, Untold}
 use Rattle.explaining.specs.Leading.{IsFirst, WalkedTo}
 use Rattle.simfile.specs.declared.faults.RunFault.{RunFault}
 use Rattle.explaining.specs.declared.walks.Case.{Case}
+use Rattle.explaining.specs.declared.walks.RefusedCase.{RefusedCase}
 use Rattle.explaining.specs.declared.walks.Unbuilt.{Unbuilt}
 use Rattle.explaining.specs.declared.walks.Walked.{Walked}
 use Rattle.explaining.specs.declared.walks.Walked.TheVariants as walked
@@ -21,7 +24,7 @@ use Rattle.limits.specs.declared.Configuration.{Configuration}
 pub walked_same : (old new : Machine) (same commands : List Command) (w : Walked) → same ≡ commands → WalkedTo old same new w → WalkedTo old commands new w
 walked_same old new same commands w e h = subst (λ (l : List Command). WalkedTo old l new w) e h
 
--- no reply is a fault or the refusal of a build
+-- no reply is a fault or a refusal
 pub clean_case :
     (configuration : Configuration) (script : List ℕ) (commands : List Command) (m : Machine) (w : Walked) (answer : Bool) → IsScript script commands → WalkedTo (opening configuration) commands m w
     → w ≡ walked.Clean → answer ≡ false → Found configuration script answer
@@ -35,7 +38,22 @@ pub unbuilt :
     → w ≡ walked.Unbuilt u → answer ≡ true → Found configuration script answer
 unbuilt configuration script commands m w u answer is h e same =
     subst (Found configuration script) (sym same)
-    (record { commands = commands; ticket = u.ticket; machine = m; is = is; found = inr (u.fault, subst (λ (v : Walked). WalkedTo (opening configuration) commands m v) e h) })
+    (record { commands = commands; ticket = u.ticket; machine = m; is = is; found = inr (refusal.BuildFailed u.fault, subst (λ (v : Walked). WalkedTo (opening configuration) commands m v) e h) })
+
+-- another command that is refused is explained
+pub refused :
+    (configuration : Configuration) (script : List ℕ) (commands : List Command) (m : Machine) (w : Walked) (case : RefusedCase) (answer : Bool) → IsScript script commands
+    → WalkedTo (opening configuration) commands m w → w ≡ walked.Refused case → answer ≡ true → Found configuration script answer
+refused configuration script commands m w case answer is h e same =
+    subst (Found configuration script) (sym same)
+    (record { commands = commands; ticket = case.ticket; machine = m; is = is; found = inr (case.refusal, subst (λ (v : Walked). WalkedTo (opening configuration) commands m v) e h) })
+
+-- and it is one of the commands
+pub refused_within :
+    (old : Machine) (commands : List Command) (m : Machine) (w : Walked) (case : RefusedCase) → WalkedTo old commands m w → w ≡ walked.Refused case → case.ticket < length commands
+refused_within old commands m w case h e =
+    let first : IsFirst old commands m case.ticket (reply.Refused case.refusal) = subst (λ (v : Walked). WalkedTo old commands m v) e h in
+    slice_get_within commands case.ticket first.command first.at
 
 -- a launch with a fault is explained
 faulted :

@@ -36,12 +36,14 @@ use Rattle.explaining.proofs.Faulting.{faults, told_yes}
 use Rattle.explaining.proofs.Inside.{each_inside, told_inside}
 use Rattle.explaining.specs.Explaining.{IsShort, Tells}
 use Rattle.explaining.specs.Leading.{IsFirst, Leads, WalkedTo}
+use Rattle.explaining.specs.Refusing.{TellsRefusal}
 use Rattle.explaining.specs.Whole.{AnswersTo, AreNamed, HasWhole, IsAsWanted, IsExplained, IsSourceOf, IsToldOf, IsToldThere, SaysOf, SaysScript, TellsFault, TellsLaunch, schedule_words}
 use Rattle.explaining.specs.declared.answers.Answer.{Answer}
 use Rattle.explaining.specs.declared.facts.Format.{Format}
 use Rattle.simfile.specs.declared.faults.RunFault.{RunFault}
 use Rattle.explaining.specs.declared.told.ExplainedCase.{ExplainedCase}
 use Rattle.explaining.specs.declared.walks.Case.{Case}
+use Rattle.explaining.specs.declared.walks.RefusedCase.{RefusedCase}
 use Rattle.explaining.specs.declared.walks.Unbuilt.{Unbuilt}
 use Rattle.explaining.specs.declared.walks.Walked.{Walked}
 use Rattle.explaining.specs.declared.walks.Walked.TheVariants as walked
@@ -133,7 +135,16 @@ pub says_unbuilt :
 says_unbuilt configuration as_given f script commands m w u answer is h e agrees =
     let first : IsFirst (opening configuration) commands m u.ticket (reply.Refused (refusal.BuildFailed u.fault)) = subst (λ (v : Walked). WalkedTo (opening configuration) commands m v) e h in
     subst (λ y. SaysScript configuration as_given f script y (string_bytes answer.text)) (sym agrees)
-    (record { commands = commands; ticket = u.ticket; machine = m; is = is; found = inr (u.fault, first) })
+    (record { commands = commands; ticket = u.ticket; machine = m; is = is; found = inr (inl (u.fault, first)) })
+
+pub says_refused :
+    (configuration : Configuration) (as_given : Bool) (f : Format) (script : List ℕ) (commands : List Command) (m : Machine) (w : Walked) (case : RefusedCase) (answer : Answer) → IsScript script commands
+    → WalkedTo (opening configuration) commands m w → w ≡ walked.Refused case → answer.yes ≡ true
+    → TellsRefusal configuration.limits m.buffers f script commands case.ticket case.refusal (string_bytes answer.text) → SaysScript configuration as_given f script answer.yes (string_bytes answer.text)
+says_refused configuration as_given f script commands m w case answer is h e agrees tells =
+    let first : IsFirst (opening configuration) commands m case.ticket (reply.Refused case.refusal) = subst (λ (v : Walked). WalkedTo (opening configuration) commands m v) e h in
+    subst (λ y. SaysScript configuration as_given f script y (string_bytes answer.text)) (sym agrees)
+    (record { commands = commands; ticket = case.ticket; machine = m; is = is; found = inr (inr (case.refusal, first, tells)) })
 
 told_first :
     (configuration : Configuration) (as_given : Bool) (f : Format) (script : List ℕ) (commands : List Command) (m : Machine) (ticket : ℕ) (fault : Fault) (runs : List EventRun) (o : Option ExplainedCase) (answer : Answer)

@@ -16,7 +16,6 @@ use Rattle.host_commands.specs.declared.command.BuildFault.{BuildFault}
 use Rattle.host_commands.specs.declared.command.Command.{Command}
 use Rattle.host_commands.specs.declared.command.Command.TheVariants as command
 use Rattle.host_commands.specs.declared.command.Refusal.{Refusal}
-use Rattle.host_commands.specs.declared.command.Refusal.TheVariants as refusal
 use Rattle.host_commands.specs.declared.command.Reply.TheVariants as reply
 use Rattle.fault_lines.specs.ScheduleFile.{IsScheduleFile, NoScheduleFile}
 use Rattle.simfile.specs.Faults.{NoScript}
@@ -128,16 +127,16 @@ Unexplained configuration script schedule fault.BadSchedule = NoScheduleFile sch
 Unexplained configuration script schedule (fault.NotALaunch ticket) = IsUntold configuration script schedule (fault.NotALaunch ticket)
 Unexplained configuration script schedule (fault.CommandRefused ticket) = IsUntold configuration script schedule (fault.CommandRefused ticket)
 
--- a launch of a script has a fault, and it is the first; or a build is refused, and it is the first
+-- a launch of a script has a fault, or a command is refused, and it is the first of both
 pub record HasFirst (configuration : Configuration) (script : List ℕ) : Type 0 where
   pub commands : List Command
   pub ticket : ℕ
   pub machine : Machine
   pub is : IsScript script commands
   pub found : ((f : Fault) × (runs : List EventRun) × IsFirst (opening configuration) commands machine ticket (reply.Fault f runs))
-      ⊎ ((f : BuildFault) × IsFirst (opening configuration) commands machine ticket (reply.Refused (refusal.BuildFailed f)))
+      ⊎ ((why : Refusal) × IsFirst (opening configuration) commands machine ticket (reply.Refused why))
 
--- no reply to a script's commands is a fault or the refusal of a build
+-- no reply to a script's commands is a fault or a refusal
 pub record IsClean (configuration : Configuration) (script : List ℕ) : Type 0 where
   pub commands : List Command
   pub machine : Machine

@@ -17,16 +17,15 @@ abbrev pub Leads : Machine → List Command → Machine → Type 0
 Leads old [] new = new ≡ old
 Leads old (c ∷ cs) new = (mid : Machine) × (r : Reply) × Step old c r mid × HadMemory r × Leads mid cs new
 
--- whether a reply is neither a fault nor the refusal of a build
+-- whether a reply is neither a fault nor a refusal
 abbrev pub goes_on : Reply → Bool
 goes_on reply.Done = true
 goes_on (reply.Data bytes) = true
 goes_on reply.Clean = true
 goes_on (reply.Fault f runs) = false
-goes_on (reply.Refused (refusal.BuildFailed f)) = false
-goes_on (reply.Refused _) = true
+goes_on (reply.Refused r) = false
 
--- the same, and no reply is a fault or the refusal of a build
+-- the same, and no reply is a fault or a refusal
 abbrev pub LeadsCleanly : Machine → List Command → Machine → Type 0
 LeadsCleanly old [] new = new ≡ old
 LeadsCleanly old (c ∷ cs) new = (mid : Machine) × (r : Reply) × Step old c r mid × HadMemory r × (goes_on r ≡ true) × LeadsCleanly mid cs new
@@ -36,9 +35,9 @@ abbrev pub EndsAt : ℕ → Reply → Walked → Type 0
 EndsAt ticket r walked.Clean = ⊥
 EndsAt ticket r (walked.Faulted case) = (case.ticket ≡ ticket) × (r ≡ reply.Fault case.fault case.schedule)
 EndsAt ticket r (walked.Unbuilt build) = (build.ticket ≡ ticket) × (r ≡ reply.Refused (refusal.BuildFailed build.fault))
+EndsAt ticket r (walked.Refused case) = (case.ticket ≡ ticket) × (r ≡ reply.Refused case.refusal)
 
--- The command of a number gets this reply, after those before it, whose replies are neither faults nor refusals of
--- builds.
+-- The command of a number gets this reply, after those before it, whose replies are neither faults nor refusals.
 pub record IsFirst (old : Machine) (commands : List Command) (new : Machine) (ticket : ℕ) (r : Reply) : Type 0 where
   pub before : Machine
   pub command : Command
@@ -51,3 +50,4 @@ abbrev pub WalkedTo : Machine → List Command → Machine → Walked → Type 0
 WalkedTo old commands new walked.Clean = LeadsCleanly old commands new
 WalkedTo old commands new (walked.Faulted case) = IsFirst old commands new case.ticket (reply.Fault case.fault case.schedule)
 WalkedTo old commands new (walked.Unbuilt build) = IsFirst old commands new build.ticket (reply.Refused (refusal.BuildFailed build.fault))
+WalkedTo old commands new (walked.Refused case) = IsFirst old commands new case.ticket (reply.Refused case.refusal)

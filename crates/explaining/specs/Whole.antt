@@ -24,6 +24,7 @@ use Rattle.launch_facts.specs.Facts.{fault_number, named_items}
 use Rattle.host_commands.specs.declared.command.BuildFault.{BuildFault}
 use Rattle.host_commands.specs.declared.command.Command.{Command}
 use Rattle.host_commands.specs.declared.command.Command.TheVariants as command
+use Rattle.host_commands.specs.declared.command.Refusal.{Refusal}
 use Rattle.host_commands.specs.declared.command.Refusal.TheVariants as refusal
 use Rattle.host_commands.specs.declared.command.Reply.TheVariants as reply
 use Rattle.item_step.specs.Launches as launches
@@ -36,6 +37,7 @@ use Rattle.simfile.specs.Script.{IsScript}
 use Rattle.simfile.specs.declared.script.CommandPlace.{CommandPlace}
 use Rattle.explaining.specs.Explaining.{IsShort, is_source}
 use Rattle.explaining.specs.Leading.{IsFirst, Leads}
+use Rattle.explaining.specs.Refusing.{TellsRefusal}
 use Rattle.explaining.specs.declared.answers.Answer.{Answer}
 use Rattle.explaining.specs.declared.facts.Format.{Format}
 use Rattle.explaining.specs.declared.facts.Format.TheVariants as format
@@ -155,7 +157,8 @@ pub record TellsFirst (configuration : Configuration) (as_given : Bool) (f : For
   pub whole : HasWhole machine as_given script commands ticket fault runs told.schedule told.whole
   pub written : IsTextOf f told.whole text
 
--- the text for a script: an explanation of its first fault, or any text where its first such reply is a refused build
+-- the text for a script: an explanation of its first fault; or of its first refusal, or any text where that is the one
+-- of a build; whichever comes first
 pub record SaysFirst (configuration : Configuration) (as_given : Bool) (f : Format) (script text : List ℕ) : Type 0 where
   pub commands : List Command
   pub ticket : ℕ
@@ -163,6 +166,7 @@ pub record SaysFirst (configuration : Configuration) (as_given : Bool) (f : Form
   pub is : IsScript script commands
   pub found : TellsFirst configuration as_given f script commands machine ticket text
       ⊎ ((why : BuildFault) × IsFirst (opening configuration) commands machine ticket (reply.Refused (refusal.BuildFailed why)))
+      ⊎ ((why : Refusal) × IsFirst (opening configuration) commands machine ticket (reply.Refused why) × TellsRefusal configuration.limits machine.buffers f script commands ticket why text)
 
 abbrev pub SaysScript : Configuration → Bool → Format → List ℕ → Bool → List ℕ → Type 0
 SaysScript configuration as_given f script true text = SaysFirst configuration as_given f script text

@@ -14,6 +14,7 @@ ghost use Rattle.explaining.specs.Whole.{IsToldOf, IsToldThere, Says, SaysOf, Sa
 use crate::answers::{Answer, answer_of, tell, word_answer};
 use crate::building::{explain_source, explain_unbuilt};
 use crate::facts::{ExplainOptions, Format, Given};
+use crate::refusing::explain_refused;
 use crate::told::{ExplainedCase, PerformedScript, explain_case};
 use crate::walks::{Performed, Unbuilt, Walked, perform_all, walk_anew};
 use byte_io::Write;
@@ -150,6 +151,7 @@ fn answer_at(
         Walked::Unbuilt(unbuilt) => {
             Ok(unbuilt_answer(alloc, performed.options.format, performed, unbuilt)?)
         }
+        Walked::Refused(case) => Ok(explain_refused(alloc, device, performed, case)?),
         Walked::Faulted(case) => {
             let (ticket, fault) = (case.ticket, case.fault);
             let told = explain_case(alloc, device, performed, ticket, &fault, case.schedule)?;
@@ -184,7 +186,7 @@ fn explain_commands(
     answer_at(alloc, &device, &performed, end)
 }
 
-/// Explains the first fault of a script, or the first build that is refused.
+/// Explains the first fault of a script, or the first command that is refused, if that comes first.
 fn explain_script(
     alloc: Global,
     given: Given<'_>,
@@ -221,9 +223,10 @@ fn answer_to(alloc: Global, given: Given<'_>, options: ExplainOptions) -> Result
 }
 
 /// Explains a fault. With a schedule file: that of its line, for which its schedule is replayed. Without one: the first
-/// fault of the script, or its first build that is refused. A source, which is a file whose name ends in `.cl`, is
-/// built alone. Writes the explanation and answers true; or writes `no` where the schedule doesn't lead to the fault,
-/// `clean` where no launch has a fault and no build is refused, and `ok` where a source builds, and answers false.
+/// fault of the script, or its first command that is refused, whichever comes first. A source, which is a file whose
+/// name ends in `.cl`, is built alone. Writes the explanation and answers true; or writes `no` where the schedule
+/// doesn't lead to the fault, `clean` where no launch has a fault and no command is refused, and `ok` where a source
+/// builds, and answers false.
 ///
 /// After `Write` a beginning of the text was written, after every other error nothing. No memory may be left at any
 /// step.

@@ -229,7 +229,7 @@ fn program_of<'a>(performed: &PerformedScript<'a>, kernel: &'a Name) -> ProgramS
 }
 
 /// The place of the command of a number.
-fn place_of(places: &[CommandPlace], number: usize) -> CommandPlace
+pub(crate) fn place_of(places: &[CommandPlace], number: usize) -> CommandPlace
     requires { number < length places.now }
     ensures { slice_get places.now number ≡ Some result }
 {

@@ -27,15 +27,24 @@ pub(crate) struct Unbuilt {
     pub fault: BuildFault,
 }
 
+/// A command that is refused, and not for its source: its number, and the refusal.
+#[derive(Clone, Copy)]
+pub(crate) struct RefusedCase {
+    pub ticket: usize,
+    pub refusal: Refusal,
+}
+
 /// What a walk over commands came to.
 #[derive(Drop)]
 pub(crate) enum Walked {
-    /// The last one, and none was a fault or a refused build
+    /// The last one, and no reply was a fault or a refusal
     Clean,
     /// A launch's fault
     Faulted(Case),
     /// A build that is refused
     Unbuilt(Unbuilt),
+    /// Another command that is refused
+    Refused(RefusedCase),
 }
 
 /// What a walk came to, and of each command that was performed whether it was done.
@@ -103,13 +112,14 @@ fn end_of(ticket: usize, reply: Reply) -> Option<Walked>
         Reply::Refused(Refusal::BuildFailed(fault)) => {
             Some(Walked::Unbuilt(Unbuilt { ticket, fault }))
         }
-        Reply::Done | Reply::Data(_) | Reply::Clean | Reply::Refused(_) => None,
+        Reply::Refused(refusal) => Some(Walked::Refused(RefusedCase { ticket, refusal })),
+        Reply::Done | Reply::Data(_) | Reply::Clean => None,
     }
 }
 
-/// Performs commands up to the first launch that has a fault, or to the first build that is refused, and notes of each
-/// whether it was done. A launch with a fault changes no buffer, so that the device is then as before it. An error is
-/// out of memory.
+/// Performs commands up to the first launch that has a fault, or to the first command that is refused, and notes of
+/// each whether it was done. Neither changes the device, so that it is then as before that command. An error is out of
+/// memory.
 fn walk_commands(
     alloc: Global,
     device: &mut Device,

@@ -1,5 +1,4 @@
-use Rattle.std.proofs.Common.{◌≡◌, [], ◌∷◌, ◌++◌, List, map, string_bytes, rules, ap, ◌∙◌}
-use Rattle.serde_json.specs.Data.{Data}
+use Rattle.std.proofs.Common.{◌≡◌, [], ◌∷◌, ◌++◌, string_bytes, rules, ap, ◌∙◌}
 use Rattle.serde_json.specs.View.{view}
 use Rattle.explain_json.specs.Reasons.{reason_data}
 use Rattle.explain_json.proofs.Told.{viewed_more}

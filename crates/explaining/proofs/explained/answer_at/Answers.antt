@@ -1,7 +1,7 @@
 use Rattle.std.specs.Option.{is_some}
-use Rattle.device.specs.Machine.{machine_of}
-use Rattle.explaining.proofs.Walking.{clean_case, faulted_case, unbuilt}
-use Rattle.explaining.proofs.Writing.{says_faulted, says_unbuilt}
+use Rattle.device.specs.Machine.{machine_of, opening}
+use Rattle.explaining.proofs.Walking.{clean_case, faulted_case, refused, refused_within, unbuilt}
+use Rattle.explaining.proofs.Writing.{says_faulted, says_refused, says_unbuilt}
 use Rattle.explaining.proofs.explained.answer_at.Goals as goal
 
 pub returns-in_ok-word_answer-in-Clean-clause-found : goal.returns-in_ok-word_answer-in-Clean-clause-found
@@ -30,3 +30,17 @@ returns-in_ok-answer_of-in-Faulted-clause-says c =
     says_faulted c.args.performed.now.options.configuration c.args.performed.now.options.as_given c.args.performed.now.options.format c.args.performed.now.given.script.now c.args.performed.now.commands.now (machine_of c.args.device.now) c.args.end
     c.in-Faulted.case c.in_ok-told-in-Faulted.told c.in_ok-answer_of-in-Faulted.field-0 c.requires.script c.requires.walked c.in-Faulted.is c.in_ok-told-in-Faulted.ensures.told
     c.in_ok-told-in-Faulted.ensures.whole c.in_ok-answer_of-in-Faulted.ensures.yes c.in_ok-answer_of-in-Faulted.ensures.text
+
+pub explain_refused-in-Refused-requires-clause-within : goal.explain_refused-in-Refused-requires-clause-within
+explain_refused-in-Refused-requires-clause-within c =
+    refused_within (opening c.args.performed.now.options.configuration) c.args.performed.now.commands.now (machine_of c.args.device.now) c.args.end c.in-Refused.case c.requires.walked c.in-Refused.is
+
+pub returns-in_ok-explain_refused-in-Refused-clause-found : goal.returns-in_ok-explain_refused-in-Refused-clause-found
+returns-in_ok-explain_refused-in-Refused-clause-found c =
+    refused c.args.performed.now.options.configuration c.args.performed.now.given.script.now c.args.performed.now.commands.now (machine_of c.args.device.now) c.args.end c.in-Refused.case
+    c.in_ok-explain_refused-in-Refused.field-0.yes c.requires.script c.requires.walked c.in-Refused.is c.in_ok-explain_refused-in-Refused.ensures.yes
+
+pub returns-in_ok-explain_refused-in-Refused-clause-says : goal.returns-in_ok-explain_refused-in-Refused-clause-says
+returns-in_ok-explain_refused-in-Refused-clause-says c =
+    says_refused c.args.performed.now.options.configuration c.args.performed.now.options.as_given c.args.performed.now.options.format c.args.performed.now.given.script.now c.args.performed.now.commands.now (machine_of c.args.device.now) c.args.end
+    c.in-Refused.case c.in_ok-explain_refused-in-Refused.field-0 c.requires.script c.requires.walked c.in-Refused.is c.in_ok-explain_refused-in-Refused.ensures.yes c.in_ok-explain_refused-in-Refused.ensures.says

@@ -1,0 +1,18 @@
+use Rattle.device.specs.Machine.{machine_of}
+use Rattle.explaining.proofs.Placing.{within}
+use Rattle.explaining.proofs.Refusals.{told_refusal}
+use Rattle.std.proofs.Common.{arith}
+use Rattle.explaining.proofs.refusing.explain_refused.Goals as goal
+
+pub place_of-place-requires : goal.place_of-place-requires
+place_of-place-requires c = omega (arith, c.requires.within, c.requires.placed.count)
+
+pub refused_command-requires : goal.refused_command-requires
+refused_command-requires c =
+    within c.args.performed.now.given.script.now c.args.performed.now.commands.now c.args.case.ticket c.place_of-place.result (c.requires.placed.each c.args.case.ticket c.place_of-place.result c.place_of-place.ensures)
+
+pub returns-clause-says : goal.returns-clause-says
+returns-clause-says c =
+    told_refusal c.args.performed.now.options.configuration.limits (machine_of c.args.device.now).buffers c.args.performed.now.options.format c.args.performed.now.given.name.now
+    c.args.performed.now.given.script.now c.args.performed.now.commands.now c.args.case.ticket c.place_of-place.result c.args.case.refusal c.in_ok-found.found c.in_ok-told.told _
+    (c.requires.placed.each c.args.case.ticket c.place_of-place.result c.place_of-place.ensures) c.in_ok-told.ensures c.in_ok-found.ensures c.in_ok-text.ensures

@@ -1,0 +1,81 @@
+//! A command that was refused, explained.
+#![tactic(auto)]
+
+ghost use Rattle.std.specs.Prelude.{◌≡◌, ◌<◌, Some, true, length, IfOk, IfSome, slice_get, string_bytes};
+ghost use Rattle.device.specs.Machine.{machine_of};
+ghost use Rattle.explain_refusals.specs.Reasons.{Holds};
+ghost use Rattle.host_commands.specs.declared.command.Command.{Command as CommandOf};
+ghost use Rattle.simfile.specs.Places.{AreAt};
+ghost use Rattle.explaining.specs.Refusing.{IsRefusalText, TellsRefusal};
+
+use crate::answers::Answer;
+use crate::facts::Format;
+use crate::told::{PerformedScript, place_of};
+use crate::walks::RefusedCase;
+use device::Device;
+use explain_json::command_json;
+use explain_refusals::{Found, RefusedAt, Refusing, reason_of, refused_command};
+use refused_commands::{RefusedCommand, refused_text};
+use std::alloc::{AllocError, Global};
+
+/// Why a command was refused, on the device to which those before it led.
+fn reason_at(
+    alloc: Global,
+    device: &Device,
+    performed: &PerformedScript<'_>,
+    case: RefusedCase,
+) -> Result<Option<Found>, AllocError>
+    ensures { (command : CommandOf) → slice_get performed.now.commands.now case.ticket ≡ Some command
+        → IfOk result (λ found. IfSome found (λ f. Holds performed.now.options.configuration.limits (machine_of device.now).buffers command f.reason)) }
+{
+    let commands = performed.commands;
+    let Some(command) = commands.get(case.ticket) else {
+        return Ok(None);
+    };
+    let (before, _) = commands.split_at(case.ticket.min(commands.len()));
+    let refusing = Refusing {
+        alloc,
+        limits: performed.options.configuration.limits,
+        buffers: device.buffers(),
+        before,
+        places: performed.places,
+    };
+    reason_of(&refusing, command, case.refusal)
+}
+
+/// The text of a refused command in a format.
+fn written(alloc: Global, told: &RefusedCommand, format: Format) -> Result<String, AllocError>
+    ensures { IfOk result (λ text. IsRefusalText format told.now (string_bytes text)) }
+{
+    match format {
+        Format::Text => refused_text(alloc, told),
+        Format::Json => command_json(alloc, told),
+    }
+}
+
+/// Explains a command that was refused, on the device to which those before it led.
+pub(crate) fn explain_refused(
+    alloc: Global,
+    device: &Device,
+    performed: &PerformedScript<'_>,
+    case: RefusedCase,
+) -> Result<Answer, AllocError>
+    requires placed { AreAt performed.now.given.script.now performed.now.commands.now performed.now.places.now }
+    requires within { case.ticket < length performed.now.commands.now }
+    ensures yes { IfOk result (λ answer. answer.yes ≡ true) }
+    ensures says { IfOk result (λ answer. TellsRefusal performed.now.options.configuration.limits (machine_of device.now).buffers performed.now.options.format
+        performed.now.given.script.now performed.now.commands.now case.ticket case.refusal (string_bytes answer.text)) }
+{
+    let found = reason_at(alloc, device, performed, case)?;
+    let place = place_of(performed.places, case.ticket);
+    let at = RefusedAt {
+        name: performed.given.name,
+        script: performed.given.script,
+        command: case.ticket,
+        place,
+        refusal: case.refusal,
+    };
+    let told = refused_command(alloc, &at, found)?;
+    let text = written(alloc, &told, performed.options.format)?;
+    Ok(Answer { text, yes: true })
+}
