@@ -1,0 +1,5 @@
+mod Beside
+mod Failing
+mod Floats
+mod Flagged
+mod Runs
