@@ -1,5 +1,5 @@
--- A script whose replies hold for other bytes, in JSON (RFC 8259; the members are this project's own, version 1). Members
--- stand in the order of their names.
+-- A script whose replies hold for other bytes, in JSON (RFC 8259; the members are this project's own, version 1).
+-- Members stand in the order of their names.
 use Rattle.std.specs.Prelude.{ℕ, String, Option, None, Some, List, map, codes, string_bytes}
 use Rattle.std.specs.declared.alloc.Global.{Global}
 use Rattle.serde_json.specs.Data.{Data, null, boolean, number, unsigned, string, array, object, member, no_members}

@@ -1,5 +1,5 @@
--- The text of a script whose replies hold for other bytes (own): the replies as a run writes them, lines beside them that
--- no reply is, and a last line.
+-- The text of a script whose replies hold for other bytes (own): the replies as a run writes them, lines beside them
+-- that no reply is, and a last line.
 use Rattle.std.specs.Prelude.{◌≡◌, ◌≢◌, ℕ, Bool, All, List, [], ◌∷◌, ◌++◌, drop, codes, decimal, if◌then◌else◌}
 use Rattle.std.specs.List.{flat_map}
 use Rattle.host_commands.specs.declared.command.Reply.{Reply}

@@ -67,7 +67,8 @@ fn push_reads(reads: &[usize], out: &mut String) -> Result<(), AllocError>
     out.push_str(" may differ")
 }
 
-/// For which bytes of its writes and fills a script is clean, or has the replies that it has. An error is out of memory.
+/// For which bytes of its writes and fills a script is clean, or has the replies that it has. An error is out of
+/// memory.
 pub(crate) fn whole_text(
     alloc: Global,
     clean: bool,
@@ -139,9 +140,9 @@ fn replies_text(
     Ok(out)
 }
 
-/// A script's replies with what is told of them, as text: the line of each reply, and behind that of a launch lines that
-/// begin with two blanks; and a last line. The launches of the report are in the order of their commands. An error is
-/// out of memory.
+/// A script's replies with what is told of them, as text: the line of each reply, and behind that of a launch lines
+/// that begin with two blanks; and a last line. The launches of the report are in the order of their commands. An error
+/// is out of memory.
 pub fn text_of(alloc: Global, replies: &[Reply], report: &WideReport) -> Result<Vec<u8>, AllocError>
     ensures { IfOk result (λ text. IsText replies.now report.now.clean report.now.free.items report.now.reads.items text.items) }
 {

@@ -125,10 +125,10 @@ fn tell<W: Write>(text: &[u8], writer: &mut W) -> Result<(), WriteFailed>
     writer.flush()
 }
 
-/// Performs a script on a device of this configuration, and writes its replies, for which bytes and numbers each launch's
-/// holds, and for all bytes of which writes and fills all of them hold, in a format. Nothing is written where the bytes
-/// are no script, or memory is refused. It takes the time of the script's run and of `widen_script`, and that of a build
-/// for each program that a launch runs.
+/// Performs a script on a device of this configuration, and writes its replies, for which bytes and numbers each
+/// launch's holds, and for all bytes of which writes and fills all of them hold, in a format. Nothing is written where
+/// the bytes are no script, or memory is refused. It takes the time of the script's run and of `widen_script`, and that
+/// of a build for each program that a launch runs.
 pub fn widen<W: Write>(
     alloc: Global,
     configuration: Configuration,
