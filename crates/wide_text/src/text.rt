@@ -6,7 +6,7 @@ ghost use Rattle.host_commands.specs.declared.command.Reply.{Reply as ReplyOf};
 ghost use Rattle.simfile.specs.Lines.{line};
 ghost use Rattle.wide_text.specs.Told.{AreAsides, AreReplies, IsText, bytes_text, lines_text, reads_text, rest_text, whole_text};
 
-use crate::asides::asides_of;
+use crate::asides::{asides_of, no_asides};
 use crate::data::{WideLaunch, WideReport};
 use crate::gathering::reply_line;
 use device::Reply;
@@ -93,7 +93,7 @@ fn beside(alloc: Global, launches: &[WideLaunch], number: usize) -> Result<Vec<u
 {
     match launches.first() {
         Some(launch) if launch.command == number => asides_of(alloc, launch),
-        _ => Ok(Vec::new(alloc)),
+        _ => Ok(no_asides(alloc)),
     }
 }
 
@@ -147,7 +147,8 @@ pub fn text_of(alloc: Global, replies: &[Reply], report: &WideReport) -> Result<
     ensures { IfOk result (λ text. IsText replies.now report.now.clean report.now.free.items report.now.reads.items text.items) }
 {
     let mut out = replies_text(alloc, replies, report.launches.as_slice())?;
-    let (free, reads) = (report.free.as_slice(), report.reads.as_slice());
+    let free = report.free.as_slice();
+    let reads = report.reads.as_slice();
     let last = whole_text(alloc, report.clean, free, reads)?;
     out.extend_from_slice(last.as_bytes())?;
     out.push(b'\n')?;

@@ -1,11 +1,13 @@
 //! A script, for which bytes and numbers its replies hold.
 #![tactic(auto)]
 
-ghost use Rattle.std.specs.Prelude.{◌≡◌, [], List, ℕ, IfOk, IfErr, OnOk};
+ghost use Rattle.std.specs.Prelude.{◌≡◌, ◌++◌, [], ◌∷◌, List, ℕ, IfOk, IfErr, OnOk};
 ghost use Rattle.std.specs.List.{list_any};
 ghost use Rattle.byte_io.specs.Sink.{Puts, Wrote};
 ghost use Rattle.device.specs.Machine.{opening};
+ghost use Rattle.serde_json.specs.Written.{compact_text};
 ghost use Rattle.simfile.specs.Faults.{NoScript};
+ghost use Rattle.wide_text.specs.Members.{report_data};
 ghost use Rattle.wide_text.specs.Told.{lines_of};
 ghost use Rattle.wide_text.specs.Widened.{IsReport, IsTold, IsWidened, Unwidened, end_of, is_clean, is_fault, is_refused, status_of};
 
@@ -70,6 +72,14 @@ fn report_of(
     })
 }
 
+/// The line of JSON of it, as bytes. An error is out of memory.
+fn json_bytes(alloc: Global, report: &WideReport) -> Result<Vec<u8>, AllocError>
+    ensures { IfOk result (λ text. text.items ≡ compact_text (report_data report.now) ++ 10 ∷ []) }
+{
+    let text = json_of(alloc, report)?;
+    text.as_bytes().to_vec(alloc)
+}
+
 /// The text of it in a format. An error is out of memory.
 fn written(
     alloc: Global,
@@ -81,7 +91,7 @@ fn written(
 {
     match format {
         Format::Text => text_of(alloc, replies, report),
-        Format::Json => json_of(alloc, report)?.as_bytes().to_vec(alloc),
+        Format::Json => json_bytes(alloc, report),
     }
 }
 
