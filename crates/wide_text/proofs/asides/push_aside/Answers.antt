@@ -8,6 +8,6 @@ returns c =
       line.0,
       line.1,
       c.in_ok-push.ensures.items
-      ∙ (ap (λ t. t ++ 10 ∷ []) (line.2 ∙ ap (λ t. t ++ line.0) c.in_ok-extend_from_slice.ensures.items)
-      ∙ (append_assoc (old ++ codes "  ") line.0 (10 ∷ []) ∙ append_assoc old (codes "  ") (line.0 ++ 10 ∷ []))),
+          ∙ (ap (λ t. t ++ 10 ∷ []) (line.2 ∙ ap (λ t. t ++ line.0) c.in_ok-extend_from_slice.ensures.items)
+          ∙ (append_assoc (old ++ codes "  ") line.0 (10 ∷ []) ∙ append_assoc old (codes "  ") (line.0 ++ 10 ∷ []))),
     )
