@@ -64,11 +64,14 @@ fn report_of(
 ) -> Result<WideReport, AllocError>
     ensures { IfOk result (IsReport (is_clean end) (lines_of performed.entry.wide.now.free.items performed.entry.places.now) (lines_of performed.entry.wide.now.reads.items performed.entry.places.now)) }
 {
+    let launches = launches_of(alloc, configuration.limits, performed)?;
+    let free = lines_of(alloc, performed.wide.free.as_slice(), performed.places)?;
+    let reads = lines_of(alloc, performed.wide.reads.as_slice(), performed.places)?;
     Ok(WideReport {
-        launches: launches_of(alloc, configuration.limits, performed)?,
+        launches,
         clean: is_clean(end),
-        free: lines_of(alloc, performed.wide.free.as_slice(), performed.places)?,
-        reads: lines_of(alloc, performed.wide.reads.as_slice(), performed.places)?,
+        free,
+        reads,
     })
 }
 
