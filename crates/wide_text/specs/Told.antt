@@ -49,9 +49,13 @@ abbrev pub reads_text : List ℕ → List ℕ
 reads_text [] = []
 reads_text (line ∷ lines) = codes "; the data of " ++ (lines_text (line ∷ lines) ++ codes " may differ")
 
+-- what holds
+abbrev pub verdict_text : Bool → List ℕ
+verdict_text clean = if clean then codes "clean for " else codes "the same replies for "
+
 -- for which bytes of its writes and fills a script is clean, or has the replies that it has
 abbrev pub whole_text : Bool → (free reads : List ℕ) → List ℕ
-whole_text clean free reads = (if clean then codes "clean for " else codes "the same replies for ") ++ (bytes_text free ++ reads_text reads)
+whole_text clean free reads = verdict_text clean ++ (bytes_text free ++ reads_text reads)
 
 -- the text of a script
 abbrev pub IsText : List Reply → Bool → (free reads : List ℕ) → List ℕ → Type 0

@@ -4,7 +4,7 @@
 ghost use Rattle.std.specs.Prelude.{◌≡◌, ◌≤◌, ◌++◌, List, ℕ, [], ◌∷◌, codes, decimal, string_bytes, length, IfOk, OnOk};
 ghost use Rattle.host_commands.specs.declared.command.Reply.{Reply as ReplyOf};
 ghost use Rattle.simfile.specs.Lines.{line};
-ghost use Rattle.wide_text.specs.Told.{AreAsides, AreReplies, IsText, bytes_text, lines_text, reads_text, rest_text, whole_text};
+ghost use Rattle.wide_text.specs.Told.{AreAsides, AreReplies, IsText, bytes_text, lines_text, reads_text, rest_text, verdict_text, whole_text};
 
 use crate::asides::{asides_of, no_asides};
 use crate::data::{WideLaunch, WideReport};
@@ -67,6 +67,17 @@ fn push_reads(reads: &[usize], out: &mut String) -> Result<(), AllocError>
     out.push_str(" may differ")
 }
 
+/// What holds, in words.
+fn verdict_words(clean: bool) -> &'static str
+    ensures { result.now ≡ verdict_text clean }
+{
+    if clean {
+        "clean for "
+    } else {
+        "the same replies for "
+    }
+}
+
 /// For which bytes of its writes and fills a script is clean, or has the replies that it has. An error is out of
 /// memory.
 pub(crate) fn whole_text(
@@ -77,11 +88,7 @@ pub(crate) fn whole_text(
 ) -> Result<String, AllocError>
     ensures { IfOk result (λ text. string_bytes text ≡ whole_text clean free.now reads.now) }
 {
-    let mut out = if clean {
-        String::from_str(alloc, "clean for ")?
-    } else {
-        String::from_str(alloc, "the same replies for ")?
-    };
+    let mut out = String::from_str(alloc, verdict_words(clean))?;
     push_bytes(free, &mut out)?;
     push_reads(reads, &mut out)?;
     Ok(out)
