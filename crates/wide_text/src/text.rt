@@ -1,7 +1,7 @@
 //! What is told of a script, as text.
 #![tactic(auto)]
 
-ghost use Rattle.std.specs.Prelude.{◌≡◌, ◌≤◌, ◌++◌, List, ℕ, [], ◌∷◌, codes, decimal, string_bytes, length, IfOk, OnOk};
+ghost use Rattle.std.specs.Prelude.{◌≡◌, ◌++◌, List, ℕ, [], ◌∷◌, codes, decimal, string_bytes, IfOk, OnOk};
 ghost use Rattle.host_commands.specs.declared.command.Reply.{Reply as ReplyOf};
 ghost use Rattle.simfile.specs.Lines.{line};
 ghost use Rattle.wide_text.specs.Told.{AreAsides, AreReplies, IsText, bytes_text, lines_text, reads_text, rest_text, verdict_text, whole_text};
@@ -64,7 +64,8 @@ fn push_reads(reads: &[usize], out: &mut String) -> Result<(), AllocError>
     }
     out.push_str("; the data of ")?;
     push_lines(reads, out)?;
-    out.push_str(" may differ")
+    out.push_str(" may differ")?;
+    Ok(())
 }
 
 /// What holds, in words.
@@ -104,13 +105,11 @@ fn beside(alloc: Global, launches: &[WideLaunch], number: usize) -> Result<Vec<u
     }
 }
 
-/// How many of these launches the reply to a command of this number is behind: of the first, or none.
-fn passed(launches: &[WideLaunch], number: usize) -> usize
-    ensures { result ≤ length launches.now }
-{
-    match launches.first() {
-        Some(launch) if launch.command == number => 1,
-        _ => 0,
+/// These launches but the first, if it is that of this number.
+fn passed(launches: &[WideLaunch], number: usize) -> &[WideLaunch] {
+    match launches.split_first() {
+        Some((launch, rest)) if launch.command == number => rest,
+        _ => launches,
     }
 }
 
@@ -142,7 +141,7 @@ fn replies_text(
     for number in 0..replies.len() {
         let text = beside(alloc, left, number)?;
         push_reply(alloc, &replies[number], text.as_slice(), &mut out)?;
-        left = &left[passed(left, number)..];
+        left = passed(left, number);
     }
     Ok(out)
 }

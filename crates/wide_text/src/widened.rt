@@ -38,13 +38,27 @@ fn is_refused(reply: &Reply) -> bool
     matches!(reply, Reply::Refused(_))
 }
 
+/// Whether one of these replies is a fault.
+fn has_fault(replies: &[Reply]) -> bool
+    ensures { result ≡ list_any is_fault replies.now }
+{
+    replies.iter().any(|reply| is_fault(reply))
+}
+
+/// Whether one of these replies is a refusal.
+fn has_refusal(replies: &[Reply]) -> bool
+    ensures { result ≡ list_any is_refused replies.now }
+{
+    replies.iter().any(|reply| is_refused(reply))
+}
+
 /// What replies come to.
 fn end_of(replies: &[Reply]) -> WideEnd
     ensures { result ≡ end_of replies.now }
 {
     WideEnd {
-        faulted: replies.iter().any(is_fault),
-        refused: replies.iter().any(is_refused),
+        faulted: has_fault(replies),
+        refused: has_refusal(replies),
     }
 }
 

@@ -18,4 +18,4 @@ loop-number-preserved c =
     (subst (AreReplies (take i rs ++ r ∷ [])) (sym added) (reply_more (take i rs) r old c.in_ok-text.text.items c.loop-number.invariant c.in_ok-text.ensures))
 
 pub returns : goal.returns
-returns c = subst (λ (l : List Reply). AreReplies l c.loop-number.out.items) (take_all c.args.replies.now c.loop-number.number c.loop-number-test.false) c.loop-number.invariant
+returns c = subst (λ (l : List Reply). AreReplies l c.loop-number.out.items) (take_all c.loop-number.number c.args.replies.now c.loop-number-test.false) c.loop-number.invariant
