@@ -1,0 +1,6 @@
+mod Beside
+mod Failing
+mod Floats
+mod Flagged
+mod Runs
+mod Telling
