@@ -18,7 +18,7 @@ use Rattle.cli.specs.declared.command_line.Invocation.{Invocation}
 use Rattle.cli.specs.declared.command_line.Invocation.TheVariants as invocation
 use Rattle.limits.specs.declared.Configuration.{Configuration}
 use Rattle.limits.specs.declared.Limits.{Limits}
-use Rattle.cli.specs.CommandLine.{IsForm, AreLimits, GivesBudget, GivesConfiguration, GivesFormat, GivesLimits, GivesWorkers, IsFormat, IsNumber, IsRun, IsCheck, IsDump, IsReplay, IsServe, IsExplain, IsVersion, IsRefused, Reads, Holds, program}
+use Rattle.cli.specs.CommandLine.{IsForm, AreLimits, GivesBudget, GivesConfiguration, GivesFormat, GivesLimits, GivesWorkers, IsFormat, IsNumber, IsRun, IsCheck, IsDump, IsReplay, IsServe, IsExplain, IsVersion, IsWiden, IsRefused, Reads, Holds, program}
 
 -- a form with one more argument, by the rule of that one
 pub by_rule : {E : Type 0} {a b : Rule} (old : App) (made : Result Command E) → a ≡ b → IfOk made (IsForm (with_rule old a)) → IfOk made (IsForm (with_rule old b))
@@ -109,14 +109,16 @@ differ {P} {a} {b} same apart =
 
 by_form : {P : Type 0} (name : Text) (rows : List Row) (asked : Invocation) → Holds (Some (name, rows)) asked → (name ≡ codes "run" → IsRun rows asked → P)
     → (name ≡ codes "check" → IsCheck rows asked → P) → (name ≡ codes "dump" → IsDump rows asked → P) → (name ≡ codes "replay" → IsReplay rows asked → P)
-    → (name ≡ codes "serve" → IsServe rows asked → P) → (name ≡ codes "explain" → IsExplain rows asked → P) → (name ≡ codes "version" → IsVersion rows asked → P) → P
-by_form name rows asked (inl h) run check dump replay serve explain version = run h.0 h.1
-by_form name rows asked (inr (inl h)) run check dump replay serve explain version = check h.0 h.1
-by_form name rows asked (inr (inr (inl h))) run check dump replay serve explain version = dump h.0 h.1
-by_form name rows asked (inr (inr (inr (inl h)))) run check dump replay serve explain version = replay h.0 h.1
-by_form name rows asked (inr (inr (inr (inr (inl h))))) run check dump replay serve explain version = serve h.0 h.1
-by_form name rows asked (inr (inr (inr (inr (inr (inl h)))))) run check dump replay serve explain version = explain h.0 h.1
-by_form name rows asked (inr (inr (inr (inr (inr (inr h)))))) run check dump replay serve explain version = version h.0 h.1
+    → (name ≡ codes "serve" → IsServe rows asked → P) → (name ≡ codes "explain" → IsExplain rows asked → P) → (name ≡ codes "version" → IsVersion rows asked → P)
+    → (name ≡ codes "widen" → IsWiden rows asked → P) → P
+by_form name rows asked (inl h) run check dump replay serve explain version widen = run h.0 h.1
+by_form name rows asked (inr (inl h)) run check dump replay serve explain version widen = check h.0 h.1
+by_form name rows asked (inr (inr (inl h))) run check dump replay serve explain version widen = dump h.0 h.1
+by_form name rows asked (inr (inr (inr (inl h)))) run check dump replay serve explain version widen = replay h.0 h.1
+by_form name rows asked (inr (inr (inr (inr (inl h))))) run check dump replay serve explain version widen = serve h.0 h.1
+by_form name rows asked (inr (inr (inr (inr (inr (inl h)))))) run check dump replay serve explain version widen = explain h.0 h.1
+by_form name rows asked (inr (inr (inr (inr (inr (inr (inl h))))))) run check dump replay serve explain version widen = version h.0 h.1
+by_form name rows asked (inr (inr (inr (inr (inr (inr (inr h))))))) run check dump replay serve explain version widen = widen h.0 h.1
 
 -- what the form of a name reads is what the matches hold
 reads_form : (m : ArgMatches) (name : Text) (rows : List Row) (Is : List Row → Invocation → Type 0) (read : Option Invocation) → subcommand_name_of m ≡ Some name
@@ -128,37 +130,42 @@ reads_form m name rows Is (Some asked) named held to from is = subst (λ (o : Op
 pub reads_run : (m : ArgMatches) (rows : List Row) (read : Option Invocation) → subcommand_name_of m ≡ Some (codes "run")
     → option_map (λ p. p.1) (subcommand_rows_of m) ≡ Some rows → Reads (IsRun rows) read → Reads (Holds (subcommand_rows_of m)) read
 reads_run m rows read named held = reads_form m (codes "run") rows IsRun read named held (λ asked is. inl (refl, is))
-    (λ asked h. by_form (codes "run") rows asked h (λ e is. is) (λ e is. differ e refl) (λ e is. differ e refl) (λ e is. differ e refl) (λ e is. differ e refl) (λ e is. differ e refl) (λ e is. differ e refl))
+    (λ asked h. by_form (codes "run") rows asked h (λ e is. is) (λ e is. differ e refl) (λ e is. differ e refl) (λ e is. differ e refl) (λ e is. differ e refl) (λ e is. differ e refl) (λ e is. differ e refl) (λ e is. differ e refl))
 
 pub reads_check : (m : ArgMatches) (rows : List Row) (read : Option Invocation) → subcommand_name_of m ≡ Some (codes "check")
     → option_map (λ p. p.1) (subcommand_rows_of m) ≡ Some rows → Reads (IsCheck rows) read → Reads (Holds (subcommand_rows_of m)) read
 reads_check m rows read named held = reads_form m (codes "check") rows IsCheck read named held (λ asked is. inr (inl (refl, is)))
-    (λ asked h. by_form (codes "check") rows asked h (λ e is. differ e refl) (λ e is. is) (λ e is. differ e refl) (λ e is. differ e refl) (λ e is. differ e refl) (λ e is. differ e refl) (λ e is. differ e refl))
+    (λ asked h. by_form (codes "check") rows asked h (λ e is. differ e refl) (λ e is. is) (λ e is. differ e refl) (λ e is. differ e refl) (λ e is. differ e refl) (λ e is. differ e refl) (λ e is. differ e refl) (λ e is. differ e refl))
 
 pub reads_dump : (m : ArgMatches) (rows : List Row) (read : Option Invocation) → subcommand_name_of m ≡ Some (codes "dump")
     → option_map (λ p. p.1) (subcommand_rows_of m) ≡ Some rows → Reads (IsDump rows) read → Reads (Holds (subcommand_rows_of m)) read
 reads_dump m rows read named held = reads_form m (codes "dump") rows IsDump read named held (λ asked is. inr (inr (inl (refl, is))))
-    (λ asked h. by_form (codes "dump") rows asked h (λ e is. differ e refl) (λ e is. differ e refl) (λ e is. is) (λ e is. differ e refl) (λ e is. differ e refl) (λ e is. differ e refl) (λ e is. differ e refl))
+    (λ asked h. by_form (codes "dump") rows asked h (λ e is. differ e refl) (λ e is. differ e refl) (λ e is. is) (λ e is. differ e refl) (λ e is. differ e refl) (λ e is. differ e refl) (λ e is. differ e refl) (λ e is. differ e refl))
 
 pub reads_replay : (m : ArgMatches) (rows : List Row) (read : Option Invocation) → subcommand_name_of m ≡ Some (codes "replay")
     → option_map (λ p. p.1) (subcommand_rows_of m) ≡ Some rows → Reads (IsReplay rows) read → Reads (Holds (subcommand_rows_of m)) read
 reads_replay m rows read named held = reads_form m (codes "replay") rows IsReplay read named held (λ asked is. inr (inr (inr (inl (refl, is)))))
-    (λ asked h. by_form (codes "replay") rows asked h (λ e is. differ e refl) (λ e is. differ e refl) (λ e is. differ e refl) (λ e is. is) (λ e is. differ e refl) (λ e is. differ e refl) (λ e is. differ e refl))
+    (λ asked h. by_form (codes "replay") rows asked h (λ e is. differ e refl) (λ e is. differ e refl) (λ e is. differ e refl) (λ e is. is) (λ e is. differ e refl) (λ e is. differ e refl) (λ e is. differ e refl) (λ e is. differ e refl))
 
 pub reads_serve : (m : ArgMatches) (rows : List Row) (read : Option Invocation) → subcommand_name_of m ≡ Some (codes "serve")
     → option_map (λ p. p.1) (subcommand_rows_of m) ≡ Some rows → Reads (IsServe rows) read → Reads (Holds (subcommand_rows_of m)) read
 reads_serve m rows read named held = reads_form m (codes "serve") rows IsServe read named held (λ asked is. inr (inr (inr (inr (inl (refl, is))))))
-    (λ asked h. by_form (codes "serve") rows asked h (λ e is. differ e refl) (λ e is. differ e refl) (λ e is. differ e refl) (λ e is. differ e refl) (λ e is. is) (λ e is. differ e refl) (λ e is. differ e refl))
+    (λ asked h. by_form (codes "serve") rows asked h (λ e is. differ e refl) (λ e is. differ e refl) (λ e is. differ e refl) (λ e is. differ e refl) (λ e is. is) (λ e is. differ e refl) (λ e is. differ e refl) (λ e is. differ e refl))
 
 pub reads_explain : (m : ArgMatches) (rows : List Row) (read : Option Invocation) → subcommand_name_of m ≡ Some (codes "explain")
     → option_map (λ p. p.1) (subcommand_rows_of m) ≡ Some rows → Reads (IsExplain rows) read → Reads (Holds (subcommand_rows_of m)) read
 reads_explain m rows read named held = reads_form m (codes "explain") rows IsExplain read named held (λ asked is. inr (inr (inr (inr (inr (inl (refl, is)))))))
-    (λ asked h. by_form (codes "explain") rows asked h (λ e is. differ e refl) (λ e is. differ e refl) (λ e is. differ e refl) (λ e is. differ e refl) (λ e is. differ e refl) (λ e is. is) (λ e is. differ e refl))
+    (λ asked h. by_form (codes "explain") rows asked h (λ e is. differ e refl) (λ e is. differ e refl) (λ e is. differ e refl) (λ e is. differ e refl) (λ e is. differ e refl) (λ e is. is) (λ e is. differ e refl) (λ e is. differ e refl))
 
 pub reads_version : (m : ArgMatches) (rows : List Row) (read : Option Invocation) → subcommand_name_of m ≡ Some (codes "version")
     → option_map (λ p. p.1) (subcommand_rows_of m) ≡ Some rows → Reads (IsVersion rows) read → Reads (Holds (subcommand_rows_of m)) read
-reads_version m rows read named held = reads_form m (codes "version") rows IsVersion read named held (λ asked is. inr (inr (inr (inr (inr (inr (refl, is)))))))
-    (λ asked h. by_form (codes "version") rows asked h (λ e is. differ e refl) (λ e is. differ e refl) (λ e is. differ e refl) (λ e is. differ e refl) (λ e is. differ e refl) (λ e is. differ e refl) (λ e is. is))
+reads_version m rows read named held = reads_form m (codes "version") rows IsVersion read named held (λ asked is. inr (inr (inr (inr (inr (inr (inl (refl, is))))))))
+    (λ asked h. by_form (codes "version") rows asked h (λ e is. differ e refl) (λ e is. differ e refl) (λ e is. differ e refl) (λ e is. differ e refl) (λ e is. differ e refl) (λ e is. differ e refl) (λ e is. is) (λ e is. differ e refl))
+
+pub reads_widen : (m : ArgMatches) (rows : List Row) (read : Option Invocation) → subcommand_name_of m ≡ Some (codes "widen")
+    → option_map (λ p. p.1) (subcommand_rows_of m) ≡ Some rows → Reads (IsWiden rows) read → Reads (Holds (subcommand_rows_of m)) read
+reads_widen m rows read named held = reads_form m (codes "widen") rows IsWiden read named held (λ asked is. inr (inr (inr (inr (inr (inr (inr (refl, is))))))))
+    (λ asked h. by_form (codes "widen") rows asked h (λ e is. differ e refl) (λ e is. differ e refl) (λ e is. differ e refl) (λ e is. differ e refl) (λ e is. differ e refl) (λ e is. differ e refl) (λ e is. differ e refl) (λ e is. is))
 
 -- the limits that are named by a text are one
 pub same_limits : (named : Option Text) (limits other : Limits) → AreLimits named limits → AreLimits named other → limits ≡ other
@@ -184,6 +191,7 @@ run_parts rows (invocation.Replay script schedule configuration) is = absurd is
 run_parts rows (invocation.Serve options) is = absurd is
 run_parts rows (invocation.Explain script schedule wish) is = absurd is
 run_parts rows (invocation.Version json) is = absurd is
+run_parts rows (invocation.Widen script json limits) is = absurd is
 
 pub check_parts : (rows : List Row) (asked : Invocation) → IsCheck rows asked
     → (path : Text) × (limits : Limits) × (first_of (codes "FILE") rows ≡ Some path) × GivesLimits rows limits
@@ -194,6 +202,7 @@ check_parts rows (invocation.Replay script schedule configuration) is = absurd i
 check_parts rows (invocation.Serve options) is = absurd is
 check_parts rows (invocation.Explain script schedule wish) is = absurd is
 check_parts rows (invocation.Version json) is = absurd is
+check_parts rows (invocation.Widen script json limits) is = absurd is
 
 pub dump_parts : (rows : List Row) (asked : Invocation) → IsDump rows asked
     → (path name : Text) × (limits : Limits) × (first_of (codes "FILE") rows ≡ Some path) × (first_of (codes "KERNEL") rows ≡ Some name) × GivesLimits rows limits
@@ -204,6 +213,7 @@ dump_parts rows (invocation.Replay script schedule configuration) is = absurd is
 dump_parts rows (invocation.Serve options) is = absurd is
 dump_parts rows (invocation.Explain script schedule wish) is = absurd is
 dump_parts rows (invocation.Version json) is = absurd is
+dump_parts rows (invocation.Widen script json limits) is = absurd is
 
 pub replay_parts : (rows : List Row) (asked : Invocation) → IsReplay rows asked
     → (script schedule : Text) × (limits : Limits) × (first_of (codes "SCRIPT") rows ≡ Some script) × (first_of (codes "SCHEDULE") rows ≡ Some schedule) × GivesLimits rows limits
@@ -214,6 +224,7 @@ replay_parts rows (invocation.Replay script schedule configuration) is = (script
 replay_parts rows (invocation.Serve options) is = absurd is
 replay_parts rows (invocation.Explain script schedule wish) is = absurd is
 replay_parts rows (invocation.Version json) is = absurd is
+replay_parts rows (invocation.Widen script json limits) is = absurd is
 
 pub serve_parts : (rows : List Row) (asked : Invocation) → IsServe rows asked → (w : ℕ) × (configuration : Configuration) × GivesWorkers rows w × GivesConfiguration rows configuration
 serve_parts rows (invocation.Run path options) is = absurd is
@@ -223,6 +234,7 @@ serve_parts rows (invocation.Replay script schedule configuration) is = absurd i
 serve_parts rows (invocation.Serve options) is = (options.workers, options.configuration, is.0, is.1)
 serve_parts rows (invocation.Explain script schedule wish) is = absurd is
 serve_parts rows (invocation.Version json) is = absurd is
+serve_parts rows (invocation.Widen script json limits) is = absurd is
 
 pub explain_parts : (rows : List Row) (asked : Invocation) → IsExplain rows asked
     → (script : Text) × (configuration : Configuration) × (json : Bool) × (first_of (codes "SCRIPT") rows ≡ Some script) × GivesConfiguration rows configuration × GivesFormat rows json
@@ -233,6 +245,7 @@ explain_parts rows (invocation.Replay script schedule configuration) is = absurd
 explain_parts rows (invocation.Serve options) is = absurd is
 explain_parts rows (invocation.Explain script schedule wish) is = (script.now, wish.configuration, wish.json, is.0, is.2, is.3)
 explain_parts rows (invocation.Version json) is = absurd is
+explain_parts rows (invocation.Widen script json limits) is = absurd is
 
 pub version_parts : (rows : List Row) (asked : Invocation) → IsVersion rows asked → (json : Bool) × GivesFormat rows json
 version_parts rows (invocation.Run path options) is = absurd is
@@ -242,6 +255,18 @@ version_parts rows (invocation.Replay script schedule configuration) is = absurd
 version_parts rows (invocation.Serve options) is = absurd is
 version_parts rows (invocation.Explain script schedule wish) is = absurd is
 version_parts rows (invocation.Version json) is = (json, is)
+version_parts rows (invocation.Widen script json limits) is = absurd is
+
+pub widen_parts : (rows : List Row) (asked : Invocation) → IsWiden rows asked
+    → (script : Text) × (json : Bool) × (limits : Limits) × (first_of (codes "SCRIPT") rows ≡ Some script) × GivesFormat rows json × GivesLimits rows limits
+widen_parts rows (invocation.Run path options) is = absurd is
+widen_parts rows (invocation.Check path limits) is = absurd is
+widen_parts rows (invocation.Dump path name limits) is = absurd is
+widen_parts rows (invocation.Replay script schedule configuration) is = absurd is
+widen_parts rows (invocation.Serve options) is = absurd is
+widen_parts rows (invocation.Explain script schedule wish) is = absurd is
+widen_parts rows (invocation.Version json) is = absurd is
+widen_parts rows (invocation.Widen script json limits) is = (script.now, json, limits, is.0, is.1, is.2)
 
 pub not_there : {A : Type 0} (o : Option A) (x : A) → o ≡ None → ¬ (o ≡ Some x)
 not_there o x none some = let bad : None ≡ Some x = sym none ∙ some in cc
@@ -255,7 +280,7 @@ not_found (Some a) name m missing found named = missing a refl
 -- matches of no form hold nothing
 pub holds_nothing : (m : ArgMatches) → ¬ (subcommand_name_of m ≡ Some (codes "run")) → ¬ (subcommand_name_of m ≡ Some (codes "check")) → ¬ (subcommand_name_of m ≡ Some (codes "dump"))
     → ¬ (subcommand_name_of m ≡ Some (codes "replay")) → ¬ (subcommand_name_of m ≡ Some (codes "serve")) → ¬ (subcommand_name_of m ≡ Some (codes "explain"))
-    → ¬ (subcommand_name_of m ≡ Some (codes "version")) → (asked : Invocation) → ¬ Holds (subcommand_rows_of m) asked
+    → ¬ (subcommand_name_of m ≡ Some (codes "version")) → ¬ (subcommand_name_of m ≡ Some (codes "widen")) → (asked : Invocation) → ¬ Holds (subcommand_rows_of m) asked
 holds_nothing m = go (out-ArgMatches m).subcommand
   where
     named : {Z : Type 0} → Option (Box SubCommand Z) → Option Text
@@ -263,11 +288,11 @@ holds_nothing m = go (out-ArgMatches m).subcommand
 
     go : {Z : Type 0} (o : Option (Box SubCommand Z)) → ¬ (named o ≡ Some (codes "run")) → ¬ (named o ≡ Some (codes "check")) → ¬ (named o ≡ Some (codes "dump"))
         → ¬ (named o ≡ Some (codes "replay")) → ¬ (named o ≡ Some (codes "serve")) → ¬ (named o ≡ Some (codes "explain")) → ¬ (named o ≡ Some (codes "version"))
-        → (asked : Invocation) → ¬ Holds (subcommand_rows o) asked
-    go None run check dump replay serve explain version asked h = h
-    go (Some b) run check dump replay serve explain version asked h =
+        → ¬ (named o ≡ Some (codes "widen")) → (asked : Invocation) → ¬ Holds (subcommand_rows o) asked
+    go None run check dump replay serve explain version widen asked h = h
+    go (Some b) run check dump replay serve explain version widen asked h =
         by_form (out-SubCommand (box_value b)).name.now (rows_of (found_of (out-SubCommand (box_value b)).matches)) asked h (λ e _. run (ap Some e)) (λ e _. check (ap Some e))
-        (λ e _. dump (ap Some e)) (λ e _. replay (ap Some e)) (λ e _. serve (ap Some e)) (λ e _. explain (ap Some e)) (λ e _. version (ap Some e))
+        (λ e _. dump (ap Some e)) (λ e _. replay (ap Some e)) (λ e _. serve (ap Some e)) (λ e _. explain (ap Some e)) (λ e _. version (ap Some e)) (λ e _. widen (ap Some e))
 
 -- ---- refusals
 

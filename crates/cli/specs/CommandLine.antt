@@ -103,6 +103,9 @@ explain_form = with_rule (configured (with_rule (with_rule (with_rule (new_app (
 abbrev pub version_form : App
 version_form = with_rule (new_app (codes "version")) format
 
+abbrev pub widen_form : App
+widen_form = with_rule (with_rule (with_rule (new_app (codes "widen")) script) format) limits
+
 -- one of the forms must be named, but for `--version`
 abbrev pub no_form : App
 no_form = on_top (λ top. record top { subcommand_required = true; has_version = true }) (new_app (codes "clsim"))
@@ -110,10 +113,10 @@ no_form = on_top (λ top. record top { subcommand_required = true; has_version =
 -- `clsim run FILE [--workers N] [--budget N] [--limits LIMITS]`, `clsim check FILE [--limits LIMITS]`,
 -- `clsim dump FILE KERNEL [--limits LIMITS]`,
 -- `clsim replay SCRIPT SCHEDULE [--limits LIMITS]`, `clsim serve [--workers N] [--budget N] [--limits LIMITS]`,
--- `clsim explain SCRIPT [SCHEDULE] [--format text|json] [--budget N] [--limits LIMITS] [--as-given]` or
--- `clsim version [--format text|json]`
+-- `clsim explain SCRIPT [SCHEDULE] [--format text|json] [--budget N] [--limits LIMITS] [--as-given]`,
+-- `clsim version [--format text|json]` or `clsim widen SCRIPT [--format text|json] [--limits LIMITS]`
 abbrev pub program : App
-program = with_subcommand (with_subcommand (with_subcommand (with_subcommand (with_subcommand (with_subcommand (with_subcommand no_form run_form.top) check_form.top) dump_form.top) replay_form.top) serve_form.top) explain_form.top) version_form.top
+program = with_subcommand (with_subcommand (with_subcommand (with_subcommand (with_subcommand (with_subcommand (with_subcommand (with_subcommand no_form run_form.top) check_form.top) dump_form.top) replay_form.top) serve_form.top) explain_form.top) version_form.top) widen_form.top
 
 -- what is read is asked for, and nothing is read only where nothing is asked for (own)
 abbrev pub Reads : {A : Type 0} → (A → Type 0) → Option A → Type 0
@@ -176,6 +179,7 @@ IsRun rows (invocation.Replay script schedule configuration) = ⊥
 IsRun rows (invocation.Serve options) = ⊥
 IsRun rows (invocation.Explain script schedule wish) = ⊥
 IsRun rows (invocation.Version json) = ⊥
+IsRun rows (invocation.Widen script json limits) = ⊥
 
 -- a check of the file of these matches, within their limits
 abbrev pub IsCheck : List Row → Invocation → Type 0
@@ -186,6 +190,7 @@ IsCheck rows (invocation.Replay script schedule configuration) = ⊥
 IsCheck rows (invocation.Serve options) = ⊥
 IsCheck rows (invocation.Explain script schedule wish) = ⊥
 IsCheck rows (invocation.Version json) = ⊥
+IsCheck rows (invocation.Widen script json limits) = ⊥
 
 -- a dump of the kernel and of the file of these matches, within their limits
 abbrev pub IsDump : List Row → Invocation → Type 0
@@ -197,6 +202,7 @@ IsDump rows (invocation.Replay script schedule configuration) = ⊥
 IsDump rows (invocation.Serve options) = ⊥
 IsDump rows (invocation.Explain script schedule wish) = ⊥
 IsDump rows (invocation.Version json) = ⊥
+IsDump rows (invocation.Widen script json limits) = ⊥
 
 -- a replay of the schedule file on the script of these matches, under their limits
 abbrev pub IsReplay : List Row → Invocation → Type 0
@@ -208,6 +214,7 @@ IsReplay rows (invocation.Replay script schedule configuration) =
 IsReplay rows (invocation.Serve options) = ⊥
 IsReplay rows (invocation.Explain script schedule wish) = ⊥
 IsReplay rows (invocation.Version json) = ⊥
+IsReplay rows (invocation.Widen script json limits) = ⊥
 
 -- serving, by these matches' workers and under their limits and budget
 abbrev pub IsServe : List Row → Invocation → Type 0
@@ -218,6 +225,7 @@ IsServe rows (invocation.Replay script schedule configuration) = ⊥
 IsServe rows (invocation.Serve options) = GivesWorkers rows options.workers × GivesConfiguration rows options.configuration
 IsServe rows (invocation.Explain script schedule wish) = ⊥
 IsServe rows (invocation.Version json) = ⊥
+IsServe rows (invocation.Widen script json limits) = ⊥
 
 -- an explanation of the script and of the schedule file of these matches, if one is named
 abbrev pub IsExplain : List Row → Invocation → Type 0
@@ -230,6 +238,7 @@ IsExplain rows (invocation.Explain script schedule wish) =
     (first_of (codes "SCRIPT") rows ≡ Some script.now) × (first_of (codes "SCHEDULE") rows ≡ option_map (λ s. s.now) schedule)
     × GivesConfiguration rows wish.configuration × GivesFormat rows wish.json × GivesFlag rows wish.as_given
 IsExplain rows (invocation.Version json) = ⊥
+IsExplain rows (invocation.Widen script json limits) = ⊥
 
 -- the version, in the format of these matches
 abbrev pub IsVersion : List Row → Invocation → Type 0
@@ -240,6 +249,19 @@ IsVersion rows (invocation.Replay script schedule configuration) = ⊥
 IsVersion rows (invocation.Serve options) = ⊥
 IsVersion rows (invocation.Explain script schedule wish) = ⊥
 IsVersion rows (invocation.Version json) = GivesFormat rows json
+IsVersion rows (invocation.Widen script json limits) = ⊥
+
+-- a run of the script of these matches, whose replies are widened, in their format and within their limits
+abbrev pub IsWiden : List Row → Invocation → Type 0
+IsWiden rows (invocation.Run path options) = ⊥
+IsWiden rows (invocation.Check path limits) = ⊥
+IsWiden rows (invocation.Dump path name limits) = ⊥
+IsWiden rows (invocation.Replay script schedule configuration) = ⊥
+IsWiden rows (invocation.Serve options) = ⊥
+IsWiden rows (invocation.Explain script schedule wish) = ⊥
+IsWiden rows (invocation.Version json) = ⊥
+IsWiden rows (invocation.Widen script json limits) =
+    (first_of (codes "SCRIPT") rows ≡ Some script.now) × GivesFormat rows json × GivesLimits rows limits
 
 -- the subcommand that was met, with its matches, is the form that is asked for
 abbrev pub Holds : Option (Text × List Row) → Invocation → Type 0
@@ -251,7 +273,8 @@ Holds (Some (name, rows)) asked =
     ⊎ ((name ≡ codes "replay") × IsReplay rows asked
     ⊎ ((name ≡ codes "serve") × IsServe rows asked
     ⊎ ((name ≡ codes "explain") × IsExplain rows asked
-    ⊎ (name ≡ codes "version") × IsVersion rows asked)))))
+    ⊎ ((name ≡ codes "version") × IsVersion rows asked
+    ⊎ (name ≡ codes "widen") × IsWiden rows asked))))))
 
 -- the forms take the words, whose matches hold what is asked for
 abbrev pub AsksFor : List Text → Invocation → Type 0

@@ -3,7 +3,7 @@
 
 ghost use Rattle.std.specs.Prelude.{◌≡◌, ◌≤◌, false, map, Ok, IfOk, IfErr, IfSome};
 ghost use Rattle.clap.specs.Words.{App, app_of, kind_of, new_app, rule_of, found_of, rows_of, subcommand_rows_of, with_rule, with_subcommand};
-ghost use Rattle.cli.specs.CommandLine.{IsForm, needed, option, number, limits, script, some_schedule, format, as_given, configured, working, run_form, check_form, dump_form, replay_form, serve_form, explain_form, version_form, no_form, program, GivesWorkers, GivesLimits, GivesBudget, GivesConfiguration, GivesFormat, GivesFlag, IsRun, IsCheck, IsDump, IsReplay, IsServe, IsExplain, IsVersion, Reads, Holds, AsksFor, IsRefused};
+ghost use Rattle.cli.specs.CommandLine.{IsForm, needed, option, number, limits, script, some_schedule, format, as_given, configured, working, run_form, check_form, dump_form, replay_form, serve_form, explain_form, version_form, widen_form, no_form, program, GivesWorkers, GivesLimits, GivesBudget, GivesConfiguration, GivesFormat, GivesFlag, IsRun, IsCheck, IsDump, IsReplay, IsServe, IsExplain, IsVersion, IsWiden, Reads, Holds, AsksFor, IsRefused};
 
 use crate::session::Options;
 use crate::wish::ExplainWish;
@@ -51,6 +51,12 @@ pub enum Invocation<'a> {
     /// Tells the version, as JSON or as text
     Version {
         json: bool,
+    },
+    /// Runs the script of a file, and tells as JSON or as text for which bytes and numbers its replies hold
+    Widen {
+        script: &'a str,
+        json: bool,
+        limits: Limits,
     },
 }
 
@@ -286,6 +292,26 @@ fn version_form<'a>(alloc: Global) -> Result<Command<'a>, AllocError>
     formatted(alloc, Ok(form), "How the version is written: text or json")
 }
 
+/// The form `widen SCRIPT [--format text|json] [--limits LIMITS]`.
+fn widen_form<'a>(alloc: Global) -> Result<Command<'a>, AllocError>
+    ensures { IfOk result (IsForm widen_form) }
+{
+    let form = named(
+        alloc,
+        "widen",
+        "Runs a script and tells for which bytes and numbers its replies hold",
+    );
+    let with_script = with(Ok(form), needed(alloc, "SCRIPT", "The script"));
+    limited(
+        alloc,
+        formatted(
+            alloc,
+            with_script,
+            "How the replies are written: text or json",
+        ),
+    )
+}
+
 /// The limits of a device, the profile's where the option isn't there, and `None` where it names none.
 fn limits_of(matches: &ArgMatches<'_>) -> Option<Limits>
     ensures { Reads (GivesLimits (rows_of (found_of matches.now))) result }
@@ -448,6 +474,20 @@ fn version_of<'a>(version: &ArgMatches<'a>) -> Option<Invocation<'a>>
     Some(Invocation::Version { json })
 }
 
+/// What the matches of `widen` ask for.
+fn widen_of<'a>(widen: &ArgMatches<'a>) -> Option<Invocation<'a>>
+    ensures { Reads (IsWiden (rows_of (found_of widen.now))) result }
+{
+    let script = widen.get_str("SCRIPT")?;
+    let json = format_of(widen)?;
+    let limits = limits_of(widen)?;
+    Some(Invocation::Widen {
+        script,
+        json,
+        limits,
+    })
+}
+
 /// What the matches of a command line ask for, by the form that they hold.
 fn asked<'a>(matches: &ArgMatches<'a>) -> Option<Invocation<'a>>
     ensures { Reads (Holds (subcommand_rows_of matches.now)) result }
@@ -470,7 +510,10 @@ fn asked<'a>(matches: &ArgMatches<'a>) -> Option<Invocation<'a>>
     if let Some(explain) = matches.subcommand_matches("explain") {
         return explain_of(explain);
     }
-    version_of(matches.subcommand_matches("version")?)
+    if let Some(version) = matches.subcommand_matches("version") {
+        return version_of(version);
+    }
+    widen_of(matches.subcommand_matches("widen")?)
 }
 
 /// The forms of the command line, without any of them yet. That there is a version gives them `--version`; what the
@@ -504,7 +547,8 @@ fn forms<'a>(alloc: Global) -> Result<Command<'a>, AllocError>
     let with_replays = with_form(with_dumps, replay_form(alloc));
     let with_serving = with_form(with_replays, serve_form(alloc));
     let with_explaining = with_form(with_serving, explain_form(alloc));
-    with_form(with_explaining, version_form(alloc))
+    let with_version = with_form(with_explaining, version_form(alloc));
+    with_form(with_version, widen_form(alloc))
 }
 
 /// A form whose usage is shown by this name.
@@ -531,6 +575,9 @@ fn form_of<'a>(alloc: Global, name: &str) -> Result<Command<'a>, AllocError> {
     }
     if name == "explain" {
         return shown(explain_form(alloc), "clsim explain");
+    }
+    if name == "widen" {
+        return shown(widen_form(alloc), "clsim widen");
     }
     shown(version_form(alloc), "clsim version")
 }
@@ -573,8 +620,8 @@ fn command_by<'a>(
 /// `clsim run FILE [--workers N] [--budget N] [--limits LIMITS]`, `clsim check FILE [--limits LIMITS]`,
 /// `clsim dump FILE KERNEL [--limits LIMITS]`,
 /// `clsim replay SCRIPT SCHEDULE [--limits LIMITS]`, `clsim serve [--workers N] [--budget N] [--limits LIMITS]`,
-/// `clsim explain SCRIPT [SCHEDULE] [--format text|json] [--budget N] [--limits LIMITS] [--as-given]` and
-/// `clsim version [--format text|json]`. The errors of the words `--help`, `help` with a form or without, and `--version`
+/// `clsim explain SCRIPT [SCHEDULE] [--format text|json] [--budget N] [--limits LIMITS] [--as-given]`,
+/// `clsim version [--format text|json]` and `clsim widen SCRIPT [--format text|json] [--limits LIMITS]`. The errors of the words `--help`, `help` with a form or without, and `--version`
 /// have the kinds `DisplayHelp` and `DisplayVersion`.
 pub fn command<'a>(alloc: Global, words: &'a [&'a str]) -> Result<Invocation<'a>, Error>
     ensures asked { IfOk result (AsksFor (map (λ word. word.now) words.entry.now)) }

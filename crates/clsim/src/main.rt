@@ -31,6 +31,7 @@ use cli::checking::{check_file, source_status};
 use cli::command_line::{Invocation, command};
 use cli::dialogue::serve;
 use cli::dumping::dump_file;
+use cli::reading::bytes_of;
 use cli::replaying::{replay_files, replay_status};
 use cli::session::{Options, RunEnd};
 use cli::wish::ExplainWish;
@@ -46,6 +47,7 @@ use std::rt::Files;
 use std::sync::Wait;
 use std::thread::Threads;
 use std::{env, io};
+use wide_text::{Format as WideFormat, WideEnd, status as wide_status, widen};
 
 /// Standard output, to be written.
 fn output_of<'a, R: Print + AllocGlobal>(
@@ -163,6 +165,33 @@ fn explain_fault<R: Files + io::Input + Print + AllocGlobal>(
             explain_schedule(rt.alloc(), name, script, &mut file, options, &mut writer)
         }
     };
+    *gone = writer.into_inner().is_gone();
+    outcome
+}
+
+/// Runs a script, with its replies on standard output, and for which bytes and numbers they hold.
+fn widen_script<R: Files + io::Input + Print + AllocGlobal>(
+    rt: &R,
+    script: &mut NamedFile<'_, R>,
+    json: bool,
+    limits: Limits,
+    gone: &mut bool,
+) -> Result<WideEnd, RunFault> {
+    let mut writer = output_of(rt)?;
+    let text = bytes_of(rt.alloc(), script, Reader::First)?;
+    let format = if json {
+        WideFormat::Json
+    } else {
+        WideFormat::Text
+    };
+    let configuration = Configuration::of(limits);
+    let outcome = widen(
+        rt.alloc(),
+        configuration,
+        text.as_slice(),
+        format,
+        &mut writer,
+    );
     *gone = writer.into_inner().is_gone();
     outcome
 }
@@ -319,6 +348,25 @@ fn do_explain<R: Files + io::Input + Print + Eprint + AllocGlobal>(
     )
 }
 
+/// Widens the replies of the script of a file, and gives the status.
+fn do_widen<R: Files + io::Input + Print + Eprint + AllocGlobal>(
+    rt: &R,
+    file: &str,
+    json: bool,
+    limits: Limits,
+) -> u8
+    ensures { result ≤ 2 }
+{
+    let mut script = NamedFile::new(rt, file);
+    let mut gone = false;
+    let outcome = widen_script(rt, &mut script, json, limits, &mut gone);
+    let looks = script.looks();
+    if let Err(fault) = outcome {
+        tell(rt, fault, Told { file, looks, gone });
+    }
+    wide_status(&outcome)
+}
+
 /// The status of what was printed on standard output. That it can't be written is told, but where its reader is gone.
 fn end_printed(rt: &impl Eprint, printed: io::Result<()>) -> u8
     ensures { result ≤ 2 }
@@ -390,6 +438,13 @@ fn perform<R: Files + io::Input + Print + Eprint + AllocGlobal + Threads + Wait 
             },
         ) => do_explain(rt, script, schedule, wish),
         Ok(Invocation::Version { json }) => end_printed(rt, print_version(rt, json)),
+        Ok(
+            Invocation::Widen {
+                script,
+                json,
+                limits,
+            },
+        ) => do_widen(rt, script, json, limits),
         Err(error) => answer_words(rt, words, &error),
     }
 }

@@ -1,6 +1,6 @@
 use Rattle.std.proofs.Common.{codes, refl}
 use Rattle.std.proofs.lemmas.Bool.{false≢true}
-use Rattle.cli.proofs.CommandLines.{reads_run, reads_check, reads_dump, reads_replay, reads_serve, reads_explain, reads_version, not_found, holds_nothing}
+use Rattle.cli.proofs.CommandLines.{reads_run, reads_check, reads_dump, reads_replay, reads_serve, reads_explain, reads_version, reads_widen, not_found, holds_nothing}
 use Rattle.cli.proofs.command_line.asked.Goals as goal
 
 pub returns-in-Some : goal.returns-in-Some
@@ -27,9 +27,13 @@ pub returns-in-Some-subcommand_matches-5 : goal.returns-in-Some-subcommand_match
 returns-in-Some-subcommand_matches-5 c =
     reads_explain c.args.matches.now _ c.explain_of.result (c.in-Some-subcommand_matches-5.ensures.found.0 refl) c.in-Some-subcommand_matches-5.ensures.rows c.explain_of.ensures
 
+pub returns-in-Some-subcommand_matches-6 : goal.returns-in-Some-subcommand_matches-6
+returns-in-Some-subcommand_matches-6 c =
+    reads_version c.args.matches.now _ c.version_of.result (c.in-Some-subcommand_matches-6.ensures.found.0 refl) c.in-Some-subcommand_matches-6.ensures.rows c.version_of.ensures
+
 pub returns : goal.returns
 returns c =
-    reads_version c.args.matches.now _ c.version_of.result (c.in_ok-subcommand_matches.ensures.found.0 refl) c.in_ok-subcommand_matches.ensures.rows c.version_of.ensures
+    reads_widen c.args.matches.now _ c.widen_of.result (c.in_ok-subcommand_matches.ensures.found.0 refl) c.in_ok-subcommand_matches.ensures.rows c.widen_of.ensures
 
 pub returns-in_err-subcommand_matches : goal.returns-in_err-subcommand_matches
 returns-in_err-subcommand_matches c =
@@ -41,4 +45,5 @@ returns-in_err-subcommand_matches c =
     (not_found c.subcommand_matches-4.result (codes "replay") m (c.in_default-subcommand_matches-3).not-Some c.subcommand_matches-4.ensures.found)
     (not_found c.subcommand_matches-5.result (codes "serve") m (c.in_default-subcommand_matches-4).not-Some c.subcommand_matches-5.ensures.found)
     (not_found c.subcommand_matches-6.result (codes "explain") m (c.in_default-subcommand_matches-5).not-Some c.subcommand_matches-6.ensures.found)
+    (not_found c.subcommand_matches-7.result (codes "version") m (c.in_default-subcommand_matches-6).not-Some c.subcommand_matches-7.ensures.found)
     (λ named. false≢true (c.in_err-subcommand_matches.ensures.found.1 named)))

@@ -9,4 +9,5 @@ returns c =
     let replays = c.with_form-with_replays.ensures _ _ dumps c.replay_form.ensures in
     let serving = c.with_form-with_serving.ensures _ _ replays c.serve_form.ensures in
     let explaining = c.with_form-with_explaining.ensures _ _ serving c.explain_form.ensures in
-    c.with_form.ensures _ _ explaining c.version_form.ensures
+    let version = c.with_form-with_version.ensures _ _ explaining c.version_form.ensures in
+    c.with_form.ensures _ _ version c.widen_form.ensures
