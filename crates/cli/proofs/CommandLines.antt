@@ -6,10 +6,9 @@ use Rattle.std.specs.Str.{bytes_eq}
 use Rattle.std.specs.Str.Parse.{ParsesUnsigned}
 use Rattle.std.specs.Box.{box_value}
 use Rattle.clap.specs.Kinds.{Kinds, HasKind, IsAmong, or_else}
-use Rattle.clap.specs.Words.{AddsArg, AddsSubcommand, App, Rule, Row, Shape, Text, TriesOne, app_of, first_of, fault_of, found_of, is_simple, is_simple_and_free, kind_of, rows_of, rule_of, shape_of, subcommand_of, subcommand_name_of, subcommand_rows, subcommand_rows_of, with_rule, with_subcommand}
+use Rattle.clap.specs.Words.{AddsArg, AddsSubcommand, App, Rule, Row, Shape, Text, TriesOne, app_of, first_of, fault_of, is_simple, is_simple_and_free, kind_of, rule_of, shape_of, subcommand_of, subcommand_name_of, subcommand_rows, subcommand_rows_of, with_rule, with_subcommand}
 use Rattle.clap.specs.declared.builder.arg.Arg.{Arg}
 use Rattle.clap.specs.declared.builder.command.Command.{Command}
-use Rattle.clap.specs.declared.builder.command.Command.TheViews.{out-Command}
 use Rattle.clap.specs.declared.error.Error.{Error}
 use Rattle.clap.specs.declared.error.kind.ErrorKind.{ErrorKind}
 use Rattle.clap.specs.declared.error.kind.ErrorKind.TheVariants as kind

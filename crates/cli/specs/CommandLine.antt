@@ -207,14 +207,14 @@ GivesFlag rows given = IsFlag (one_of (codes "as-given") rows) given
 
 -- the name of the form by which this is asked for
 abbrev pub form_name : Invocation → Text
-form_name (invocation.Run path options) = codes "run"
-form_name (invocation.Check path limits) = codes "check"
-form_name (invocation.Dump path name limits) = codes "dump"
-form_name (invocation.Replay script schedule configuration) = codes "replay"
-form_name (invocation.Serve options) = codes "serve"
-form_name (invocation.Explain script schedule wish) = codes "explain"
-form_name (invocation.Version json) = codes "version"
-form_name (invocation.Widen script json limits) = codes "widen"
+form_name (invocation.Run _ _) = codes "run"
+form_name (invocation.Check _ _) = codes "check"
+form_name (invocation.Dump _ _ _) = codes "dump"
+form_name (invocation.Replay _ _ _) = codes "replay"
+form_name (invocation.Serve _) = codes "serve"
+form_name (invocation.Explain _ _ _) = codes "explain"
+form_name (invocation.Version _) = codes "version"
+form_name (invocation.Widen _ _ _) = codes "widen"
 
 -- the matches of its form give what is asked for: a run by their workers, under their limits and budget; a check or a
 -- dump within their limits; a replay under their limits; an explanation of the schedule file, if one is named; a script

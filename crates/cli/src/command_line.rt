@@ -130,6 +130,20 @@ fn with<'a>(form: Result<Command<'a>, AllocError>, arg: Arg<'a>) -> Result<Comma
     form.arg(arg)
 }
 
+/// A form with its first argument, which must be given, and what help says of each of them.
+fn form_on<'a>(
+    alloc: Global,
+    name: &'a str,
+    about: &'a str,
+    argument: &'a str,
+    help: &'a str,
+) -> Result<Command<'a>, AllocError>
+    ensures { IfOk result (IsForm name.entry.now (needed argument.entry.now ∷ [])) }
+{
+    let form = named(alloc, name, about);
+    with(Ok(form), needed(alloc, argument, help))
+}
+
 /// A form with `--limits LIMITS`.
 fn limited<'a>(
     alloc: Global,
@@ -182,34 +196,44 @@ fn working<'a>(
 fn run_form<'a>(alloc: Global) -> Result<Command<'a>, AllocError>
     ensures { IfOk result (IsForm (codes "run") run_arguments) }
 {
-    let form = named(alloc, "run", "Runs a script and prints its replies");
-    working(alloc, with(Ok(form), needed(alloc, "FILE", "The script")))
+    let form = form_on(
+        alloc,
+        "run",
+        "Runs a script and prints its replies",
+        "FILE",
+        "The script",
+    );
+    working(alloc, form)
 }
 
 /// The form `check FILE [--limits LIMITS]`.
 fn check_form<'a>(alloc: Global) -> Result<Command<'a>, AllocError>
     ensures { IfOk result (IsForm (codes "check") check_arguments) }
 {
-    let form = named(
+    let form = form_on(
         alloc,
         "check",
         "Checks a source and prints ok or its first fault",
+        "FILE",
+        "The source, in OpenCL C",
     );
-    limited(
-        alloc,
-        with(Ok(form), needed(alloc, "FILE", "The source, in OpenCL C")),
-    )
+    limited(alloc, form)
 }
 
 /// The form `dump FILE KERNEL [--limits LIMITS]`.
 fn dump_form<'a>(alloc: Global) -> Result<Command<'a>, AllocError>
     ensures { IfOk result (IsForm (codes "dump") dump_arguments) }
 {
-    let form = named(alloc, "dump", "Prints the register code of a kernel");
-    let with_file = with(Ok(form), needed(alloc, "FILE", "The source, in OpenCL C"));
+    let form = form_on(
+        alloc,
+        "dump",
+        "Prints the register code of a kernel",
+        "FILE",
+        "The source, in OpenCL C",
+    );
     limited(
         alloc,
-        with(with_file, needed(alloc, "KERNEL", "The kernel's name")),
+        with(form, needed(alloc, "KERNEL", "The kernel's name")),
     )
 }
 
@@ -217,18 +241,19 @@ fn dump_form<'a>(alloc: Global) -> Result<Command<'a>, AllocError>
 fn replay_form<'a>(alloc: Global) -> Result<Command<'a>, AllocError>
     ensures { IfOk result (IsForm (codes "replay") replay_arguments) }
 {
-    let form = named(
+    let form = form_on(
         alloc,
         "replay",
         "Replays a schedule and prints whether it leads to its fault",
+        "SCRIPT",
+        "The script",
     );
-    let with_script = with(Ok(form), needed(alloc, "SCRIPT", "The script"));
     let schedule = needed(
         alloc,
         "SCHEDULE",
         "The schedule file: a line `ticket T`, and a fault's line",
     );
-    limited(alloc, with(with_script, schedule))
+    limited(alloc, with(form, schedule))
 }
 
 /// The form `serve [--workers N] [--budget N] [--limits LIMITS]`.
@@ -258,15 +283,16 @@ fn formatted<'a>(
 fn explained<'a>(alloc: Global) -> Result<Command<'a>, AllocError>
     ensures { IfOk result (IsForm (codes "explain") explained) }
 {
-    let form = named(
+    let form = form_on(
         alloc,
         "explain",
         "Explains a fault: where in the source, in whose ids, and how it comes about",
+        "SCRIPT",
+        "The script",
     );
-    let with_script = with(Ok(form), needed(alloc, "SCRIPT", "The script"));
     formatted(
         alloc,
-        with(with_script, some_schedule(alloc)),
+        with(form, some_schedule(alloc)),
         "How the explanation is written: text or json",
     )
 }
@@ -294,19 +320,16 @@ fn version_form<'a>(alloc: Global) -> Result<Command<'a>, AllocError>
 fn widen_form<'a>(alloc: Global) -> Result<Command<'a>, AllocError>
     ensures { IfOk result (IsForm (codes "widen") widen_arguments) }
 {
-    let form = named(
+    let form = form_on(
         alloc,
         "widen",
         "Runs a script and tells for which bytes and numbers its replies hold",
+        "SCRIPT",
+        "The script",
     );
-    let with_script = with(Ok(form), needed(alloc, "SCRIPT", "The script"));
     limited(
         alloc,
-        formatted(
-            alloc,
-            with_script,
-            "How the replies are written: text or json",
-        ),
+        formatted(alloc, form, "How the replies are written: text or json"),
     )
 }
 

@@ -1,6 +1,6 @@
-use Rattle.std.proofs.Common.{[], codes}
+use Rattle.std.proofs.Common.{[], ◌∷◌, codes}
 use Rattle.cli.specs.CommandLine.{file}
 use Rattle.cli.proofs.command_line.check_form.Goals as goal
 
 pub returns : goal.returns
-returns c = c.limited.ensures (codes "check") _ (c.with.ensures (codes "check") [] file c.named-form.ensures c.needed.ensures)
+returns c = c.limited.ensures (codes "check") (file ∷ []) c.form_on-form.ensures

@@ -4,6 +4,5 @@ use Rattle.cli.proofs.command_line.explained.Goals as goal
 
 pub returns : goal.returns
 returns c =
-    let with_script = c.with-with_script.ensures (codes "explain") [] script c.named-form.ensures c.needed.ensures in
-    let with_schedule = c.with.ensures (codes "explain") (script ∷ []) some_schedule with_script c.some_schedule.ensures in
+    let with_schedule = c.with.ensures (codes "explain") (script ∷ []) some_schedule c.form_on-form.ensures c.some_schedule.ensures in
     c.formatted.ensures (codes "explain") (script ∷ some_schedule ∷ []) with_schedule

@@ -1,6 +1,6 @@
-use Rattle.std.proofs.Common.{[], codes}
+use Rattle.std.proofs.Common.{[], ◌∷◌, codes}
 use Rattle.cli.specs.CommandLine.{file}
 use Rattle.cli.proofs.command_line.run_form.Goals as goal
 
 pub returns : goal.returns
-returns c = c.working.ensures (codes "run") _ (c.with.ensures (codes "run") [] file c.named-form.ensures c.needed.ensures)
+returns c = c.working.ensures (codes "run") (file ∷ []) c.form_on-form.ensures
