@@ -1,12 +1,13 @@
 -- What the proofs of the command line cite.
-use Rattle.std.proofs.Common.{◌≡◌, ◌≤◌, ◌<◌, ◌+◌, ◌^◌, ◌∙◌, ◌⊎◌, ◌↔◌, ◌==◌, IsSome, subst, sym, ap, refl, inl, inr, arith, false, Box, ℕ, Bool, List, [], ◌∷◌, Option, Some, None, Result, Ok, Err, option_map, codes, slice_index}
+use Rattle.std.proofs.Common.{◌≡◌, ◌≤◌, ◌<◌, ◌+◌, ◌^◌, ◌∙◌, ◌⊎◌, ◌↔◌, ◌==◌, IsSome, subst, sym, ap, refl, inl, inr, arith, append_assoc, false, true, Box, ℕ, Bool, List, [], ◌∷◌, ◌++◌, Option, Some, None, Result, Ok, Err, option_map, codes, slice_index}
 use Rattle.std.proofs.lemmas.Bool.{false≢true}
-use Rattle.std.specs.Prelude.{IfOk}
+use Rattle.std.specs.Prelude.{IfOk, ◌||◌}
 use Rattle.std.specs.Str.{bytes_eq}
 use Rattle.std.specs.Str.Parse.{ParsesUnsigned}
 use Rattle.std.specs.Box.{box_value}
 use Rattle.clap.specs.Kinds.{Kinds, HasKind, IsAmong, or_else}
-use Rattle.clap.specs.Words.{App, Rule, Row, Text, TriesOne, with_rule, first_of, fault_of, found_of, kind_of, rows_of, subcommand_of, subcommand_name_of, subcommand_rows, subcommand_rows_of}
+use Rattle.clap.specs.Words.{AddsArg, AddsSubcommand, App, Rule, Row, Shape, Text, TriesOne, app_of, first_of, fault_of, is_simple, is_simple_and_free, kind_of, rule_of, shape_of, subcommand_of, subcommand_name_of, subcommand_rows, subcommand_rows_of, with_rule, with_subcommand}
+use Rattle.clap.specs.declared.builder.arg.Arg.{Arg}
 use Rattle.clap.specs.declared.builder.command.Command.{Command}
 use Rattle.clap.specs.declared.error.Error.{Error}
 use Rattle.clap.specs.declared.error.kind.ErrorKind.{ErrorKind}
@@ -18,11 +19,55 @@ use Rattle.cli.specs.declared.command_line.Invocation.{Invocation}
 use Rattle.cli.specs.declared.command_line.Invocation.TheVariants as invocation
 use Rattle.limits.specs.declared.Configuration.{Configuration}
 use Rattle.limits.specs.declared.Limits.{Limits}
-use Rattle.cli.specs.CommandLine.{IsForm, AreLimits, GivesBudget, GivesConfiguration, GivesFormat, GivesLimits, GivesWorkers, IsFormat, IsNumber, IsRun, IsCheck, IsDump, IsReplay, IsServe, IsExplain, IsVersion, IsRefused, Reads, Holds, program}
+use Rattle.cli.specs.CommandLine.{AreForms, IsArgument, IsForm, all_forms, alone, as_given, form_of, needed, number, option, program, program_of, some_schedule, AreLimits, GivesBudget, GivesConfiguration, GivesFormat, GivesLimits, GivesWorkers, IsFormat, IsNumber, AsksBy, IsRefused, Reads, Holds}
 
--- a form with one more argument, by the rule of that one
-pub by_rule : {E : Type 0} {a b : Rule} (old : App) (made : Result Command E) → a ≡ b → IfOk made (IsForm (with_rule old a)) → IfOk made (IsForm (with_rule old b))
-by_rule {E} old made same h = subst (λ (r : Rule). IfOk made (IsForm (with_rule old r))) same h
+-- what holds of the value that was made
+pub of_made : {T E : Type 0} (P : T → Type 0) (made : Result T E) (x : T) → made ≡ Ok x → IfOk made P → P x
+of_made {T} {E} P made x is holds = subst (λ (m : Result T E). IfOk m P) is holds
+
+-- a form with one more argument
+pub has_argument : {E : Type 0} (name : Text) (arguments : List Rule) (rule : Rule) (old : Command) (argument : Arg) (made : Result Command E)
+    → IsForm name arguments old → IsArgument rule argument → IfOk made (AddsArg old argument) → IfOk made (IsForm name (arguments ++ rule ∷ []))
+unfolding form_of
+has_argument name arguments rule old argument (Err e) form fits adds = tt
+has_argument name arguments rule old argument (Ok new) form fits adds = record {
+  is = adds.shape fits.local ∙ (ap (λ (a : App). with_rule a (rule_of argument)) form.is ∙ ap (λ (r : Rule). with_rule (alone (form_of name arguments)) r) fits.is);
+  local = adds.globals ∙ (ap (λ (b : Bool). b || argument.global) form.local ∙ fits.local);
+}
+
+-- a form with one group of arguments, and then with another
+pub has_both : {E : Type 0} (name : Text) (arguments first second : List Rule) (made : Result Command E)
+    → IfOk made (IsForm name ((arguments ++ first) ++ second)) → IfOk made (IsForm name (arguments ++ (first ++ second)))
+has_both {E} name arguments first second made holds = subst (λ (all : List Rule). IfOk made (IsForm name all)) (append_assoc arguments first second) holds
+
+more_forms : (so_far : List Shape) (form : Shape) → with_subcommand (program_of so_far) form ≡ program_of (so_far ++ form ∷ [])
+unfolding program_of
+more_forms [] form = refl
+more_forms (first ∷ more) form = refl
+
+-- forms with one more
+pub has_form : {E : Type 0} (so_far : List Shape) (name : Text) (arguments : List Rule) (old form : Command) (made : Result Command E)
+    → AreForms so_far old → IsForm name arguments form → IfOk made (AddsSubcommand old form) → IfOk made (AreForms (so_far ++ form_of name arguments ∷ []))
+has_form so_far name arguments old form (Err e) are is adds = tt
+has_form so_far name arguments old form (Ok new) are is adds = record {
+  are = adds.shape is.local ∙ (ap (λ (a : App). with_subcommand a (shape_of form)) are.are
+      ∙ (ap (λ (a : App). with_subcommand (program_of so_far) a.top) is.is ∙ more_forms so_far (form_of name arguments)));
+}
+
+-- all the forms are the program
+pub are_program : (forms : Command) → AreForms all_forms forms → app_of forms ≡ program
+unfolding program
+are_program forms are = are.are
+
+-- the matches of the program are known
+pub simple_program : is_simple program ≡ true
+unfolding program program_of form_of needed option number some_schedule as_given
+simple_program = refl
+
+-- so are the faults of its words
+pub free_program : is_simple_and_free program ≡ true
+unfolding program program_of form_of needed option number some_schedule as_given
+free_program = refl
 
 -- no option was read where it isn't there
 pub no_option : {E : Type 0} (absent most : ℕ) (G : List ℕ → Result ℕ E → Type 0) (o : Option Text) (read : Option ℕ) → read ≡ None
@@ -107,58 +152,11 @@ differ {P} {a} {b} same apart =
     let eq : key a ≡ key b = ap key same in
     absurd (grind (arith, eq, apart))
 
-by_form : {P : Type 0} (name : Text) (rows : List Row) (asked : Invocation) → Holds (Some (name, rows)) asked → (name ≡ codes "run" → IsRun rows asked → P)
-    → (name ≡ codes "check" → IsCheck rows asked → P) → (name ≡ codes "dump" → IsDump rows asked → P) → (name ≡ codes "replay" → IsReplay rows asked → P)
-    → (name ≡ codes "serve" → IsServe rows asked → P) → (name ≡ codes "explain" → IsExplain rows asked → P) → (name ≡ codes "version" → IsVersion rows asked → P) → P
-by_form name rows asked (inl h) run check dump replay serve explain version = run h.0 h.1
-by_form name rows asked (inr (inl h)) run check dump replay serve explain version = check h.0 h.1
-by_form name rows asked (inr (inr (inl h))) run check dump replay serve explain version = dump h.0 h.1
-by_form name rows asked (inr (inr (inr (inl h)))) run check dump replay serve explain version = replay h.0 h.1
-by_form name rows asked (inr (inr (inr (inr (inl h))))) run check dump replay serve explain version = serve h.0 h.1
-by_form name rows asked (inr (inr (inr (inr (inr (inl h)))))) run check dump replay serve explain version = explain h.0 h.1
-by_form name rows asked (inr (inr (inr (inr (inr (inr h)))))) run check dump replay serve explain version = version h.0 h.1
-
 -- what the form of a name reads is what the matches hold
-reads_form : (m : ArgMatches) (name : Text) (rows : List Row) (Is : List Row → Invocation → Type 0) (read : Option Invocation) → subcommand_name_of m ≡ Some name
-    → option_map (λ p. p.1) (subcommand_rows_of m) ≡ Some rows → ((asked : Invocation) → Is rows asked → Holds (Some (name, rows)) asked)
-    → ((asked : Invocation) → Holds (Some (name, rows)) asked → Is rows asked) → Reads (Is rows) read → Reads (Holds (subcommand_rows_of m)) read
-reads_form m name rows Is None named held to from none = λ asked h. none asked (from asked (subst (λ (o : Option (Text × List Row)). Holds o asked) (rows_named m name rows named held) h))
-reads_form m name rows Is (Some asked) named held to from is = subst (λ (o : Option (Text × List Row)). Holds o asked) (sym (rows_named m name rows named held)) (to asked is)
-
-pub reads_run : (m : ArgMatches) (rows : List Row) (read : Option Invocation) → subcommand_name_of m ≡ Some (codes "run")
-    → option_map (λ p. p.1) (subcommand_rows_of m) ≡ Some rows → Reads (IsRun rows) read → Reads (Holds (subcommand_rows_of m)) read
-reads_run m rows read named held = reads_form m (codes "run") rows IsRun read named held (λ asked is. inl (refl, is))
-    (λ asked h. by_form (codes "run") rows asked h (λ e is. is) (λ e is. differ e refl) (λ e is. differ e refl) (λ e is. differ e refl) (λ e is. differ e refl) (λ e is. differ e refl) (λ e is. differ e refl))
-
-pub reads_check : (m : ArgMatches) (rows : List Row) (read : Option Invocation) → subcommand_name_of m ≡ Some (codes "check")
-    → option_map (λ p. p.1) (subcommand_rows_of m) ≡ Some rows → Reads (IsCheck rows) read → Reads (Holds (subcommand_rows_of m)) read
-reads_check m rows read named held = reads_form m (codes "check") rows IsCheck read named held (λ asked is. inr (inl (refl, is)))
-    (λ asked h. by_form (codes "check") rows asked h (λ e is. differ e refl) (λ e is. is) (λ e is. differ e refl) (λ e is. differ e refl) (λ e is. differ e refl) (λ e is. differ e refl) (λ e is. differ e refl))
-
-pub reads_dump : (m : ArgMatches) (rows : List Row) (read : Option Invocation) → subcommand_name_of m ≡ Some (codes "dump")
-    → option_map (λ p. p.1) (subcommand_rows_of m) ≡ Some rows → Reads (IsDump rows) read → Reads (Holds (subcommand_rows_of m)) read
-reads_dump m rows read named held = reads_form m (codes "dump") rows IsDump read named held (λ asked is. inr (inr (inl (refl, is))))
-    (λ asked h. by_form (codes "dump") rows asked h (λ e is. differ e refl) (λ e is. differ e refl) (λ e is. is) (λ e is. differ e refl) (λ e is. differ e refl) (λ e is. differ e refl) (λ e is. differ e refl))
-
-pub reads_replay : (m : ArgMatches) (rows : List Row) (read : Option Invocation) → subcommand_name_of m ≡ Some (codes "replay")
-    → option_map (λ p. p.1) (subcommand_rows_of m) ≡ Some rows → Reads (IsReplay rows) read → Reads (Holds (subcommand_rows_of m)) read
-reads_replay m rows read named held = reads_form m (codes "replay") rows IsReplay read named held (λ asked is. inr (inr (inr (inl (refl, is)))))
-    (λ asked h. by_form (codes "replay") rows asked h (λ e is. differ e refl) (λ e is. differ e refl) (λ e is. differ e refl) (λ e is. is) (λ e is. differ e refl) (λ e is. differ e refl) (λ e is. differ e refl))
-
-pub reads_serve : (m : ArgMatches) (rows : List Row) (read : Option Invocation) → subcommand_name_of m ≡ Some (codes "serve")
-    → option_map (λ p. p.1) (subcommand_rows_of m) ≡ Some rows → Reads (IsServe rows) read → Reads (Holds (subcommand_rows_of m)) read
-reads_serve m rows read named held = reads_form m (codes "serve") rows IsServe read named held (λ asked is. inr (inr (inr (inr (inl (refl, is))))))
-    (λ asked h. by_form (codes "serve") rows asked h (λ e is. differ e refl) (λ e is. differ e refl) (λ e is. differ e refl) (λ e is. differ e refl) (λ e is. is) (λ e is. differ e refl) (λ e is. differ e refl))
-
-pub reads_explain : (m : ArgMatches) (rows : List Row) (read : Option Invocation) → subcommand_name_of m ≡ Some (codes "explain")
-    → option_map (λ p. p.1) (subcommand_rows_of m) ≡ Some rows → Reads (IsExplain rows) read → Reads (Holds (subcommand_rows_of m)) read
-reads_explain m rows read named held = reads_form m (codes "explain") rows IsExplain read named held (λ asked is. inr (inr (inr (inr (inr (inl (refl, is)))))))
-    (λ asked h. by_form (codes "explain") rows asked h (λ e is. differ e refl) (λ e is. differ e refl) (λ e is. differ e refl) (λ e is. differ e refl) (λ e is. differ e refl) (λ e is. is) (λ e is. differ e refl))
-
-pub reads_version : (m : ArgMatches) (rows : List Row) (read : Option Invocation) → subcommand_name_of m ≡ Some (codes "version")
-    → option_map (λ p. p.1) (subcommand_rows_of m) ≡ Some rows → Reads (IsVersion rows) read → Reads (Holds (subcommand_rows_of m)) read
-reads_version m rows read named held = reads_form m (codes "version") rows IsVersion read named held (λ asked is. inr (inr (inr (inr (inr (inr (refl, is)))))))
-    (λ asked h. by_form (codes "version") rows asked h (λ e is. differ e refl) (λ e is. differ e refl) (λ e is. differ e refl) (λ e is. differ e refl) (λ e is. differ e refl) (λ e is. differ e refl) (λ e is. is))
+pub reads_form : (m : ArgMatches) (name : Text) (rows : List Row) (read : Option Invocation) → subcommand_name_of m ≡ Some name
+    → option_map (λ p. p.1) (subcommand_rows_of m) ≡ Some rows → Reads (AsksBy name rows) read → Reads (Holds (subcommand_rows_of m)) read
+reads_form m name rows None named held none = λ asked h. none asked (subst (λ (o : Option (Text × List Row)). Holds o asked) (rows_named m name rows named held) h)
+reads_form m name rows (Some asked) named held is = subst (λ (o : Option (Text × List Row)). Holds o asked) (sym (rows_named m name rows named held)) is
 
 -- the limits that are named by a text are one
 pub same_limits : (named : Option Text) (limits other : Limits) → AreLimits named limits → AreLimits named other → limits ≡ other
@@ -175,73 +173,93 @@ no_budget rows limits named none configuration is =
     none configuration.budget (subst (λ (l : Limits). GivesBudget rows l configuration.budget) (same_limits (first_of (codes "limits") rows) configuration.limits limits is.0 named) is.1)
 
 -- what a command has from its matches
-pub run_parts : (rows : List Row) (asked : Invocation) → IsRun rows asked
+pub run_parts : (rows : List Row) (asked : Invocation) → AsksBy (codes "run") rows asked
     → (path : Text) × (w : ℕ) × (configuration : Configuration) × (first_of (codes "FILE") rows ≡ Some path) × GivesWorkers rows w × GivesConfiguration rows configuration
-run_parts rows (invocation.Run path options) is = (path.now, options.workers, options.configuration, is.0, is.1, is.2)
-run_parts rows (invocation.Check path limits) is = absurd is
-run_parts rows (invocation.Dump path name limits) is = absurd is
-run_parts rows (invocation.Replay script schedule configuration) is = absurd is
-run_parts rows (invocation.Serve options) is = absurd is
-run_parts rows (invocation.Explain script schedule wish) is = absurd is
-run_parts rows (invocation.Version json) is = absurd is
+run_parts rows (invocation.Run path options) is = (path.now, options.workers, options.configuration, is.1.0, is.1.1, is.1.2)
+run_parts rows (invocation.Check path limits) is = differ is.0 refl
+run_parts rows (invocation.Dump path name limits) is = differ is.0 refl
+run_parts rows (invocation.Replay script schedule configuration) is = differ is.0 refl
+run_parts rows (invocation.Serve options) is = differ is.0 refl
+run_parts rows (invocation.Explain script schedule wish) is = differ is.0 refl
+run_parts rows (invocation.Version json) is = differ is.0 refl
+run_parts rows (invocation.Widen script json limits) is = differ is.0 refl
 
-pub check_parts : (rows : List Row) (asked : Invocation) → IsCheck rows asked
+pub check_parts : (rows : List Row) (asked : Invocation) → AsksBy (codes "check") rows asked
     → (path : Text) × (limits : Limits) × (first_of (codes "FILE") rows ≡ Some path) × GivesLimits rows limits
-check_parts rows (invocation.Run path options) is = absurd is
-check_parts rows (invocation.Check path limits) is = (path.now, limits, is.0, is.1)
-check_parts rows (invocation.Dump path name limits) is = absurd is
-check_parts rows (invocation.Replay script schedule configuration) is = absurd is
-check_parts rows (invocation.Serve options) is = absurd is
-check_parts rows (invocation.Explain script schedule wish) is = absurd is
-check_parts rows (invocation.Version json) is = absurd is
+check_parts rows (invocation.Run path options) is = differ is.0 refl
+check_parts rows (invocation.Check path limits) is = (path.now, limits, is.1.0, is.1.1)
+check_parts rows (invocation.Dump path name limits) is = differ is.0 refl
+check_parts rows (invocation.Replay script schedule configuration) is = differ is.0 refl
+check_parts rows (invocation.Serve options) is = differ is.0 refl
+check_parts rows (invocation.Explain script schedule wish) is = differ is.0 refl
+check_parts rows (invocation.Version json) is = differ is.0 refl
+check_parts rows (invocation.Widen script json limits) is = differ is.0 refl
 
-pub dump_parts : (rows : List Row) (asked : Invocation) → IsDump rows asked
+pub dump_parts : (rows : List Row) (asked : Invocation) → AsksBy (codes "dump") rows asked
     → (path name : Text) × (limits : Limits) × (first_of (codes "FILE") rows ≡ Some path) × (first_of (codes "KERNEL") rows ≡ Some name) × GivesLimits rows limits
-dump_parts rows (invocation.Run path options) is = absurd is
-dump_parts rows (invocation.Check path limits) is = absurd is
-dump_parts rows (invocation.Dump path name limits) is = (path.now, name.now, limits, is.0, is.1, is.2)
-dump_parts rows (invocation.Replay script schedule configuration) is = absurd is
-dump_parts rows (invocation.Serve options) is = absurd is
-dump_parts rows (invocation.Explain script schedule wish) is = absurd is
-dump_parts rows (invocation.Version json) is = absurd is
+dump_parts rows (invocation.Run path options) is = differ is.0 refl
+dump_parts rows (invocation.Check path limits) is = differ is.0 refl
+dump_parts rows (invocation.Dump path name limits) is = (path.now, name.now, limits, is.1.0, is.1.1, is.1.2)
+dump_parts rows (invocation.Replay script schedule configuration) is = differ is.0 refl
+dump_parts rows (invocation.Serve options) is = differ is.0 refl
+dump_parts rows (invocation.Explain script schedule wish) is = differ is.0 refl
+dump_parts rows (invocation.Version json) is = differ is.0 refl
+dump_parts rows (invocation.Widen script json limits) is = differ is.0 refl
 
-pub replay_parts : (rows : List Row) (asked : Invocation) → IsReplay rows asked
+pub replay_parts : (rows : List Row) (asked : Invocation) → AsksBy (codes "replay") rows asked
     → (script schedule : Text) × (limits : Limits) × (first_of (codes "SCRIPT") rows ≡ Some script) × (first_of (codes "SCHEDULE") rows ≡ Some schedule) × GivesLimits rows limits
-replay_parts rows (invocation.Run path options) is = absurd is
-replay_parts rows (invocation.Check path limits) is = absurd is
-replay_parts rows (invocation.Dump path name limits) is = absurd is
-replay_parts rows (invocation.Replay script schedule configuration) is = (script.now, schedule.now, configuration.limits, is.0, is.1, is.2.0)
-replay_parts rows (invocation.Serve options) is = absurd is
-replay_parts rows (invocation.Explain script schedule wish) is = absurd is
-replay_parts rows (invocation.Version json) is = absurd is
+replay_parts rows (invocation.Run path options) is = differ is.0 refl
+replay_parts rows (invocation.Check path limits) is = differ is.0 refl
+replay_parts rows (invocation.Dump path name limits) is = differ is.0 refl
+replay_parts rows (invocation.Replay script schedule configuration) is = (script.now, schedule.now, configuration.limits, is.1.0, is.1.1, is.1.2.0)
+replay_parts rows (invocation.Serve options) is = differ is.0 refl
+replay_parts rows (invocation.Explain script schedule wish) is = differ is.0 refl
+replay_parts rows (invocation.Version json) is = differ is.0 refl
+replay_parts rows (invocation.Widen script json limits) is = differ is.0 refl
 
-pub serve_parts : (rows : List Row) (asked : Invocation) → IsServe rows asked → (w : ℕ) × (configuration : Configuration) × GivesWorkers rows w × GivesConfiguration rows configuration
-serve_parts rows (invocation.Run path options) is = absurd is
-serve_parts rows (invocation.Check path limits) is = absurd is
-serve_parts rows (invocation.Dump path name limits) is = absurd is
-serve_parts rows (invocation.Replay script schedule configuration) is = absurd is
-serve_parts rows (invocation.Serve options) is = (options.workers, options.configuration, is.0, is.1)
-serve_parts rows (invocation.Explain script schedule wish) is = absurd is
-serve_parts rows (invocation.Version json) is = absurd is
+pub serve_parts : (rows : List Row) (asked : Invocation) → AsksBy (codes "serve") rows asked
+    → (w : ℕ) × (configuration : Configuration) × GivesWorkers rows w × GivesConfiguration rows configuration
+serve_parts rows (invocation.Run path options) is = differ is.0 refl
+serve_parts rows (invocation.Check path limits) is = differ is.0 refl
+serve_parts rows (invocation.Dump path name limits) is = differ is.0 refl
+serve_parts rows (invocation.Replay script schedule configuration) is = differ is.0 refl
+serve_parts rows (invocation.Serve options) is = (options.workers, options.configuration, is.1.0, is.1.1)
+serve_parts rows (invocation.Explain script schedule wish) is = differ is.0 refl
+serve_parts rows (invocation.Version json) is = differ is.0 refl
+serve_parts rows (invocation.Widen script json limits) is = differ is.0 refl
 
-pub explain_parts : (rows : List Row) (asked : Invocation) → IsExplain rows asked
+pub explain_parts : (rows : List Row) (asked : Invocation) → AsksBy (codes "explain") rows asked
     → (script : Text) × (configuration : Configuration) × (json : Bool) × (first_of (codes "SCRIPT") rows ≡ Some script) × GivesConfiguration rows configuration × GivesFormat rows json
-explain_parts rows (invocation.Run path options) is = absurd is
-explain_parts rows (invocation.Check path limits) is = absurd is
-explain_parts rows (invocation.Dump path name limits) is = absurd is
-explain_parts rows (invocation.Replay script schedule configuration) is = absurd is
-explain_parts rows (invocation.Serve options) is = absurd is
-explain_parts rows (invocation.Explain script schedule wish) is = (script.now, wish.configuration, wish.json, is.0, is.2, is.3)
-explain_parts rows (invocation.Version json) is = absurd is
+explain_parts rows (invocation.Run path options) is = differ is.0 refl
+explain_parts rows (invocation.Check path limits) is = differ is.0 refl
+explain_parts rows (invocation.Dump path name limits) is = differ is.0 refl
+explain_parts rows (invocation.Replay script schedule configuration) is = differ is.0 refl
+explain_parts rows (invocation.Serve options) is = differ is.0 refl
+explain_parts rows (invocation.Explain script schedule wish) is = (script.now, wish.configuration, wish.json, is.1.0, is.1.2, is.1.3)
+explain_parts rows (invocation.Version json) is = differ is.0 refl
+explain_parts rows (invocation.Widen script json limits) is = differ is.0 refl
 
-pub version_parts : (rows : List Row) (asked : Invocation) → IsVersion rows asked → (json : Bool) × GivesFormat rows json
-version_parts rows (invocation.Run path options) is = absurd is
-version_parts rows (invocation.Check path limits) is = absurd is
-version_parts rows (invocation.Dump path name limits) is = absurd is
-version_parts rows (invocation.Replay script schedule configuration) is = absurd is
-version_parts rows (invocation.Serve options) is = absurd is
-version_parts rows (invocation.Explain script schedule wish) is = absurd is
-version_parts rows (invocation.Version json) is = (json, is)
+pub version_parts : (rows : List Row) (asked : Invocation) → AsksBy (codes "version") rows asked
+    → (json : Bool) × GivesFormat rows json
+version_parts rows (invocation.Run path options) is = differ is.0 refl
+version_parts rows (invocation.Check path limits) is = differ is.0 refl
+version_parts rows (invocation.Dump path name limits) is = differ is.0 refl
+version_parts rows (invocation.Replay script schedule configuration) is = differ is.0 refl
+version_parts rows (invocation.Serve options) is = differ is.0 refl
+version_parts rows (invocation.Explain script schedule wish) is = differ is.0 refl
+version_parts rows (invocation.Version json) is = (json, is.1)
+version_parts rows (invocation.Widen script json limits) is = differ is.0 refl
+
+pub widen_parts : (rows : List Row) (asked : Invocation) → AsksBy (codes "widen") rows asked
+    → (script : Text) × (json : Bool) × (limits : Limits) × (first_of (codes "SCRIPT") rows ≡ Some script) × GivesFormat rows json × GivesLimits rows limits
+widen_parts rows (invocation.Run path options) is = differ is.0 refl
+widen_parts rows (invocation.Check path limits) is = differ is.0 refl
+widen_parts rows (invocation.Dump path name limits) is = differ is.0 refl
+widen_parts rows (invocation.Replay script schedule configuration) is = differ is.0 refl
+widen_parts rows (invocation.Serve options) is = differ is.0 refl
+widen_parts rows (invocation.Explain script schedule wish) is = differ is.0 refl
+widen_parts rows (invocation.Version json) is = differ is.0 refl
+widen_parts rows (invocation.Widen script json limits) is = (script.now, json, limits, is.1.0, is.1.1, is.1.2)
 
 pub not_there : {A : Type 0} (o : Option A) (x : A) → o ≡ None → ¬ (o ≡ Some x)
 not_there o x none some = let bad : None ≡ Some x = sym none ∙ some in cc
@@ -255,7 +273,7 @@ not_found (Some a) name m missing found named = missing a refl
 -- matches of no form hold nothing
 pub holds_nothing : (m : ArgMatches) → ¬ (subcommand_name_of m ≡ Some (codes "run")) → ¬ (subcommand_name_of m ≡ Some (codes "check")) → ¬ (subcommand_name_of m ≡ Some (codes "dump"))
     → ¬ (subcommand_name_of m ≡ Some (codes "replay")) → ¬ (subcommand_name_of m ≡ Some (codes "serve")) → ¬ (subcommand_name_of m ≡ Some (codes "explain"))
-    → ¬ (subcommand_name_of m ≡ Some (codes "version")) → (asked : Invocation) → ¬ Holds (subcommand_rows_of m) asked
+    → ¬ (subcommand_name_of m ≡ Some (codes "version")) → ¬ (subcommand_name_of m ≡ Some (codes "widen")) → (asked : Invocation) → ¬ Holds (subcommand_rows_of m) asked
 holds_nothing m = go (out-ArgMatches m).subcommand
   where
     named : {Z : Type 0} → Option (Box SubCommand Z) → Option Text
@@ -263,11 +281,16 @@ holds_nothing m = go (out-ArgMatches m).subcommand
 
     go : {Z : Type 0} (o : Option (Box SubCommand Z)) → ¬ (named o ≡ Some (codes "run")) → ¬ (named o ≡ Some (codes "check")) → ¬ (named o ≡ Some (codes "dump"))
         → ¬ (named o ≡ Some (codes "replay")) → ¬ (named o ≡ Some (codes "serve")) → ¬ (named o ≡ Some (codes "explain")) → ¬ (named o ≡ Some (codes "version"))
-        → (asked : Invocation) → ¬ Holds (subcommand_rows o) asked
-    go None run check dump replay serve explain version asked h = h
-    go (Some b) run check dump replay serve explain version asked h =
-        by_form (out-SubCommand (box_value b)).name.now (rows_of (found_of (out-SubCommand (box_value b)).matches)) asked h (λ e _. run (ap Some e)) (λ e _. check (ap Some e))
-        (λ e _. dump (ap Some e)) (λ e _. replay (ap Some e)) (λ e _. serve (ap Some e)) (λ e _. explain (ap Some e)) (λ e _. version (ap Some e))
+        → ¬ (named o ≡ Some (codes "widen")) → (asked : Invocation) → ¬ Holds (subcommand_rows o) asked
+    go None run check dump replay serve explain version widen asked h = h
+    go (Some b) run check dump replay serve explain version widen (invocation.Run path options) h = run (ap Some h.0)
+    go (Some b) run check dump replay serve explain version widen (invocation.Check path limits) h = check (ap Some h.0)
+    go (Some b) run check dump replay serve explain version widen (invocation.Dump path name limits) h = dump (ap Some h.0)
+    go (Some b) run check dump replay serve explain version widen (invocation.Replay script schedule configuration) h = replay (ap Some h.0)
+    go (Some b) run check dump replay serve explain version widen (invocation.Serve options) h = serve (ap Some h.0)
+    go (Some b) run check dump replay serve explain version widen (invocation.Explain script schedule wish) h = explain (ap Some h.0)
+    go (Some b) run check dump replay serve explain version widen (invocation.Version json) h = version (ap Some h.0)
+    go (Some b) run check dump replay serve explain version widen (invocation.Widen script json limits) h = widen (ap Some h.0)
 
 -- ---- refusals
 

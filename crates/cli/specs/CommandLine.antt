@@ -3,9 +3,10 @@ use Rattle.std.specs.Prelude.{◌≡◌, ◌⊎◌, ◌≤◌, ℕ, Bool, true, 
 use Rattle.std.specs.Option.{MatchOption}
 use Rattle.std.specs.Str.Parse.{IsNumeral, digits_value, without_leading_plus}
 use Rattle.clap.specs.Kinds.{or_else}
-use Rattle.clap.specs.Simple.{on_top}
-use Rattle.clap.specs.Words.{App, Rule, Row, Text, IsAmong, app_of, new_app, new_rule, with_rule, with_subcommand, subcommand_of, first_of, one_of, kind_of, fault_of}
+use Rattle.clap.specs.Simple.{new_shape, on_top}
+use Rattle.clap.specs.Words.{App, Rule, Row, Shape, Text, IsAmong, app_of, new_app, new_rule, rule_of, subcommand_of, first_of, one_of, kind_of, fault_of}
 use Rattle.clap.specs.declared.builder.action.ArgAction.TheVariants as action
+use Rattle.clap.specs.declared.builder.arg.Arg.{Arg}
 use Rattle.clap.specs.declared.builder.value_parser.ValueParser.TheVariants as parser
 use Rattle.clap.specs.declared.builder.command.Command.{Command}
 use Rattle.clap.specs.declared.builder.command.Command.TheViews.{out-Command}
@@ -17,26 +18,55 @@ use Rattle.limits.specs.Limits.{profile, large}
 use Rattle.limits.specs.declared.Configuration.{Configuration}
 use Rattle.limits.specs.declared.Limits.{Limits}
 
--- a form of these arguments, none of which is global
-pub record IsForm (shape : App) (form : Command) : Type 0 where
-  pub is : app_of form ≡ shape
+-- a form of this name with these arguments
+unfoldable pub form_of : Text → List Rule → Shape
+form_of name arguments = record (new_shape name) { rules = arguments }
+
+-- a form by itself, without forms below it
+abbrev pub alone : Shape → App
+alone form = record { top = form; subs = [] }
+
+-- a form of this name with these arguments, none of which is global
+pub record IsForm (name : Text) (arguments : List Rule) (form : Command) : Type 0 where
+  pub is : app_of form ≡ alone (form_of name arguments)
   pub local : (out-Command form).has_globals ≡ false
 
+-- an argument of this rule, which is not global
+pub record IsArgument (rule : Rule) (argument : Arg) : Type 0 where
+  pub is : rule_of argument ≡ rule
+  pub local : argument.global ≡ false
+
 -- an argument that must be given
-abbrev pub needed : Text → Rule
+unfoldable pub needed : Text → Rule
 needed name = record (new_rule name) { required = true }
 
 -- an option with a value
-abbrev pub option : Text → Rule
+unfoldable pub option : Text → Rule
 option name = record (new_rule name) { long = Some name; value_names = 1 }
 
 -- an option whose value is a number from 1 to the most
-abbrev pub number : Text → ℕ → Rule
-number name most = record (option name) { parser = Some (parser.Unsigned 1 most) }
+unfoldable pub number : Text → ℕ → Rule
+number name most = record (new_rule name) { long = Some name; value_names = 1; parser = Some (parser.Unsigned 1 most) }
 
 -- `FILE`
 abbrev pub file : Rule
 file = needed (codes "FILE")
+
+-- `KERNEL`
+abbrev pub kernel : Rule
+kernel = needed (codes "KERNEL")
+
+-- `SCRIPT`
+abbrev pub script : Rule
+script = needed (codes "SCRIPT")
+
+-- `SCHEDULE`
+abbrev pub schedule : Rule
+schedule = needed (codes "SCHEDULE")
+
+-- `SCHEDULE`, which may be left out
+unfoldable pub some_schedule : Rule
+some_schedule = new_rule (codes "SCHEDULE")
 
 -- `--workers N`, a number from 1 to 16
 abbrev pub workers : Rule
@@ -50,70 +80,79 @@ budget = number (codes "budget") 1000000
 abbrev pub limits : Rule
 limits = option (codes "limits")
 
--- what a device is made with: `--budget N` and `--limits LIMITS`
-abbrev pub configured : App → App
-configured form = with_rule (with_rule form budget) limits
-
--- the options of a run: `--workers N`, `--budget N` and `--limits LIMITS`
-abbrev pub working : App → App
-working form = configured (with_rule form workers)
-
-abbrev pub run_form : App
-run_form = working (with_rule (new_app (codes "run")) file)
-
-abbrev pub check_form : App
-check_form = with_rule (with_rule (new_app (codes "check")) file) limits
-
--- `KERNEL`
-abbrev pub kernel : Rule
-kernel = needed (codes "KERNEL")
-
-abbrev pub dump_form : App
-dump_form = with_rule (with_rule (with_rule (new_app (codes "dump")) file) kernel) limits
-
--- `SCRIPT`
-abbrev pub script : Rule
-script = needed (codes "SCRIPT")
-
--- `SCHEDULE`
-abbrev pub schedule : Rule
-schedule = needed (codes "SCHEDULE")
-
-abbrev pub replay_form : App
-replay_form = with_rule (with_rule (with_rule (new_app (codes "replay")) script) schedule) limits
-
-abbrev pub serve_form : App
-serve_form = working (new_app (codes "serve"))
-
--- `SCHEDULE`, which may be left out
-abbrev pub some_schedule : Rule
-some_schedule = new_rule (codes "SCHEDULE")
-
 -- `--format FORMAT`
 abbrev pub format : Rule
 format = option (codes "format")
 
 -- `--as-given`
-abbrev pub as_given : Rule
+unfoldable pub as_given : Rule
 as_given = record (new_rule (codes "as-given")) { long = Some (codes "as-given"); action = Some action.SetTrue }
 
-abbrev pub explain_form : App
-explain_form = with_rule (configured (with_rule (with_rule (with_rule (new_app (codes "explain")) script) some_schedule) format)) as_given
+-- what a device is made with: `--budget N` and `--limits LIMITS`
+abbrev pub configured : List Rule
+configured = budget ∷ limits ∷ []
 
-abbrev pub version_form : App
-version_form = with_rule (new_app (codes "version")) format
+-- the options of a run: `--workers N`, `--budget N` and `--limits LIMITS`
+abbrev pub working : List Rule
+working = workers ∷ configured
 
--- one of the forms must be named, but for `--version`
+-- `run FILE [--workers N] [--budget N] [--limits LIMITS]`
+abbrev pub run_arguments : List Rule
+run_arguments = file ∷ working
+
+-- `check FILE [--limits LIMITS]`
+abbrev pub check_arguments : List Rule
+check_arguments = file ∷ limits ∷ []
+
+-- `dump FILE KERNEL [--limits LIMITS]`
+abbrev pub dump_arguments : List Rule
+dump_arguments = file ∷ kernel ∷ limits ∷ []
+
+-- `replay SCRIPT SCHEDULE [--limits LIMITS]`
+abbrev pub replay_arguments : List Rule
+replay_arguments = script ∷ schedule ∷ limits ∷ []
+
+-- `serve [--workers N] [--budget N] [--limits LIMITS]`
+abbrev pub serve_arguments : List Rule
+serve_arguments = working
+
+-- what `explain` explains, and how: `SCRIPT [SCHEDULE] [--format text|json]`
+abbrev pub explained : List Rule
+explained = script ∷ some_schedule ∷ format ∷ []
+
+-- `explain SCRIPT [SCHEDULE] [--format text|json] [--budget N] [--limits LIMITS] [--as-given]`
+abbrev pub explain_arguments : List Rule
+explain_arguments = script ∷ some_schedule ∷ format ∷ budget ∷ limits ∷ as_given ∷ []
+
+-- `version [--format text|json]`
+abbrev pub version_arguments : List Rule
+version_arguments = format ∷ []
+
+-- `widen SCRIPT [--format text|json] [--limits LIMITS]`
+abbrev pub widen_arguments : List Rule
+widen_arguments = script ∷ format ∷ limits ∷ []
+
+-- the program without a form; one must be named, but for `--version`
 abbrev pub no_form : App
 no_form = on_top (λ top. record top { subcommand_required = true; has_version = true }) (new_app (codes "clsim"))
 
--- `clsim run FILE [--workers N] [--budget N] [--limits LIMITS]`, `clsim check FILE [--limits LIMITS]`,
--- `clsim dump FILE KERNEL [--limits LIMITS]`,
--- `clsim replay SCRIPT SCHEDULE [--limits LIMITS]`, `clsim serve [--workers N] [--budget N] [--limits LIMITS]`,
--- `clsim explain SCRIPT [SCHEDULE] [--format text|json] [--budget N] [--limits LIMITS] [--as-given]` or
--- `clsim version [--format text|json]`
-abbrev pub program : App
-program = with_subcommand (with_subcommand (with_subcommand (with_subcommand (with_subcommand (with_subcommand (with_subcommand no_form run_form.top) check_form.top) dump_form.top) replay_form.top) serve_form.top) explain_form.top) version_form.top
+-- the program with these forms
+unfoldable pub program_of : List Shape → App
+program_of [] = no_form
+program_of (form ∷ more) = record { top = record no_form.top { is_leaf = false }; subs = form ∷ more }
+
+-- these are the program's forms
+pub record AreForms (forms : List Shape) (command : Command) : Type 0 where
+  pub are : app_of command ≡ program_of forms
+
+-- the forms of the program
+abbrev pub all_forms : List Shape
+all_forms = form_of (codes "run") run_arguments ∷ form_of (codes "check") check_arguments ∷ form_of (codes "dump") dump_arguments
+    ∷ form_of (codes "replay") replay_arguments ∷ form_of (codes "serve") serve_arguments ∷ form_of (codes "explain") explain_arguments
+    ∷ form_of (codes "version") version_arguments ∷ form_of (codes "widen") widen_arguments ∷ []
+
+unfoldable pub program : App
+program = program_of all_forms
 
 -- what is read is asked for, and nothing is read only where nothing is asked for (own)
 abbrev pub Reads : {A : Type 0} → (A → Type 0) → Option A → Type 0
@@ -166,92 +205,44 @@ pub record IsFlag (found : Option Text) (given : Bool) : Type 0 where
 abbrev pub GivesFlag : List Row → Bool → Type 0
 GivesFlag rows given = IsFlag (one_of (codes "as-given") rows) given
 
--- a run of the file of these matches, by their workers and under their limits and budget
-abbrev pub IsRun : List Row → Invocation → Type 0
-IsRun rows (invocation.Run path options) =
+-- the name of the form by which this is asked for
+abbrev pub form_name : Invocation → Text
+form_name (invocation.Run _ _) = codes "run"
+form_name (invocation.Check _ _) = codes "check"
+form_name (invocation.Dump _ _ _) = codes "dump"
+form_name (invocation.Replay _ _ _) = codes "replay"
+form_name (invocation.Serve _) = codes "serve"
+form_name (invocation.Explain _ _ _) = codes "explain"
+form_name (invocation.Version _) = codes "version"
+form_name (invocation.Widen _ _ _) = codes "widen"
+
+-- the matches of its form give what is asked for: a run by their workers, under their limits and budget; a check or a
+-- dump within their limits; a replay under their limits; an explanation of the schedule file, if one is named; a script
+-- whose replies are widened, within their limits (own)
+abbrev pub Gives : List Row → Invocation → Type 0
+Gives rows (invocation.Run path options) =
     (first_of (codes "FILE") rows ≡ Some path.now) × GivesWorkers rows options.workers × GivesConfiguration rows options.configuration
-IsRun rows (invocation.Check path limits) = ⊥
-IsRun rows (invocation.Dump path name limits) = ⊥
-IsRun rows (invocation.Replay script schedule configuration) = ⊥
-IsRun rows (invocation.Serve options) = ⊥
-IsRun rows (invocation.Explain script schedule wish) = ⊥
-IsRun rows (invocation.Version json) = ⊥
-
--- a check of the file of these matches, within their limits
-abbrev pub IsCheck : List Row → Invocation → Type 0
-IsCheck rows (invocation.Run path options) = ⊥
-IsCheck rows (invocation.Check path limits) = (first_of (codes "FILE") rows ≡ Some path.now) × GivesLimits rows limits
-IsCheck rows (invocation.Dump path name limits) = ⊥
-IsCheck rows (invocation.Replay script schedule configuration) = ⊥
-IsCheck rows (invocation.Serve options) = ⊥
-IsCheck rows (invocation.Explain script schedule wish) = ⊥
-IsCheck rows (invocation.Version json) = ⊥
-
--- a dump of the kernel and of the file of these matches, within their limits
-abbrev pub IsDump : List Row → Invocation → Type 0
-IsDump rows (invocation.Run path options) = ⊥
-IsDump rows (invocation.Check path limits) = ⊥
-IsDump rows (invocation.Dump path name limits) =
+Gives rows (invocation.Check path limits) = (first_of (codes "FILE") rows ≡ Some path.now) × GivesLimits rows limits
+Gives rows (invocation.Dump path name limits) =
     (first_of (codes "FILE") rows ≡ Some path.now) × (first_of (codes "KERNEL") rows ≡ Some name.now) × GivesLimits rows limits
-IsDump rows (invocation.Replay script schedule configuration) = ⊥
-IsDump rows (invocation.Serve options) = ⊥
-IsDump rows (invocation.Explain script schedule wish) = ⊥
-IsDump rows (invocation.Version json) = ⊥
-
--- a replay of the schedule file on the script of these matches, under their limits
-abbrev pub IsReplay : List Row → Invocation → Type 0
-IsReplay rows (invocation.Run path options) = ⊥
-IsReplay rows (invocation.Check path limits) = ⊥
-IsReplay rows (invocation.Dump path name limits) = ⊥
-IsReplay rows (invocation.Replay script schedule configuration) =
+Gives rows (invocation.Replay script schedule configuration) =
     (first_of (codes "SCRIPT") rows ≡ Some script.now) × (first_of (codes "SCHEDULE") rows ≡ Some schedule.now) × GivesDefault rows configuration
-IsReplay rows (invocation.Serve options) = ⊥
-IsReplay rows (invocation.Explain script schedule wish) = ⊥
-IsReplay rows (invocation.Version json) = ⊥
-
--- serving, by these matches' workers and under their limits and budget
-abbrev pub IsServe : List Row → Invocation → Type 0
-IsServe rows (invocation.Run path options) = ⊥
-IsServe rows (invocation.Check path limits) = ⊥
-IsServe rows (invocation.Dump path name limits) = ⊥
-IsServe rows (invocation.Replay script schedule configuration) = ⊥
-IsServe rows (invocation.Serve options) = GivesWorkers rows options.workers × GivesConfiguration rows options.configuration
-IsServe rows (invocation.Explain script schedule wish) = ⊥
-IsServe rows (invocation.Version json) = ⊥
-
--- an explanation of the script and of the schedule file of these matches, if one is named
-abbrev pub IsExplain : List Row → Invocation → Type 0
-IsExplain rows (invocation.Run path options) = ⊥
-IsExplain rows (invocation.Check path limits) = ⊥
-IsExplain rows (invocation.Dump path name limits) = ⊥
-IsExplain rows (invocation.Replay script schedule configuration) = ⊥
-IsExplain rows (invocation.Serve options) = ⊥
-IsExplain rows (invocation.Explain script schedule wish) =
+Gives rows (invocation.Serve options) = GivesWorkers rows options.workers × GivesConfiguration rows options.configuration
+Gives rows (invocation.Explain script schedule wish) =
     (first_of (codes "SCRIPT") rows ≡ Some script.now) × (first_of (codes "SCHEDULE") rows ≡ option_map (λ s. s.now) schedule)
     × GivesConfiguration rows wish.configuration × GivesFormat rows wish.json × GivesFlag rows wish.as_given
-IsExplain rows (invocation.Version json) = ⊥
+Gives rows (invocation.Version json) = GivesFormat rows json
+Gives rows (invocation.Widen script json limits) =
+    (first_of (codes "SCRIPT") rows ≡ Some script.now) × GivesFormat rows json × GivesLimits rows limits
 
--- the version, in the format of these matches
-abbrev pub IsVersion : List Row → Invocation → Type 0
-IsVersion rows (invocation.Run path options) = ⊥
-IsVersion rows (invocation.Check path limits) = ⊥
-IsVersion rows (invocation.Dump path name limits) = ⊥
-IsVersion rows (invocation.Replay script schedule configuration) = ⊥
-IsVersion rows (invocation.Serve options) = ⊥
-IsVersion rows (invocation.Explain script schedule wish) = ⊥
-IsVersion rows (invocation.Version json) = GivesFormat rows json
+-- the form of this name, with these matches, asks for it
+abbrev pub AsksBy : Text → List Row → Invocation → Type 0
+AsksBy name rows asked = (name ≡ form_name asked) × Gives rows asked
 
 -- the subcommand that was met, with its matches, is the form that is asked for
 abbrev pub Holds : Option (Text × List Row) → Invocation → Type 0
 Holds None asked = ⊥
-Holds (Some (name, rows)) asked =
-    (name ≡ codes "run") × IsRun rows asked
-    ⊎ ((name ≡ codes "check") × IsCheck rows asked
-    ⊎ ((name ≡ codes "dump") × IsDump rows asked
-    ⊎ ((name ≡ codes "replay") × IsReplay rows asked
-    ⊎ ((name ≡ codes "serve") × IsServe rows asked
-    ⊎ ((name ≡ codes "explain") × IsExplain rows asked
-    ⊎ (name ≡ codes "version") × IsVersion rows asked)))))
+Holds (Some (name, rows)) asked = AsksBy name rows asked
 
 -- the forms take the words, whose matches hold what is asked for
 abbrev pub AsksFor : List Text → Invocation → Type 0

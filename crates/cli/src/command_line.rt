@@ -1,9 +1,9 @@
 //! The command line of the program.
 #![tactic(auto)]
 
-ghost use Rattle.std.specs.Prelude.{◌≡◌, ◌≤◌, false, map, Ok, IfOk, IfErr, IfSome};
-ghost use Rattle.clap.specs.Words.{App, app_of, kind_of, new_app, rule_of, found_of, rows_of, subcommand_rows_of, with_rule, with_subcommand};
-ghost use Rattle.cli.specs.CommandLine.{IsForm, needed, option, number, limits, script, some_schedule, format, as_given, configured, working, run_form, check_form, dump_form, replay_form, serve_form, explain_form, version_form, no_form, program, GivesWorkers, GivesLimits, GivesBudget, GivesConfiguration, GivesFormat, GivesFlag, IsRun, IsCheck, IsDump, IsReplay, IsServe, IsExplain, IsVersion, Reads, Holds, AsksFor, IsRefused};
+ghost use Rattle.std.specs.Prelude.{◌≡◌, ◌≤◌, List, [], ◌∷◌, ◌++◌, codes, map, Ok, IfOk, IfErr, IfSome};
+ghost use Rattle.clap.specs.Words.{Rule, Shape, Text, kind_of, found_of, rows_of, subcommand_rows_of};
+ghost use Rattle.cli.specs.CommandLine.{AreForms, IsArgument, IsForm, all_forms, form_of, needed, option, number, limits, some_schedule, format, as_given, configured, working, explained, run_arguments, check_arguments, dump_arguments, replay_arguments, serve_arguments, explain_arguments, version_arguments, widen_arguments, GivesWorkers, GivesLimits, GivesBudget, GivesConfiguration, GivesFormat, AsksBy, Reads, Holds, AsksFor, IsRefused};
 
 use crate::session::Options;
 use crate::wish::ExplainWish;
@@ -52,6 +52,12 @@ pub enum Invocation<'a> {
     Version {
         json: bool,
     },
+    /// Runs the script of a file, and tells as JSON or as text for which bytes and numbers its replies hold
+    Widen {
+        script: &'a str,
+        json: bool,
+        limits: Limits,
+    },
 }
 
 /// The greatest budget of a run.
@@ -61,17 +67,17 @@ const MAX_BUDGET: u32 = 1_000_000;
 const MAX_WORKERS: u32 = 16;
 
 /// An argument that must be given, and what help says of it.
+#[tactic(auto, unfolding(crate::specs::CommandLine::needed))]
 fn needed<'a>(alloc: Global, name: &'a str, help: &'a str) -> Arg<'a>
-    ensures rule { rule_of result ≡ needed name.entry.now }
-    ensures local { result.global ≡ false }
+    ensures { IsArgument (needed name.entry.now) result }
 {
     Arg::new(alloc, name).required(true).help(help)
 }
 
 /// An option with a value, by its name, the value's name, and what help says of it.
+#[tactic(auto, unfolding(crate::specs::CommandLine::option))]
 fn option<'a>(alloc: Global, name: &'a str, value: &'a str, help: &'a str) -> Arg<'a>
-    ensures rule { rule_of result ≡ option name.entry.now }
-    ensures local { result.global ≡ false }
+    ensures { IsArgument (option name.entry.now) result }
 {
     Arg::new(alloc, name)
         .long(name)
@@ -80,17 +86,17 @@ fn option<'a>(alloc: Global, name: &'a str, value: &'a str, help: &'a str) -> Ar
 }
 
 /// An option whose value is a number from 1 to `most`, and what help says of it.
+#[tactic(auto, unfolding(crate::specs::CommandLine::option, crate::specs::CommandLine::number))]
 fn number<'a>(alloc: Global, name: &'a str, most: u32, help: &'a str) -> Arg<'a>
-    ensures rule { rule_of result ≡ number name.entry.now most }
-    ensures local { result.global ≡ false }
+    ensures { IsArgument (number name.entry.now most) result }
 {
     option(alloc, name, "N", help).value_parser(ValueParser::unsigned(1, most as u64))
 }
 
 /// The argument `SCHEDULE`, where it may be left out.
+#[tactic(auto, unfolding(crate::specs::CommandLine::some_schedule))]
 fn some_schedule<'a>(alloc: Global) -> Arg<'a>
-    ensures rule { rule_of result ≡ some_schedule }
-    ensures local { result.global ≡ false }
+    ensures { IsArgument some_schedule result }
 {
     Arg::new(alloc, "SCHEDULE").help(
         "The schedule file; without one the first fault of the script is explained",
@@ -98,9 +104,9 @@ fn some_schedule<'a>(alloc: Global) -> Arg<'a>
 }
 
 /// The option `--as-given`.
+#[tactic(auto, unfolding(crate::specs::CommandLine::as_given))]
 fn as_given<'a>(alloc: Global) -> Arg<'a>
-    ensures rule { rule_of result ≡ as_given }
-    ensures local { result.global ≡ false }
+    ensures { IsArgument as_given result }
 {
     Arg::new(alloc, "as-given")
         .long("as-given")
@@ -109,17 +115,33 @@ fn as_given<'a>(alloc: Global) -> Arg<'a>
 }
 
 /// A form without arguments, and what help says of it.
+#[tactic(auto, unfolding(crate::specs::CommandLine::form_of))]
 fn named<'a>(alloc: Global, name: &'a str, about: &'a str) -> Command<'a>
-    ensures { IsForm (new_app name.entry.now) result }
+    ensures { IsForm name.entry.now [] result }
 {
     Command::new(alloc, name).about(about)
 }
 
 /// A form with one more argument, where it was made. In what makes a form each `?` would add a path.
 fn with<'a>(form: Result<Command<'a>, AllocError>, arg: Arg<'a>) -> Result<Command<'a>, AllocError>
-    ensures { (shape : App) → IfOk form.entry (IsForm shape) → arg.entry.global ≡ false → IfOk result (IsForm (with_rule shape (rule_of arg.entry))) }
+    ensures { (name : Text) (arguments : List Rule) (rule : Rule) → IfOk form.entry (IsForm name arguments) → IsArgument rule arg.entry → IfOk result (IsForm name (arguments ++ rule ∷ [])) }
 {
-    form?.arg(arg)
+    let form = form?;
+    form.arg(arg)
+}
+
+/// A form with its first argument, which must be given, and what help says of each of them.
+fn form_on<'a>(
+    alloc: Global,
+    name: &'a str,
+    about: &'a str,
+    argument: &'a str,
+    help: &'a str,
+) -> Result<Command<'a>, AllocError>
+    ensures { IfOk result (IsForm name.entry.now (needed argument.entry.now ∷ [])) }
+{
+    let form = named(alloc, name, about);
+    with(Ok(form), needed(alloc, argument, help))
 }
 
 /// A form with `--limits LIMITS`.
@@ -127,7 +149,7 @@ fn limited<'a>(
     alloc: Global,
     form: Result<Command<'a>, AllocError>,
 ) -> Result<Command<'a>, AllocError>
-    ensures { (shape : App) → IfOk form.entry (IsForm shape) → IfOk result (IsForm (with_rule shape limits)) }
+    ensures { (name : Text) (arguments : List Rule) → IfOk form.entry (IsForm name arguments) → IfOk result (IsForm name (arguments ++ limits ∷ [])) }
 {
     let limits = option(
         alloc,
@@ -143,7 +165,7 @@ fn configured<'a>(
     alloc: Global,
     form: Result<Command<'a>, AllocError>,
 ) -> Result<Command<'a>, AllocError>
-    ensures { (shape : App) → IfOk form.entry (IsForm shape) → IfOk result (IsForm (configured shape)) }
+    ensures { (name : Text) (arguments : List Rule) → IfOk form.entry (IsForm name arguments) → IfOk result (IsForm name (arguments ++ configured)) }
 {
     let budget = number(
         alloc,
@@ -159,7 +181,7 @@ fn working<'a>(
     alloc: Global,
     form: Result<Command<'a>, AllocError>,
 ) -> Result<Command<'a>, AllocError>
-    ensures { (shape : App) → IfOk form.entry (IsForm shape) → IfOk result (IsForm (working shape)) }
+    ensures { (name : Text) (arguments : List Rule) → IfOk form.entry (IsForm name arguments) → IfOk result (IsForm name (arguments ++ working)) }
 {
     let workers = number(
         alloc,
@@ -172,60 +194,71 @@ fn working<'a>(
 
 /// The form `run FILE [--workers N] [--budget N] [--limits LIMITS]`.
 fn run_form<'a>(alloc: Global) -> Result<Command<'a>, AllocError>
-    ensures { IfOk result (IsForm run_form) }
+    ensures { IfOk result (IsForm (codes "run") run_arguments) }
 {
-    let form = named(alloc, "run", "Runs a script and prints its replies");
-    working(alloc, with(Ok(form), needed(alloc, "FILE", "The script")))
+    let form = form_on(
+        alloc,
+        "run",
+        "Runs a script and prints its replies",
+        "FILE",
+        "The script",
+    );
+    working(alloc, form)
 }
 
 /// The form `check FILE [--limits LIMITS]`.
 fn check_form<'a>(alloc: Global) -> Result<Command<'a>, AllocError>
-    ensures { IfOk result (IsForm check_form) }
+    ensures { IfOk result (IsForm (codes "check") check_arguments) }
 {
-    let form = named(
+    let form = form_on(
         alloc,
         "check",
         "Checks a source and prints ok or its first fault",
+        "FILE",
+        "The source, in OpenCL C",
     );
-    limited(
-        alloc,
-        with(Ok(form), needed(alloc, "FILE", "The source, in OpenCL C")),
-    )
+    limited(alloc, form)
 }
 
 /// The form `dump FILE KERNEL [--limits LIMITS]`.
 fn dump_form<'a>(alloc: Global) -> Result<Command<'a>, AllocError>
-    ensures { IfOk result (IsForm dump_form) }
+    ensures { IfOk result (IsForm (codes "dump") dump_arguments) }
 {
-    let form = named(alloc, "dump", "Prints the register code of a kernel");
-    let with_file = with(Ok(form), needed(alloc, "FILE", "The source, in OpenCL C"));
+    let form = form_on(
+        alloc,
+        "dump",
+        "Prints the register code of a kernel",
+        "FILE",
+        "The source, in OpenCL C",
+    );
     limited(
         alloc,
-        with(with_file, needed(alloc, "KERNEL", "The kernel's name")),
+        with(form, needed(alloc, "KERNEL", "The kernel's name")),
     )
 }
 
 /// The form `replay SCRIPT SCHEDULE [--limits LIMITS]`.
 fn replay_form<'a>(alloc: Global) -> Result<Command<'a>, AllocError>
-    ensures { IfOk result (IsForm replay_form) }
+    ensures { IfOk result (IsForm (codes "replay") replay_arguments) }
 {
-    let form = named(
+    let form = form_on(
         alloc,
         "replay",
         "Replays a schedule and prints whether it leads to its fault",
+        "SCRIPT",
+        "The script",
     );
-    let with_script = with(Ok(form), needed(alloc, "SCRIPT", "The script"));
     let schedule = needed(
         alloc,
         "SCHEDULE",
         "The schedule file: a line `ticket T`, and a fault's line",
     );
-    limited(alloc, with(with_script, schedule))
+    limited(alloc, with(form, schedule))
 }
 
 /// The form `serve [--workers N] [--budget N] [--limits LIMITS]`.
 fn serve_form<'a>(alloc: Global) -> Result<Command<'a>, AllocError>
-    ensures { IfOk result (IsForm serve_form) }
+    ensures { IfOk result (IsForm (codes "serve") serve_arguments) }
 {
     let form = named(
         alloc,
@@ -241,42 +274,39 @@ fn formatted<'a>(
     form: Result<Command<'a>, AllocError>,
     help: &'a str,
 ) -> Result<Command<'a>, AllocError>
-    ensures { (shape : App) → IfOk form.entry (IsForm shape) → IfOk result (IsForm (with_rule shape format)) }
+    ensures { (name : Text) (arguments : List Rule) → IfOk form.entry (IsForm name arguments) → IfOk result (IsForm name (arguments ++ format ∷ [])) }
 {
     with(form, option(alloc, "format", "FORMAT", help))
 }
 
-/// The arguments of `explain`: `SCRIPT [SCHEDULE] [--format text|json]`.
-fn explained<'a>(
-    alloc: Global,
-    form: Result<Command<'a>, AllocError>,
-) -> Result<Command<'a>, AllocError>
-    ensures { (shape : App) → IfOk form.entry (IsForm shape) → IfOk result (IsForm (with_rule (with_rule (with_rule shape script) some_schedule) format)) }
+/// The form `explain SCRIPT [SCHEDULE] [--format text|json]`, without its other options.
+fn explained<'a>(alloc: Global) -> Result<Command<'a>, AllocError>
+    ensures { IfOk result (IsForm (codes "explain") explained) }
 {
-    let with_script = with(form, needed(alloc, "SCRIPT", "The script"));
+    let form = form_on(
+        alloc,
+        "explain",
+        "Explains a fault: where in the source, in whose ids, and how it comes about",
+        "SCRIPT",
+        "The script",
+    );
     formatted(
         alloc,
-        with(with_script, some_schedule(alloc)),
+        with(form, some_schedule(alloc)),
         "How the explanation is written: text or json",
     )
 }
 
 /// The form `explain SCRIPT [SCHEDULE] [--format text|json] [--budget N] [--limits LIMITS] [--as-given]`.
 fn explain_form<'a>(alloc: Global) -> Result<Command<'a>, AllocError>
-    ensures { IfOk result (IsForm explain_form) }
+    ensures { IfOk result (IsForm (codes "explain") explain_arguments) }
 {
-    let form = named(
-        alloc,
-        "explain",
-        "Explains a fault: where in the source, in whose ids, and how it comes about",
-    );
-    let whole = configured(alloc, explained(alloc, Ok(form)));
-    with(whole, as_given(alloc))
+    with(configured(alloc, explained(alloc)), as_given(alloc))
 }
 
 /// The form `version [--format text|json]`.
 fn version_form<'a>(alloc: Global) -> Result<Command<'a>, AllocError>
-    ensures { IfOk result (IsForm version_form) }
+    ensures { IfOk result (IsForm (codes "version") version_arguments) }
 {
     let form = named(
         alloc,
@@ -284,6 +314,23 @@ fn version_form<'a>(alloc: Global) -> Result<Command<'a>, AllocError>
         "Prints the version and what was proved of it",
     );
     formatted(alloc, Ok(form), "How the version is written: text or json")
+}
+
+/// The form `widen SCRIPT [--format text|json] [--limits LIMITS]`.
+fn widen_form<'a>(alloc: Global) -> Result<Command<'a>, AllocError>
+    ensures { IfOk result (IsForm (codes "widen") widen_arguments) }
+{
+    let form = form_on(
+        alloc,
+        "widen",
+        "Runs a script and tells for which bytes and numbers its replies hold",
+        "SCRIPT",
+        "The script",
+    );
+    limited(
+        alloc,
+        formatted(alloc, form, "How the replies are written: text or json"),
+    )
 }
 
 /// The limits of a device, the profile's where the option isn't there, and `None` where it names none.
@@ -339,7 +386,7 @@ fn workers_of(run: &ArgMatches<'_>) -> Option<u32>
 
 /// What the matches of `run` ask for.
 fn run_of<'a>(run: &ArgMatches<'a>) -> Option<Invocation<'a>>
-    ensures { Reads (IsRun (rows_of (found_of run.now))) result }
+    ensures { Reads (AsksBy (codes "run") (rows_of (found_of run.now))) result }
 {
     let file = run.get_str("FILE")?;
     let workers = workers_of(run)?;
@@ -355,7 +402,7 @@ fn run_of<'a>(run: &ArgMatches<'a>) -> Option<Invocation<'a>>
 
 /// What the matches of `check` ask for.
 fn check_of<'a>(check: &ArgMatches<'a>) -> Option<Invocation<'a>>
-    ensures { Reads (IsCheck (rows_of (found_of check.now))) result }
+    ensures { Reads (AsksBy (codes "check") (rows_of (found_of check.now))) result }
 {
     let file = check.get_str("FILE")?;
     let limits = limits_of(check)?;
@@ -364,7 +411,7 @@ fn check_of<'a>(check: &ArgMatches<'a>) -> Option<Invocation<'a>>
 
 /// What the matches of `dump` ask for.
 fn dump_of<'a>(dump: &ArgMatches<'a>) -> Option<Invocation<'a>>
-    ensures { Reads (IsDump (rows_of (found_of dump.now))) result }
+    ensures { Reads (AsksBy (codes "dump") (rows_of (found_of dump.now))) result }
 {
     let file = dump.get_str("FILE")?;
     let kernel = dump.get_str("KERNEL")?;
@@ -378,7 +425,7 @@ fn dump_of<'a>(dump: &ArgMatches<'a>) -> Option<Invocation<'a>>
 
 /// What the matches of `replay` ask for.
 fn replay_of<'a>(replay: &ArgMatches<'a>) -> Option<Invocation<'a>>
-    ensures { Reads (IsReplay (rows_of (found_of replay.now))) result }
+    ensures { Reads (AsksBy (codes "replay") (rows_of (found_of replay.now))) result }
 {
     let script = replay.get_str("SCRIPT")?;
     let schedule = replay.get_str("SCHEDULE")?;
@@ -392,7 +439,7 @@ fn replay_of<'a>(replay: &ArgMatches<'a>) -> Option<Invocation<'a>>
 
 /// What the matches of `serve` ask for.
 fn serve_of<'a>(serve: &ArgMatches<'a>) -> Option<Invocation<'a>>
-    ensures { Reads (IsServe (rows_of (found_of serve.now))) result }
+    ensures { Reads (AsksBy (codes "serve") (rows_of (found_of serve.now))) result }
 {
     let workers = workers_of(serve)?;
     let configuration = configuration_of(serve)?;
@@ -422,7 +469,7 @@ fn format_of(matches: &ArgMatches<'_>) -> Option<bool>
 
 /// What the matches of `explain` ask for.
 fn explain_of<'a>(explain: &ArgMatches<'a>) -> Option<Invocation<'a>>
-    ensures { Reads (IsExplain (rows_of (found_of explain.now))) result }
+    ensures { Reads (AsksBy (codes "explain") (rows_of (found_of explain.now))) result }
 {
     let script = explain.get_str("SCRIPT")?;
     let schedule = explain.get_str("SCHEDULE");
@@ -442,10 +489,24 @@ fn explain_of<'a>(explain: &ArgMatches<'a>) -> Option<Invocation<'a>>
 
 /// What the matches of `version` ask for.
 fn version_of<'a>(version: &ArgMatches<'a>) -> Option<Invocation<'a>>
-    ensures { Reads (IsVersion (rows_of (found_of version.now))) result }
+    ensures { Reads (AsksBy (codes "version") (rows_of (found_of version.now))) result }
 {
     let json = format_of(version)?;
     Some(Invocation::Version { json })
+}
+
+/// What the matches of `widen` ask for.
+fn widen_of<'a>(widen: &ArgMatches<'a>) -> Option<Invocation<'a>>
+    ensures { Reads (AsksBy (codes "widen") (rows_of (found_of widen.now))) result }
+{
+    let script = widen.get_str("SCRIPT")?;
+    let json = format_of(widen)?;
+    let limits = limits_of(widen)?;
+    Some(Invocation::Widen {
+        script,
+        json,
+        limits,
+    })
 }
 
 /// What the matches of a command line ask for, by the form that they hold.
@@ -470,13 +531,17 @@ fn asked<'a>(matches: &ArgMatches<'a>) -> Option<Invocation<'a>>
     if let Some(explain) = matches.subcommand_matches("explain") {
         return explain_of(explain);
     }
-    version_of(matches.subcommand_matches("version")?)
+    if let Some(version) = matches.subcommand_matches("version") {
+        return version_of(version);
+    }
+    widen_of(matches.subcommand_matches("widen")?)
 }
 
 /// The forms of the command line, without any of them yet. That there is a version gives them `--version`; what the
 /// program tells of it is its own.
+#[tactic(auto, unfolding(crate::specs::CommandLine::program_of, crate::specs::CommandLine::form_of))]
 fn no_form<'a>(alloc: Global) -> Command<'a>
-    ensures { app_of result ≡ no_form }
+    ensures { AreForms [] result }
 {
     named(alloc, "clsim", "A simulated OpenCL 1.2 device")
         .subcommand_required(true)
@@ -488,15 +553,16 @@ fn with_form<'a>(
     forms: Result<Command<'a>, AllocError>,
     form: Result<Command<'a>, AllocError>,
 ) -> Result<Command<'a>, AllocError>
-    ensures { (shape more : App) → IfOk forms.entry (λ f. app_of f ≡ shape) → IfOk form.entry (IsForm more) → IfOk result (λ all. app_of all ≡ with_subcommand shape more.top) }
+    ensures { (so_far : List Shape) (name : Text) (arguments : List Rule) → IfOk forms.entry (AreForms so_far) → IfOk form.entry (IsForm name arguments) → IfOk result (AreForms (so_far ++ form_of name arguments ∷ [])) }
 {
     let forms = forms?;
-    forms.subcommand(form?)
+    let form = form?;
+    forms.subcommand(form)
 }
 
 /// The forms of the command line.
 fn forms<'a>(alloc: Global) -> Result<Command<'a>, AllocError>
-    ensures { IfOk result (λ forms. app_of forms ≡ program) }
+    ensures { IfOk result (AreForms all_forms) }
 {
     let runs = with_form(Ok(no_form(alloc)), run_form(alloc));
     let with_checks = with_form(runs, check_form(alloc));
@@ -504,7 +570,8 @@ fn forms<'a>(alloc: Global) -> Result<Command<'a>, AllocError>
     let with_replays = with_form(with_dumps, replay_form(alloc));
     let with_serving = with_form(with_replays, serve_form(alloc));
     let with_explaining = with_form(with_serving, explain_form(alloc));
-    with_form(with_explaining, version_form(alloc))
+    let with_version = with_form(with_explaining, version_form(alloc));
+    with_form(with_version, widen_form(alloc))
 }
 
 /// A form whose usage is shown by this name.
@@ -532,6 +599,9 @@ fn form_of<'a>(alloc: Global, name: &str) -> Result<Command<'a>, AllocError> {
     if name == "explain" {
         return shown(explain_form(alloc), "clsim explain");
     }
+    if name == "widen" {
+        return shown(widen_form(alloc), "clsim widen");
+    }
     shown(version_form(alloc), "clsim version")
 }
 
@@ -558,7 +628,7 @@ fn command_by<'a>(
     forms: &mut Command<'a>,
     words: &'a [&'a str],
 ) -> Result<Invocation<'a>, Error>
-    requires { app_of forms.old ≡ program }
+    requires { AreForms all_forms forms.old }
     ensures asked { IfOk result (AsksFor (map (λ word. word.now) words.entry.now)) }
     ensures refused { IfErr result (IsRefused (map (λ word. word.now) words.entry.now)) }
 {
@@ -569,13 +639,18 @@ fn command_by<'a>(
     }
 }
 
-/// Reads the words of a command line, the program's name first. The forms are
-/// `clsim run FILE [--workers N] [--budget N] [--limits LIMITS]`, `clsim check FILE [--limits LIMITS]`,
-/// `clsim dump FILE KERNEL [--limits LIMITS]`,
-/// `clsim replay SCRIPT SCHEDULE [--limits LIMITS]`, `clsim serve [--workers N] [--budget N] [--limits LIMITS]`,
-/// `clsim explain SCRIPT [SCHEDULE] [--format text|json] [--budget N] [--limits LIMITS] [--as-given]` and
-/// `clsim version [--format text|json]`. The errors of the words `--help`, `help` with a form or without, and `--version`
-/// have the kinds `DisplayHelp` and `DisplayVersion`.
+/// Reads the words of a command line, the program's name first. The forms are:
+/// - `clsim run FILE [--workers N] [--budget N] [--limits LIMITS]`
+/// - `clsim check FILE [--limits LIMITS]`
+/// - `clsim dump FILE KERNEL [--limits LIMITS]`
+/// - `clsim replay SCRIPT SCHEDULE [--limits LIMITS]`
+/// - `clsim serve [--workers N] [--budget N] [--limits LIMITS]`
+/// - `clsim explain SCRIPT [SCHEDULE] [--format text|json] [--budget N] [--limits LIMITS] [--as-given]`
+/// - `clsim version [--format text|json]`
+/// - `clsim widen SCRIPT [--format text|json] [--limits LIMITS]`
+///
+/// The errors of the words `--help`, `help` with a form or without, and `--version` have the kinds `DisplayHelp` and
+/// `DisplayVersion`.
 pub fn command<'a>(alloc: Global, words: &'a [&'a str]) -> Result<Invocation<'a>, Error>
     ensures asked { IfOk result (AsksFor (map (λ word. word.now) words.entry.now)) }
     ensures refused { IfErr result (IsRefused (map (λ word. word.now) words.entry.now)) }

@@ -10,6 +10,7 @@ ghost use Rattle.std.specs.Process.{exit_status};
 ghost use Rattle.cli.specs.Checking.{source_status_of};
 ghost use Rattle.cli.specs.Replaying.{replay_status_of};
 ghost use Rattle.cli.specs.Session.{status_of};
+ghost use Rattle.wide_text.specs.Widened.{status_of as wide_status_of};
 
 mod explain_files;
 mod looks;
@@ -22,7 +23,7 @@ use crate::explain_files::{explain_schedule, explain_script};
 use crate::looks::Looks;
 use crate::named_file::{NamedFile, STANDARD_INPUT};
 use crate::piped::Piped;
-use crate::telling::{Told, tell, tell_place, tell_script};
+use crate::telling::{Told, tell, tell_place, tell_script, told_of};
 use crate::version::print_version;
 use byte_io::{Output, StreamPeer};
 use clap::Error;
@@ -31,6 +32,7 @@ use cli::checking::{check_file, source_status};
 use cli::command_line::{Invocation, command};
 use cli::dialogue::serve;
 use cli::dumping::dump_file;
+use cli::reading::bytes_of;
 use cli::replaying::{replay_files, replay_status};
 use cli::session::{Options, RunEnd};
 use cli::wish::ExplainWish;
@@ -46,6 +48,7 @@ use std::rt::Files;
 use std::sync::Wait;
 use std::thread::Threads;
 use std::{env, io};
+use wide_text::{Format as WideFormat, WideEnd, status as wide_status, widen};
 
 /// Standard output, to be written.
 fn output_of<'a, R: Print + AllocGlobal>(
@@ -167,6 +170,33 @@ fn explain_fault<R: Files + io::Input + Print + AllocGlobal>(
     outcome
 }
 
+/// Runs a script, with its replies on standard output, and for which bytes and numbers they hold.
+fn widen_script<R: Files + io::Input + Print + AllocGlobal>(
+    rt: &R,
+    script: &mut NamedFile<'_, R>,
+    json: bool,
+    limits: Limits,
+    gone: &mut bool,
+) -> Result<WideEnd, RunFault> {
+    let mut writer = output_of(rt)?;
+    let text = bytes_of(rt.alloc(), script, Reader::First)?;
+    let format = if json {
+        WideFormat::Json
+    } else {
+        WideFormat::Text
+    };
+    let configuration = Configuration::of(limits);
+    let outcome = widen(
+        rt.alloc(),
+        configuration,
+        text.as_slice(),
+        format,
+        &mut writer,
+    );
+    *gone = writer.into_inner().is_gone();
+    outcome
+}
+
 /// The status of a run. A fault is told.
 fn end_run<R: Files + Eprint>(rt: &R, outcome: Result<RunEnd, RunFault>, told: Told<'_>) -> u8
     ensures { result ≡ status_of outcome }
@@ -212,6 +242,16 @@ fn end_replay<R: Files + Eprint>(
     replay_status(&outcome)
 }
 
+/// The status of a script whose replies are widened. A fault is told.
+fn end_widen<R: Files + Eprint>(rt: &R, outcome: Result<WideEnd, RunFault>, told: Told<'_>) -> u8
+    ensures { result ≡ wide_status_of outcome }
+{
+    if let Err(fault) = outcome {
+        tell(rt, fault, told);
+    }
+    wide_status(&outcome)
+}
+
 /// Runs the script of a file, and gives the status.
 fn do_run<R: Files + io::Input + Print + Eprint + AllocGlobal + Threads + Wait + Sync>(
     rt: &R,
@@ -223,8 +263,7 @@ fn do_run<R: Files + io::Input + Print + Eprint + AllocGlobal + Threads + Wait +
     let mut script = NamedFile::new(rt, file);
     let mut gone = false;
     let outcome = run_script(rt, &mut script, options, &mut gone);
-    let looks = script.looks();
-    end_run(rt, outcome, Told { file, looks, gone })
+    end_run(rt, outcome, told_of(&script, gone))
 }
 
 /// Serves standard input, and gives the status.
@@ -256,13 +295,12 @@ fn do_check<R: Files + io::Input + Print + Eprint + AllocGlobal>(
     let mut source = NamedFile::new(rt, file).keeping(watched);
     let mut gone = false;
     let outcome = check_source(rt, &mut source, limits, &mut gone);
-    let looks = source.looks();
     if let Ok(false) = outcome {
         if let Some(text) = source.kept() {
             tell_place(rt, limits, file, text);
         }
     }
-    end_source(rt, outcome, Told { file, looks, gone })
+    end_source(rt, outcome, told_of(&source, gone))
 }
 
 /// Writes the code of a kernel of the source of a file, and gives the status.
@@ -277,8 +315,7 @@ fn do_dump<R: Files + io::Input + Print + Eprint + AllocGlobal>(
     let mut source = NamedFile::new(rt, file);
     let mut gone = false;
     let outcome = dump_kernel(rt, &mut source, kernel, limits, &mut gone);
-    let looks = source.looks();
-    end_source(rt, outcome, Told { file, looks, gone })
+    end_source(rt, outcome, told_of(&source, gone))
 }
 
 /// Replays a schedule file on the script of a file, and gives the status.
@@ -293,8 +330,7 @@ fn do_replay<R: Files + io::Input + Print + Eprint + AllocGlobal>(
     let mut script = NamedFile::new(rt, file);
     let mut gone = false;
     let outcome = replay_schedule(rt, &mut script, schedule, configuration, &mut gone);
-    let looks = script.looks();
-    end_replay(rt, outcome, schedule, Told { file, looks, gone })
+    end_replay(rt, outcome, schedule, told_of(&script, gone))
 }
 
 /// Explains a fault of the script of a file, and gives the status.
@@ -310,13 +346,27 @@ fn do_explain<R: Files + io::Input + Print + Eprint + AllocGlobal>(
     let mut gone = false;
     let options = options_of(wish);
     let outcome = explain_fault(rt, file, &mut script, schedule, options, &mut gone);
-    let looks = script.looks();
     end_replay(
         rt,
         outcome,
         schedule.unwrap_or(file),
-        Told { file, looks, gone },
+        told_of(&script, gone),
     )
+}
+
+/// Widens the replies of the script of a file, and gives the status.
+fn do_widen<R: Files + io::Input + Print + Eprint + AllocGlobal>(
+    rt: &R,
+    file: &str,
+    json: bool,
+    limits: Limits,
+) -> u8
+    ensures { result ≤ 2 }
+{
+    let mut script = NamedFile::new(rt, file);
+    let mut gone = false;
+    let outcome = widen_script(rt, &mut script, json, limits, &mut gone);
+    end_widen(rt, outcome, told_of(&script, gone))
 }
 
 /// The status of what was printed on standard output. That it can't be written is told, but where its reader is gone.
@@ -390,6 +440,13 @@ fn perform<R: Files + io::Input + Print + Eprint + AllocGlobal + Threads + Wait 
             },
         ) => do_explain(rt, script, schedule, wish),
         Ok(Invocation::Version { json }) => end_printed(rt, print_version(rt, json)),
+        Ok(
+            Invocation::Widen {
+                script,
+                json,
+                limits,
+            },
+        ) => do_widen(rt, script, json, limits),
         Err(error) => answer_words(rt, words, &error),
     }
 }

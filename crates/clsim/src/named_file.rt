@@ -53,6 +53,11 @@ impl<'a, R: Files + io::Input> NamedFile<'a, R> {
         }
     }
 
+    /// The file, as it was named.
+    pub(crate) fn path(&self) -> &'a str {
+        self.path
+    }
+
     /// What the text that was read looks like.
     pub(crate) fn looks(&self) -> Looks {
         self.looks

@@ -2,15 +2,15 @@
 #![tactic(auto)]
 
 use crate::looks::Looks;
-use crate::named_file::{STANDARD_INPUT, reason_of};
-use clsyntax_lex::token::SyntaxFault;
+use crate::named_file::{NamedFile, STANDARD_INPUT, reason_of};
+use build_hints::{Refusal, Refused, refusal_of};
 use host_commands::build::{NotBuilt, build};
 use host_commands::command::BuildFault;
 use limits::Limits;
 use simfile::faults::RunFault;
 use std::alloc::Global;
+use std::io;
 use std::rt::Files;
-use text_lines::{LineAndColumn, position_of};
 
 /// What is told of a command that came to no end.
 #[derive(Clone, Copy)]
@@ -21,6 +21,15 @@ pub(crate) struct Told<'a> {
     pub(crate) looks: Looks,
     /// Whether the reader of standard output is gone
     pub(crate) gone: bool,
+}
+
+/// What is told of a command that read a file, where the reader of its output is gone or not.
+pub(crate) fn told_of<'a, R: Files + io::Input>(file: &NamedFile<'a, R>, gone: bool) -> Told<'a> {
+    Told {
+        file: file.path(),
+        looks: file.looks(),
+        gone,
+    }
 }
 
 /// The name by which a file is told.
@@ -73,27 +82,20 @@ pub(crate) fn tell_script(rt: &impl Eprint, told: Told<'_>) {
     }
 }
 
-/// The byte of a source at which a fault stands.
-fn byte_of(fault: BuildFault) -> u32 {
+/// The fault of a build, as hints take it.
+fn refused_of(fault: BuildFault) -> Refused {
     match fault {
-        BuildFault::Type(fault) => fault.offset(),
-        BuildFault::Syntax(
-            SyntaxFault::BadByte { at }
-            | SyntaxFault::NumberTooLarge { at }
-            | SyntaxFault::Unexpected { at }
-            | SyntaxFault::TooDeep { at }
-            | SyntaxFault::TooLong { at },
-        ) => at,
-        BuildFault::Syntax(SyntaxFault::OutOfMemory) => 0,
+        BuildFault::Syntax(fault) => Refused::Syntax(fault),
+        BuildFault::Type(fault) => Refused::Type(fault),
     }
 }
 
-/// The line and the column of the fault of a source, where it has one.
-fn place_of(alloc: Global, limits: Limits, source: &[u8]) -> Option<LineAndColumn> {
-    let Err(NotBuilt::Fault(fault)) = build(alloc, limits, source) else {
-        return None;
-    };
-    Some(position_of(source, (byte_of(fault) as usize).min(source.len())))
+/// The fault of a source, where it has one and memory is left, with the line and the column where it stands.
+fn refusal_in(alloc: Global, limits: Limits, source: &[u8]) -> Option<Refusal> {
+    match build(alloc, limits, source) {
+        Err(NotBuilt::Fault(fault)) => refusal_of(alloc, source, 1, refused_of(fault)).ok(),
+        _ => None,
+    }
 }
 
 /// Tells at which line and column the fault of a source stands.
@@ -103,8 +105,8 @@ pub(crate) fn tell_place<R: Eprint + AllocGlobal>(
     file: &str,
     source: &[u8],
 ) {
-    if let Some(place) = place_of(rt.alloc(), limits, source) {
+    if let Some(refusal) = refusal_in(rt.alloc(), limits, source) {
         let name = name_of(file);
-        let _ = eprintln!(rt; "clsim: {name}:{}:{}", place.line, place.column);
+        let _ = eprintln!(rt; "clsim: {name}:{}:{}", refusal.line, refusal.column);
     }
 }

@@ -1,35 +1,39 @@
 use Rattle.std.proofs.Common.{codes, refl}
 use Rattle.std.proofs.lemmas.Bool.{false≢true}
-use Rattle.cli.proofs.CommandLines.{reads_run, reads_check, reads_dump, reads_replay, reads_serve, reads_explain, reads_version, not_found, holds_nothing}
+use Rattle.cli.proofs.CommandLines.{reads_form, not_found, holds_nothing}
 use Rattle.cli.proofs.command_line.asked.Goals as goal
 
 pub returns-in-Some : goal.returns-in-Some
 returns-in-Some c =
-    reads_run c.args.matches.now _ c.run_of.result (c.in-Some.ensures.found.0 refl) c.in-Some.ensures.rows c.run_of.ensures
+    reads_form c.args.matches.now (codes "run") _ c.run_of.result (c.in-Some.ensures.found.0 refl) c.in-Some.ensures.rows c.run_of.ensures
 
 pub returns-in-Some-subcommand_matches : goal.returns-in-Some-subcommand_matches
 returns-in-Some-subcommand_matches c =
-    reads_check c.args.matches.now _ c.check_of.result (c.in-Some-subcommand_matches.ensures.found.0 refl) c.in-Some-subcommand_matches.ensures.rows c.check_of.ensures
+    reads_form c.args.matches.now (codes "check") _ c.check_of.result (c.in-Some-subcommand_matches.ensures.found.0 refl) c.in-Some-subcommand_matches.ensures.rows c.check_of.ensures
 
 pub returns-in-Some-subcommand_matches-2 : goal.returns-in-Some-subcommand_matches-2
 returns-in-Some-subcommand_matches-2 c =
-    reads_dump c.args.matches.now _ c.dump_of.result (c.in-Some-subcommand_matches-2.ensures.found.0 refl) c.in-Some-subcommand_matches-2.ensures.rows c.dump_of.ensures
+    reads_form c.args.matches.now (codes "dump") _ c.dump_of.result (c.in-Some-subcommand_matches-2.ensures.found.0 refl) c.in-Some-subcommand_matches-2.ensures.rows c.dump_of.ensures
 
 pub returns-in-Some-subcommand_matches-3 : goal.returns-in-Some-subcommand_matches-3
 returns-in-Some-subcommand_matches-3 c =
-    reads_replay c.args.matches.now _ c.replay_of.result (c.in-Some-subcommand_matches-3.ensures.found.0 refl) c.in-Some-subcommand_matches-3.ensures.rows c.replay_of.ensures
+    reads_form c.args.matches.now (codes "replay") _ c.replay_of.result (c.in-Some-subcommand_matches-3.ensures.found.0 refl) c.in-Some-subcommand_matches-3.ensures.rows c.replay_of.ensures
 
 pub returns-in-Some-subcommand_matches-4 : goal.returns-in-Some-subcommand_matches-4
 returns-in-Some-subcommand_matches-4 c =
-    reads_serve c.args.matches.now _ c.serve_of.result (c.in-Some-subcommand_matches-4.ensures.found.0 refl) c.in-Some-subcommand_matches-4.ensures.rows c.serve_of.ensures
+    reads_form c.args.matches.now (codes "serve") _ c.serve_of.result (c.in-Some-subcommand_matches-4.ensures.found.0 refl) c.in-Some-subcommand_matches-4.ensures.rows c.serve_of.ensures
 
 pub returns-in-Some-subcommand_matches-5 : goal.returns-in-Some-subcommand_matches-5
 returns-in-Some-subcommand_matches-5 c =
-    reads_explain c.args.matches.now _ c.explain_of.result (c.in-Some-subcommand_matches-5.ensures.found.0 refl) c.in-Some-subcommand_matches-5.ensures.rows c.explain_of.ensures
+    reads_form c.args.matches.now (codes "explain") _ c.explain_of.result (c.in-Some-subcommand_matches-5.ensures.found.0 refl) c.in-Some-subcommand_matches-5.ensures.rows c.explain_of.ensures
+
+pub returns-in-Some-subcommand_matches-6 : goal.returns-in-Some-subcommand_matches-6
+returns-in-Some-subcommand_matches-6 c =
+    reads_form c.args.matches.now (codes "version") _ c.version_of.result (c.in-Some-subcommand_matches-6.ensures.found.0 refl) c.in-Some-subcommand_matches-6.ensures.rows c.version_of.ensures
 
 pub returns : goal.returns
 returns c =
-    reads_version c.args.matches.now _ c.version_of.result (c.in_ok-subcommand_matches.ensures.found.0 refl) c.in_ok-subcommand_matches.ensures.rows c.version_of.ensures
+    reads_form c.args.matches.now (codes "widen") _ c.widen_of.result (c.in_ok-subcommand_matches.ensures.found.0 refl) c.in_ok-subcommand_matches.ensures.rows c.widen_of.ensures
 
 pub returns-in_err-subcommand_matches : goal.returns-in_err-subcommand_matches
 returns-in_err-subcommand_matches c =
@@ -41,4 +45,5 @@ returns-in_err-subcommand_matches c =
     (not_found c.subcommand_matches-4.result (codes "replay") m (c.in_default-subcommand_matches-3).not-Some c.subcommand_matches-4.ensures.found)
     (not_found c.subcommand_matches-5.result (codes "serve") m (c.in_default-subcommand_matches-4).not-Some c.subcommand_matches-5.ensures.found)
     (not_found c.subcommand_matches-6.result (codes "explain") m (c.in_default-subcommand_matches-5).not-Some c.subcommand_matches-6.ensures.found)
+    (not_found c.subcommand_matches-7.result (codes "version") m (c.in_default-subcommand_matches-6).not-Some c.subcommand_matches-7.ensures.found)
     (λ named. false≢true (c.in_err-subcommand_matches.ensures.found.1 named)))

@@ -1,4 +1,4 @@
-use Rattle.std.proofs.Common.{rules, ◌≡◌, ◌∙◌, ap, sym, codes, option_map, None, Some}
+use Rattle.std.proofs.Common.{refl, rules, ◌≡◌, ◌∙◌, ap, sym, codes, option_map, None, Some}
 use Rattle.clap.specs.Words.{found_of, first_of, rows_of}
 use Rattle.clap.proofs.WalkLemmas.{first_value-rows}
 use Rattle.cli.proofs.CommandLines.{not_there, check_parts}
@@ -7,8 +7,11 @@ use Rattle.cli.proofs.command_line.check_of.Goals as goal
 pub returns : goal.returns
 returns c =
     let found : c.get_str.result ≡ Some c.in_ok-file.file = search rules in (
-      sym (first_value-rows (found_of c.args.check.now) (codes "FILE")) ∙ (sym c.get_str.ensures ∙ ap (option_map (λ s. s.now)) found),
-      c.in_ok-limits.ensures,
+      refl,
+      (
+        sym (first_value-rows (found_of c.args.check.now) (codes "FILE")) ∙ (sym c.get_str.ensures ∙ ap (option_map (λ s. s.now)) found),
+        c.in_ok-limits.ensures,
+      ),
     )
 
 pub returns-in_err-file : goal.returns-in_err-file

@@ -1,4 +1,4 @@
-use Rattle.std.proofs.Common.{rules, ◌≡◌, ◌∙◌, ap, sym, codes, option_map, None, Some}
+use Rattle.std.proofs.Common.{refl, rules, ◌≡◌, ◌∙◌, ap, sym, codes, option_map, None, Some}
 use Rattle.clap.specs.Words.{found_of, first_of, rows_of}
 use Rattle.clap.proofs.WalkLemmas.{first_value-rows}
 use Rattle.cli.proofs.CommandLines.{not_there, dump_parts}
@@ -8,9 +8,12 @@ pub returns : goal.returns
 returns c =
     let found : c.get_str.result ≡ Some c.in_ok-file.file = search rules in
     let named : c.get_str-2.result ≡ Some c.in_ok-kernel.kernel = search rules in (
-      sym (first_value-rows (found_of c.args.dump.now) (codes "FILE")) ∙ (sym c.get_str.ensures ∙ ap (option_map (λ s. s.now)) found),
-      sym (first_value-rows (found_of c.args.dump.now) (codes "KERNEL")) ∙ (sym c.get_str-2.ensures ∙ ap (option_map (λ s. s.now)) named),
-      c.in_ok-limits.ensures,
+      refl,
+      (
+        sym (first_value-rows (found_of c.args.dump.now) (codes "FILE")) ∙ (sym c.get_str.ensures ∙ ap (option_map (λ s. s.now)) found),
+        sym (first_value-rows (found_of c.args.dump.now) (codes "KERNEL")) ∙ (sym c.get_str-2.ensures ∙ ap (option_map (λ s. s.now)) named),
+        c.in_ok-limits.ensures,
+      ),
     )
 
 pub returns-in_err-file : goal.returns-in_err-file

@@ -1,12 +1,14 @@
-use Rattle.cli.specs.CommandLine.{no_form}
+use Rattle.std.proofs.Common.{[], codes}
+use Rattle.cli.specs.CommandLine.{run_arguments, check_arguments, dump_arguments, replay_arguments, serve_arguments, explain_arguments, version_arguments, widen_arguments}
 use Rattle.cli.proofs.command_line.forms.Goals as goal
 
 pub returns : goal.returns
 returns c =
-    let runs = c.with_form-runs.ensures no_form _ c.no_form.ensures c.run_form.ensures in
-    let checks = c.with_form-with_checks.ensures _ _ runs c.check_form.ensures in
-    let dumps = c.with_form-with_dumps.ensures _ _ checks c.dump_form.ensures in
-    let replays = c.with_form-with_replays.ensures _ _ dumps c.replay_form.ensures in
-    let serving = c.with_form-with_serving.ensures _ _ replays c.serve_form.ensures in
-    let explaining = c.with_form-with_explaining.ensures _ _ serving c.explain_form.ensures in
-    c.with_form.ensures _ _ explaining c.version_form.ensures
+    let runs = c.with_form-runs.ensures [] (codes "run") run_arguments c.no_form.ensures c.run_form.ensures in
+    let with_checks = c.with_form-with_checks.ensures _ (codes "check") check_arguments runs c.check_form.ensures in
+    let with_dumps = c.with_form-with_dumps.ensures _ (codes "dump") dump_arguments with_checks c.dump_form.ensures in
+    let with_replays = c.with_form-with_replays.ensures _ (codes "replay") replay_arguments with_dumps c.replay_form.ensures in
+    let with_serving = c.with_form-with_serving.ensures _ (codes "serve") serve_arguments with_replays c.serve_form.ensures in
+    let with_explaining = c.with_form-with_explaining.ensures _ (codes "explain") explain_arguments with_serving c.explain_form.ensures in
+    let with_version = c.with_form-with_version.ensures _ (codes "version") version_arguments with_explaining c.version_form.ensures in
+    c.with_form.ensures _ (codes "widen") widen_arguments with_version c.widen_form.ensures

@@ -1,4 +1,4 @@
-use Rattle.std.proofs.Common.{rules, ◌≡◌, ◌∙◌, ap, sym, subst, codes, option_map, None, Some}
+use Rattle.std.proofs.Common.{refl, rules, ◌≡◌, ◌∙◌, ap, sym, subst, codes, option_map, None, Some}
 use Rattle.clap.specs.Words.{found_of, first_of, rows_of}
 use Rattle.clap.proofs.WalkLemmas.{first_value-rows}
 use Rattle.limits.specs.declared.Limits.{Limits}
@@ -10,9 +10,12 @@ pub returns : goal.returns
 returns c =
     let found : c.get_str.result ≡ Some c.in_ok-script.script = search rules in
     let named : c.get_str-2.result ≡ Some c.in_ok-schedule.schedule = search rules in (
-      sym (first_value-rows (found_of c.args.replay.now) (codes "SCRIPT")) ∙ (sym c.get_str.ensures ∙ ap (option_map (λ s. s.now)) found),
-      sym (first_value-rows (found_of c.args.replay.now) (codes "SCHEDULE")) ∙ (sym c.get_str-2.ensures ∙ ap (option_map (λ s. s.now)) named),
-      (subst (λ (l : Limits). GivesLimits (rows_of (found_of c.args.replay.now)) l) (sym c.of.ensures.limits) c.in_ok-limits.ensures, c.of.ensures.budget ∙ ap (λ (l : Limits). l.default_ticks) (sym c.of.ensures.limits)),
+      refl,
+      (
+        sym (first_value-rows (found_of c.args.replay.now) (codes "SCRIPT")) ∙ (sym c.get_str.ensures ∙ ap (option_map (λ s. s.now)) found),
+        sym (first_value-rows (found_of c.args.replay.now) (codes "SCHEDULE")) ∙ (sym c.get_str-2.ensures ∙ ap (option_map (λ s. s.now)) named),
+        (subst (λ (l : Limits). GivesLimits (rows_of (found_of c.args.replay.now)) l) (sym c.of.ensures.limits) c.in_ok-limits.ensures, c.of.ensures.budget ∙ ap (λ (l : Limits). l.default_ticks) (sym c.of.ensures.limits)),
+      ),
     )
 
 pub returns-in_err-script : goal.returns-in_err-script

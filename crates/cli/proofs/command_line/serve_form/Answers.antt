@@ -1,6 +1,5 @@
-use Rattle.std.proofs.Common.{codes}
-use Rattle.clap.specs.Words.{new_app}
+use Rattle.std.proofs.Common.{[], codes}
 use Rattle.cli.proofs.command_line.serve_form.Goals as goal
 
 pub returns : goal.returns
-returns c = c.working.ensures (new_app (codes "serve")) c.named-form.ensures
+returns c = c.working.ensures (codes "serve") [] c.named-form.ensures

@@ -1,9 +1,10 @@
+use Rattle.std.proofs.Common.{refl}
 use Rattle.clap.specs.Words.{found_of, rows_of}
 use Rattle.cli.proofs.CommandLines.{serve_parts}
 use Rattle.cli.proofs.command_line.serve_of.Goals as goal
 
 pub returns : goal.returns
-returns c = (c.in_ok-workers.ensures.given, c.in_ok-configuration.ensures)
+returns c = (refl, (c.in_ok-workers.ensures.given, c.in_ok-configuration.ensures))
 
 pub returns-in_err-workers : goal.returns-in_err-workers
 returns-in_err-workers c = rw c.from_residual.ensures (λ asked is. let parts = serve_parts (rows_of (found_of c.args.serve.now)) asked is in c.in_err-workers.ensures.given parts.0 parts.2)

@@ -1,6 +1,5 @@
-use Rattle.std.proofs.Common.{codes}
-use Rattle.clap.specs.Words.{new_app}
+use Rattle.std.proofs.Common.{[], codes}
 use Rattle.cli.proofs.command_line.version_form.Goals as goal
 
 pub returns : goal.returns
-returns c = c.formatted.ensures (new_app (codes "version")) c.named-form.ensures
+returns c = c.formatted.ensures (codes "version") [] c.named-form.ensures
