@@ -6,7 +6,6 @@ link and network: the lines of the source that are meant, with those round them 
 name, and a picture of the schedule, a lane a work-item. The status is 0, or 2 where the input is bad."""
 
 import re
-from xml.sax.saxutils import escape
 
 from reading import (
     argument_texts, explanations, is_refusal, item_text, lines_of, place_of, reason_texts, run, title_of,
@@ -66,7 +65,7 @@ svg .barnote { fill: var(--bar); }
 
 def quoted(text):
     """Text for a page, in attributes too."""
-    return escape(text, {'"': "&quot;"})
+    return text.replace("&", "&amp;").replace("<", "&lt;").replace(">", "&gt;").replace('"', "&quot;")
 
 
 def group_of(whole, item):
@@ -248,14 +247,18 @@ def section(whole):
     return "".join(parts)
 
 
-def main(paths):
-    """The text of a page."""
-    found = explanations(paths)
+def page_of(found):
+    """The text of a page of explanations."""
     title = "clsim: " + (title_of(found[0]) if len(found) == 1 else f"{len(found)} explanations")
     body = "".join(section(whole) for whole in found) or "<p>no explanations</p>"
     return ('<!doctype html><html lang="en"><head><meta charset="utf-8">'
             '<meta name="viewport" content="width=device-width, initial-scale=1">'
             f"<title>{quoted(title)}</title><style>{STYLE}</style></head><body>{body}</body></html>\n")
+
+
+def main(paths):
+    """The text of a page of what files hold."""
+    return page_of(explanations(paths))
 
 
 if __name__ == "__main__":

@@ -43,9 +43,14 @@ def explanation(name, number, line):
         value = json.loads(line)
     except json.JSONDecodeError as error:
         raise BadInput(f"{name}: line {number}: no JSON: {error}") from error
-    if not isinstance(value, dict) or value.get("version") != VERSION:
+    if not is_known(value):
         raise BadInput(f"{name}: line {number}: no explanation of version {VERSION}")
     return value
+
+
+def is_known(value):
+    """Whether a value is an explanation of the version that is read here."""
+    return isinstance(value, dict) and value.get("version") == VERSION
 
 
 def run(main):

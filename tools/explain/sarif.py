@@ -180,9 +180,8 @@ def result(whole):
     return found
 
 
-def main(paths):
-    """The text of a SARIF file."""
-    found = explanations(paths, command_of)
+def log_of(found):
+    """The text of a SARIF file of explanations and commands."""
     rules = [
         {"id": "clsim/" + name, "name": name, "shortDescription": {"text": words}}
         for name, words in ALL.items()
@@ -197,6 +196,11 @@ def main(paths):
         }],
     }
     return json.dumps(log) + "\n"
+
+
+def main(paths):
+    """The text of a SARIF file of what files hold."""
+    return log_of(explanations(paths, command_of))
 
 
 if __name__ == "__main__":
