@@ -124,6 +124,28 @@ def place_of(item):
     return item["spot"] or item["last_access"]
 
 
+def memory_text(whole):
+    """The memory of a fault, as the steps have it; None where it isn't a buffer or local memory."""
+    memory = whole["memory"] or {"kind": ""}
+    group = f"{memory['group']} " if memory["kind"] == "local" else ""
+    return f"{memory['kind']} {group}{memory['name']}" if memory["kind"] in ("buffer", "local") else None
+
+
+def events_of(whole):
+    """The events that are told, by their numbers, and behind them the accesses of the named items that are told with
+    their places alone, since they come later: `value` and `left` of these are null."""
+    found, memory = dict(enumerate(whole["steps"], 1)), memory_text(whole)
+    for item in sorted(whole["items"], key=lambda item: item["event"] or 0):
+        place = item["spot"]
+        if memory and place and (item["event"] or 0) > len(whole["steps"]):
+            begin = place["column"] - 1
+            text = place["text"].encode()[begin : begin + place["length"]].decode(errors="replace")
+            found[item["event"]] = {"item": item["item"], "does": item["does"], "memory": memory, "bytes": None,
+                                    "byte": whole["memory"]["byte"], "value": None, "left": None,
+                                    "place": {**place, "text": text}}
+    return found
+
+
 def text_of(line):
     """The bytes of a line as an explanation tells them: of a line that is no UTF-8 with `?` for each byte beyond
     ASCII."""
