@@ -1,17 +1,18 @@
 #!/bin/sh
 # Runs each script that is named with $CLSIM, or with the clsim on the path, and shows the first fault, refusal or bad
-# line of each: FILE:LINE of its command, and below it the explanation where `clsim explain` has one of that fault or
-# refusal, else the line itself. Where $SARIF names a file, these and the explanations are written there as SARIF 2.1.0,
-# which takes Python 3. $CLSIM_WORKERS, $CLSIM_BUDGET and $CLSIM_LIMITS, where they are set, are the options of the
-# program by these names. Status 0 if there are none, else 1, and 2 where there is no such program, no script is named,
-# or the file can't be written.
+# line of each: FILE:LINE of its command, and below it the explanation where `clsim explain` has one of that fault,
+# refusal or source, else the line itself. A file named *.cl is a source: it is checked, and explained where it doesn't
+# build. Where $SARIF names a file, these and the explanations are written there as SARIF 2.1.0, which takes Python 3.
+# $CLSIM_WORKERS, $CLSIM_BUDGET and $CLSIM_LIMITS, where they are set, are the options of the program by these names.
+# Status 0 if there are none, else 1, and 2 where there is no such program, nothing is named, or the file can't be
+# written.
 CLSIM=${CLSIM:-clsim}
 if ! command -v "$CLSIM" >/dev/null; then
     echo "ci.sh: no program: $CLSIM" >&2
     exit 2
 fi
 if [ $# -eq 0 ]; then
-    echo "ci.sh: no scripts" >&2
+    echo "ci.sh: no scripts and no sources" >&2
     exit 2
 fi
 folder=$(mktemp -d) || exit 2
@@ -58,9 +59,23 @@ first_reply() {
     ' "$folder/replies" script=1 - | LC_ALL=C tr '\000-\010\013-\037\177' '[?*]'
 }
 
+# Shows why a source doesn't build, and keeps its explanation.
+# shellcheck disable=SC2086
+show_source() {
+    told=$("$CLSIM" explain "$1" $limits 2>/dev/null) || told=
+    if [ -n "$told" ]; then printf '%s\n' "$told"; else printf '%s: %s\n' "$1" "$(sed 1q "$folder/replies")"; fi
+    [ -z "${SARIF:-}" ] || "$CLSIM" explain "$1" $limits --format json 2>/dev/null >>"$folder/explained"
+}
+
 failed=0
-device="${CLSIM_BUDGET:+--budget $CLSIM_BUDGET} ${CLSIM_LIMITS:+--limits $CLSIM_LIMITS}"
+limits=${CLSIM_LIMITS:+--limits $CLSIM_LIMITS}
+device="${CLSIM_BUDGET:+--budget $CLSIM_BUDGET} $limits"
 for script in "$@"; do
+    case $script in *.cl)
+        # shellcheck disable=SC2086
+        "$CLSIM" check "$script" $limits >"$folder/replies" 2>&1 || { failed=1; show_source "$script"; }
+        continue ;;
+    esac
     # (CLSIM_WORKERS, CLSIM_BUDGET and CLSIM_LIMITS are options of the program, as for the driver)
     # shellcheck disable=SC2086
     "$CLSIM" run "$script" ${CLSIM_WORKERS:+--workers $CLSIM_WORKERS} $device >"$folder/replies" 2>&1 && continue

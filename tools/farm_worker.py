@@ -8,10 +8,10 @@ workers take theirs meanwhile, and `chunk` those of chunks, which hold their tex
 of JSON, in a file of this worker's own; one of `chunk` is there whole or not at all. SECONDS and MEMORY (MB, 0 for no
 limit) are of each script, the others the options of the program (BUDGET is - for its own); with WIDEN, `widen` and not
 -, it also asks for which bytes the replies hold. A small script takes few milliseconds: so the worker loads few
-modules, starts programs without copying itself, and makes no file for a script. Status 0, or 2 with a line on standard
-error.
+modules, starts programs without copying itself, and makes no file for a script. SIGINT, SIGTERM and SIGHUP end it and
+the program that it runs, and so does the end of what started it; the script that was running then has no result.
+Status 0, 130 where it was ended so, or 2 with a line on standard error.
 """
-import json
 import os
 import resource
 import signal
@@ -23,6 +23,27 @@ PASSED, FAULTY = "clean", "fault"
 FIRST_LOOK, NEXT_LOOK = 0.02, 0.1
 # The bytes of a key and a line feed, and how much of outputs is kept.
 KEY_LINE, MOST_KEPT = 25, 1 << 20
+HOST = os.uname().nodename
+
+
+def code_of_json():
+    """The module json, which takes as long to load as some scripts take, and which clean scripts don't need."""
+    import json  # pylint: disable=import-outside-toplevel
+    return json
+
+
+def is_plain(text):
+    """Whether JSON has a text as it is, between quotes."""
+    return text.isascii() and text.isprintable() and '"' not in text and "\\" not in text
+
+
+def written(value):
+    """A value of a result as JSON has it."""
+    if isinstance(value, str) and is_plain(value):
+        return f'"{value}"'
+    if value is None or isinstance(value, bool):
+        return {None: "null", True: "true", False: "false"}[value]
+    return repr(value) if isinstance(value, (int, float)) else code_of_json().dumps(value)
 
 
 class Results:
@@ -35,7 +56,7 @@ class Results:
         """Adds a result at once, so that what is judged stays where the worker ends."""
         if self.file is None:
             self.file = os.open(self.path, os.O_WRONLY | os.O_CREAT | os.O_APPEND, 0o644)
-        left = (json.dumps(result) + "\n").encode()
+        left = ("{" + ", ".join([f'"{name}": {written(it)}' for name, it in result.items()]) + "}\n").encode()
         while left:
             left = left[os.write(self.file, left) :]
 
@@ -63,6 +84,9 @@ class Program:
 
     def __init__(self, options):
         self.options, self.number, self.late, self.peak = options, 0, False, 0
+        self.parent, self.is_over = os.getppid(), False
+        # (the worker ends a program that is late; where it was killed itself, the system does)
+        self.processor_seconds = (options.seconds + 1) * (options.workers + 1)
         self.outputs = [os.memfd_create(name) for name in ("said", "told")]
         self.begins, self.own = [0, 0], peak_of("self")
         self.moves = [(os.POSIX_SPAWN_DUP2, os.open("/dev/null", os.O_RDONLY), 0)]
@@ -70,9 +94,15 @@ class Program:
         self.environment = dict(os.environb)
         resource.setrlimit(resource.RLIMIT_CORE, (0, 0))
         signal.signal(signal.SIGALRM, self.look)
+        for number in (signal.SIGINT, signal.SIGTERM, signal.SIGHUP):
+            # (what is ignored, as of a farm behind nohup, stays so)
+            if signal.getsignal(number) != signal.SIG_IGN:
+                signal.signal(number, self.stop)
 
     def look(self, *_):
-        """Looks at the memory of the program, and ends it where it is too late."""
+        """Looks at the memory of the program, and ends it where it is too late, or where nobody waits for it."""
+        if self.is_alone():
+            return
         try:
             if time.monotonic() >= self.end:
                 os.killpg(self.number, signal.SIGKILL)
@@ -83,8 +113,28 @@ class Program:
             # (it has just ended)
             pass
 
+    def is_alone(self):
+        """Whether what started the worker has ended: then it stops too."""
+        if os.getppid() != self.parent:
+            self.stop()
+        return self.is_over
+
     def start(self, words):
-        """Starts the program in a group of its own, with its limit of memory: its number."""
+        """Starts the program in a group of its own, with its limits: its number."""
+        number = self.spawn(words)
+        self.limit(number, resource.RLIMIT_CPU, self.processor_seconds)
+        return number
+
+    def limit(self, number, what, most):
+        """Sets a limit of a program that runs."""
+        try:
+            resource.prlimit(number, what, (most, most))
+        except ProcessLookupError:
+            # (it has ended)
+            pass
+
+    def spawn(self, words):
+        """Starts the program with its limit of memory."""
         how = {"file_actions": self.moves, "setpgroup": 0, "setsigdef": [signal.SIGPIPE, signal.SIGXFSZ]}
         limit, number = self.options.memory << 20, None
         if not limit:
@@ -99,15 +149,12 @@ class Program:
         finally:
             resource.setrlimit(resource.RLIMIT_AS, before)
         number = number or os.posix_spawn(words[0], words, self.environment, **how)
-        try:
-            resource.prlimit(number, resource.RLIMIT_AS, (limit, limit))
-        except ProcessLookupError:
-            # (it has ended)
-            pass
+        self.limit(number, resource.RLIMIT_AS, limit)
         return number
 
-    def stop(self):
-        """Ends the program where it runs."""
+    def stop(self, *_):
+        """Ends the program where it runs, and begins no other one."""
+        self.is_over = True
         try:
             if self.number:
                 os.killpg(self.number, signal.SIGKILL)
@@ -134,9 +181,12 @@ class Program:
         begun = time.monotonic()
         self.end = begun + self.options.seconds
         self.number = self.start(words)
+        if self.is_over:
+            self.stop()
         signal.setitimer(signal.ITIMER_REAL, FIRST_LOOK, NEXT_LOOK)
         _, ended, used = os.wait4(self.number, 0)
         signal.setitimer(signal.ITIMER_REAL, 0)
+        self.number = 0
         passed = time.monotonic() - begun
         # (what the system notes begins with the memory of the one who started it)
         if used.ru_maxrss > self.own:
@@ -171,7 +221,7 @@ def explanation_of(program, script, verdict, shown):
     words = ["./bin/clsim", "explain", script, "--format", "json", *program.options.device]
     text, _, ended, _, _, _ = program.run(words)
     try:
-        explanation = json.loads(text) if ended == 0 else None
+        explanation = code_of_json().loads(text) if ended == 0 else None
     except ValueError:
         return None
     # (of a script that has a fault before it, the explanation is that of the fault)
@@ -209,7 +259,7 @@ def widened(program, script, status):
     words = ["./bin/clsim", "widen", script, "--format", "json", *program.options.limits]
     text, _, ended, _, _, _ = program.run(words)
     try:
-        told = json.loads(text)["script"] if ended == status else None
+        told = code_of_json().loads(text)["script"] if ended == status else None
         return told and {"free": told["free"], "text": told["text"]}
     except (KeyError, TypeError, ValueError):
         return None
@@ -222,23 +272,28 @@ def judge(program, key):
     said, told, status, seconds, memory, at_most = program.run(words)
     lines = said.split("\n") if status != 0 else []
     verdict = verdict_of(status, lines)
-    wanted = {FAULTY: "fault ", "refused": "refused "}.get(verdict)
-    shown = next((line for line in lines if wanted and line.startswith(wanted)), told.strip().split("\n")[0])
-    line = None
+    shown, line, explanation = told.strip().split("\n")[0], None, None
     if verdict in (FAULTY, "refused", "bad"):
-        line = line_of(script, lines, told.strip().split("\n")[0], shown)
+        first = shown
+        shown = next((it for it in lines if it.startswith(f"{verdict} ")), first)
+        line = line_of(script, lines, first, shown)
+        explanation = explanation_of(program, script, verdict, shown)
     found = {"key": key, "verdict": verdict, "status": status, "line": shown[:2000], "script_line": line,
-             "seconds": round(seconds, 3), "mb": round(memory, 1), "mb_at_most": at_most, "host": os.uname().nodename,
-             "explanation": explanation_of(program, script, verdict, shown)}
+             "seconds": round(seconds, 3), "mb": round(memory, 1), "mb_at_most": at_most, "host": HOST,
+             "explanation": explanation}
     if program.options.widens and verdict in (PASSED, FAULTY, "refused"):
         found["widened"] = widened(program, script, status)
     return found
 
 
 def judge_keys(program, results, keys):
-    """Judges the scripts of keys, and adds their results."""
+    """Judges the scripts of keys, and adds their results, as long as nothing ends the worker."""
     for key in keys:
-        results.add(judge(program, key))
+        if program.is_alone():
+            return
+        result = judge(program, key)
+        if not program.is_over:
+            results.add(result)
 
 
 def keys_of_queue():
@@ -253,18 +308,23 @@ def judge_chunk(program, name):
     results = Results(new)
     os.makedirs("scripts", exist_ok=True)
     with open(f"chunks/{name}.in", encoding="utf-8") as file:
-        texts = json.load(file)
+        texts = code_of_json().load(file)
     for key, text in texts.items():
         with open(f"scripts/{key}.txt", "w", encoding="latin-1", newline="") as file:
             file.write(text)
-        results.add(judge(program, key))
+        judge_keys(program, results, [key])
         os.remove(f"scripts/{key}.txt")
-    os.replace(new, f"chunks/{name}.out")
+        if program.is_over:
+            break
+    if not program.is_over:
+        os.replace(new, f"chunks/{name}.out")
+    elif os.path.exists(new):
+        os.remove(new)
 
 
 def main():
     form, program, names = sys.argv[1], Program(Options(sys.argv[2:8])), sys.argv[8:]
-    results = Results(f"cases/{os.uname().nodename}.{os.getpid()}.{time.time_ns()}.jsonl")
+    results = Results(f"cases/{HOST}.{os.getpid()}.{time.time_ns()}.jsonl")
     try:
         if form == "chunk":
             for name in names:
@@ -274,10 +334,7 @@ def main():
     except OSError as fault:
         print(f"tools/farm: {fault.filename or results.path}: {fault.strerror}", file=sys.stderr)
         return 2
-    except KeyboardInterrupt:
-        program.stop()
-        return 130
-    return 0
+    return 130 if program.is_over else 0
 
 
 if __name__ == "__main__":

@@ -6,10 +6,10 @@ link and network: the lines of the source that are meant, with those round them 
 name, and a picture of the schedule, a lane a work-item. The status is 0, or 2 where the input is bad."""
 
 import re
-from xml.sax.saxutils import escape
 
 from reading import (
-    argument_texts, explanations, is_refusal, item_text, lines_of, place_of, reason_texts, run, title_of,
+    argument_texts, events_of, explanations, is_refusal, item_text, lines_of, memory_text, place_of, reason_texts, run,
+    title_of,
 )
 
 # the picture: how far lanes and events stand from one another, and where the first ones stand, in pixels
@@ -17,9 +17,11 @@ LANE = 132
 ROW = 26
 LEFT = 64
 TOP = 60
-# how many lanes and events are drawn at most
+# how many lanes and rows are drawn at most: what a person reads
 LANES = 24
-EVENTS = 400
+ROWS = 60
+# of the kinds of events, those that show a fault first: how many of each come in front of all others
+WORTH = (2, 24, 8, 8)
 # how many lanes are few, so that all are seen at once
 FEW = 6
 # how many lines of the script are shown before and behind a marked one
@@ -60,13 +62,14 @@ svg text { font: 12px system-ui, sans-serif; fill: var(--ink); }
 .ring { fill: var(--paper); stroke: var(--bad); stroke-width: 2; }
 .bar { stroke: var(--bar); stroke-width: 3; }
 svg .note, tspan.note { fill: var(--dim); }
+svg .fold { fill: var(--dim); font-style: italic; stroke: var(--paper); stroke-width: 4; paint-order: stroke; }
 svg .barnote { fill: var(--bar); }
 """
 
 
 def quoted(text):
     """Text for a page, in attributes too."""
-    return escape(text, {'"': "&quot;"})
+    return text.replace("&", "&amp;").replace("<", "&lt;").replace(">", "&gt;").replace('"', "&quot;")
 
 
 def group_of(whole, item):
@@ -77,10 +80,10 @@ def group_of(whole, item):
     return item // size
 
 
-def lanes_of(whole):
+def lanes_of(whole, shown):
     """The work-items of the picture by their numbers; where they are many, those that the fault names come first."""
     named = [item["item"] for item in whole["items"]]
-    acting = [step["item"] for _, step in shown_steps(whole) if "item" in step]
+    acting = [step["item"] for step in shown.values() if "item" in step]
     found = list(dict.fromkeys(named + sorted(acting)))[:LANES]
     return sorted(found) if len(found) <= FEW else found
 
@@ -120,10 +123,71 @@ def release_bar(lanes, y, step, whole):
             f'<text class="barnote" x="{max(xs) + 24}" y="{y + 4}">{words}</text>')
 
 
-def shown_steps(whole):
-    """The steps that are drawn, with their numbers: all, or the first and the last ones."""
-    steps = list(enumerate(whole["steps"], 1))
-    return steps if len(steps) <= EVENTS else steps[: EVENTS // 2] + steps[-EVENTS // 2 :]
+def kind_of(whole, number, step):
+    """What an event is to the fault: 0 for one of its accesses, 1 for what a named item does, 2 for an access of its
+    byte, 3 for a barrier, 4 for others."""
+    if number in {item["event"] for item in whole["items"]}:
+        return 0
+    if "release" in step:
+        return 3
+    if step["item"] in {item["item"] for item in whole["items"]}:
+        return 1
+    byte = (whole["memory"] or {"byte": None})["byte"]
+    is_there = byte is not None and step["memory"] == memory_text(whole)
+    return 2 if is_there and step["byte"] <= byte < step["byte"] + (step["bytes"] or 1) else 4
+
+
+def by_worth(whole, events):
+    """The numbers of events: some of each kind that shows the fault, the last ones, and then all others from the
+    end."""
+    kinds = {number: kind_of(whole, number, step) for number, step in events.items()}
+    first = [number for kind, count in enumerate(WORTH)
+             for number in [it for it in reversed(events) if kinds[it] == kind][:count]]
+    return list(dict.fromkeys([*first, *reversed(events)]))
+
+
+def rows_of(whole, events, numbers):
+    """The rows of the picture that draws some of the events: the number of each, and of those between two that aren't
+    drawn the first and the last one."""
+    rows, before = [], 0
+    for number in [*sorted(numbers), whole["schedule"]["events"] + 1]:
+        if number > before + 1:
+            rows.append((before + 1, number - 1))
+        rows += [number] if number in events else []
+        before = number
+    return rows
+
+
+def shown_rows(whole, events, most):
+    """The rows of the picture, at most so many: all events, or those that show the fault, and how many are between."""
+    numbers = by_worth(whole, events)
+    for count in range(min(most, len(numbers)), 0, -1):
+        rows = rows_of(whole, events, numbers[:count])
+        if len(rows) <= most:
+            return rows
+    return []
+
+
+def spans(numbers):
+    """Numbers as a text, those in a row by the first and the last of them."""
+    found = []
+    for number in sorted(numbers):
+        if found and number == found[-1][1] + 1:
+            found[-1][1] = number
+        else:
+            found.append([number, number])
+    texts = [str(first) if first == last else f"{first} to {last}" for first, last in found]
+    return ", ".join(texts[:4]) + (" and others" if texts[4:] else "")
+
+
+def fold_text(events, first, last):
+    """What a row says of the events between two that are drawn."""
+    folded = [events[number] for number in range(first, last + 1) if number in events]
+    items, releases = [step["item"] for step in folded if "item" in step], len([it for it in folded if "release" in it])
+    parts = [f"{len(items)} of item{'s' * (len(set(items)) > 1)} {spans(set(items))}"] if items else []
+    parts += [f"{releases} barrier{'s' * (releases > 1)}"] if releases else []
+    parts += [f"{last - first + 1 - len(folded)} that aren't told"] if len(folded) <= last - first else []
+    return f"event {first}: {parts[0]}" if first == last else f"events {first} to {last}: {', '.join(parts)}"
 
 
 def step_mark(step, number, y, whole, lanes):
@@ -133,32 +197,39 @@ def step_mark(step, number, y, whole, lanes):
         return front + release_bar(lanes, y, step, whole)
     if step["item"] not in lanes:
         return front + f'<text class="note" x="{LEFT - 24}" y="{y + 4}">item {step["item"]}</text>'
-    bad = number in {item["event"] for item in whole["items"]}
-    return front + event_dot(lanes[step["item"]], y, step, bad)
+    return front + event_dot(lanes[step["item"]], y, step, kind_of(whole, number, step) == 0)
+
+
+def fold_mark(text, y):
+    """A row of events that aren't drawn one by one."""
+    return f'<text class="fold" x="8" y="{y + 4}">{text}</text>'
 
 
 def picture(whole):
-    """The schedule as SVG: a lane a work-item, events from top to bottom, the two accesses in red,
-    a ring for what comes next."""
-    lanes = {item: LEFT + LANE * place for place, item in enumerate(lanes_of(whole))}
-    steps = shown_steps(whole)
-    going = [] if whole["steps_left"] else [
-        item for item in whole["items"] if item["event"] is None and item["spot"] and item["item"] in lanes]
-    wide, high = LEFT + LANE * max(1, len(lanes)) + 40, TOP + ROW * (len(steps) + bool(going))
-    size = f'width="{wide}" height="{high}"'
-    parts = [f'<svg {size} role="img" aria-label="schedule">']
+    """The schedule as SVG: a lane a work-item, events from top to bottom, the two accesses in red, a ring for what
+    comes next. Where there are more events than a person reads, those that show the fault."""
+    events = events_of(whole)
+    going = [item for item in whole["items"] if item["event"] is None and item["spot"]]
+    rows = shown_rows(whole, events, ROWS - bool(going))
+    lanes = {item: LEFT + LANE * place
+             for place, item in enumerate(lanes_of(whole, {it: events[it] for it in rows if it in events}))}
+    folds = {row: fold_text(events, *row) for row in rows if row not in events}
+    wide = max([LEFT + LANE * max(1, len(lanes)) + 40, *(8 * len(text) for text in folds.values())])
+    high = TOP + ROW * (len(rows) + bool(going))
+    parts = [f'<svg width="{wide}" height="{high}" role="img" aria-label="schedule">']
     for item, x in lanes.items():
         parts.append(f'<text x="{x}" y="18" text-anchor="middle" font-weight="bold">item {item}</text>'
                      f'<text class="note" x="{x}" y="34" text-anchor="middle">group {group_of(whole, item)}</text>'
                      f'<line class="lane" x1="{x}" y1="42" x2="{x}" y2="{high - 6}"/>')
-    for row, (number, step) in enumerate(steps):
-        parts.append(step_mark(step, number, TOP + ROW * row, whole, lanes))
+    for at, row in enumerate(rows):
+        y = TOP + ROW * at
+        parts.append(fold_mark(folds[row], y) if row in folds else step_mark(events[row], row, y, whole, lanes))
     for item in going:
-        parts.append(next_ring(lanes[item["item"]], TOP + ROW * len(steps), item))
+        parts.append(next_ring(lanes[item["item"]], TOP + ROW * len(rows), item))
     parts.append("</svg>")
-    left = whole["steps_left"] + len(whole["steps"]) - len(steps)
-    more = f'<p class="dim">{left} of {whole["schedule"]["events"]} events aren\'t drawn</p>' if left else ""
-    return "".join(parts) + more
+    count = whole["schedule"]["events"]
+    drawn = len(rows) - len(folds)
+    return "".join(parts) + (f'<p class="dim">{drawn} of {count} events are drawn</p>' if drawn < count else "")
 
 
 def marked_text(raw, place):
@@ -248,14 +319,18 @@ def section(whole):
     return "".join(parts)
 
 
-def main(paths):
-    """The text of a page."""
-    found = explanations(paths)
+def page_of(found):
+    """The text of a page of explanations."""
     title = "clsim: " + (title_of(found[0]) if len(found) == 1 else f"{len(found)} explanations")
     body = "".join(section(whole) for whole in found) or "<p>no explanations</p>"
     return ('<!doctype html><html lang="en"><head><meta charset="utf-8">'
             '<meta name="viewport" content="width=device-width, initial-scale=1">'
             f"<title>{quoted(title)}</title><style>{STYLE}</style></head><body>{body}</body></html>\n")
+
+
+def main(paths):
+    """The text of a page of what files hold."""
+    return page_of(explanations(paths))
 
 
 if __name__ == "__main__":

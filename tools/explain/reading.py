@@ -43,9 +43,14 @@ def explanation(name, number, line):
         value = json.loads(line)
     except json.JSONDecodeError as error:
         raise BadInput(f"{name}: line {number}: no JSON: {error}") from error
-    if not isinstance(value, dict) or value.get("version") != VERSION:
+    if not is_known(value):
         raise BadInput(f"{name}: line {number}: no explanation of version {VERSION}")
     return value
+
+
+def is_known(value):
+    """Whether a value is an explanation of the version that is read here."""
+    return isinstance(value, dict) and value.get("version") == VERSION
 
 
 def run(main):
@@ -117,6 +122,28 @@ def reason_texts(whole):
 def place_of(item):
     """Where an item stands: its spot, or that of its last access where it has ended; None where it has none."""
     return item["spot"] or item["last_access"]
+
+
+def memory_text(whole):
+    """The memory of a fault, as the steps have it; None where it isn't a buffer or local memory."""
+    memory = whole["memory"] or {"kind": ""}
+    group = f"{memory['group']} " if memory["kind"] == "local" else ""
+    return f"{memory['kind']} {group}{memory['name']}" if memory["kind"] in ("buffer", "local") else None
+
+
+def events_of(whole):
+    """The events that are told, by their numbers, and behind them the accesses of the named items that are told with
+    their places alone, since they come later: `value` and `left` of these are null."""
+    found, memory = dict(enumerate(whole["steps"], 1)), memory_text(whole)
+    for item in sorted(whole["items"], key=lambda item: item["event"] or 0):
+        place = item["spot"]
+        if memory and place and (item["event"] or 0) > len(whole["steps"]):
+            begin = place["column"] - 1
+            text = place["text"].encode()[begin : begin + place["length"]].decode(errors="replace")
+            found[item["event"]] = {"item": item["item"], "does": item["does"], "memory": memory, "bytes": None,
+                                    "byte": whole["memory"]["byte"], "value": None, "left": None,
+                                    "place": {**place, "text": text}}
+    return found
 
 
 def text_of(line):

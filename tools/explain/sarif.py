@@ -9,7 +9,9 @@ import json
 import re
 from urllib.parse import quote
 
-from reading import argument_texts, explanations, is_refusal, item_text, lines_of, place_of, reason_texts, run
+from reading import (
+    argument_texts, events_of, explanations, is_refusal, item_text, lines_of, place_of, reason_texts, run,
+)
 
 SCHEMA = "https://json.schemastore.org/sarif-2.1.0.json"
 
@@ -101,9 +103,10 @@ def location(whole, lines, place, words=None):
 
 
 def flows(whole, lines):
-    """The steps of the schedule, a thread flow for each work-item; the order of events is that of the schedule."""
+    """The steps of the schedule, a thread flow for each work-item; the order of events is that of the schedule. The
+    accesses of a fault are among them, also where they come behind those that are told."""
     threads = {}
-    for number, step in enumerate(whole["steps"], 1):
+    for number, step in events_of(whole).items():
         if "item" in step and step["place"]:
             words = f"{step['does']} {step['memory']} byte {step['byte']}"
             place = location(whole, lines, step["place"], words)
@@ -180,9 +183,8 @@ def result(whole):
     return found
 
 
-def main(paths):
-    """The text of a SARIF file."""
-    found = explanations(paths, command_of)
+def log_of(found):
+    """The text of a SARIF file of explanations and commands."""
     rules = [
         {"id": "clsim/" + name, "name": name, "shortDescription": {"text": words}}
         for name, words in ALL.items()
@@ -197,6 +199,11 @@ def main(paths):
         }],
     }
     return json.dumps(log) + "\n"
+
+
+def main(paths):
+    """The text of a SARIF file of what files hold."""
+    return log_of(explanations(paths, command_of))
 
 
 if __name__ == "__main__":
