@@ -476,11 +476,15 @@ static json *turned_round(json list, size_t *n) {
     return all;
 }
 
-// Tells the calls of helpers round a place, the innermost first. The explanation has the outermost first.
+// Tells the calls of helpers round a place, the innermost first, each with the calls in whose places it is judged. The
+// explanation has the outermost first.
 static void tell_calls(cl_kernel k, json calls) {
     size_t n;
     json *all = turned_round(calls, &n);
-    for (size_t i = 0; i < n; i++) tell_at(k, "    called", all[i]);
+    for (size_t i = 0; i < n; i++) {
+        tell_at(k, "    called", all[i]);
+        tell_calls_in_place(k, all[i]);
+    }
     free(all);
 }
 
