@@ -64,7 +64,8 @@ class Kernel:
         self.head.append("ulong add(ulong a, uchar b) { switch (b & 3) { case 0: return a + 1; case 1: a ^= b; "
                          "case 2: a += 2ul * b; break; default: return ~a; } return a; }")
         self.head.append("long spread(long x, ushort n) { uchar b[4] = { 1, 2 }; "
-                         "for (uint i = 0; i < (n & 3u); i++) { b[i] ^= (uchar)(x >> i); if (b[i] == 7) return x ^ b[i]; x = (long)add((ulong)x, b[i + 1]); } "
+                         "for (uint i = 0; i < (n & 3u); i++) { b[i] ^= (uchar)(x >> i); "
+                         "if (b[i] == 7) return x ^ b[i]; x = (long)add((ulong)x, b[i + 1]); } "
                          "return (long)(add((ulong)x, b[1]) ^ add(n, (uchar)x)); }")
         self.head.append("void swap(__private uint *a, __private uint *b) { uint t = *a; *a = *b; *b = t; }")
         self.head.append("S change(S s, uint x) { s.u.w += x; s.b[x % 5] = (uchar)x; return s; }")
