@@ -96,10 +96,11 @@ static bool always_returns(list l) {
     return false;
 }
 
-// Its own name, where no other one has it.
+// Its own name, where the language takes that, and no other one has it. (Variables of helpers end with `_`.)
 static const char *own_name(translator *t, const char *name) {
-    size_t length = strlen(name);
-    bool is_plain = length && length <= MOST_NAME && strncmp(name, "__", 2) && name[length - 1] != '_';
+    static const char bytes[] = "abcdefghijklmnopqrstuvwxyzABCDEFGHIJKLMNOPQRSTUVWXYZ_0123456789";
+    size_t length = strspn(name, bytes);
+    bool is_plain = length && !name[length] && length <= MOST_NAME && strncmp(name, "__", 2) && name[length - 1] != '_';
     for (const own_function *f = t->written; f; f = f->written) is_plain = is_plain && strcmp(f->name, name);
     for (const own_function *f = t->open; f; f = f->up) is_plain = is_plain && (!f->name || strcmp(f->name, name));
     return is_plain && !is_reserved_name(name) ? name : fresh_name(t, name);
@@ -120,16 +121,18 @@ static const char *parameters_text(translator *t, const own_function *f) {
 }
 
 // The end of a body that doesn't return is a value that nobody has set.
-static void end_body(translator *t, list *body, const char *type, const place *at) {
-    if (always_returns(*body)) return;
-    const char *name = temporary_name(t);
-    append_list(body, one_text(t, format(t, "%s %s;", type, name), at));
-    append_list(body, one_text(t, format(t, "return %s;", name), at));
+static void end_body(translator *t, own_function *f) {
+    const node *function = f->function;
+    if (always_returns(f->body)) return;
+    const char *name = fresh_name(t, function->name);
+    show_name(t, name, function->name);
+    const char *declared = format(t, "%s %s;", name_of(core_type(f->result)), name);
+    append_list(&f->body, one_text(t, declared, &function->place));
+    append_list(&f->body, one_text(t, format(t, "return %s;", name), &function->place));
 }
 
 static void write_function(translator *t, own_function *f) {
     const node *function = f->function;
-    const char *type = name_of(core_type(f->result));
     function_frame frame = {.type = f->result, .stays = true}, *frame_before = t->frame;
     call *call_before = t->call;
     jump *jumps_before = t->jumps;
@@ -146,10 +149,10 @@ static void write_function(translator *t, own_function *f) {
     t->common = NULL;
     enter_breakable(t, NULL);
     f->name = own_name(t, function->name);
-    f->head = format(t, "%s %s(%s){\n", type, f->name, parameters_text(t, f));
+    f->head = format(t, "%s %s(%s){\n", name_of(core_type(f->result)), f->name, parameters_text(t, f));
     translate_range(t, function->body, 0, function->body->part_count, false);
     f->body = end_list(t, before);
-    end_body(t, &f->body, type, &function->place);
+    end_body(t, f);
     t->open = f->up;
     t->call = call_before;
     t->frame = frame_before;
