@@ -155,8 +155,10 @@ def headers(bench):
     """A place in a header that the client gave has the header's name, and its text is there."""
     path = bench.path("exec_headers.json")
     bench.run([bench.path("linking"), "headers"], CLSIM_JSON=path)
-    [told] = [json.loads(line) for line in read(path).splitlines()]
-    want({item["spot"]["file"] for item in told["items"]} == {"ops/add.h"}, told["items"])
+    told = json.loads(read(path).splitlines()[0])
+    spot = told["items"][0]["spot"]
+    want((spot["file"], spot["line"], spot["column"]) == ("ops/add.h", 5, 5), spot)
+    want([(call["file"], call["line"], call["column"]) for call in spot["calls"]] == [("source", 5, 47)], spot)
     want({source["name"] for source in told["sources"]} >= {"ops/add.h", "source"}, told["sources"])
 
 
