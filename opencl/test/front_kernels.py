@@ -77,20 +77,20 @@ class Kernel:
         """A function into which numbers alone go, and that gives one: with a loop, a switch, returns out of both."""
         r, t = self.r, self.r.choice(TYPES)
         given = [(n, r.choice(TYPES)) for n in ["p", "q", "o"][:r.randint(1, 3)]]
-        self.scalars, self.is_apart = {**dict(given), "z": t}, True
+        self.scalars, self.is_apart = {**dict(given), "w": t}, True
         value, test = (lambda: self.number(t, 2)), (lambda: self.number(r.choice(TYPES), 1))
-        forms = [lambda: f"z = {value()};", lambda: f"z ^= {value()};", lambda: f"{given[0][0]} ^= {test()};",
+        forms = [lambda: f"w = {value()};", lambda: f"w ^= {value()};", lambda: f"{given[0][0]} ^= {test()};",
                  lambda: f"if ({test()}) return {value()};",
-                 lambda: f"if ({test()}) {{ z = {value()}; }} else return z;",
-                 lambda: f"for (int i = 0; i < {r.randint(1, 3)}; i++) {{ z ^= {value()}; if ({test()}) continue; "
-                         f"if ({test()}) return {value()}; z |= {value()}; }}",
-                 lambda: f"switch ({test()} & 3) {{ case 0: z = {value()}; case 1: return {value()}; "
-                         f"case 2: z ^= {value()}; break; default: z = ~z; }}",
-                 lambda: f"{{ {t} y[3] = {{ z, {value()} }}; for (uint i = 0; i < 3; i++) y[2] ^= y[i]; z = y[2]; }}"]
+                 lambda: f"if ({test()}) {{ w = {value()}; }} else return w;",
+                 lambda: f"for (int i = 0; i < {r.randint(1, 3)}; i++) {{ w ^= {value()}; if ({test()}) continue; "
+                         f"if ({test()}) return {value()}; w |= {value()}; }}",
+                 lambda: f"switch ({test()} & 3) {{ case 0: w = {value()}; case 1: return {value()}; "
+                         f"case 2: w ^= {value()}; break; default: w = ~w; }}",
+                 lambda: f"{{ {t} y[3] = {{ w, {value()} }}; for (uint i = 0; i < 3; i++) y[2] ^= y[i]; w = y[2]; }}"]
         lines = " ".join(r.choice(forms)() for _ in range(r.randint(1, 5)))
         name, numbers = self.name("fun"), ", ".join(f"{k} {n}" for n, k in given)
-        self.head.append(f"{t} {name}({numbers}) {{ {t} z = {value()}; {lines} return {value()}; }}"
-                         .replace(f"{t} z = ", f"{t} z = 1; z = ", 1))
+        self.head.append(f"{t} {name}({numbers}) {{ {t} w = {value()}; {lines} return {value()}; }}"
+                         .replace(f"{t} w = ", f"{t} w = 1; w = ", 1))
         self.functions.append((name, [k for _, k in given]))
         self.scalars, self.is_apart = {}, False
 
