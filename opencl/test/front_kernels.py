@@ -134,7 +134,7 @@ class Kernel:
             lambda: f"({t})({one(other)} {r.choice(['&&', '||'])} {two(other)})",
             lambda: f"({t})({r.choice(['~', '!'])}{one()})", lambda: f"({t})(-({u}){one()})",
             lambda: f"({t}){one(other)}",
-            lambda: f"({one(other)} ? {one()} : {two()})",
+            lambda: f"({t})({one(other)} ? {one()} : {two()})",
             lambda: f"({t})MIX((uint){one('uint')}, (uint){two('uint')})",
             lambda: f"({t})({one(other)}, {two(other)})",
             lambda: f"({t})add({one('ulong')}, {two('uchar')})",
@@ -225,7 +225,7 @@ class Kernel:
                 lambda: f"{name} = {self.vector_of(t, n, 2)};",
                 lambda: f"{name} {r.choice(['^=', '|=', '&='])} {self.vector_of(t, n, 2)};",
                 lambda: f"{name}.{r.choice(['xy', 'yx', 's10'])} = {self.vector_of(t, 2, 1)};",
-                lambda: f"{name}.{r.choice(['lo', 'hi', 'even', 'odd'])} = {self.vector_of(t, n // 2, 1)};" if n > 2
+                lambda: f"{name}.{r.choice(['lo', 'hi', 'even', 'odd'])} = {self.vector_of(t, n // 2, 1)};" if n > 3
                 else f"{name}.x = {self.number(t, 2)};",
                 lambda: f"{name}.s1 ^= {self.number(t, 2)};",
             ])()
