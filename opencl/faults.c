@@ -2,6 +2,7 @@
 #define _GNU_SOURCE
 #include "accessed.h"
 #include "digits.h"
+#include "explained.h"
 #include "reasons.h"
 #include <stdio.h>
 #include <stdlib.h>
@@ -475,28 +476,16 @@ static json *turned_round(json list, size_t *n) {
     return all;
 }
 
-// Tells the calls of helpers round a place, the innermost first. The explanation has the outermost first.
+// Tells the calls of helpers round a place, the innermost first, each with the calls in whose places it is judged. The
+// explanation has the outermost first.
 static void tell_calls(cl_kernel k, json calls) {
     size_t n;
     json *all = turned_round(calls, &n);
-    for (size_t i = 0; i < n; i++) tell_at(k, "    called", all[i]);
+    for (size_t i = 0; i < n; i++) {
+        tell_at(k, "    called", all[i]);
+        tell_calls_in_place(k, all[i]);
+    }
     free(all);
-}
-
-// Whether a place, or a call of a helper round it, is a part of the turn before in the client's source. (A function is
-// called once at most round a place, so that it is the call in the function of the loop.)
-static bool is_before(cl_kernel k, json spot, json loop) {
-    const prepared *source = k->source;
-    json calls = json_member(spot, "calls");
-    unsigned long begin, at;
-    size_t start = k->form->begin;
-    if (!json_number(json_member(loop, "offset"), &begin)) return false;
-    if (json_number(json_member(spot, "offset"), &at) && is_of_turn_before(source, start + at, start + begin))
-        return true;
-    for (json c = json_first(calls); c.at; c = json_next(calls, c))
-        if (json_number(json_member(c, "offset"), &at) && is_of_turn_before(source, start + at, start + begin))
-            return true;
-    return false;
 }
 
 // Tells a loop round a place with the turn that it has in the client's source.
@@ -504,7 +493,7 @@ static void tell_loop(cl_kernel k, json spot, json loop) {
     char words[64] = "    in the loop";
     unsigned long turn;
     bool known = json_number(json_member(loop, "turn"), &turn);
-    if (known && turn && is_before(k, spot, loop)) turn--;
+    if (known && turn && is_turn_before(k, spot, loop)) turn--;
     if (known && turn) snprintf(words, sizeof words, "    in turn %lu of the loop", turn);
     else if (known) snprintf(words, sizeof words, "    before the first turn of the loop");
     tell_at(k, words, loop);
@@ -586,6 +575,14 @@ static void tell_launch(cl_kernel k, const char *line, const launch_sizes *s, co
     }
 }
 
+// A fault of the flags of its buffer as its line without the schedule. The caller frees it.
+static char *held_line(const char *line) {
+    const char *begin = strstr(line, " item "), *end = strstr(line, " element " HELD_ELEMENT);
+    char *held = NULL;
+    if (!begin || !end || asprintf(&held, "fault flags%.*s", (int)(end - begin), begin) < 0) return NULL;
+    return held;
+}
+
 // Tells what a fault's line, which goes with the next command, means to the client: in words, where it is in the
 // source, in which launch, memory and ids, why, and the line itself.
 static void tell_fault(cl_kernel k, const char *reply, const launch_sizes *s) {
@@ -605,6 +602,9 @@ static void tell_fault(cl_kernel k, const char *reply, const launch_sizes *s) {
     if (!is_held) tell_reasons(k->source, k->form, json_member(whole, "why"));
     else tell("  why: such an access of a buffer with this flag is undefined (OpenCL 1.2, table 5.3)");
     tell_reply(line, is_held ? &place : NULL);
+    char *held = is_held ? held_line(line) : NULL;
+    write_explanation(&(told_fault){k, s, line, whole, held});
+    free(held);
     free(explanation);
     call_back(k->context, line);
     free(line);

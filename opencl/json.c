@@ -169,6 +169,20 @@ json json_next(json list, json element) {
     return skip_byte(&rest, ',') ? take_value(&rest) : nothing;
 }
 
+static json take_member(json *rest, json *name) { return skip_name(rest, name) ? take_value(rest) : nothing; }
+
+json json_first_member(json object, json *name) {
+    json rest = inside(object, '{');
+    return take_member(&rest, name);
+}
+
+json json_next_member(json object, json value, json *name) {
+    json rest = {value.end, inside(object, '{').end};
+    if (!rest.at || !rest.end) return nothing;
+    skip_space(&rest);
+    return skip_byte(&rest, ',') ? take_member(&rest, name) : nothing;
+}
+
 bool json_number(json v, unsigned long *n) {
     unsigned long sum = 0;
     for (const char *c = v.at; c < v.end; c++) {

@@ -17,6 +17,9 @@ json json_member(json object, const char *name);
 // The first element of a list, and the one behind an element.
 json json_first(json list);
 json json_next(json list, json element);
+// The value of an object's first member, and of the one behind a member's value. `name` becomes its name, a string.
+json json_first_member(json object, json *name);
+json json_next_member(json object, json value, json *name);
 // Whether it is a number without a sign, a fraction and an exponent, which is then put into `n`.
 bool json_number(json v, unsigned long *n);
 // Whether it is a string without an escape that fits into `n` bytes of room, into which it is then put.

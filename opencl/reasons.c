@@ -95,7 +95,8 @@ static bool add_nearest(text *t, const client_form *form, json reason) {
     n += read_stored(json_member(reason, "below"), &sides[n]);
     n += read_stored(json_member(reason, "above"), &sides[n]);
     if (!n) return false;
-    add(t, n == 1 && sides[0].bytes == 1 ? "the nearest byte that was set is " : "the nearest bytes that were set are ");
+    add(t,
+        n == 1 && sides[0].bytes == 1 ? "the nearest byte that was set is " : "the nearest bytes that were set are ");
     add_stored(t, form, &sides[0]);
     if (n == 2) {
         add(t, ", and ");
@@ -146,8 +147,8 @@ static bool add_budget(text *t, const client_form *form, json reason) {
         !number_of(reason, "barriers", &barriers) || !number_of(reason, "turns", &turns) ||
         !number_of(reason, "unseen", &unseen))
         return false;
-    addf(t, "the budget of %lu tick%s went to %lu access%s, %lu barrier%s and %lu turn%s of loops", ticks, plural(ticks),
-         accesses, accesses == 1 ? "" : "es", barriers, plural(barriers), turns, plural(turns));
+    addf(t, "the budget of %lu tick%s went to %lu access%s, %lu barrier%s and %lu turn%s of loops", ticks,
+         plural(ticks), accesses, accesses == 1 ? "" : "es", barriers, plural(barriers), turns, plural(turns));
     add_loops(t, form, reason, unseen);
     add(t, "; a loop without end uses up any budget");
     return true;
@@ -170,26 +171,26 @@ static bool add_sentence(text *t, json reason) {
     return words;
 }
 
-static bool add_reason(text *t, const client_form *form, json reason) {
+bool add_reason(text *t, const prepared *source, const kernel_form *kernel, json reason) {
+    client_form form = {source, kernel};
     json kind = json_member(reason, "kind");
     for (size_t i = 0; i < sizeof worded / sizeof *worded; i++)
-        if (is_word(kind, worded[i].kind)) return worded[i].add(t, form, reason);
+        if (is_word(kind, worded[i].kind)) return worded[i].add(t, &form, reason);
     return add_sentence(t, reason);
 }
 
 // Tells one reason. Where memory is refused, it is left out.
-static void tell_reason(const client_form *form, json reason) {
+static void tell_reason(const prepared *source, const kernel_form *kernel, json reason) {
     arena a = {0};
     text told = {.arena = &a};
     if (setjmp(a.failed)) {
         free_arena(&a);
         return;
     }
-    if (add_reason(&told, form, reason) && told.length) tell("  why: %s", told.at);
+    if (add_reason(&told, source, kernel, reason) && told.length) tell("  why: %s", told.at);
     free_arena(&a);
 }
 
 void tell_reasons(const prepared *source, const kernel_form *kernel, json list) {
-    client_form form = {source, kernel};
-    for (json r = json_first(list); r.at; r = json_next(list, r)) tell_reason(&form, r);
+    for (json r = json_first(list); r.at; r = json_next(list, r)) tell_reason(source, kernel, r);
 }

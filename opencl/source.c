@@ -28,7 +28,7 @@ static char *file_line(arena *a, const char *path, unsigned line) {
 }
 
 // The client's text that a place names: the very one by its name, or another one of that name. NULL for a file.
-static const char *text_of(const prepared *p, const char *name) {
+const char *text_of(const prepared *p, const char *name) {
     const char *found = NULL;
     for (unsigned i = 0; i < p->text_count; i++) {
         if (p->texts[i].name == name) return p->texts[i].text;
@@ -38,7 +38,7 @@ static const char *text_of(const prepared *p, const char *name) {
 }
 
 // The client's line at a place; NULL where it isn't found.
-static const char *line_of(const prepared *p, arena *a, const place *at) {
+const char *line_of(const prepared *p, arena *a, const place *at) {
     const char *whole = text_of(p, at->file);
     if (!whole) return file_line(a, at->file, at->line);
     const char *line = start_of_line(whole, at->line);
@@ -92,9 +92,13 @@ bool is_of_turn_before(const prepared *p, size_t offset, size_t loop) {
     return t != NULL;
 }
 
+bool site_of(const prepared *p, const kernel_form *k, size_t offset, place *at) {
+    return offset < k->length && find_place(p, k->begin + offset, at);
+}
+
 bool place_of(const prepared *p, const kernel_form *k, size_t offset, char *room, size_t n) {
     place at;
-    if (offset >= k->length || !find_place(p, k->begin + offset, &at)) return false;
+    if (!site_of(p, k, offset, &at)) return false;
     put_place(room, n, &at);
     return true;
 }
@@ -103,7 +107,7 @@ bool line_at(const prepared *p, const kernel_form *k, size_t offset, unsigned *r
              size_t n) {
     arena a = {0};
     place at;
-    if (offset >= k->length || !find_place(p, k->begin + offset, &at) || !at.line) return false;
+    if (!site_of(p, k, offset, &at) || !at.line) return false;
     if (setjmp(a.failed)) {
         free_arena(&a);
         return false;

@@ -1,4 +1,4 @@
-// Calls of the source's own functions: each is translated in place.
+// Calls of the source's own functions: each is translated in place, but where its function stays one (functions.c).
 #include "front.h"
 
 // The call of a function at a place in another one. It is the same one in each pass.
@@ -19,8 +19,14 @@ static call *find_call(translator *t, const node *function, const node *site) {
     return c;
 }
 
+call *new_call(translator *t, const node *function) {
+    call *c = take(&t->kernel, sizeof *c);
+    *c = (call){.number = ++t->call_count, .function = function, .site = function};
+    return c;
+}
+
 static bool is_recursive(const translator *t, const node *function) {
-    if (function == t->kernel_function) return true;
+    if (function == t->kernel_function || is_open_function(t, function)) return true;
     for (const call *c = t->call; c; c = c->up)
         if (c->function == function) return true;
     return false;
@@ -70,7 +76,7 @@ static void bind_parameter(translator *t, object *o, const node *p, value v) {
     set_alias(t, o, integer_value(i));
 }
 
-static void give_argument(translator *t, unsigned number, const node *p, value v, const place *at) {
+void give_argument(translator *t, unsigned number, const node *p, value v, const place *at) {
     object *o = find_object(t, number, p->number, ITSELF);
     bool is_bound = p->type->kind == POINTER_TYPE || p->type->kind == INTEGER_TYPE || p->type->kind == FLOATING_TYPE;
     if (is_bound && !t->is_modified[p->number]) bind_parameter(t, o, p, v);
@@ -167,7 +173,9 @@ static value inline_call(translator *t, const node *n, const node *function, boo
     for (unsigned i = 0; i < count; i++) arguments[i] = (operand){.node = n->parts[1 + i]};
     evaluate(t, arguments, count);
     t->at = &n->place;
-    unsigned number = find_call(t, function, n)->number;
+    const call *c = find_call(t, function, n);
+    if (stays_function(t, n, c, arguments, is_used)) return call_function(t, n, function, arguments);
+    unsigned number = c->number;
     for (unsigned i = 0; i < count; i++) give_argument(t, number, function->parts[i], arguments[i].value, &n->place);
     return translate_call(t, n, function, is_used);
 }

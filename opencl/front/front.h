@@ -183,6 +183,25 @@ typedef struct call {
     const call_site *told;
 } call;
 
+// A function of the source that may stay one in the judged text (functions.c).
+typedef struct own_function {
+    struct own_function *next; // of the kernel
+    const node *function;
+    const type *result;
+    bool is_judged, is_apart; // nothing in it belongs to a kernel
+    unsigned node_count;      // of its body
+    bool cannot_stay;         // something in it has no rule there
+    bool stays;
+    const call *first; // of its calls that may be calls of the judged text
+    call *own;         // in which its body is translated, where it stays
+    // in this pass
+    unsigned pass; // in which it was written last
+    const char *name, *head;
+    list body;
+    struct own_function *up;      // that is being written round it
+    struct own_function *written; // behind it in the text
+} own_function;
+
 // A label that statements in front of it go to.
 typedef struct jump {
     struct jump *up;
@@ -196,6 +215,7 @@ typedef struct function_frame {
     object *result;
     const type *type;
     bool is_kernel;
+    bool stays; // it is a function of the judged text
 } function_frame;
 
 // A name that is taken.
@@ -237,11 +257,16 @@ typedef struct translator {
     call *calls[BUCKETS];
     unsigned call_count;
     unsigned pass_number;
-    bool is_changed;    // something new was learnt in this pass
-    bool is_incomplete; // this pass left something out that wasn't known yet
-    bool prints;        // it calls printf
+    bool is_changed;      // something new was learnt in this pass
+    bool is_incomplete;   // this pass left something out that wasn't known yet
+    bool prints;          // it calls printf
+    bool is_regrouped;    // a function stays from this pass on
+    unsigned free_passes; // those that had to be left, or in which a function began to stay
+    own_function *functions;
 
     // of the pass
+    jmp_buf again; // where to go on once a function can't stay
+    own_function *open, *written, **last_written;
     list out;
     const place *at;
     unsigned loop_count, temporary_count, depth, hash_count;
@@ -307,6 +332,17 @@ list end_list(translator *t, list before);
 void set_turn_before(translator *t, list l, unsigned loop);
 // What stands behind a statement of the list that is being written; that stands last then. NULL: all of it.
 list cut_behind(translator *t, statement *last);
+
+// ---- functions.c ----
+// Whether a call is one of a function of the judged text.
+bool stays_function(translator *t, const node *n, const call *c, const operand *arguments, bool is_used);
+value call_function(translator *t, const node *n, const node *function, const operand *arguments);
+// Whether a function is being written.
+bool is_open_function(const translator *t, const node *function);
+// The functions that are being written can't stay: the pass is left, and the next one translates them in place.
+void leave_functions(translator *t) __attribute__((noreturn));
+void begin_functions(translator *t);
+void write_functions(translator *t, text *to);
 
 // ---- leaving.c ----
 // Writes a list without the statements that leave a label: what follows them is done only where it isn't left.
@@ -499,6 +535,10 @@ void add_local(translator *t, object *o);
 
 // ---- calls.c ----
 value call_value(translator *t, const node *n, bool is_used);
+// A call that stands for all calls of a function of the judged text.
+call *new_call(translator *t, const node *function);
+// Gives a parameter of a call its value.
+void give_argument(translator *t, unsigned number, const node *p, value v, const place *at);
 
 // ---- builtins.c ----
 value builtin_value(translator *t, const node *n, const char *name, bool is_used);
@@ -525,6 +565,8 @@ list begin_of_copies(translator *t, const place *at);
 
 // ---- kernels.c ----
 void translate_kernel(translator *t, const node *function, judged_kernel *k, text *to);
+// Whether a name is a word of the language, or one of the driver's own.
+bool is_reserved_name(const char *name);
 
 // ---- writer.c ----
 // Notes the place of what is written next.

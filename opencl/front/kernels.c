@@ -244,7 +244,7 @@ static void take_reserved_names(translator *t) {
     }
 }
 
-static bool is_reserved(const char *name) {
+bool is_reserved_name(const char *name) {
     size_t length = strlen(name);
     if (helper_named(name) != NO_HELPER) return true;
     for (const char *at = reserved; *at;) {
@@ -260,7 +260,7 @@ static bool is_reserved(const char *name) {
 static const char *judged_name(const translator *t, const char *name) {
     size_t length = strlen(name);
     bool is_of_helper = length && name[length - 1] == '_' && uses_helpers(t);
-    return length > MOST_NAME || is_of_helper || is_reserved(name) ? "clsim_kernel" : name;
+    return length > MOST_NAME || is_of_helper || is_reserved_name(name) ? "clsim_kernel" : name;
 }
 
 static void begin_pass(translator *t, const node *function) {
@@ -286,7 +286,8 @@ static void begin_pass(translator *t, const node *function) {
     t->shown_count = t->shown_room = 0;
     t->locals = NULL;
     t->local_count = t->local_room = 0;
-    t->is_changed = t->is_incomplete = false;
+    t->is_changed = t->is_incomplete = t->is_regrouped = false;
+    begin_functions(t);
     t->pass_number++;
     begin_pass_of_objects(t);
     take_reserved_names(t);
@@ -317,24 +318,44 @@ static void judge_attributes(translator *t, const node *function) {
         if (a->kind == UNKNOWN_ATTRIBUTE) refuse_at(t, &a->place, "Clsim doesn't know the attribute %s", a->name);
 }
 
+// One pass. False where it is left, since a function can't stay one.
+static bool run_pass(translator *t, const node *function, written_parameters *all) {
+    *all = (written_parameters){NULL, 0, 0};
+    begin_pass(t, function);
+    if (setjmp(t->again)) {
+        t->open = NULL;
+        return false;
+    }
+    judge_attributes(t, function);
+    translate_body(t, function, all);
+    return true;
+}
+
+// Passes until one learns nothing.
+static void run_passes(translator *t, const node *function, written_parameters *all) {
+    static const char lost[] = "Clsim can't follow the pointers of this kernel";
+    for (bool is_whole = false; !is_whole || t->is_changed;) {
+        if (t->pass_number == t->free_passes + MAX_PASSES) refuse_at(t, &function->place, lost);
+        is_whole = run_pass(t, function, all);
+        t->free_passes += !is_whole || t->is_regrouped;
+    }
+    if (t->is_incomplete) refuse_at(t, &function->place, lost);
+}
+
 void translate_kernel(translator *t, const node *function, judged_kernel *k, text *to) {
     written_parameters all;
     const place *at = &function->place;
     *k = (judged_kernel){.function = function};
     begin_kernel_of_objects(t);
     t->prints = false;
-    do {
-        if (t->pass_number == MAX_PASSES) refuse_at(t, at, "Clsim can't follow the pointers of this kernel");
-        all = (written_parameters){NULL, 0, 0};
-        begin_pass(t, function);
-        judge_attributes(t, function);
-        translate_body(t, function, &all);
-    } while (t->is_changed);
-    if (t->is_incomplete) refuse_at(t, at, "Clsim can't follow the pointers of this kernel");
+    t->functions = NULL;
+    t->free_passes = 0;
+    run_passes(t, function, &all);
     k->begin = to->length;
     k->name = judged_name(t, function->name);
     add_place(t, (judged_place){.offset = to->length, .at = at});
     write_helpers(t, to);
+    write_functions(t, to);
     write_head(t, k, &all, to);
     list begin = t->uses_null ? one_text(t, "uchar clsim_null[1];", at) : (list){NULL, NULL};
     if (t->prints) append_list(&begin, begin_of_printing(t, at));

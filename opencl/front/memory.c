@@ -94,6 +94,7 @@ bool is_inside(const object *o, linear l, unsigned width) {
 // ---- what an access is written on ----
 
 const char *null_name(translator *t) {
+    if (t->open) leave_functions(t);
     t->uses_null = true;
     return "clsim_null";
 }

@@ -206,6 +206,13 @@ static void translate_return(translator *t, const node *n) {
         emit(t, "return;");
         return;
     }
+    if (f->stays) {
+        if (!given) refuse_at(t, &n->place, "a function with a result returns none");
+        value v = given_value(t, evaluate_value(t, given), f->type);
+        t->at = &n->place;
+        emit(t, "return %s;", assigned(t, v.integer, core_type(f->type)));
+        return;
+    }
     if (given && f->type->kind == VOID_TYPE) evaluate_effects(t, given);
     else if (given) {
         value v = evaluate_value(t, given);

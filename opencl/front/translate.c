@@ -27,6 +27,7 @@ const char *format(translator *t, const char *format, ...) {
 
 void refuse_at(translator *t, const place *at, const char *format, ...) {
     va_list values;
+    if (t->open) leave_functions(t);
     va_start(values, format);
     const char *message = format_values(t, format, values);
     va_end(values);

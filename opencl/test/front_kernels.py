@@ -28,7 +28,8 @@ class Kernel:
     def __init__(self, seed):
         self.r = random.Random(seed)
         self.count = 0
-        self.head, self.scalars, self.vectors = [], {}, {}
+        self.head, self.scalars, self.vectors, self.functions = [], {}, {}, []
+        self.is_apart = False  # what is written is a function of numbers alone
         self.loops = 0
         self.has_jumps = self.chance(10)
         self.fields = [(f"m{n}", self.r.choice(TYPES)) for n in range(self.r.randint(2, 5))]
@@ -63,8 +64,35 @@ class Kernel:
                          "for (int i = 0; i < 3; i++) { if (*p & (2u << i)) return i; *p ^= 5u << i; } return -1; }")
         self.head.append("ulong add(ulong a, uchar b) { switch (b & 3) { case 0: return a + 1; case 1: a ^= b; "
                          "case 2: a += 2ul * b; break; default: return ~a; } return a; }")
+        self.head.append("long spread(long x, ushort n) { uchar b[4] = { 1, 2 }; "
+                         "for (uint i = 0; i < (n & 3u); i++) { b[i] ^= (uchar)(x >> i); "
+                         "if (b[i] == 7) return x ^ b[i]; x = (long)add((ulong)x, b[i + 1]); } "
+                         "return (long)(add((ulong)x, b[1]) ^ add(n, (uchar)x)); }")
         self.head.append("void swap(__private uint *a, __private uint *b) { uint t = *a; *a = *b; *b = t; }")
         self.head.append("S change(S s, uint x) { s.u.w += x; s.b[x % 5] = (uchar)x; return s; }")
+        for _ in range(r.randint(0, 3)):
+            self.function()
+
+    def function(self):
+        """A function into which numbers alone go, and that gives one: with a loop, a switch, returns out of both."""
+        r, t = self.r, self.r.choice(TYPES)
+        given = [(n, r.choice(TYPES)) for n in ["p", "q", "o"][:r.randint(1, 3)]]
+        self.scalars, self.is_apart = {**dict(given), "w": t}, True
+        value, test = (lambda: self.number(t, 2)), (lambda: self.number(r.choice(TYPES), 1))
+        forms = [lambda: f"w = {value()};", lambda: f"w ^= {value()};", lambda: f"{given[0][0]} ^= {test()};",
+                 lambda: f"if ({test()}) return {value()};",
+                 lambda: f"if ({test()}) {{ w = {value()}; }} else return w;",
+                 lambda: f"for (int i = 0; i < {r.randint(1, 3)}; i++) {{ w ^= {value()}; if ({test()}) continue; "
+                         f"if ({test()}) return {value()}; w |= {value()}; }}",
+                 lambda: f"switch ({test()} & 3) {{ case 0: w = {value()}; case 1: return {value()}; "
+                         f"case 2: w ^= {value()}; break; default: w = ~w; }}",
+                 lambda: f"{{ {t} y[3] = {{ w, {value()} }}; for (uint i = 0; i < 3; i++) y[2] ^= y[i]; w = y[2]; }}"]
+        lines = " ".join(r.choice(forms)() for _ in range(r.randint(1, 5)))
+        name, numbers = self.name("fun"), ", ".join(f"{k} {n}" for n, k in given)
+        self.head.append(f"{t} {name}({numbers}) {{ {t} w = {value()}; {lines} return {value()}; }}"
+                         .replace(f"{t} w = ", f"{t} w = 1; w = ", 1))
+        self.functions.append((name, [k for _, k in given]))
+        self.scalars, self.is_apart = {}, False
 
     # ---- scalars --------------------------------------------------------------------------------
 
@@ -73,6 +101,7 @@ class Kernel:
         forms = [lambda: r.choice(list(self.scalars)), lambda: r.choice(list(self.scalars)),
                  lambda: str(r.choice([0, 1, 2, 3, 7, 31, 100, 255, 256, 65535])),
                  lambda: r.choice(["FIRST", "SECOND", "THIRD", "'a'", "0x80000000u", "0xfffffffffffful", "~0ul"]),
+                 # (those of a function of numbers alone end here)
                  lambda: f"table[{r.choice(list(self.scalars))} & 7]",
                  lambda: f"pairs[{r.choice(list(self.scalars))} & 1].b[{r.randint(0, 1)}]",
                  lambda: f"s.{r.choice(self.fields)[0]}", lambda: f"s.b[{r.choice(list(self.scalars))} & 3]",
@@ -81,7 +110,9 @@ class Kernel:
                  lambda: f"grid[1][{r.choice(list(self.scalars))} & 1]",
                  lambda: "*pa", lambda: f"pa[{r.randint(0, 1)}]", lambda: f"bytes[{r.choice(list(self.scalars))} & 7]",
                  lambda: "(ulong)sizeof(S)", lambda: f"in[g * {WORDS} + {r.randint(0, 7)}]"]
-        if self.vectors:
+        if self.is_apart:
+            forms = forms[:4]
+        elif self.vectors:
             forms.append(lambda: f"{r.choice(list(self.vectors))}.{r.choice(['x', 'y', 's0', 's1'])}")
         return f"({t})({r.choice(forms)()})"
 
@@ -103,14 +134,19 @@ class Kernel:
             lambda: f"({t})({one(other)} {r.choice(['&&', '||'])} {two(other)})",
             lambda: f"({t})({r.choice(['~', '!'])}{one()})", lambda: f"({t})(-({u}){one()})",
             lambda: f"({t}){one(other)}",
-            lambda: f"({one(other)} ? {one()} : {two()})",
+            lambda: f"({t})({one(other)} ? {one()} : {two()})",
             lambda: f"({t})MIX((uint){one('uint')}, (uint){two('uint')})",
             lambda: f"({t})({one(other)}, {two(other)})",
             lambda: f"({t})add({one('ulong')}, {two('uchar')})",
+            lambda: f"({t})spread({one('long')}, {two('ushort')})",
             lambda: f"({t})(({{ {other} z = {one(other)}; z ^ 1; }}))",
             lambda: self.builtin(t, depth), lambda: self.builtin(t, depth),
         ]
+        forms += [lambda f=f: self.call(t, *f, depth) for f in self.functions]
         return r.choice(forms)()
+
+    def call(self, t, name, kinds, depth):
+        return f"({t}){name}({', '.join(self.number(k, depth - 1) for k in kinds)})"
 
     def builtin(self, t, depth):
         r = self.r
@@ -189,7 +225,7 @@ class Kernel:
                 lambda: f"{name} = {self.vector_of(t, n, 2)};",
                 lambda: f"{name} {r.choice(['^=', '|=', '&='])} {self.vector_of(t, n, 2)};",
                 lambda: f"{name}.{r.choice(['xy', 'yx', 's10'])} = {self.vector_of(t, 2, 1)};",
-                lambda: f"{name}.{r.choice(['lo', 'hi', 'even', 'odd'])} = {self.vector_of(t, n // 2, 1)};" if n > 2
+                lambda: f"{name}.{r.choice(['lo', 'hi', 'even', 'odd'])} = {self.vector_of(t, n // 2, 1)};" if n > 3
                 else f"{name}.x = {self.number(t, 2)};",
                 lambda: f"{name}.s1 ^= {self.number(t, 2)};",
             ])()

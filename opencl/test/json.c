@@ -140,6 +140,21 @@ static void test_lists(json whole) {
     WANT(json_member(whole, "loops").at && !json_first(json_member(whole, "loops")).at);
 }
 
+// The members in their order, with those of one name.
+static void test_each_member(json whole) {
+    static const char *const first[] = {"text", "offsets", "set", "calls", "loops", "inner", "offset", "offset"};
+    json name = {NULL, NULL}, v = json_first_member(whole, &name);
+    unsigned count = 0;
+    for (; v.at; v = json_next_member(whole, v, &name), count++)
+        if (count < 8) WANT(is_word(name, first[count]));
+    WANT(count == 22);
+    json inner = json_member(whole, "inner"), calls = json_member(whole, "calls");
+    v = json_first_member(inner, &name);
+    WANT(is_word(name, "offset") && is_number(json_member(v, "offset"), 4) && !json_next_member(inner, v, &name).at);
+    WANT(!json_first_member(calls, &name).at && !json_next_member(calls, json_first(calls), &name).at);
+    WANT(!json_first_member(json_member(whole, "missing"), &name).at);
+}
+
 static void test_plain(json whole) {
     static const char *const others[] = {"none", "true", "minus", "half", "tens", "more", "far", "digits", "calls"};
     char room[6] = "------";
@@ -260,6 +275,7 @@ int main(void) {
     WANT(whole.at == hard + 1 && whole.end == hard + strlen(hard) - 1);
     test_members(whole);
     test_lists(whole);
+    test_each_member(whole);
     test_plain(whole);
     test_strings(whole);
     test_wrong_parts();

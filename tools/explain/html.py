@@ -8,8 +8,8 @@ name, and a picture of the schedule, a lane a work-item. The status is 0, or 2 w
 import re
 
 from reading import (
-    argument_texts, events_of, explanations, is_refusal, item_text, lines_of, memory_text, place_of, reason_texts, run,
-    title_of,
+    Files, argument_texts, events_of, explanations, file_of, is_refusal, item_text, memory_text, place_of, reason_texts,
+    run, title_of,
 )
 
 # the picture: how far lanes and events stand from one another, and where the first ones stand, in pixels
@@ -264,10 +264,21 @@ def lines_round(lines, places):
     return {number: lines[number] for number in near if first <= number <= last and number in lines}
 
 
-def source_table(whole):
-    """The lines of the named items, and those of the calls of helpers round them,
+def source_tables(whole):
+    """The lines of the named items, a table for each file that they are in."""
+    told, files = list(places_of(whole)), Files(whole)
+    names = list(dict.fromkeys(file_of(whole, place) for place, _ in told))
+    tables = []
+    for name in names:
+        tables += [f'<p class="dim">{quoted(name)}</p>'] if names[1:] else []
+        of_file = [(place, words) for place, words in told if file_of(whole, place) == name]
+        tables.append(f'<div class="wide">{source_table(files.lines(name), of_file)}</div>')
+    return tables
+
+
+def source_table(lines, told):
+    """The lines of places of a file, each with what is said of it, those of the calls of helpers round them among them,
     with the lines round these where they are known."""
-    lines, told = lines_of(whole), list(places_of(whole))
     marked = {place["script_line"] for place, _ in told}
     near = lines_round(lines, [place for place, _ in told])
     rows = [(number, "", quoted(raw.decode(errors="replace")), "") for number, raw in near.items()
@@ -292,8 +303,17 @@ def refusal_section(whole):
     parts = [f"<h1>{quoted(whole['title'])}</h1>",
              f'<p class="dim">{quoted(whole["script"])}:{whole["spot"]["script_line"]}</p>']
     parts += [f"<p><b>Hint:</b> {quoted(hint)}</p>" for hint in whole["hints"]]
-    parts += ["<h2>Source</h2>", f'<div class="wide">{source_table(whole)}</div>']
+    parts += ["<h2>Source</h2>", *source_tables(whole)]
     return "".join(parts)
+
+
+def sizes_text(whole):
+    """The launch's sizes, where it is one of a host program: the text of a script's launch has them."""
+    launch = whole["launch"]
+    if "sources" not in whole:
+        return ""
+    sizes = [" x ".join(map(str, launch[name])) for name in ("global_size", "local_size")]
+    return f", launch {launch['command']} of its context, global size {sizes[0]}, local size {sizes[1]}"
 
 
 def section(whole):
@@ -304,17 +324,18 @@ def section(whole):
     parts = [
         f"<h1>{quoted(whole['fault']['line'])}</h1>",
         f'<p class="dim">{quoted(whole["script"])}:{launch["script_line"]}: <code>{quoted(launch["text"])}</code>, '
-        f'function {quoted(launch["function"])}</p>',
+        f'function {quoted(launch["function"])}{sizes_text(whole)}</p>',
     ]
     parts += [f'<p class="dim">{quoted(text)}</p>' for text in argument_texts(whole)]
     parts += [f"<p>{quoted(item_text(item))}</p>" for item in whole["items"]]
     parts += [f"<p><b>Why:</b> {quoted(sentence)}</p>" for sentence in reason_texts(whole)]
-    parts += ["<h2>Source</h2>", f'<div class="wide">{source_table(whole)}</div>']
+    parts += ["<h2>Source</h2>", *source_tables(whole)]
     if whole["steps"]:
         events = "1 event" if schedule["events"] == 1 else f"{schedule['events']} events"
         parts += [f"<h2>One way there, {events}</h2>", f'<div class="wide">{picture(whole)}</div>']
     else:
-        parts += ["<p>It comes about before any access of the launch.</p>"]
+        words = "It comes about before any access of the launch" if whole["items"] else "It isn't explained further"
+        parts += [f"<p>{words}.</p>"]
     parts += [f'<p class="dim">schedule <code>{quoted(schedule["short"])}</code></p>']
     return "".join(parts)
 

@@ -165,15 +165,45 @@ def told_places(whole):
     return [place for spot in spots for place in [spot, *spot["calls"]]]
 
 
-def lines_of(whole):
-    """The lines of an explanation's script as bytes, by their numbers: all where the file of its name is there and has
-    the lines that the explanation tells, else these alone."""
-    told = {place["script_line"]: place["text"] for place in told_places(whole)}
-    try:
-        with open(whole["script"], "rb") as file:
-            lines = dict(enumerate(file.read().split(b"\n"), 1))
-    except OSError:
-        lines = {}
-    if all(text == text_of(lines.get(number, b"")) for number, text in told.items()):
-        return lines
-    return {number: text.encode() for number, text in told.items()}
+def file_of(whole, place):
+    """The name of the file that a place is in: one of the client's source, or the script."""
+    return place.get("file", whole["script"])
+
+
+class Files:
+    """The files of an explanation: the script, or those of the client's source."""
+
+    def __init__(self, whole):
+        self.whole, self.known = whole, {}
+
+    def lines(self, name=None):
+        """The lines of a file as bytes, by their numbers; of the script without a name. All where the explanation has
+        its text, or the file of its name is there and has the lines that the explanation tells; else these alone."""
+        name = self.whole["script"] if name is None else name
+        if name not in self.known:
+            self.known[name] = self.read(name)
+        return self.known[name]
+
+    def of(self, place):
+        """The lines of the file that a place is in."""
+        return self.lines(file_of(self.whole, place))
+
+    def read(self, name):
+        """Reads the lines of a file."""
+        told = {place["script_line"]: place["text"] for place in told_places(self.whole)
+                if file_of(self.whole, place) == name}
+        lines = dict(enumerate(self.text(name).split(b"\n"), 1))
+        if all(text == text_of(lines.get(number, b"")) for number, text in told.items()):
+            return lines
+        return {number: text.encode() for number, text in told.items()}
+
+    def text(self, name):
+        """The bytes of a file; none where it isn't there."""
+        for source in self.whole.get("sources", []):
+            if source["name"] == name:
+                return source["text"].encode()
+        try:
+            with open(name, "rb") as file:
+                return file.read()
+        except OSError:
+            return b""

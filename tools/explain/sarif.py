@@ -10,7 +10,7 @@ import re
 from urllib.parse import quote
 
 from reading import (
-    argument_texts, events_of, explanations, is_refusal, item_text, lines_of, place_of, reason_texts, run,
+    Files, argument_texts, events_of, explanations, file_of, is_refusal, item_text, place_of, reason_texts, run,
 )
 
 SCHEMA = "https://json.schemastore.org/sarif-2.1.0.json"
@@ -24,6 +24,7 @@ RULES = {
     "divide_by_zero": "A division by zero",
     "divide_overflow": "A division whose quotient does not fit its type",
     "budget": "A work-item that uses up its budget of accesses, barriers and turns of loops",
+    "flags": "An access that the flags of its buffer forbid",
 }
 
 # of a source that doesn't build: the faults that `clsim check` names
@@ -85,15 +86,15 @@ def column_of(line, column):
     return column if line is None else units(line[: column - 1]) + 1
 
 
-def location(whole, lines, place, words=None):
-    """A place of the script: that of a work-item, or of a step, which has only its own text."""
-    number, column, line = place["script_line"], place["column"], lines.get(place["script_line"])
-    text, is_whole = place["text"], "length" in place
+def location(whole, files, place, words=None):
+    """A place of the script or the client's source: that of a work-item, or of a step, which has only its own text."""
+    number, column, line = place["script_line"], place["column"], files.of(place).get(place["script_line"])
+    text, is_whole = place["text"], "length" in place and line is not None
     if is_whole:
-        text = lines[number][column - 1 : column - 1 + place["length"]].decode(errors="replace")
+        text = line[column - 1 : column - 1 + place["length"]].decode(errors="replace")
     start = column_of(line, column)
     physical = {
-        "artifactLocation": {"uri": quote(whole["script"])},
+        "artifactLocation": {"uri": quote(file_of(whole, place))},
         "region": {"startLine": number, "startColumn": start, "endColumn": start + max(1, units(text.encode())),
                    "snippet": {"text": text}},
     }
@@ -102,14 +103,14 @@ def location(whole, lines, place, words=None):
     return {"physicalLocation": physical, **({"message": {"text": words}} if words else {})}
 
 
-def flows(whole, lines):
+def flows(whole, files):
     """The steps of the schedule, a thread flow for each work-item; the order of events is that of the schedule. The
     accesses of a fault are among them, also where they come behind those that are told."""
     threads = {}
     for number, step in events_of(whole).items():
         if "item" in step and step["place"]:
             words = f"{step['does']} {step['memory']} byte {step['byte']}"
-            place = location(whole, lines, step["place"], words)
+            place = location(whole, files, step["place"], words)
             threads.setdefault(step["item"], []).append({"location": place, "executionOrder": number})
     return [{"id": f"work-item {item}", "locations": places} for item, places in sorted(threads.items())]
 
@@ -127,7 +128,7 @@ def refusal_result(whole):
         "ruleId": "clsim/" + whole["fault"]["name"],
         "level": "error",
         "message": {"text": "; ".join([whole["title"], *whole["hints"]])},
-        "locations": [location(whole, lines_of(whole), spot)],
+        "locations": [location(whole, Files(whole), spot)],
         "partialFingerprints": {"clsim/v1": f"{whole['fault']['name']} {spot['line']}:{spot['column']}"},
     }
 
@@ -143,14 +144,14 @@ def command_of(line):
 
 def command_result(whole):
     """A result of a command with its reply, or of a bad line."""
-    number, lines = whole["script_line"], lines_of(whole)
-    text = lines.get(number, b"").decode(errors="replace").rstrip("\r")[:LONGEST]
+    number, files = whole["script_line"], Files(whole)
+    text = files.lines().get(number, b"").decode(errors="replace").rstrip("\r")[:LONGEST]
     words = ALL.get(whole["name"])
     return {
         "ruleId": "clsim/" + whole["name"],
         "level": "error",
         "message": {"text": f"{whole['reply']}: {words}" if words else whole["reply"]},
-        "locations": [location(whole, lines, {"script_line": number, "column": 1, "text": text})],
+        "locations": [location(whole, files, {"script_line": number, "column": 1, "text": text})],
         "partialFingerprints": {"clsim/v1": f"{whole['name']} {text}"},
     }
 
@@ -161,13 +162,13 @@ def result(whole):
         return command_result(whole)
     if is_refusal(whole):
         return refusal_result(whole)
-    lines = lines_of(whole)
+    files = Files(whole)
     spots = [(item, place_of(item)) for item in whole["items"]]
     spots = [(item, spot) for item, spot in spots if spot]
-    places = [location(whole, lines, spot, item_text(item)) for item, spot in spots]
+    places = [location(whole, files, spot, item_text(item)) for item, spot in spots]
     if not places:
         line = {"script_line": whole["launch"]["script_line"], "column": 1, "text": whole["launch"]["text"]}
-        places = [location(whole, lines, line, "the launch")]
+        places = [location(whole, files, line, "the launch")]
     found = {
         "ruleId": "clsim/" + whole["fault"]["name"],
         "level": "error",
@@ -177,7 +178,7 @@ def result(whole):
     }
     if places[1:]:
         found["relatedLocations"] = [{"id": number, **place} for number, place in enumerate(places[1:], 1)]
-    threads = flows(whole, lines)
+    threads = flows(whole, files)
     if threads:
         found["codeFlows"] = [{"message": {"text": "schedule " + whole["schedule"]["short"]}, "threadFlows": threads}]
     return found
