@@ -1,5 +1,5 @@
 -- Fields of a line: what is read is the text of the field, and that text is read.
-use Rattle.std.proofs.Common.{◌≡◌, ℕ, zero, suc, ◌+◌, ◌-◌, ◌*◌, ◌/◌, ◌<◌, ◌≤◌, ◌^◌, ◌==◌, ℤ, pos, negsuc, neg_ℤ, ◌≤ℤ◌, ◌<ℤ◌, Bool, true, false, not, ◌&&◌, ◌||◌, T, nat_lt, nat_le, nat_eq, IsTrue, if◌then◌else◌, List, [], ◌∷◌, ◌++◌, map, length, take, drop, Option, None, Some, ◌⊎◌, inl, inr, refl, ap, ap₂, sym, ◌∙◌, subst, arith, codes, decimal, append_assoc, length-append}
+use Rattle.std.proofs.Common.{◌≡◌, ℕ, zero, suc, ◌-◌, ◌<◌, ◌≤◌, ◌^◌, ◌==◌, ℤ, pos, negsuc, neg_ℤ, ◌≤ℤ◌, ◌<ℤ◌, Bool, true, false, ◌&&◌, T, nat_le, nat_eq, IsTrue, if◌then◌else◌, List, [], ◌∷◌, ◌++◌, length, take, drop, Option, None, Some, ◌⊎◌, inl, inr, refl, ap, ap₂, sym, ◌∙◌, subst, arith, decimal, append_assoc, length-append}
 use Rattle.std.proofs.lemmas.Bool.{eqb-true, ne_eqb}
 use Rattle.std.proofs.lemmas.Option.{same_Some}
 use Rattle.std.proofs.lemmas.Bool.Decides.{nat_tests}
@@ -10,24 +10,24 @@ use Rattle.std.proofs.lemmas.Fmt.{decimal_nonempty}
 use Rattle.std.proofs.Math.Seq.{take-append_seam, drop-append_seam}
 use Rattle.std.specs.Char.{is_ascii_digit}
 use Rattle.std.specs.Fmt.{signed_decimal}
-use Rattle.std.specs.List.{All, list_all, flat_map, join_with_byte}
+use Rattle.std.specs.List.{All, list_all, flat_map}
 use Rattle.std.specs.Prelude.{int_le}
-use lib.Pointwise.{pointwise, bytes_decides}
+use lib.Pointwise.{bytes_decides}
 use Rattle.clmodel.specs.Setup.{same_text}
 use Rattle.clnum.proofs.Formulas.{IsIn-within}
-use Rattle.clnum.specs.Integer.{bits, least, greatest, type_word, IsIn, IsWithin}
+use Rattle.clnum.specs.Integer.{least, greatest, type_word, IsIn, IsWithin}
 use Rattle.clnum.specs.declared.int_type.IntType.{IntType}
 use Rattle.clnum.specs.declared.int_type.IntType.TheVariants.{Char, Uchar, Short, Ushort, Int, Uint, Long, Ulong}
 use Rattle.fault_lines.proofs.FieldLaws.{number_before, number_before_again}
-use Rattle.fault_lines.proofs.ReaderSteps.{joined_onto, Parted, read_is}
+use Rattle.fault_lines.proofs.ReaderSteps.{Parted, read_is}
 use Rattle.simfile.proofs.FieldLaws.{name_before, name_before_again}
 use Rattle.simfile.specs.Fields.{is_name}
 use Rattle.simfile.specs.Reading.{name_at}
 use Rattle.simfile.specs.Script.{space, line_feed}
-use Rattle.text_lines.proofs.FieldLaws.{bind_some, read_then, if_some, and_true, after_takes, after_again, front_of, before_is, value_takes, value_again, decimal_digits, feed_ends}
-use Rattle.text_lines.specs.Fronts.{◌>>=◌, after, before, front_length, name_to, number_at, value_at}
+use Rattle.text_lines.proofs.FieldLaws.{bind_some, read_then, if_some, and_true, after_takes, front_of, value_takes, value_again, decimal_digits, feed_ends}
+use Rattle.text_lines.specs.Fronts.{after, before, name_to}
 use Rattle.text_lines.specs.Texts.{is_later, is_name_to, IsValue}
-use Rattle.script_lines.specs.Numbers.{size_of, bytes_of, numbers_text, AreNumbers}
+use Rattle.script_lines.specs.Numbers.{bytes_of, numbers_text, AreNumbers}
 use Rattle.script_lines.specs.Reading.{is_in, kind_named, kind_at, bytes_at, numbers_at, alone, last_number, last_name, last_path}
 use Rattle.script_lines.specs.Says.{is_path}
 

@@ -1,16 +1,15 @@
 -- Lines: what is read of a plain text is what it says, and what it says is read.
-use Rattle.std.proofs.Common.{◌≡◌, ℕ, suc, ◌+◌, ◌*◌, ◌/◌, ◌%◌, ◌<◌, ◌≤◌, ◌^◌, ◌==◌, ℤ, Bool, true, false, not, ◌||◌, ◌&&◌, nat_lt, nat_le, IsTrue, IfSome, if◌then◌else◌, List, [], ◌∷◌, ◌++◌, length, Option, None, Some, ◌⊎◌, inl, inr, refl, ap, sym, ◌∙◌, subst, arith, codes, decimal}
+use Rattle.std.proofs.Common.{◌≡◌, ℕ, ◌*◌, ◌/◌, ◌%◌, ◌<◌, ◌≤◌, ◌^◌, ◌==◌, Bool, true, false, not, ◌||◌, ◌&&◌, nat_lt, nat_le, IsTrue, IfSome, if◌then◌else◌, List, [], ◌∷◌, ◌++◌, length, Option, None, Some, inl, inr, refl, ap, sym, ◌∙◌, subst, arith, codes, decimal}
 use Rattle.std.proofs.lemmas.Bool.Decides.{nat_tests}
 use Rattle.std.proofs.lemmas.List.{append-nil}
 use Rattle.std.specs.Char.{is_ascii_digit}
 use Rattle.std.specs.List.{list_all}
 use Rattle.byte_io.specs.Pieces.{joined}
 use Rattle.clmodel.specs.Setup.{same_text}
-use Rattle.clnum.specs.Integer.{type_word}
 use Rattle.clnum.specs.declared.int_type.IntType.{IntType}
 use Rattle.clnum.specs.declared.int_type.IntType.TheVariants.{Char, Uchar, Short, Ushort, Int, Uint, Long, Ulong}
 use Rattle.fault_lines.proofs.FieldLaws.{number_before, number_before_again}
-use Rattle.fault_lines.proofs.ReaderSteps.{joined_onto, joined-append, Parted, begins, ◌▸◌, read_is, by_word}
+use Rattle.fault_lines.proofs.ReaderSteps.{joined-append, Parted, begins, ◌▸◌, read_is, by_word}
 use Rattle.host_commands.specs.declared.command.Command.{Command}
 use Rattle.host_commands.specs.declared.command.Command.TheVariants as command
 use Rattle.simfile.proofs.FieldLaws.{name_before, name_before_again}
@@ -20,11 +19,11 @@ use Rattle.simfile.specs.Fields.{is_name, hex, hex_digit, AreBytes}
 use Rattle.simfile.specs.Reading.{command_at}
 use Rattle.simfile.specs.Script.{IsText, space, line_feed}
 use Rattle.text_lines.proofs.FieldLaws.{bind_some, read_then, if_some, and_true, decimal_digits}
-use Rattle.text_lines.specs.Fronts.{◌>>=◌, or_else, after, before}
+use Rattle.text_lines.specs.Fronts.{or_else, after}
 use Rattle.text_lines.specs.Texts.{is_later}
-use Rattle.script_lines.specs.Numbers.{AreNumbers, numbers_text, size_of}
+use Rattle.script_lines.specs.Numbers.{numbers_text, size_of}
 use Rattle.script_lines.specs.Plain.{plain}
-use Rattle.script_lines.specs.Reading.{kind_at, numbers_at, last_number, write_numbers_at, fill_numbers_at, read_numbers_at, source_lines_at, source_until_at, source_file_at, program_at, plain_command_at, numbers_say_at, says_at}
+use Rattle.script_lines.specs.Reading.{kind_at, write_numbers_at, fill_numbers_at, read_numbers_at, source_lines_at, source_until_at, source_file_at, program_at, plain_command_at, numbers_say_at, says_at}
 use Rattle.script_lines.specs.Says.{is_program, IsSaid, Says}
 use Rattle.script_lines.specs.declared.says.LineSays.{LineSays}
 use Rattle.script_lines.specs.declared.says.LineSays.TheVariants as says
