@@ -27,7 +27,7 @@ static char *file_line(arena *a, const char *path, unsigned line) {
     return found ? copy_text(a, room, strcspn(room, "\n")) : NULL;
 }
 
-// The client's text that a place names: the very one by its name, or another one of that name. NULL for a file.
+// The very one by its name, or another one of that name.
 const char *text_of(const prepared *p, const char *name) {
     const char *found = NULL;
     for (unsigned i = 0; i < p->text_count; i++) {
@@ -37,7 +37,6 @@ const char *text_of(const prepared *p, const char *name) {
     return found;
 }
 
-// The client's line at a place; NULL where it isn't found.
 const char *line_of(const prepared *p, arena *a, const place *at) {
     const char *whole = text_of(p, at->file);
     if (!whole) return file_line(a, at->file, at->line);

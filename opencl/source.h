@@ -75,9 +75,9 @@ const char *build_log(prepared *p, size_t begin, const char *reply);
 bool place_of(const prepared *p, const kernel_form *k, size_t offset, char *room, size_t n);
 // The same as a place.
 bool site_of(const prepared *p, const kernel_form *k, size_t offset, place *at);
-// The client's line at a place, NULL where it isn't found, and the text that it is in; that of a file is NULL. They live
-// as long as `a` and `p`.
+// The client's line at a place, NULL where it isn't found. It lives as long as `a`.
 const char *line_of(const prepared *p, arena *a, const place *at);
+// The client's text that has a name; NULL for a file.
 const char *text_of(const prepared *p, const char *name);
 // The client's line there with its row and column; false too where it has no room.
 bool line_at(const prepared *p, const kernel_form *k, size_t offset, unsigned *row, unsigned *column, char *room,
