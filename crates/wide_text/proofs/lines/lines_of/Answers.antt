@@ -1,4 +1,4 @@
-use Rattle.std.proofs.Common.{◌≡◌, ◌+◌, ◌++◌, ◌∷◌, [], List, ℕ, drop, get_or, ap, sym, ◌∙◌, subst, refl, if◌then◌else◌}
+use Rattle.std.proofs.Common.{◌+◌, ◌++◌, ◌∷◌, [], List, ℕ, get_or, ap, sym, ◌∙◌, subst, refl, if◌then◌else◌}
 use Rattle.std.proofs.lemmas.List.{drop_more}
 use Rattle.simfile.specs.declared.script.CommandPlace.{CommandPlace}
 use Rattle.wide_text.proofs.Flagged.{Gathers, line_more, lines_all}
