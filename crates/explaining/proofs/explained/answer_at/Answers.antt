@@ -31,8 +31,8 @@ returns-in_ok-answer_of-in-Faulted-clause-says c =
     c.in-Faulted.case c.in_ok-told-in-Faulted.told c.in_ok-answer_of-in-Faulted.field-0 c.requires.script c.requires.walked c.in-Faulted.is c.in_ok-told-in-Faulted.ensures.told
     c.in_ok-told-in-Faulted.ensures.whole c.in_ok-answer_of-in-Faulted.ensures.yes c.in_ok-answer_of-in-Faulted.ensures.text
 
-pub explain_refused-in-Refused-requires-clause-within : goal.explain_refused-in-Refused-requires-clause-within
-explain_refused-in-Refused-requires-clause-within c =
+pub explain_refused-requires-clause-within : goal.explain_refused-requires-clause-within
+explain_refused-requires-clause-within c =
     refused_within (opening c.args.performed.now.options.configuration) c.args.performed.now.commands.now (machine_of c.args.device.now) c.args.end c.in-Refused.case c.requires.walked c.in-Refused.is
 
 pub returns-in_ok-explain_refused-in-Refused-clause-found : goal.returns-in_ok-explain_refused-in-Refused-clause-found
