@@ -417,9 +417,8 @@ static bool start_explaining(char *command, int nothing, int out, pid_t *child) 
     return !fault;
 }
 
-// What a command writes, NULL where it can't be started, fails, or memory is refused. (One that gives a verdict ends
-// with 1 where that is a fault.)
-static char *written_by(char *command, int nothing, bool is_verdict) {
+// What a command writes, NULL where it can't be started, ends with a status above this, or memory is refused.
+static char *written_by(char *command, int nothing, int most) {
     int ends[2], status = 0;
     pid_t child, ended;
     char *read = NULL;
@@ -431,7 +430,7 @@ static char *written_by(char *command, int nothing, bool is_verdict) {
     if (!started) return NULL;
     while ((ended = waitpid(child, &status, 0)) < 0 && errno == EINTR) {}
     // (a client that ignores the ends of its children took the status along)
-    bool has_ended = ended < 0 || (WIFEXITED(status) && WEXITSTATUS(status) <= (is_verdict ? 1 : 0));
+    bool has_ended = ended < 0 || (WIFEXITED(status) && WEXITSTATUS(status) <= most);
     if (has_ended) return read;
     free(read);
     return NULL;
@@ -444,7 +443,7 @@ char *explain_script(const char *script, size_t length) {
     if (script && fd >= 0 && nothing >= 0 &&
         command_on(command, sizeof command, getenv("CLSIM_EXPLAIN"), "explain", path) &&
         write(fd, script, length) == (ssize_t)length)
-        read = written_by(command, nothing, false);
+        read = written_by(command, nothing, 0);
     if (fd >= 0) close(fd);
     if (nothing >= 0) close(nothing);
     return read;
@@ -455,7 +454,8 @@ char *widen_session(session *s) {
     int nothing = open("/dev/null", O_RDONLY | O_CLOEXEC);
     if (s->record && nothing >= 0 && getpid() == s->owner) {
         snprintf(path, sizeof path, "/proc/%ld/fd/%d", (long)getpid(), fileno(s->record));
-        if (command_on(command, sizeof command, NULL, "widen", path)) read = written_by(command, nothing, true);
+        // (it ends with 1 where a launch faults, and with 2 where a command was refused, or it says nothing)
+        if (command_on(command, sizeof command, NULL, "widen", path)) read = written_by(command, nothing, 2);
     }
     if (nothing >= 0) close(nothing);
     return read;

@@ -1,14 +1,15 @@
 #!/usr/bin/env python3
 """Judges scripts one after another in the folder of a farm's results, as an engine of tools/farm calls it.
 
-    farm_worker.py judge|queue|chunk SECONDS MEMORY WORKERS BUDGET LIMITS [KEY..]
+    farm_worker.py judge|queue|chunk SECONDS MEMORY WORKERS BUDGET LIMITS WIDEN [KEY..]
 
 `judge` judges the scripts of keys, `queue` those of the keys that stand in the pipe at standard input, from which other
 workers take theirs meanwhile, and `chunk` those of chunks, which hold their texts. The result of each script is a line
 of JSON, in a file of this worker's own; one of `chunk` is there whole or not at all. SECONDS and MEMORY (MB, 0 for no
-limit) are of each script, the others the options of the program (BUDGET is - for its own). A small script takes few
-milliseconds: so the worker loads few modules, starts programs without copying itself, and makes no file for a script.
-Status 0, or 2 with a line on standard error.
+limit) are of each script, the others the options of the program (BUDGET is - for its own); with WIDEN, `widen` and not
+-, it also asks for which bytes the replies hold. A small script takes few milliseconds: so the worker loads few
+modules, starts programs without copying itself, and makes no file for a script. Status 0, or 2 with a line on standard
+error.
 """
 import json
 import os
@@ -44,9 +45,10 @@ class Options:
 
     def __init__(self, words):
         self.seconds, self.memory, self.workers = (int(it) for it in words[:3])
-        budget, limits = words[3:5]
-        self.device = [] if budget == "-" else ["--budget", budget]
-        self.device += [] if limits == "profile" else ["--limits", limits]
+        budget, limits, widen = words[3:6]
+        self.limits = [] if limits == "profile" else ["--limits", limits]
+        self.device = ([] if budget == "-" else ["--budget", budget]) + self.limits
+        self.widens = widen == "widen"
 
 
 def peak_of(number):
@@ -201,6 +203,18 @@ def line_of(script, lines, told, shown):
     return None
 
 
+def widened(program, script, status):
+    """For which bytes of its writes and fills a script has its replies, by `clsim widen`: the lines of these, and this
+    in words; None where it doesn't say."""
+    words = ["./bin/clsim", "widen", script, "--format", "json", *program.options.limits]
+    text, _, ended, _, _, _ = program.run(words)
+    try:
+        told = json.loads(text)["script"] if ended == status else None
+        return told and {"free": told["free"], "text": told["text"]}
+    except (KeyError, TypeError, ValueError):
+        return None
+
+
 def judge(program, key):
     """Judges the script of a key: its result."""
     script = f"scripts/{key}.txt"
@@ -213,9 +227,12 @@ def judge(program, key):
     line = None
     if verdict in (FAULTY, "refused", "bad"):
         line = line_of(script, lines, told.strip().split("\n")[0], shown)
-    return {"key": key, "verdict": verdict, "status": status, "line": shown[:2000], "script_line": line,
-            "seconds": round(seconds, 3), "mb": round(memory, 1), "mb_at_most": at_most, "host": os.uname().nodename,
-            "explanation": explanation_of(program, script, verdict, shown)}
+    found = {"key": key, "verdict": verdict, "status": status, "line": shown[:2000], "script_line": line,
+             "seconds": round(seconds, 3), "mb": round(memory, 1), "mb_at_most": at_most, "host": os.uname().nodename,
+             "explanation": explanation_of(program, script, verdict, shown)}
+    if program.options.widens and verdict in (PASSED, FAULTY, "refused"):
+        found["widened"] = widened(program, script, status)
+    return found
 
 
 def judge_keys(program, results, keys):
@@ -246,7 +263,7 @@ def judge_chunk(program, name):
 
 
 def main():
-    form, program, names = sys.argv[1], Program(Options(sys.argv[2:7])), sys.argv[7:]
+    form, program, names = sys.argv[1], Program(Options(sys.argv[2:8])), sys.argv[8:]
     results = Results(f"cases/{os.uname().nodename}.{os.getpid()}.{time.time_ns()}.jsonl")
     try:
         if form == "chunk":

@@ -3,3 +3,4 @@ mod Failing
 mod Floats
 mod Flagged
 mod Runs
+mod Telling

@@ -1,5 +1,5 @@
--- A script whose replies hold for other bytes, in JSON (RFC 8259; the members are this project's own, version 1). Members
--- stand in the order of their names.
+-- A script whose replies hold for other bytes, in JSON (RFC 8259; the members are this project's own, version 1).
+-- Members stand in the order of their names.
 use Rattle.std.specs.Prelude.{ℕ, String, Option, None, Some, List, map, codes, string_bytes}
 use Rattle.std.specs.declared.alloc.Global.{Global}
 use Rattle.serde_json.specs.Data.{Data, null, boolean, number, unsigned, string, array, object, member, no_members}
@@ -68,10 +68,13 @@ launch_data l =
     (member (codes "reply") (text_data l.reply) (member (codes "script_line") (number_data l.script_line) no_members)))))
 
 -- the script as a whole, with its last line of text
-abbrev pub script_data : WideReport → Data
-script_data r =
+abbrev pub script_with : List ℕ → WideReport → Data
+script_with text r =
     object (member (codes "clean") (boolean r.clean) (member (codes "free") (list_data number_data r.free.items) (member (codes "reads") (list_data number_data r.reads.items)
-    (member (codes "text") (string (whole_text r.clean r.free.items r.reads.items)) no_members))))
+    (member (codes "text") (string text) no_members))))
+
+abbrev pub script_data : WideReport → Data
+script_data r = script_with (whole_text r.clean r.free.items r.reads.items) r
 
 abbrev pub report_data : WideReport → Data
 report_data r =

@@ -1,6 +1,6 @@
--- The text of a script whose replies hold for other bytes (own): the replies as a run writes them, lines beside them that
--- no reply is, and a last line.
-use Rattle.std.specs.Prelude.{◌≡◌, ◌≢◌, ℕ, Bool, All, List, [], ◌∷◌, ◌++◌, drop, codes, decimal, if◌then◌else◌}
+-- The text of a script whose replies hold for other bytes (own): the replies as a run writes them, lines beside them
+-- that no reply is, and a last line.
+use Rattle.std.specs.Prelude.{◌≡◌, ◌≢◌, ℕ, Bool, All, List, [], ◌∷◌, ◌++◌, drop, length, codes, decimal, ◌==◌, if◌then◌else◌}
 use Rattle.std.specs.List.{flat_map}
 use Rattle.host_commands.specs.declared.command.Reply.{Reply}
 use Rattle.simfile.specs.Lines.{line}
@@ -41,17 +41,19 @@ lines_text (line ∷ more ∷ lines) = codes "lines " ++ (decimal line ++ rest_t
 
 -- for which bytes replies hold
 abbrev pub bytes_text : List ℕ → List ℕ
-bytes_text [] = codes "these bytes alone"
-bytes_text (line ∷ lines) = codes "all bytes of " ++ lines_text (line ∷ lines)
+bytes_text free = if length free == 0 then codes "these bytes alone" else codes "all bytes of " ++ lines_text free
 
 -- what may differ then
 abbrev pub reads_text : List ℕ → List ℕ
-reads_text [] = []
-reads_text (line ∷ lines) = codes "; the data of " ++ (lines_text (line ∷ lines) ++ codes " may differ")
+reads_text reads = if length reads == 0 then [] else codes "; the data of " ++ (lines_text reads ++ codes " may differ")
+
+-- what holds
+abbrev pub verdict_text : Bool → List ℕ
+verdict_text clean = if clean then codes "clean for " else codes "the same replies for "
 
 -- for which bytes of its writes and fills a script is clean, or has the replies that it has
 abbrev pub whole_text : Bool → (free reads : List ℕ) → List ℕ
-whole_text clean free reads = (if clean then codes "clean for " else codes "the same replies for ") ++ (bytes_text free ++ reads_text reads)
+whole_text clean free reads = verdict_text clean ++ (bytes_text free ++ reads_text reads)
 
 -- the text of a script
 abbrev pub IsText : List Reply → Bool → (free reads : List ℕ) → List ℕ → Type 0

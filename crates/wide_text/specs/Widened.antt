@@ -59,8 +59,8 @@ abbrev pub IsTold : Format → List Reply → Bool → (free reads : List ℕ) �
 IsTold format.Text replies clean free reads text = IsText replies clean free reads text
 IsTold format.Json replies clean free reads text = (report : WideReport) × IsReport clean free reads report × (text ≡ compact_text (report_data report) ++ 10 ∷ [])
 
--- A script that was performed on a device of this configuration, with the lines of the writes and fills for all of whose
--- bytes its replies hold, and of the reads that may differ then.
+-- A script that was performed on a device of this configuration, with the lines of the writes and fills for all of
+-- whose bytes its replies hold, and of the reads that may differ then.
 pub record IsWidened (configuration : Configuration) (script : List ℕ) (how : Format) (end : WideEnd) (text : List ℕ) : Type 0 where
   pub commands : List Command
   pub places : List CommandPlace

@@ -10,6 +10,13 @@ use std::alloc::{AllocError, Global};
 use std::fmt::Write;
 use wide_scripts::Why;
 
+/// No lines.
+pub(crate) fn no_asides(alloc: Global) -> Vec<u8>
+    ensures { AreAsides result.items }
+{
+    Vec::new(alloc)
+}
+
 /// Why a source decides, in a word.
 pub(crate) fn why_word(why: Why) -> &'static str
     ensures { result.now ≡ why_word why }

@@ -5,7 +5,7 @@ ghost use Rattle.std.specs.Prelude.{◌≡◌, ◌++◌, [], ◌∷◌, string_b
 ghost use Rattle.serde_json.specs.Data.{Data};
 ghost use Rattle.serde_json.specs.View.{view};
 ghost use Rattle.serde_json.specs.Written.{compact_text};
-ghost use Rattle.wide_text.specs.Members.{number_data, code_data, deciding_data, buffer_data, argument_data, holds_data, launch_data, script_data, report_data, list_data, or_null, source_word};
+ghost use Rattle.wide_text.specs.Members.{number_data, code_data, deciding_data, buffer_data, argument_data, holds_data, launch_data, script_with, script_data, report_data, list_data, or_null, source_word};
 
 use crate::asides::why_word;
 use crate::data::{Deciding, FreeArgument, FreeBuffer, WideLaunch, WideReport};
@@ -135,21 +135,24 @@ fn list_value<T: ToJson>(alloc: Global, list: &[T]) -> Result<Value, AllocError>
     Ok(Value::Array(values))
 }
 
+/// The script as a whole with its last line, as a value. An error is out of memory.
+fn script_with(alloc: Global, text: &str, report: &WideReport) -> Result<Value, AllocError>
+    ensures { IfOk result (λ value. view value ≡ script_with text.now report.now) }
+{
+    let clean = report.clean;
+    let free = list_value(alloc, report.free.as_slice())?;
+    let reads = list_value(alloc, report.reads.as_slice())?;
+    json!(in alloc; {"text": text, "reads": reads, "free": free, "clean": clean})
+}
+
 /// The script as a whole, as a value. An error is out of memory.
 fn script_value(alloc: Global, report: &WideReport) -> Result<Value, AllocError>
     ensures { IfOk result (λ value. view value ≡ script_data report.now) }
 {
-    let clean = report.clean;
-    let text = whole_text(
-        alloc,
-        clean,
-        report.free.as_slice(),
-        report.reads.as_slice(),
-    )?;
-    let free = list_value(alloc, report.free.as_slice())?;
-    let reads = list_value(alloc, report.reads.as_slice())?;
-    let text = text.as_str();
-    json!(in alloc; {"text": text, "reads": reads, "free": free, "clean": clean})
+    let free = report.free.as_slice();
+    let reads = report.reads.as_slice();
+    let text = whole_text(alloc, report.clean, free, reads)?;
+    script_with(alloc, text.as_str(), report)
 }
 
 /// What is told of a script, as a value. An error is out of memory.

@@ -1,6 +1,8 @@
 //! The sources of the kernels of a script, for the places that are told.
 #![tactic(auto)]
 
+ghost use Rattle.std.specs.Prelude.{◌<◌, vec_len, OnOk};
+
 use clmodel::text::Name;
 use clmodel::tree::{Expression, Statement, Target};
 use cltypes::Checked;
@@ -59,6 +61,16 @@ fn put<T: Drop>(
     } else {
         table.insert(name.copied(alloc)?, value)
     }
+}
+
+/// Places for the trees of the programs up to that of a command. An error is out of memory.
+fn make_room(trees: &mut Vec<Option<Checked>>, program: usize) -> Result<(), AllocError>
+    ensures { OnOk result (program < vec_len trees.new) }
+{
+    while trees.len() <= program {
+        trees.push(None)?;
+    }
+    Ok(())
 }
 
 /// What kind of node an expression is.
@@ -187,9 +199,7 @@ impl<'a> Sources<'a> {
 
     /// Builds the program of a command, if it isn't built yet. An error is out of memory.
     fn build_once(&mut self, program: usize, source: &[u8]) -> Result<(), AllocError> {
-        while self.trees.len() <= program {
-            self.trees.push(None)?;
-        }
+        make_room(&mut self.trees, program)?;
         if self.trees[program].is_none() {
             self.trees[program] = match build(self.alloc, self.limits, source) {
                 Ok(checked) => Some(checked),

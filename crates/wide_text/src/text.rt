@@ -1,12 +1,12 @@
 //! What is told of a script, as text.
 #![tactic(auto)]
 
-ghost use Rattle.std.specs.Prelude.{◌≡◌, ◌≤◌, ◌++◌, List, ℕ, [], ◌∷◌, codes, decimal, string_bytes, length, IfOk, OnOk};
+ghost use Rattle.std.specs.Prelude.{◌≡◌, ◌++◌, List, ℕ, [], ◌∷◌, codes, decimal, string_bytes, IfOk, OnOk};
 ghost use Rattle.host_commands.specs.declared.command.Reply.{Reply as ReplyOf};
 ghost use Rattle.simfile.specs.Lines.{line};
-ghost use Rattle.wide_text.specs.Told.{AreAsides, AreReplies, IsText, bytes_text, lines_text, reads_text, rest_text, whole_text};
+ghost use Rattle.wide_text.specs.Told.{AreAsides, AreReplies, IsText, bytes_text, lines_text, reads_text, rest_text, verdict_text, whole_text};
 
-use crate::asides::asides_of;
+use crate::asides::{asides_of, no_asides};
 use crate::data::{WideLaunch, WideReport};
 use crate::gathering::reply_line;
 use device::Reply;
@@ -64,10 +64,23 @@ fn push_reads(reads: &[usize], out: &mut String) -> Result<(), AllocError>
     }
     out.push_str("; the data of ")?;
     push_lines(reads, out)?;
-    out.push_str(" may differ")
+    out.push_str(" may differ")?;
+    Ok(())
 }
 
-/// For which bytes of its writes and fills a script is clean, or has the replies that it has. An error is out of memory.
+/// What holds, in words.
+fn verdict_words(clean: bool) -> &'static str
+    ensures { result.now ≡ verdict_text clean }
+{
+    if clean {
+        "clean for "
+    } else {
+        "the same replies for "
+    }
+}
+
+/// For which bytes of its writes and fills a script is clean, or has the replies that it has. An error is out of
+/// memory.
 pub(crate) fn whole_text(
     alloc: Global,
     clean: bool,
@@ -76,11 +89,7 @@ pub(crate) fn whole_text(
 ) -> Result<String, AllocError>
     ensures { IfOk result (λ text. string_bytes text ≡ whole_text clean free.now reads.now) }
 {
-    let mut out = if clean {
-        String::from_str(alloc, "clean for ")?
-    } else {
-        String::from_str(alloc, "the same replies for ")?
-    };
+    let mut out = String::from_str(alloc, verdict_words(clean))?;
     push_bytes(free, &mut out)?;
     push_reads(reads, &mut out)?;
     Ok(out)
@@ -92,17 +101,15 @@ fn beside(alloc: Global, launches: &[WideLaunch], number: usize) -> Result<Vec<u
 {
     match launches.first() {
         Some(launch) if launch.command == number => asides_of(alloc, launch),
-        _ => Ok(Vec::new(alloc)),
+        _ => Ok(no_asides(alloc)),
     }
 }
 
-/// How many of these launches the reply to a command of this number is behind: of the first, or none.
-fn passed(launches: &[WideLaunch], number: usize) -> usize
-    ensures { result ≤ length launches.now }
-{
-    match launches.first() {
-        Some(launch) if launch.command == number => 1,
-        _ => 0,
+/// These launches but the first, if it is that of this number.
+fn passed(launches: &[WideLaunch], number: usize) -> &[WideLaunch] {
+    match launches.split_first() {
+        Some((launch, rest)) if launch.command == number => rest,
+        _ => launches,
     }
 }
 
@@ -134,19 +141,20 @@ fn replies_text(
     for number in 0..replies.len() {
         let text = beside(alloc, left, number)?;
         push_reply(alloc, &replies[number], text.as_slice(), &mut out)?;
-        left = &left[passed(left, number)..];
+        left = passed(left, number);
     }
     Ok(out)
 }
 
-/// A script's replies with what is told of them, as text: the line of each reply, and behind that of a launch lines that
-/// begin with two blanks; and a last line. The launches of the report are in the order of their commands. An error is
-/// out of memory.
+/// A script's replies with what is told of them, as text: the line of each reply, and behind that of a launch lines
+/// that begin with two blanks; and a last line. The launches of the report are in the order of their commands. An error
+/// is out of memory.
 pub fn text_of(alloc: Global, replies: &[Reply], report: &WideReport) -> Result<Vec<u8>, AllocError>
     ensures { IfOk result (λ text. IsText replies.now report.now.clean report.now.free.items report.now.reads.items text.items) }
 {
     let mut out = replies_text(alloc, replies, report.launches.as_slice())?;
-    let (free, reads) = (report.free.as_slice(), report.reads.as_slice());
+    let free = report.free.as_slice();
+    let reads = report.reads.as_slice();
     let last = whole_text(alloc, report.clean, free, reads)?;
     out.extend_from_slice(last.as_bytes())?;
     out.push(b'\n')?;

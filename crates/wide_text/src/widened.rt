@@ -1,11 +1,13 @@
 //! A script, for which bytes and numbers its replies hold.
 #![tactic(auto)]
 
-ghost use Rattle.std.specs.Prelude.{◌≡◌, [], List, ℕ, IfOk, IfErr, OnOk};
+ghost use Rattle.std.specs.Prelude.{◌≡◌, ◌++◌, [], ◌∷◌, List, ℕ, IfOk, IfErr, OnOk};
 ghost use Rattle.std.specs.List.{list_any};
 ghost use Rattle.byte_io.specs.Sink.{Puts, Wrote};
 ghost use Rattle.device.specs.Machine.{opening};
+ghost use Rattle.serde_json.specs.Written.{compact_text};
 ghost use Rattle.simfile.specs.Faults.{NoScript};
+ghost use Rattle.wide_text.specs.Members.{report_data};
 ghost use Rattle.wide_text.specs.Told.{lines_of};
 ghost use Rattle.wide_text.specs.Widened.{IsReport, IsTold, IsWidened, Unwidened, end_of, is_clean, is_fault, is_refused, status_of};
 
@@ -36,13 +38,27 @@ fn is_refused(reply: &Reply) -> bool
     matches!(reply, Reply::Refused(_))
 }
 
+/// Whether one of these replies is a fault.
+fn has_fault(replies: &[Reply]) -> bool
+    ensures { result ≡ list_any is_fault replies.now }
+{
+    replies.iter().any(|reply| is_fault(reply))
+}
+
+/// Whether one of these replies is a refusal.
+fn has_refusal(replies: &[Reply]) -> bool
+    ensures { result ≡ list_any is_refused replies.now }
+{
+    replies.iter().any(|reply| is_refused(reply))
+}
+
 /// What replies come to.
 fn end_of(replies: &[Reply]) -> WideEnd
     ensures { result ≡ end_of replies.now }
 {
     WideEnd {
-        faulted: replies.iter().any(is_fault),
-        refused: replies.iter().any(is_refused),
+        faulted: has_fault(replies),
+        refused: has_refusal(replies),
     }
 }
 
@@ -62,12 +78,23 @@ fn report_of(
 ) -> Result<WideReport, AllocError>
     ensures { IfOk result (IsReport (is_clean end) (lines_of performed.entry.wide.now.free.items performed.entry.places.now) (lines_of performed.entry.wide.now.reads.items performed.entry.places.now)) }
 {
+    let launches = launches_of(alloc, configuration.limits, performed)?;
+    let free = lines_of(alloc, performed.wide.free.as_slice(), performed.places)?;
+    let reads = lines_of(alloc, performed.wide.reads.as_slice(), performed.places)?;
     Ok(WideReport {
-        launches: launches_of(alloc, configuration.limits, performed)?,
+        launches,
         clean: is_clean(end),
-        free: lines_of(alloc, performed.wide.free.as_slice(), performed.places)?,
-        reads: lines_of(alloc, performed.wide.reads.as_slice(), performed.places)?,
+        free,
+        reads,
     })
+}
+
+/// The line of JSON of it, as bytes. An error is out of memory.
+fn json_bytes(alloc: Global, report: &WideReport) -> Result<Vec<u8>, AllocError>
+    ensures { IfOk result (λ text. text.items ≡ compact_text (report_data report.now) ++ 10 ∷ []) }
+{
+    let text = json_of(alloc, report)?;
+    text.as_bytes().to_vec(alloc)
 }
 
 /// The text of it in a format. An error is out of memory.
@@ -81,7 +108,7 @@ fn written(
 {
     match format {
         Format::Text => text_of(alloc, replies, report),
-        Format::Json => json_of(alloc, report)?.as_bytes().to_vec(alloc),
+        Format::Json => json_bytes(alloc, report),
     }
 }
 
@@ -125,10 +152,10 @@ fn tell<W: Write>(text: &[u8], writer: &mut W) -> Result<(), WriteFailed>
     writer.flush()
 }
 
-/// Performs a script on a device of this configuration, and writes its replies, for which bytes and numbers each launch's
-/// holds, and for all bytes of which writes and fills all of them hold, in a format. Nothing is written where the bytes
-/// are no script, or memory is refused. It takes the time of the script's run and of `widen_script`, and that of a build
-/// for each program that a launch runs.
+/// Performs a script on a device of this configuration, and writes its replies, for which bytes and numbers each
+/// launch's holds, and for all bytes of which writes and fills all of them hold, in a format. Nothing is written where
+/// the bytes are no script, or memory is refused. It takes the time of the script's run and of `widen_script`, and that
+/// of a build for each program that a launch runs.
 pub fn widen<W: Write>(
     alloc: Global,
     configuration: Configuration,

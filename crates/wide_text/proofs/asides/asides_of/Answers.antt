@@ -10,5 +10,5 @@ loop-deciding-init c =
 
 pub loop-deciding-preserved : goal.loop-deciding-preserved
 loop-deciding-preserved c =
-    let one = c.in_ok-push_aside-in-loop-deciding.ensures in
+    let one = c.in_ok-push_aside-2.ensures in
     subst AreAsides (sym one.2) (aside_more c.loop-deciding.out.items one.0 c.loop-deciding.invariant one.1)

@@ -1,23 +1,11 @@
-use Rattle.std.proofs.Common.{subst, sym}
-use Rattle.device.specs.Machine.{opening}
-use Rattle.wide_text.proofs.Runs.{run_of}
+use Rattle.std.proofs.Common.{◌∙◌}
+use Rattle.wide_text.proofs.Telling.{told_wide}
 use Rattle.wide_text.proofs.widened.tell_of.Goals as goal
 
 pub returns-clause-told : goal.returns-clause-told
 returns-clause-told c =
-    let commands = c.in_ok-read_script.field-0.commands.items in
-    let wide = c.in_ok-wide.field-0 in
-    record {
-      commands = commands;
-      places = c.in_ok-read_script.field-0.places.items;
-      replies = wide.replies.items;
-      new = c.in_ok-wide.ensures.noted.0;
-      free = wide.free.items;
-      reads = wide.reads.items;
-      is = c.in_ok-read_script.ensures.found;
-      placed = c.in_ok-read_script.ensures.placed;
-      ran = run_of (opening c.args.configuration) commands wide.replies.items wide.notes.items c.in_ok-wide.ensures.noted.0 c.in_ok-wide.ensures.noted.1;
-      wide = c.in_ok-wide.ensures.wide;
-      ended = c.end_of-end.ensures;
-      told = c.in_ok-text.ensures;
-    }
+    let wide = c.in_ok-wide.wide in
+    told_wide c.args.configuration c.args.script.now c.args.format c.in_ok-commands.field-0.commands.items c.in_ok-same.same.items c.in_ok-commands.field-0.places.items c.as_slice-4.result.now wide.replies.items
+    c.as_slice-2.result.now c.as_slice-5.result.now wide.notes.items wide.free.items wide.reads.items c.end_of-end.result c.in_ok-report.report c.in_ok-text.text.items
+    c.in_ok-commands.ensures.found c.in_ok-commands.ensures.placed (c.in_ok-same.ensures ∙ c.as_slice.ensures.value) c.in_ok-wide.ensures.noted c.in_ok-wide.ensures.wide
+    c.as_slice-2.ensures.value c.as_slice-5.ensures.value c.as_slice-4.ensures.value c.end_of-end.ensures c.in_ok-report.ensures c.in_ok-text.ensures
