@@ -1,5 +1,5 @@
 -- Why nothing was written of a script.
-use Rattle.std.proofs.Common.{◌≡◌, ℕ, List, refl}
+use Rattle.std.proofs.Common.{ℕ, List, refl}
 use Rattle.byte_io.specs.Sink.{Sink}
 use Rattle.limits.specs.declared.Configuration.{Configuration}
 use Rattle.simfile.specs.Faults.{NoScript}
