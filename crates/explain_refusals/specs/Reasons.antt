@@ -1,6 +1,6 @@
 -- What holds of a command that was refused, by the limits and the buffers of its device (OpenCL 1.2, chapter 5: the
 -- errors of clCreateBuffer, clEnqueueReadBuffer and its like, and clEnqueueNDRangeKernel; the limits are our own).
-use Rattle.std.specs.Prelude.{◌≡◌, ◌≢◌, ◌<◌, ◌≤◌, ◌+◌, ◌-◌, ◌%◌, ◌^◌, ◌⊎◌, ⊤, ℕ, true, false, min, String, List, length, slice_get, string_bytes, Option, None, Some}
+use Rattle.std.specs.Prelude.{◌≡◌, ◌≢◌, ◌<◌, ◌≤◌, ◌+◌, ◌-◌, ◌%◌, ◌^◌, ◌⊎◌, ⊤, ℕ, false, min, String, List, length, slice_get, string_bytes, Option, None, Some}
 use Rattle.std.specs.Option.{IfSome}
 use Rattle.std.specs.Str.Lossy.{utf8_lossy}
 use Rattle.std.specs.declared.alloc.Global.{Global}
