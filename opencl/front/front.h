@@ -260,6 +260,7 @@ typedef struct translator {
     bool is_changed;      // something new was learnt in this pass
     bool is_incomplete;   // this pass left something out that wasn't known yet
     bool prints;          // it calls printf
+    bool is_settled;      // what pointers may point to is known, so that one without an object has none
     bool is_regrouped;    // a function stays from this pass on
     unsigned free_passes; // those that had to be left, or in which a function began to stay
     own_function *functions;

@@ -331,13 +331,16 @@ static bool run_pass(translator *t, const node *function, written_parameters *al
     return true;
 }
 
-// Passes until one learns nothing.
+// Passes until one learns nothing. A pointer that hasn't got an object by then is never given one.
 static void run_passes(translator *t, const node *function, written_parameters *all) {
     static const char lost[] = "Clsim can't follow the pointers of this kernel";
-    for (bool is_whole = false; !is_whole || t->is_changed;) {
+    for (bool is_whole = false, is_more = false; !is_whole || t->is_changed || is_more;) {
+        is_more = false;
         if (t->pass_number == t->free_passes + MAX_PASSES) refuse_at(t, &function->place, lost);
         is_whole = run_pass(t, function, all);
         t->free_passes += !is_whole || t->is_regrouped;
+        if (!is_whole || t->is_changed || !t->is_incomplete || t->is_settled) continue;
+        t->is_settled = is_more = true;
     }
     if (t->is_incomplete) refuse_at(t, &function->place, lost);
 }
@@ -348,6 +351,7 @@ void translate_kernel(translator *t, const node *function, judged_kernel *k, tex
     *k = (judged_kernel){.function = function};
     begin_kernel_of_objects(t);
     t->prints = false;
+    t->is_settled = false;
     t->functions = NULL;
     t->free_passes = 0;
     run_passes(t, function, &all);

@@ -107,8 +107,12 @@ pointer load_pointer(translator *t, pointer from, const place *at) {
     integer offset = part_of_home(&h, h.offset, LONG);
     pointer p = {.count = h.leaf->count_before, .offset = constant_offset(0)};
     if (unit) p.offset = plus_scaled(t, p.offset, offset, unit);
-    else if (!h.selector) kept(t, offset);       // it is always 0, but reading it may be the fault unset
-    if (!p.count) return pointer_to(t, t->null); // it is never given a value
+    else if (!h.selector) kept(t, offset); // it is always 0, but reading it may be the fault unset
+    if (!p.count && t->is_settled) return pointer_to(t, t->null); // it is never given a value
+    if (!p.count) {
+        t->is_incomplete = true;
+        return none;
+    }
     p.objects = h.leaf->bases;
     if (h.selector) {
         integer *selector = take(&t->pass, sizeof *selector);
