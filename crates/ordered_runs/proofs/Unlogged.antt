@@ -36,7 +36,7 @@ access_same : (l : Launch) (s : State) (i : ℕ) (object : Object) (element : �
 access_same l s i object element operation None = refl
 access_same l s i object element operation (Some first) = refl
 
-item_same : (l : Launch) (s : State) (first i : ℕ) (a : Action) → item_turn l s first i a ≡ item_turn l (unlogged s) first i a
+pub item_same : (l : Launch) (s : State) (first i : ℕ) (a : Action) → item_turn l s first i a ≡ item_turn l (unlogged s) first i a
 item_same l s first i (action.Access object element operation) = access_same l s i object element operation (byte_at l i object element operation)
 item_same l s first i (action.Barrier instance fences) = refl
 item_same l s first i action.End = refl

@@ -1,0 +1,4 @@
+pub mod Searches
+pub mod Stepping
+pub mod Turns
+pub mod Going
