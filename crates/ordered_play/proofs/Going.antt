@@ -1,7 +1,7 @@
 -- How an ordered run goes on, group by group.
 use Rattle.std.proofs.Common.{◌≡◌, ℕ, ◌+◌, ◌*◌, ◌<◌, ◌≤◌, ◌^◌, Bool, true, false, Option, None, Some, List, [], ◌∷◌, ◌++◌, length, refl, sym, ap, ◌∙◌, subst, arith}
 use Rattle.clmodel.specs.Launch.{Launch, group_of}
-use Rattle.clmodel.specs.Run.{State, Events, start, step, next_action, stop_of, both_stop}
+use Rattle.clmodel.specs.Run.{State, Events, start, step, next_action, released, same_stop, stop_of, both_stop}
 use Rattle.clmodel.specs.Law.{Makes, Reports, Finishes, IsBounded, answers_left, has_ended, conflict_turn}
 use Rattle.clmodel.specs.declared.access.Conflict as conflict_type
 use Rattle.clmodel.specs.declared.action.Action.{Action}
@@ -10,10 +10,11 @@ use Rattle.clmodel.specs.declared.action.Fences.{Fences}
 use Rattle.clmodel.specs.declared.action.Instance.{Instance}
 use Rattle.clmodel.specs.declared.action.Stop.{Stop}
 use Rattle.clmodel.specs.declared.fault.Fault.{Fault}
+use Rattle.clmodel.specs.declared.fault.Fault.TheVariants as fault
 use Rattle.clmodel.specs.declared.schedule.Event.{Event}
 use Rattle.clmodel.specs.declared.schedule.Event.TheVariants.{Item, Release}
 use Rattle.clmodel.proofs.Ending.{step_less}
-use Rattle.clmodel.proofs.Steps.{item_inverse, ReleaseStep, release_inverse, answers_other, answers_apart, same_action}
+use Rattle.clmodel.proofs.Steps.{none_some, item_inverse, ReleaseStep, release_inverse, release_at, answers_other, answers_apart, same_action}
 use Rattle.clmodel.proofs.Turns.{makes_finishes, reports_finishes}
 use Rattle.joining.specs.Group.{Plan, IsGroup, plan_of}
 use Rattle.joining.specs.Parts.{IsGrouped}
@@ -21,10 +22,11 @@ use Rattle.joining.proofs.Grouped.{group_is}
 use Rattle.launches.specs.Groups.{IsRunnable}
 use Rattle.group_run.specs.Loops.{AtOneStop, IsLeading}
 use Rattle.group_run.proofs.Starting.{brief_is}
+use Rattle.group_run.proofs.Turns.{first_stop, gathered_stop, joins, joins_first, leading_stop, no_straggler}
 use Rattle.ordered_runs.specs.Ordered.{OrderedTo, newest_race, ordered_turn}
 use Rattle.ordered_runs.proofs.Turns.{ordered_parts}
 use Rattle.ordered_runs.proofs.Unlogged.{quiet_turn}
-use Rattle.ordered_play.specs.Groups.{AreOver, Reached, Gathers, Reported}
+use Rattle.ordered_play.specs.Groups.{AreOver, Reached, Gathers, GathersOrReports, Reported}
 use Rattle.ordered_play.specs.Stepping.{CannotGo, IsJudged, MakesAccess}
 use Rattle.ordered_play.specs.declared.stepping.Stepped.TheVariants as stepped
 use Rattle.ordered_play.proofs.Turns as turns
@@ -123,5 +125,109 @@ module _
         state = s;
         runs = at.reached.runs;
         reports = turns.item_goes l g whole s at.reached.calm at.reached.over k inside at.gathered cannot.goes (Reports f) (cannot.reports p.first) (λ q. reports_finishes _ q);
+        holds = holds;
+      }
+
+  -- it waits: the first item's stop is kept, another's is compared with it
+  pub stopped_on :
+      (stop : Stop) (report : Option Fault) (after : Option Stop) → (leading ≡ None → (report ≡ None) × (after ≡ Some stop))
+      → ((x : Stop) → leading ≡ Some x → same_stop x stop ≡ true → (report ≡ None) × (after ≡ Some x))
+      → ((x : Stop) → leading ≡ Some x → same_stop x stop ≡ false → report ≡ Some (fault.Divergence p.first x item stop))
+      → stop_of (next_action l s item) ≡ Some stop → new s → GathersOrReports l g new events (k + 1) after report
+  stopped_on stop report after first same apart waits holds = by_leading leading refl
+    where
+      here : Reached l g new events
+      here = record {
+        state = s;
+        runs = at.reached.runs;
+        calm = at.reached.calm;
+        over = at.reached.over;
+        holds = holds;
+      }
+
+      gathers : (x : Stop) → AtOneStop p s (k + 1) → IsLeading p s (k + 1) (Some x) → report ≡ None → after ≡ Some x → GathersOrReports l g new events (k + 1) after report
+      gathers x one leads none kept =
+          subst (λ r. GathersOrReports l g new events (k + 1) after r) (sym none)
+          (subst (λ o. Gathers l g new events (k + 1) o) (sym kept) (record { reached = here; gathered = one; leads = leads }))
+
+      by_test : (x : Stop) → leading ≡ Some x → (b : Bool) → same_stop x stop ≡ b → GathersOrReports l g new events (k + 1) after report
+      by_test x is true e =
+          let leads : stop_of (next_action l s p.first) ≡ Some x = leading_stop p s k leading x is at.leads in
+          let w : (report ≡ None) × (after ≡ Some x) = same x is e in
+          gathers x (joins p s k x stop at.gathered leads waits e) (omega arith, leads) w.0 w.1
+      by_test x is false e =
+          let leads : stop_of (next_action l s p.first) ≡ Some x = leading_stop p s k leading x is at.leads in
+          subst (λ r. GathersOrReports l g new events (k + 1) after r) (sym (apart x is e))
+          (record {
+            state = s;
+            runs = at.reached.runs;
+            reports = turns.item_differs l g whole s at.reached.calm at.reached.over k x stop inside at.gathered leads waits e;
+            holds = holds;
+          })
+
+      by_leading : (o : Option Stop) → leading ≡ o → GathersOrReports l g new events (k + 1) after report
+      by_leading None is =
+          let w : (report ≡ None) × (after ≡ Some stop) = first is in
+          let j = joins_first p s k leading stop (λ x e. none_some x (sym is ∙ e)) at.gathered at.leads waits in
+          gathers stop j.0 j.1 w.0 w.1
+      by_leading (Some x) is = by_test x is (same_stop x stop) refl
+
+-- ---- a group
+
+-- before its first item's turn
+pub begins_group : (l : Launch) (g : ℕ) (fits : State → Type 0) (events : Events) → Reached l g fits events → Gathers l g fits events 0 None
+begins_group l g fits events at = record { reached = at; gathered = λ j b. absurd (omega (arith, b)); leads = refl }
+
+-- what an action is at which an item waits, and which is no barrier
+is_end : (a : Action) (x : Stop) → stop_of a ≡ Some x → ((i : Instance) (fences : Fences) → a ≡ action.Barrier i fences → ⊥) → a ≡ action.End
+is_end (action.Access o element op) x h other = absurd (none_some x h)
+is_end (action.Barrier i fences) x h other = absurd (other i fences refl)
+is_end action.End x h other = refl
+is_end (action.Fault c) x h other = absurd (none_some x h)
+
+module _
+    (l : Launch) (g : ℕ) (fits : State → Type 0) (events : Events) (leading : Option Stop) (ready : IsRunnable l) (there : g * l.group_size < l.items)
+    (at : Gathers l g fits events l.group_size leading) where
+  abbrev q : Plan
+  q = plan_of l g
+
+  abbrev u : State
+  u = at.reached.state
+
+  entire : IsGroup (plan_of l g)
+  entire = whole_is l g ready there
+
+  released_to : (i : Instance) (fences : Fences) → next_action l u q.first ≡ action.Barrier i fences → step l u (Release g) ≡ Some (released l u g fences)
+  released_to i fences acts = release_at l u g q.first i fences entire.leads (no_straggler q entire u at.gathered) acts
+
+  -- its release is possible where its first item is at a barrier
+  pub never_kept : (i : Instance) (fences : Fences) → next_action l u q.first ≡ action.Barrier i fences → step l u (Release g) ≡ None → ⊥
+  never_kept i fences acts none = none_some _ (sym none ∙ released_to i fences acts)
+
+  pub release_roomy : (t : State) → step l u (Release g) ≡ Some t → length events + 1 < 2 ^ 64
+  release_roomy t h = room l u t events (Release g) ready at.reached.runs h
+
+  pub released_on :
+      (new : State → Type 0) (i : Instance) (fences : Fences) (t : State) → next_action l u q.first ≡ action.Barrier i fences → step l u (Release g) ≡ Some t → new t
+      → Reached l g new (events ++ Release g ∷ [])
+  released_on new i fences t acts h holds =
+      let r : ReleaseStep l u g t = release_inverse l u g t h in
+      record {
+        state = t;
+        runs = ordered_more l (start l) events u (Release g) t at.reached.runs (turns.group_waits l g entire u at.reached.calm at.reached.over i fences at.gathered acts) h;
+        calm = subst (λ (z : State). newest_race l z.log ≡ None) r.gives at.reached.calm;
+        over = λ k b low. ap has_ended (same_action l u t k (answers_apart l u g t r k (λ e. absurd (omega (arith, e, low))))) ∙ at.reached.over k b low;
+        holds = holds;
+      }
+
+  -- else it is over
+  pub over_on : (new : State → Type 0) → ((i : Instance) (fences : Fences) → next_action l u q.first ≡ action.Barrier i fences → ⊥) → new u → Reached l (g + 1) new events
+  over_on new other holds =
+      let w : (x : Stop) × (first_stop q u ≡ Some x) = gathered_stop q entire u at.gathered in
+      record {
+        state = u;
+        runs = at.reached.runs;
+        calm = at.reached.calm;
+        over = turns.group_ends l g entire u at.reached.calm at.reached.over at.gathered (is_end (next_action l u q.first) w.0 w.1 other);
         holds = holds;
       }

@@ -1,6 +1,6 @@
 //! The ordered run, item by item to their stops, and group after group.
 
-ghost use Rattle.std.specs.Prelude.{◌≡◌, ◌+◌, ◌*◌, ◌<◌, ◌≤◌, ℕ, true, false, Option, None, Some, IfOk};
+ghost use Rattle.std.specs.Prelude.{◌≡◌, ◌+◌, ◌*◌, ◌<◌, ◌≤◌, ℕ, true, false, length, Option, None, Some, IfOk};
 ghost use Rattle.clmodel.specs.Run.{same_stop};
 ghost use Rattle.clmodel.specs.declared.action.Stop.{Stop as TheStop};
 ghost use Rattle.clmodel.specs.declared.fault.Fault.TheVariants as faults;
@@ -45,19 +45,19 @@ fn stop_at(first: u32, item: u32, stop: Stop, leading: &mut Option<Stop>) -> Opt
 fn run_item<D: Runnable>(
     launch: &D,
     player: &mut Player<'_, D>,
-    first: u32,
+    group: u32,
     k: u32,
     leading: &mut Option<Stop>,
     runs: &mut Runs,
 ) -> Result<Option<Fault>, AllocError>
-    ghost group: { ℕ }
     requires runnable { IsRunnable (D.launch launch.now) }
-    requires first { first ≡ group * (D.launch launch.now).group_size }
     requires inside { k < (D.launch launch.now).group_size }
     requires there { group * (D.launch launch.now).group_size < (D.launch launch.now).items }
     requires gathers { Gathers (D.launch launch.now) group (IsAt D.launch D.started (D.launch launch.now) (D.started launch.now) player.old) runs.old k leading.old }
-    ensures { IfOk result (GathersOrReports (D.launch launch.now) group (IsAt D.launch D.started (D.launch launch.now) (D.started launch.now) player.new) runs.new (k + 1) leading.new) }
+    ensures grows { length runs.old ≤ length runs.new }
+    ensures ran { IfOk result (GathersOrReports (D.launch launch.now) group (IsAt D.launch D.started (D.launch launch.now) (D.started launch.now) player.new) runs.new (k + 1) leading.new) }
 {
+    let first = group * launch.group_size();
     let item = first + k;
     'steps: loop {
         match step_item(launch, player, item)? {
@@ -76,19 +76,18 @@ fn run_item<D: Runnable>(
 fn run_interval<D: Runnable>(
     launch: &D,
     player: &mut Player<'_, D>,
-    first: u32,
+    group: u32,
     runs: &mut Runs,
 ) -> Result<Option<Fault>, AllocError>
-    ghost group: { ℕ }
     requires runnable { IsRunnable (D.launch launch.now) }
-    requires first { first ≡ group * (D.launch launch.now).group_size }
     requires there { group * (D.launch launch.now).group_size < (D.launch launch.now).items }
     requires reached { Reached (D.launch launch.now) group (IsAt D.launch D.started (D.launch launch.now) (D.started launch.now) player.old) runs.old }
-    ensures { IfOk result (λ report. (leading : Option TheStop) × GathersOrReports (D.launch launch.now) group (IsAt D.launch D.started (D.launch launch.now) (D.started launch.now) player.new) runs.new (D.launch launch.now).group_size leading report) }
+    ensures grows { length runs.old ≤ length runs.new }
+    ensures ran { IfOk result (λ report. (leading : Option TheStop) × GathersOrReports (D.launch launch.now) group (IsAt D.launch D.started (D.launch launch.now) (D.started launch.now) player.new) runs.new (D.launch launch.now).group_size leading report) }
 {
     let mut leading = None;
     for k in 0..launch.group_size() {
-        match run_item(launch, player, first, k, &mut leading, runs)? {
+        match run_item(launch, player, group, k, &mut leading, runs)? {
             None => {}
             Some(fault) => return Ok(Some(fault)),
         }
@@ -110,7 +109,7 @@ fn run_group<D: Runnable>(
 {
     let first = group * launch.group_size();
     'intervals: loop {
-        match run_interval(launch, player, first, runs)? {
+        match run_interval(launch, player, group, runs)? {
             None => {}
             Some(fault) => return Ok(Some(fault)),
         }

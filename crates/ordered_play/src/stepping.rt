@@ -55,10 +55,9 @@ fn unset_of<D: Runnable>(
 
 /// What came of an access that was made, by the race of the newest access. An error is out of memory.
 fn judge<D: Runnable>(launch: &D, player: &Player<'_, D>) -> Result<Stepped, AllocError>
-    ghost state: { State }
-    requires at { IsAt D.launch D.started (D.launch launch.now) (D.started launch.now) player.now state }
-    requires placed { (x : TheAccess) (earlier : List TheAccess) → state.log ≡ x ∷ earlier → x.first + byte_count x.width < 2 ^ 64 }
-    ensures { IfOk result (IsJudged (D.launch launch.now) state) }
+    requires { (state : State) × IsAt D.launch D.started (D.launch launch.now) (D.started launch.now) player.now state
+        × ((x : TheAccess) (earlier : List TheAccess) → state.log ≡ x ∷ earlier → x.first + byte_count x.width < 2 ^ 64) }
+    ensures { IfOk result (λ stepped. (state : State) → IsAt D.launch D.started (D.launch launch.now) (D.started launch.now) player.now state → IsJudged (D.launch launch.now) state stepped) }
 {
     match newest_race(launch, player.log()) {
         Some(race) => Ok(Stepped::Races(conflict_fault(launch, &race)?)),
@@ -75,11 +74,11 @@ fn access_item<D: Runnable>(
     element: i64,
     operation: Operation,
 ) -> Result<Stepped, AllocError>
-    ghost state: { State }
-    requires at { IsAt D.launch D.started (D.launch launch.now) (D.started launch.now) player.old state }
-    requires inside { item < (D.launch launch.now).items }
-    requires acts { next_action (D.launch launch.now) state item ≡ actions.Access object element operation }
-    ensures { IfOk result (IsStepped (D.launch launch.now) state item (IsAt D.launch D.started (D.launch launch.now) (D.started launch.now) player.new)) }
+    requires { (state : State) × IsAt D.launch D.started (D.launch launch.now) (D.started launch.now) player.old state × (item < (D.launch launch.now).items)
+        × (next_action (D.launch launch.now) state item ≡ actions.Access object element operation) }
+    ensures { IfOk result (λ stepped. (state : State) → IsAt D.launch D.started (D.launch launch.now) (D.started launch.now) player.old state
+        → next_action (D.launch launch.now) state item ≡ actions.Access object element operation
+        → IsStepped (D.launch launch.now) state item (IsAt D.launch D.started (D.launch launch.now) (D.started launch.now) player.new) stepped) }
 {
     let group = item / launch.group_size();
     let Some(first) = player.first_byte(object, element, operation) else {
@@ -108,10 +107,9 @@ pub fn step_item<D: Runnable>(
     player: &mut Player<'_, D>,
     item: u32,
 ) -> Result<Stepped, AllocError>
-    ghost state: { State }
-    requires at { IsAt D.launch D.started (D.launch launch.now) (D.started launch.now) player.old state }
-    requires inside { item < (D.launch launch.now).items }
-    ensures { IfOk result (IsStepped (D.launch launch.now) state item (IsAt D.launch D.started (D.launch launch.now) (D.started launch.now) player.new)) }
+    requires { (state : State) × IsAt D.launch D.started (D.launch launch.now) (D.started launch.now) player.old state × (item < (D.launch launch.now).items) }
+    ensures { IfOk result (λ stepped. (state : State) → IsAt D.launch D.started (D.launch launch.now) (D.started launch.now) player.old state
+        → IsStepped (D.launch launch.now) state item (IsAt D.launch D.started (D.launch launch.now) (D.started launch.now) player.new) stepped) }
 {
     match player.action(item)? {
         Some(
