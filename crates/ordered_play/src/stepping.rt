@@ -31,6 +31,16 @@ pub enum Stepped {
     Fails(Fault),
 }
 
+/// Whether the bytes that an operation acts on must be set.
+fn reads(operation: Operation) -> bool
+    ensures { result ≡ reads operation }
+{
+    match operation {
+        Operation::Load(_) | Operation::Update(_, _) | Operation::Fetch(_, _) => true,
+        Operation::Store(_, _) => false,
+    }
+}
+
 /// The lowest unset byte that an operation reads of those from `first` on, which the object has.
 fn unset_of<D: Runnable>(
     launch: &D,
@@ -45,11 +55,10 @@ fn unset_of<D: Runnable>(
     ensures { (state : State) → IsAt D.launch D.started (D.launch launch.now) (D.started launch.now) player.now state
         → result ≡ (if reads operation then lowest_unset (state.memory (region_of (group_of (D.launch launch.now) item) object)) first (size_of operation) else None) }
 {
-    match operation {
-        Operation::Store(_, _) => None,
-        Operation::Load(_) | Operation::Update(_, _) | Operation::Fetch(_, _) => {
-            player.unset_byte(item, object, first, operation)
-        }
+    if reads(operation) {
+        player.unset_byte(item, object, first, operation)
+    } else {
+        None
     }
 }
 
