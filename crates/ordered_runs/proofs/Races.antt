@@ -1,7 +1,6 @@
 -- Races among the conflicts of an access: where the first conflict is a race, it is the first race.
-use Rattle.std.proofs.Common.{◌≡◌, ℕ, zero, suc, Bool, false, Option, None, Some, List, [], ◌∷◌, refl, sym, ap, ap₂, ◌∙◌, ◌⊎◌, inl, inr, subst}
+use Rattle.std.proofs.Common.{◌≡◌, ℕ, zero, suc, false, Option, None, Some, List, [], ◌∷◌, refl, sym, ap, ap₂, ◌∙◌, ◌⊎◌, inl, inr, subst}
 use Rattle.std.specs.Option.{option_map}
-use Rattle.std.proofs.lemmas.Bool.{false≢true}
 use Rattle.clmodel.specs.Cells.{byte_count}
 use Rattle.clmodel.specs.Launch.{Launch, conflict}
 use Rattle.clmodel.specs.Run.{State, or_else}

@@ -1,9 +1,9 @@
 -- Ordered runs: they end, there is one, and how they stand to the canonical run.
-use Rattle.std.proofs.Common.{◌≡◌, ℕ, suc, zero, ◌<◌, ◌⊎◌, Bool, true, false, Option, None, Some, List, [], ◌∷◌, refl, sym, ap, ◌∙◌, subst, inl, inr, arith}
+use Rattle.std.proofs.Common.{◌≡◌, ℕ, suc, zero, ◌<◌, ◌⊎◌, Bool, true, false, Some, [], ◌∷◌, refl, sym, ap, ◌∙◌, subst, inl, inr, arith}
 use Rattle.std.specs.Option.{option_and_then}
 use Rattle.clmodel.specs.Launch.{Launch, location_of}
-use Rattle.clmodel.specs.Run.{State, Events, start, step, after, left}
-use Rattle.clmodel.specs.Law.{Logged, Turn, Makes, Reports, Finishes, turn, RunsTo, RunsClean, RunsIntoFault, IsBounded, IsPossible, answers_left, Shows}
+use Rattle.clmodel.specs.Run.{State, Events, start, step, after}
+use Rattle.clmodel.specs.Law.{Logged, Turn, Makes, Reports, Finishes, RunsTo, RunsClean, RunsIntoFault, IsBounded, answers_left, Shows}
 use Rattle.clmodel.specs.declared.access.Access.{Access}
 use Rattle.clmodel.specs.declared.access.Clash.TheVariants.{Order}
 use Rattle.clmodel.specs.declared.fault.Fault.{Fault}
@@ -13,7 +13,7 @@ use Rattle.clmodel.specs.declared.schedule.Event.TheVariants.{Item, Release}
 use Rattle.clmodel.proofs.Canonical.{determinacy, clean_is_complete}
 use Rattle.clmodel.proofs.Ending.{step_less, bounded_ends}
 use Rattle.clmodel.proofs.Steps.{some_inj, ItemStep, item_inverse, ReleaseStep, release_inverse}
-use Rattle.clmodel.proofs.Turns.{makes_inj, reports_makes, finishes_makes}
+use Rattle.clmodel.proofs.Turns.{makes_inj, finishes_makes}
 use Rattle.ordered_runs.specs.Ordered.{ordered_turn, OrderedTo, RunsOrdered, OrderedIntoFault, NoEvent, HaveMet, is_order}
 use Rattle.ordered_runs.specs.Laws.{OrderedNeverSticks, OrderedEnds, OneOrderedRun, OrderedIsInterleaving, OrderedReportIsReached, UnmetIsCanonical, CanonicalIsUnmet, OtherReportsStay, OrderGoesOn, EndsMet, EndsInFault, EndsInOneOfThree}
 use Rattle.ordered_runs.proofs.Turns.{ordered_possible, ordered_complete, ordered_shown, makes_too, finishes_too, reports_too, order_met, unmet_makes, unmet_finishes}

@@ -1,10 +1,9 @@
 -- The turn of the ordered run: how it stands to that of the canonical run.
-use Rattle.std.proofs.Common.{◌≡◌, Bool, true, false, Option, None, Some, refl, sym, ap, ◌∙◌, subst}
+use Rattle.std.proofs.Common.{◌≡◌, true, false, Option, None, Some, refl, sym, ap, ◌∙◌, subst}
 use Rattle.std.proofs.lemmas.Bool.{false≢true}
 use Rattle.clmodel.specs.Launch.{Launch, conflict}
 use Rattle.clmodel.specs.Run.{State, IsComplete}
 use Rattle.clmodel.specs.Law.{Logged, Shows, Turn, Makes, Reports, Finishes, newest_conflict, conflict_fault, conflict_turn, turn, IsPossible}
-use Rattle.clmodel.specs.declared.access.Access.{Access}
 use Rattle.clmodel.specs.declared.access.Clash.{Clash}
 use Rattle.clmodel.specs.declared.access.Clash.TheVariants.{Race, Order}
 use Rattle.clmodel.specs.declared.access.Conflict as conflict_type

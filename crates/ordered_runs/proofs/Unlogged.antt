@@ -1,8 +1,8 @@
 -- A state without its log: its items do the same, and its events are possible and show the same faults but conflicts.
-use Rattle.std.proofs.Common.{◌≡◌, ℕ, ◌==◌, ◌<◌, Bool, true, false, not, Option, None, Some, [], ◌∷◌, refl, sym, ap, ◌∙◌, eq-eqb, ℤ}
+use Rattle.std.proofs.Common.{◌≡◌, ℕ, ◌==◌, ◌<◌, Bool, true, false, not, Option, None, Some, [], refl, sym, ◌∙◌, eq-eqb, ℤ}
 use Rattle.std.proofs.lemmas.Bool.{false≢true, not-false}
 use Rattle.clmodel.specs.Launch.{Launch, group_of}
-use Rattle.clmodel.specs.Run.{State, step, next_action, byte_at, lowest, first_item, straggler, released, IsComplete}
+use Rattle.clmodel.specs.Run.{State, next_action, byte_at, lowest, first_item, straggler, released, IsComplete}
 use Rattle.clmodel.specs.Law.{Shows, Turn, Makes, Reports, Finishes, access_turn, item_turn, straggler_turn, group_turn, unended_turn, has_ended, turn, IsPossible}
 use Rattle.clmodel.specs.declared.action.Action.{Action}
 use Rattle.clmodel.specs.declared.action.Action.TheVariants as action
