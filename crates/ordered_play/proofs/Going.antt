@@ -1,5 +1,6 @@
 -- How an ordered run goes on, group by group.
-use Rattle.std.proofs.Common.{◌≡◌, ℕ, ◌+◌, ◌*◌, ◌<◌, ◌≤◌, ◌^◌, Bool, true, false, Option, None, Some, List, [], ◌∷◌, ◌++◌, length, refl, sym, ap, ◌∙◌, subst, arith}
+use Rattle.std.proofs.Common.{◌≡◌, ℕ, suc, ◌+◌, ◌*◌, ◌<◌, ◌≤◌, ◌^◌, Bool, true, false, Option, None, Some, List, [], ◌∷◌, ◌++◌, length, refl, sym, ap, ◌∙◌, subst, arith}
+use Rattle.std.proofs.Math.Nat.{suc-mul, mul-le-mul_right}
 use Rattle.clmodel.specs.Launch.{Launch, group_of}
 use Rattle.clmodel.specs.Run.{State, Events, start, step, next_action, released, same_stop, stop_of, both_stop}
 use Rattle.clmodel.specs.Law.{Makes, Reports, Finishes, IsBounded, answers_left, has_ended, conflict_turn}
@@ -20,15 +21,18 @@ use Rattle.joining.specs.Group.{Plan, IsGroup, plan_of}
 use Rattle.joining.specs.Parts.{IsGrouped}
 use Rattle.joining.proofs.Grouped.{group_is}
 use Rattle.launches.specs.Groups.{IsRunnable}
+use Rattle.replay.specs.States.{IsPlayed}
 use Rattle.group_run.specs.Loops.{AtOneStop, IsLeading}
 use Rattle.group_run.proofs.Starting.{brief_is}
 use Rattle.group_run.proofs.Turns.{first_stop, gathered_stop, joins, joins_first, leading_stop, no_straggler}
-use Rattle.ordered_runs.specs.Ordered.{OrderedTo, newest_race, ordered_turn}
+use Rattle.ordered_runs.specs.Ordered.{OrderedTo, RunsOrdered, newest_race, ordered_turn}
 use Rattle.ordered_runs.proofs.Turns.{ordered_parts}
 use Rattle.ordered_runs.proofs.Unlogged.{quiet_turn}
-use Rattle.ordered_play.specs.Groups.{AreOver, Reached, Gathers, GathersOrReports, Reported}
-use Rattle.ordered_play.specs.Stepping.{CannotGo, IsJudged, MakesAccess}
+use Rattle.ordered_play.specs.Groups.{AreOver, Reached, Gathers, GathersOrReports, Reported, Waits}
+use Rattle.ordered_play.specs.Stepping.{CannotGo, IsJudged, IsStepped, MakesAccess}
+use Rattle.ordered_play.specs.declared.stepping.Stepped.{Stepped}
 use Rattle.ordered_play.specs.declared.stepping.Stepped.TheVariants as stepped
+use Rattle.ordered_play.proofs.Accesses.{played, unplayed}
 use Rattle.ordered_play.proofs.Turns as turns
 
 -- ---- one event more
@@ -172,6 +176,47 @@ module _
           gathers stop j.0 j.1 w.0 w.1
       by_leading (Some x) is = by_test x is (same_stop x stop) refl
 
+  -- ---- the same as the code has it, by the item's number
+
+  pub made_room : (n : ℕ) (x : Stepped) → n ≡ item → x ≡ stepped.Made → IsStepped l s n new x → length events + 1 < 2 ^ 64
+  made_room n x at_item is h =
+      let w = subst (λ z. IsStepped l s item new z) is (subst (λ m. IsStepped l s m new x) at_item h) in
+      roomy w.0 w.1
+
+  pub made_step :
+      (n : ℕ) (x : Stepped) (pushed : Events) → n ≡ item → x ≡ stepped.Made → IsStepped l s n new x → pushed ≡ events ++ Item n ∷ [] → Gathers l g new pushed k leading
+  made_step n x pushed at_item is h e =
+      let w = subst (λ z. IsStepped l s item new z) is (subst (λ m. IsStepped l s m new x) at_item h) in
+      subst (λ z. Gathers l g new z k leading) (sym (e ∙ ap (λ m. events ++ Item m ∷ []) at_item)) (made_on w.0 w.1 w.2 w.3)
+
+  pub raced_room : (n : ℕ) (x : Stepped) (f : Fault) → n ≡ item → x ≡ stepped.Races f → IsStepped l s n new x → length events + 1 < 2 ^ 64
+  raced_room n x f at_item is h =
+      let w = subst (λ z. IsStepped l s item new z) is (subst (λ m. IsStepped l s m new x) at_item h) in
+      roomy w.0 w.1
+
+  pub raced_step :
+      (n : ℕ) (x : Stepped) (f : Fault) (pushed : Events) → n ≡ item → x ≡ stepped.Races f → IsStepped l s n new x → pushed ≡ events ++ Item n ∷ [] → Reported l new pushed f
+  raced_step n x f pushed at_item is h e =
+      let w = subst (λ z. IsStepped l s item new z) is (subst (λ m. IsStepped l s m new x) at_item h) in
+      subst (λ z. Reported l new z f) (sym (e ∙ ap (λ m. events ++ Item m ∷ []) at_item)) (raced_on w.0 f w.1 w.2 w.3)
+
+  pub failed_step : (n : ℕ) (x : Stepped) (f : Fault) → n ≡ item → x ≡ stepped.Fails f → IsStepped l s n new x → Reported l new events f
+  failed_step n x f at_item is h =
+      let w = subst (λ z. IsStepped l s item new z) is (subst (λ m. IsStepped l s m new x) at_item h) in
+      failed_on f w.0 w.1
+
+  pub stopped_step :
+      (first n : ℕ) (x : Stepped) (stop : Stop) (report : Option Fault) (after : Option Stop) → first ≡ p.first → n ≡ item → x ≡ stepped.Stops stop → IsStepped l s n new x
+      → (leading ≡ None → (report ≡ None) × (after ≡ Some stop))
+      → ((y : Stop) → leading ≡ Some y → same_stop y stop ≡ true → (report ≡ None) × (after ≡ Some y))
+      → ((y : Stop) → leading ≡ Some y → same_stop y stop ≡ false → report ≡ Some (fault.Divergence first y n stop))
+      → GathersOrReports l g new events (k + 1) after report
+  stopped_step first n x stop report after at_first at_item is h fresh same apart =
+      let w = subst (λ z. IsStepped l s item new z) is (subst (λ m. IsStepped l s m new x) at_item h) in
+      stopped_on stop report after fresh same
+      (λ y e d. apart y e d ∙ ap (λ m. Some (fault.Divergence m y n stop)) at_first ∙ ap (λ m. Some (fault.Divergence p.first y m stop)) at_item)
+      w.0 w.1
+
 -- ---- a group
 
 -- before its first item's turn
@@ -231,3 +276,52 @@ module _
         over = turns.group_ends l g entire u at.reached.calm at.reached.over at.gathered (is_end (next_action l u q.first) w.0 w.1 other);
         holds = holds;
       }
+
+  -- ---- the same as the code has it, by the number of the first item
+
+  pub release_held : (first : ℕ) (yes b : Bool) (new : State → Type 0) → first ≡ q.first → yes ≡ true → Waits l u first yes → b ≡ false → IsPlayed l u (Release g) new b → ⊥
+  release_held first yes b new at_first is waits none h =
+      let w = subst (λ z. Waits l u first z) is waits in
+      never_kept w.0 w.1 (ap (next_action l u) (sym at_first) ∙ w.2) (unplayed l u (Release g) new b none h)
+
+  pub release_room : (b : Bool) (new : State → Type 0) → b ≡ true → IsPlayed l u (Release g) new b → length events + 1 < 2 ^ 64
+  release_room b new done h = let r = played l u (Release g) new b done h in release_roomy r.0 r.1
+
+  pub release_step :
+      (first : ℕ) (yes b : Bool) (new : State → Type 0) (pushed : Events) → first ≡ q.first → yes ≡ true → Waits l u first yes → b ≡ true → IsPlayed l u (Release g) new b
+      → pushed ≡ events ++ Release g ∷ [] → Reached l g new pushed
+  release_step first yes b new pushed at_first is waits done h e =
+      let w = subst (λ z. Waits l u first z) is waits in
+      let r = played l u (Release g) new b done h in
+      subst (λ z. Reached l g new z) (sym e) (released_on new w.0 w.1 r.0 (ap (next_action l u) (sym at_first) ∙ w.2) r.1 r.2)
+
+  pub over_step : (first : ℕ) (yes : Bool) (new : State → Type 0) → first ≡ q.first → yes ≡ false → Waits l u first yes → new u → Reached l (g + 1) new events
+  over_step first yes new at_first is waits holds =
+      over_on new (λ i fences acts. subst (λ z. Waits l u first z) is waits i fences (ap (next_action l u) at_first ∙ acts)) holds
+
+-- ---- all groups
+
+below : (a b c d size : ℕ) → b ≡ a + size → b ≤ c → c ≡ d → 0 < size → a < d
+below a b c d size e h q p = omega (arith, e, h, q, p)
+
+-- each group that is counted is there
+pub there_is : (l : Launch) (groups g : ℕ) → IsRunnable l → groups * l.group_size ≡ l.items → g < groups → g * l.group_size < l.items
+there_is l groups g ready counted b =
+    let le : suc g ≤ groups = omega (arith, b) in
+    below (g * l.group_size) (suc g * l.group_size) (groups * l.group_size) l.items l.group_size (suc-mul g l.group_size) (mul-le-mul_right l.group_size le) counted ready.grouped
+
+-- before the first group
+pub begins_launch : (l : Launch) (fits : State → Type 0) (events : Events) → events ≡ [] → fits (start l) → Reached l 0 fits events
+begins_launch l fits events none holds =
+    record {
+      state = start l;
+      runs = subst (λ z. OrderedTo l (start l) z (start l)) (sym none) refl;
+      calm = refl;
+      over = λ item b low. absurd (omega (arith, low));
+      holds = holds;
+    }
+
+-- behind the last
+pub ends_launch : (l : Launch) (groups : ℕ) (fits : State → Type 0) (events : Events) → IsRunnable l → groups * l.group_size ≡ l.items → Reached l groups fits events → (end : State) × RunsOrdered l events end
+ends_launch l groups fits events ready counted at =
+    (at.state, (at.runs, turns.all_over l groups at.state ready.grouped counted at.calm at.over))

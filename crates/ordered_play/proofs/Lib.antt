@@ -1,4 +1,4 @@
 pub mod Searches
-pub mod Stepping
+pub mod Accesses
 pub mod Turns
 pub mod Going

@@ -1,12 +1,12 @@
 //! The ordered run, item by item to their stops, and group after group.
 
 ghost use Rattle.std.specs.Prelude.{◌≡◌, ◌+◌, ◌*◌, ◌<◌, ◌≤◌, ℕ, true, false, length, Option, None, Some, IfOk};
-ghost use Rattle.clmodel.specs.Run.{same_stop};
+ghost use Rattle.clmodel.specs.Run.{State, same_stop};
 ghost use Rattle.clmodel.specs.declared.action.Stop.{Stop as TheStop};
 ghost use Rattle.clmodel.specs.declared.fault.Fault.TheVariants as faults;
 ghost use Rattle.launches.specs.Groups.{IsRunnable};
 ghost use Rattle.replay.specs.States.{IsAt};
-ghost use Rattle.ordered_play.specs.Groups.{Gathers, GathersOrReports, Reached, ReachedOrReports};
+ghost use Rattle.ordered_play.specs.Groups.{Gathers, GathersOrReports, Reached, ReachedOrReports, Waits};
 
 use crate::runs::Runs;
 use crate::stepping::{Stepped, step_item};
@@ -95,6 +95,19 @@ fn run_interval<D: Runnable>(
     Ok(None)
 }
 
+/// Whether an item waits at a barrier (OpenCL 1.2, section 6.12.8). An error is out of memory.
+fn waits<D: Runnable>(launch: &D, player: &mut Player<'_, D>, item: u32) -> Result<bool, AllocError>
+    requires { item < (D.launch launch.now).items }
+    ensures same { (state : State) → IsAt D.launch D.started (D.launch launch.now) (D.started launch.now) player.old state → IsAt D.launch D.started (D.launch launch.now) (D.started launch.now) player.new state }
+    ensures value { IfOk result (λ yes. (state : State) → IsAt D.launch D.started (D.launch launch.now) (D.started launch.now) player.old state → Waits (D.launch launch.now) state item yes) }
+{
+    match player.action(item)? {
+        Some(Action::Barrier { .. }) => Ok(true),
+        Some(_) => Ok(false),
+        None => unreachable!(),
+    }
+}
+
 /// Runs a group to its end, or to a report. An error is out of memory.
 fn run_group<D: Runnable>(
     launch: &D,
@@ -113,16 +126,14 @@ fn run_group<D: Runnable>(
             None => {}
             Some(fault) => return Ok(Some(fault)),
         }
-        match player.action(first)? {
-            Some(Action::Barrier { .. }) => {
-                if !player.play_release(group)? {
-                    unreachable!();
-                }
-                runs.push(Event::Release(group))?;
-            }
-            // All items are at one stop, and it is no barrier: they have ended.
-            _ => return Ok(None),
+        // All items are at one stop; where it is no barrier, they have ended.
+        if !waits(launch, player, first)? {
+            return Ok(None);
         }
+        if !player.play_release(group)? {
+            unreachable!();
+        }
+        runs.push(Event::Release(group))?;
     }
 }
 

@@ -98,8 +98,9 @@ fn access_item<D: Runnable>(
         let fault = unset_fault(launch, item, object, group, byte, operation)?;
         return Ok(Stepped::Fails(fault));
     }
-    // No object is so large; its bytes would have numbers above 64 bits.
-    if first.checked_add(operation.width().bytes()).is_none() {
+    // No object is so large that its bytes have numbers above 64 bits.
+    let last = u64::MAX - operation.width().bytes();
+    if first > last {
         return Err(AllocError);
     }
     if player.play_item(item)? {

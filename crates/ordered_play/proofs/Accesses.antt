@@ -1,5 +1,6 @@
 -- An item's access: whether it can be made, and what it leads to.
 use Rattle.std.proofs.Common.{◌≡◌, ℕ, zero, suc, ◌+◌, ◌*◌, ◌<◌, ◌^◌, ℤ, Bool, true, false, if◌then◌else◌, Option, None, Some, List, [], ◌∷◌, refl, sym, ap, ◌∙◌, subst, arith}
+use Rattle.std.proofs.lemmas.Bool.{false≢true}
 use Rattle.clmodel.specs.Cells.{Cells, byte_count, found, joined, lowest_unset, number, reads, size_of, unset_or, width_of}
 use Rattle.clmodel.specs.Launch.{Launch, group_of, kind_of, location_of, region_of}
 use Rattle.clmodel.specs.Run.{State, access_of, byte_at, next_action, step, stop_of}
@@ -10,9 +11,13 @@ use Rattle.clmodel.specs.declared.access.Operation.{Operation}
 use Rattle.clmodel.specs.declared.action.Action.TheVariants as action
 use Rattle.clmodel.specs.declared.action.Cause.{Cause}
 use Rattle.clmodel.specs.declared.fault.Fault.TheVariants as fault
+use Rattle.clmodel.specs.declared.schedule.Event.{Event}
 use Rattle.clmodel.specs.declared.schedule.Event.TheVariants.{Item}
 use Rattle.clmodel.proofs.Steps.{none_some, some_inj, if_true, if_false, made, region_for, item_at}
-use Rattle.ordered_play.specs.Stepping.{CannotGo, MakesAccess}
+use Rattle.replay.specs.States.{IsPlayed}
+use Rattle.ordered_play.specs.Stepping.{CannotGo, IsJudged, IsStepped, MakesAccess}
+use Rattle.ordered_play.specs.declared.stepping.Stepped.{Stepped}
+use Rattle.ordered_play.specs.declared.stepping.Stepped.TheVariants as stepped
 
 -- ---- bytes of which none is unset make a number
 
@@ -111,3 +116,21 @@ failed l s k c acts =
       goes = ap stop_of acts;
       reports = λ first. ap (item_turn l s first k) acts;
     }
+
+-- ---- an event that was played
+
+pub played : (l : Launch) (s : State) (e : Event) (new : State → Type 0) (yes : Bool) → yes ≡ true → IsPlayed l s e new yes → (next : State) × (step l s e ≡ Some next) × new next
+played l s e new true is h = h
+played l s e new false is h = absurd (false≢true is)
+
+pub unplayed : (l : Launch) (s : State) (e : Event) (new : State → Type 0) (yes : Bool) → yes ≡ false → IsPlayed l s e new yes → step l s e ≡ None
+unplayed l s e new true is h = absurd (false≢true (sym is))
+unplayed l s e new false is h = h.0
+
+-- what came of an access that was made
+pub made_judged :
+    (l : Launch) (s : State) (k : ℕ) (new : State → Type 0) (t : State) (x : Stepped) → MakesAccess l s k t → new t → IsJudged l t x → IsStepped l s k new x
+made_judged l s k new t stepped.Made made holds j = (t, made, j, holds)
+made_judged l s k new t (stepped.Races f) made holds j = (t, made, j, holds)
+made_judged l s k new t (stepped.Stops stop) made holds j = absurd j
+made_judged l s k new t (stepped.Fails f) made holds j = absurd j
