@@ -15,7 +15,7 @@ use Rattle.clmodel.proofs.Ending.{step_less, bounded_ends}
 use Rattle.clmodel.proofs.Steps.{some_inj, ItemStep, item_inverse, ReleaseStep, release_inverse}
 use Rattle.clmodel.proofs.Turns.{makes_inj, finishes_makes}
 use Rattle.ordered_runs.specs.Ordered.{ordered_turn, OrderedTo, RunsOrdered, OrderedIntoFault, NoEvent, HaveMet, is_order}
-use Rattle.ordered_runs.specs.Laws.{OrderedNeverSticks, OrderedEnds, OneOrderedRun, OrderedIsInterleaving, OrderedReportIsReached, UnmetIsCanonical, CanonicalIsUnmet, OtherReportsStay, OrderGoesOn, EndsMet, EndsInFault, EndsInOneOfThree}
+use Rattle.ordered_runs.specs.Laws.{OrderedNeverSticks, OrderedEnds, OneOrderedRun, OrderedIsInterleaving, OrderedReportIsReached, UnmetIsCanonical, CanonicalIsUnmet, OtherReportsStay, OrderGoesOn, OrderIsMet, EndsMet, EndsInFault, EndsInOneOfThree}
 use Rattle.ordered_runs.proofs.Turns.{ordered_possible, ordered_complete, ordered_shown, makes_too, finishes_too, reports_too, order_met, unmet_makes, unmet_finishes}
 
 pub never_sticks : OrderedNeverSticks
@@ -140,19 +140,25 @@ other_reports_stay l es end f h n = (goes_too l (start l) es end h.0, reports_to
 pub order_goes_on : OrderGoesOn
 order_goes_on l es end f h is = (goes_too l (start l) es end h.0, order_met l end f h.1 is)
 
+no_event : (l : Launch) (end : State) → ordered_turn l end ≡ Finishes → NoEvent l end
+no_event l end q e p = finishes_makes e (sym q ∙ p)
+
+pub order_is_met : OrderIsMet
+order_is_met l es fs end other f h is run =
+    let w : OrderedTo l (start l) es end × HaveMet l end = order_goes_on l es end f h is in
+    let rest : (rest : Events) × OrderedTo l end rest other = goes_behind l (start l) end other es fs w.0 run.0 (no_event l other run.1) in
+    met_keeps l end rest.0 other rest.1 w.1
+
 -- ---- the three ways in which it ends
 
 pub ends_in_one_of_three : EndsInOneOfThree
 ends_in_one_of_three l bound h = go (bounded_ends l bound h)
   where
-    no_event : (end : State) → ordered_turn l end ≡ Finishes → NoEvent l end
-    no_event end q e p = finishes_makes e (sym q ∙ p)
-
     behind : (es : Events) (end : State) → OrderedTo l (start l) es end → HaveMet l end
         → ((fs : Events) × (last : State) × RunsOrdered l fs last) ⊎ ((fs : Events) × (last : State) × (f : Fault) × OrderedIntoFault l fs last f)
         → EndsMet l ⊎ EndsInFault l
     behind es end run met (inl r) =
-        let w : (rest : Events) × OrderedTo l end rest r.1 = goes_behind l (start l) end r.1 es r.0 run r.2.0 (no_event r.1 r.2.1) in
+        let w : (rest : Events) × OrderedTo l end rest r.1 = goes_behind l (start l) end r.1 es r.0 run r.2.0 (no_event l r.1 r.2.1) in
         inl (r.0, r.1, r.2, met_keeps l end w.0 r.1 w.1 met)
     behind es end run met (inr r) = inr r
 

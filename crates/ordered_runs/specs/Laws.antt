@@ -51,6 +51,12 @@ OrderGoesOn =
     (launch : Launch) (events : Events) (end : State) (f : Fault) → RunsIntoFault launch events end f → is_order f ≡ true
     → OrderedTo launch (start launch) events end × HaveMet launch end
 
+-- where the canonical run's report is a conflict of kind order, two accesses met in an ordered run without a report
+abbrev pub OrderIsMet : Type 0
+OrderIsMet =
+    (launch : Launch) (events others : Events) (end other_end : State) (f : Fault) → RunsIntoFault launch events end f → is_order f ≡ true
+    → RunsOrdered launch others other_end → HaveMet launch other_end
+
 -- the ordered run ends without a report, after two accesses that met
 abbrev pub EndsMet : Launch → Type 0
 EndsMet launch = (events : Events) × (end : State) × RunsOrdered launch events end × HaveMet launch end

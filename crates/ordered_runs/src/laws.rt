@@ -1,6 +1,6 @@
 //! Laws of ordered runs. Each is the contract of a function that does nothing.
 
-ghost use Rattle.ordered_runs.specs.Laws.{OrderedNeverSticks, OrderedEnds, OneOrderedRun, OrderedIsInterleaving, OrderedReportIsReached, UnmetIsCanonical, CanonicalIsUnmet, OtherReportsStay, OrderGoesOn, EndsInOneOfThree};
+ghost use Rattle.ordered_runs.specs.Laws.{OrderedNeverSticks, OrderedEnds, OneOrderedRun, OrderedIsInterleaving, OrderedReportIsReached, UnmetIsCanonical, CanonicalIsUnmet, OtherReportsStay, OrderGoesOn, OrderIsMet, EndsInOneOfThree};
 
 /// The ordered run never sticks: each event that it makes is possible.
 pub fn never_sticks()
@@ -47,6 +47,12 @@ pub fn other_reports_stay()
 /// conflicted as order there.
 pub fn order_goes_on()
     ensures { OrderGoesOn }
+{}
+
+/// Where the canonical run's report is a conflict of kind order, and the ordered run has no report, two accesses have
+/// conflicted as order in it.
+pub fn order_is_met()
+    ensures { OrderIsMet }
 {}
 
 /// The ordered run of a launch whose items are bounded ends in one of three ways: without a report, and it is the
