@@ -6,8 +6,8 @@ use Rattle.ordered_runs.specs.Ordered.{RunsOrdered, OrderedIntoFault}
 use Rattle.ordered_play.specs.declared.ordered.OrderedEnd.{OrderedEnd}
 use Rattle.ordered_play.specs.declared.ordered.OrderedEnd.TheVariants.{Ended, Faulted}
 
--- the ordered run makes the events of this schedule, which is written in runs as long as can be, and ends with no report
--- or with this one
+-- the ordered run makes the events of this schedule, which is written in runs as long as can be, and ends with no
+-- report or with this one
 abbrev pub IsOrderedEnd : Launch → OrderedEnd → Type 0
 IsOrderedEnd launch (Ended schedule) = (end : State) × RunsOrdered launch (events_of schedule) end × IsMerged schedule
 IsOrderedEnd launch (Faulted fault schedule) = (end : State) × OrderedIntoFault launch (events_of schedule) end fault × IsMerged schedule

@@ -1,10 +1,11 @@
 //! The ordered run of a launch, over one memory that all work-items share (own, on OpenCL 1.2, sections 3.2, 3.3.1 and
 //! 6.12.11).
 //!
-//! `run_ordered` makes exactly the events of the ordered run, group after group, and answers them as a schedule, with the
-//! run's report if it has one (out of memory aside). It asks for whole groups with items and answers below 2^32. `step_item` is one item's turn in whatever order: it makes its next
-//! access, and tells a race of that access, or where it waits, or the fault that keeps it. `newest_race` is the race of
-//! a log's last access, exactly as defined, by a search among all earlier ones.
+//! `run_ordered` makes exactly the events of the ordered run, group after group, and answers them as a schedule, with
+//! the run's report if it has one (out of memory aside). It asks for whole groups with items and answers below 2^32.
+//! `step_item` is one item's turn in whatever order: it makes its next access, and tells a race of that access, or
+//! where it waits, or the fault that keeps it. `newest_race` is the race of a log's last access, exactly as defined, by
+//! a search among all earlier ones.
 //!
 //! The crate plays events by the player of `replay`, and uses neither overlays nor the runner of groups. It says
 //! nothing of other orders.

@@ -1,4 +1,4 @@
--- Laws of ordered runs: what an ordered run is, and how it stands to the canonical one. All of it is this project's own.
+-- Laws of ordered runs: what one is, and how it stands to the canonical run. All of it is this project's own.
 use Rattle.std.specs.Prelude.{◌≡◌, ℕ, true, false, ◌⊎◌}
 use Rattle.clmodel.specs.Launch.{Launch}
 use Rattle.clmodel.specs.Run.{State, Events, start, left}
