@@ -1,4 +1,0 @@
-pub mod Searches
-pub mod Accesses
-pub mod Turns
-pub mod Going

@@ -1,4 +1,0 @@
-pub mod Races
-pub mod Stepping
-pub mod Groups
-pub mod Outcomes
