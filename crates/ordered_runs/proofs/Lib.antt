@@ -1,0 +1,4 @@
+pub mod Unlogged
+pub mod Races
+pub mod Turns
+pub mod Runs
