@@ -1,5 +1,5 @@
 -- Changes that are written into a launch's buffers, each of which has a name of its own.
-use Rattle.std.proofs.Common.{◌≡◌, ℕ, Bool, true, false, cond, ◌⊎◌, List, [], ◌∷◌, ◌++◌, Option, None, Some, map, refl, sym, ap, ap₂, ◌∙◌, subst, inl, inr, ◌||◌}
+use Rattle.std.proofs.Common.{◌≡◌, ℕ, Bool, true, false, cond, ◌⊎◌, List, [], ◌∷◌, ◌++◌, Option, None, Some, map, refl, sym, ap, ap₂, ◌∙◌, inl, inr, ◌||◌}
 use Rattle.std.specs.List.{list_any}
 use Rattle.std.specs.Map.{set_value}
 use Rattle.std.specs.Option.{unwrap_or}

@@ -12,7 +12,7 @@ use Rattle.clmodel.specs.declared.access.Region.TheVariants as region
 use Rattle.clmodel.proofs.CellLaws.{covers_parts, covers_from}
 use Rattle.clmodel.proofs.Steps.{none_some, some_inj, if_true}
 use Rattle.joining.specs.Memory.{writes}
-use Rattle.group_join.specs.Changes.{ByteChange, byte_changes, changes_at, access_changes, bytes_of, number_or_0, joined_value, value_of, cells_at, filled_at, buffer_at, AreChanged, IsValue, AreBytes, WroteBytes, IsKept}
+use Rattle.group_join.specs.Changes.{ByteChange, byte_changes, changes_at, access_changes, bytes_of, number_or_0, joined_value, value_of, cells_at, filled_at, AreChanged, IsValue, AreBytes, WroteBytes, IsKept}
 use Rattle.group_join.proofs.Numbers.{one_byte, first_or_later}
 
 -- ---- the bytes of a number

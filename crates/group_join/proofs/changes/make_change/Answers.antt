@@ -1,4 +1,4 @@
-use Rattle.std.proofs.Common.{◌≡◌, ℕ, List, get_or, map, ap, sym, ◌∙◌, arith}
+use Rattle.std.proofs.Common.{ℕ, List, get_or, map, ap, sym, ◌∙◌, arith}
 use denote.Bor.{Bor}
 use Rattle.std.proofs.lemmas.List.{get_or_default, get_or-map}
 use Rattle.group_join.proofs.Zipped.{on_put, nothing_put}

@@ -1,4 +1,4 @@
-use Rattle.std.proofs.Common.{◌≡◌, ℕ, List, get_or, map, ap, sym, ◌∙◌, arith}
+use Rattle.std.proofs.Common.{ℕ, List, map, ap, sym, ◌∙◌, arith}
 use denote.Bor.{Bor}
 use Rattle.std.proofs.lemmas.List.{get_or-map}
 use Rattle.group_join.proofs.Zipped.{word_at, word_past}
