@@ -5,13 +5,13 @@ use Rattle.std.specs.Option.{option_map}
 use Rattle.std.proofs.lemmas.Bool.{and_parts, and_from, eqb-true, true≢false, cases_lt}
 use Rattle.std.proofs.lemmas.Bool.Decides.{eqb_tells}
 use Rattle.std.proofs.lemmas.Option.{slice_get-get_or, slice_get_past, slice_get_within}
-use Rattle.clmodel.specs.Cells.{Cells, covers, byte_count, byte_of, written}
+use Rattle.clmodel.specs.Cells.{covers, byte_count, byte_of, written}
 use Rattle.clmodel.specs.Launch.{same_region}
 use Rattle.clmodel.specs.declared.access.Access.{Access}
 use Rattle.clmodel.specs.declared.access.Region.{Region}
 use Rattle.clmodel.specs.declared.access.Region.TheVariants as region
 use Rattle.clmodel.proofs.Steps.{if_true, if_false, some_inj, none_some}
-use Rattle.clmodel.proofs.CellLaws.{covers_parts, covers_from}
+use Rattle.clmodel.proofs.CellLaws.{covers_parts, covers_from, written_in, written_out}
 use Rattle.joining.specs.Memory.{writes, at_byte}
 use Rattle.access_list.specs.declared.log.Entry.{Entry}
 use Rattle.group_join.specs.Changes.{ByteChange, is_of, changed_byte, buffer_at, AreChanged, byte_changes, changes_at, access_changes, changes_of}
@@ -73,15 +73,6 @@ row_past (x ∷ xs) (suc n) h = row_past xs n (omega (arith, h))
 
 -- ---- the changes of an access
 
--- a byte that is put, and one that isn't
-put_here : (cells : Cells) (first count value b : ℕ) → covers first count b ≡ true → written cells first count value b ≡ Some (byte_of (b - first) value)
-unfolding written
-put_here cells first count value b c = if_true (covers first count b) (Some (byte_of (b - first) value)) (cells b) c
-
-put_there : (cells : Cells) (first count value b : ℕ) → covers first count b ≡ false → written cells first count value b ≡ cells b
-unfolding written
-put_there cells first count value b c = if_false (covers first count b) (Some (byte_of (b - first) value)) (cells b) c
-
 -- a byte below a range, or one of another buffer
 range_kept :
     (f : ℕ → ℕ) (m first count n b old : ℕ) → (m ≡ n → covers first count b ≡ true → ⊥)
@@ -141,11 +132,11 @@ changed_written old n first count value row there long is =
     put : (b v : ℕ) → slice_get (buffer_at old n) b ≡ Some v → (c : Bool) → covers first count b ≡ c → slice_get row b ≡ Some (changed_byte (byte_changes n first count f) n b v)
     put b v e true c =
         is b (slice_get_within (buffer_at old n) b v e)
-        ∙ put_here (slice_get (buffer_at old n)) first count value b c
+        ∙ written_in (slice_get (buffer_at old n)) first count value b c
         ∙ ap Some (sym (range_put f n first count b v c))
     put b v e false c =
         is b (slice_get_within (buffer_at old n) b v e)
-        ∙ put_there (slice_get (buffer_at old n)) first count value b c
+        ∙ written_out (slice_get (buffer_at old n)) first count value b c
         ∙ e
         ∙ ap Some (sym (range_kept f n first count n b v (λ _ d. true≢false (sym d ∙ c))))
 

@@ -1,8 +1,7 @@
 -- Buffers with changes, the first with the first.
-use Rattle.std.proofs.Common.{◌≡◌, ℕ, zero, suc, ◌+◌, ◌-◌, ◌<◌, ◌≤◌, ◌⊎◌, List, [], ◌∷◌, ◌++◌, min, Some, false, leb, length, map, set, take, get_or, refl, sym, ap, ap₂, ◌∙◌, subst, inl, inr, arith}
+use Rattle.std.proofs.Common.{◌≡◌, ℕ, zero, suc, ◌+◌, ◌-◌, ◌<◌, ◌≤◌, ◌⊎◌, List, [], ◌∷◌, ◌++◌, Some, false, leb, length, map, set, take, get_or, refl, sym, ap, ap₂, ◌∙◌, subst, inl, inr, arith}
 use Rattle.std.specs.Prelude.{All, Result, Ok, Err, OnOk, slice_get}
 use Rattle.std.specs.List.{AllByRecursion}
-use Rattle.std.proofs.lemmas.Bool.{cases_lt}
 use Rattle.std.proofs.lemmas.List.Elements.{recursion_from_All}
 use Rattle.spaces.specs.Changes.{Changed, with_changes, all_with_changes}
 use Rattle.clmodel.specs.Cells.{cells_of, byte_count, byte_of, written}
@@ -72,13 +71,6 @@ zipped_all (r ∷ rows) (c ∷ changes) zero (inl h) = absurd (omega (arith, h))
 zipped_all (r ∷ rows) (c ∷ changes) zero (inr h) = absurd (omega (arith, h))
 zipped_all (r ∷ rows) (c ∷ changes) (suc n) (inl h) = ap (λ z. with_changes r c ∷ z) (zipped_all rows changes n (inl (omega (arith, h))))
 zipped_all (r ∷ rows) (c ∷ changes) (suc n) (inr h) = ap (λ z. with_changes r c ∷ z) (zipped_all rows changes n (inr (omega (arith, h))))
-
-pub either_done : (m n k : ℕ) → min m n ≤ k → (m ≤ k) ⊎ (n ≤ k)
-either_done m n k h = go (cases_lt k m)
-  where
-    go : (k < m) ⊎ (m ≤ k) → (m ≤ k) ⊎ (n ≤ k)
-    go (inl a) = inr (omega (arith, a, h))
-    go (inr a) = inl a
 
 -- ---- a change that is made in one of them
 

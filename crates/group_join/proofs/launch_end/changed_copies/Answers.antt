@@ -1,8 +1,9 @@
-use Rattle.std.proofs.Common.{◌≡◌, List, [], ◌∷◌, ◌++◌, length, map, get_or, ap, ap₂, sym, ◌∙◌, arith}
+use Rattle.std.proofs.Common.{◌≡◌, [], ◌∷◌, ◌++◌, length, map, get_or, ap, ap₂, sym, ◌∙◌, arith}
 use Rattle.std.proofs.lemmas.List.{length-map, get_or-map}
 use Rattle.spaces.specs.Buffers.{bytes_in}
 use Rattle.spaces.specs.Changes.{with_changes}
-use Rattle.group_join.proofs.Zipped.{either_done, zipped_all, zipped_more}
+use Rattle.spaces.proofs.Changed.{either_done}
+use Rattle.group_join.proofs.Zipped.{zipped_all, zipped_more}
 use Rattle.group_join.proofs.launch_end.changed_copies.Goals as goal
 
 pub loop-place-preserved : goal.loop-place-preserved
