@@ -52,12 +52,17 @@ zipped_set (r ∷ rows) (c ∷ changes) zero row one a = refl
 zipped_set (r ∷ rows) (c ∷ changes) (suc n) row one a = ap (λ z. with_changes r c ∷ z) (zipped_set rows changes n row one (omega (arith, a)))
 
 -- one more of both
+zipped_suc : (rows : List (List ℕ)) (changes : List Changed) (n : ℕ) (row : List ℕ) (one : Changed) → n < length rows → n < length changes
+    → all_with_changes (take (suc n) rows) (take (suc n) changes) ≡ all_with_changes (take n rows) (take n changes) ++ with_changes (get_or rows n row) (get_or changes n one) ∷ []
+zipped_suc [] changes n row one a b = absurd (omega (arith, a))
+zipped_suc (r ∷ rows) [] n row one a b = absurd (omega (arith, b))
+zipped_suc (r ∷ rows) (c ∷ changes) zero row one a b = refl
+zipped_suc (r ∷ rows) (c ∷ changes) (suc n) row one a b = ap (λ z. with_changes r c ∷ z) (zipped_suc rows changes n row one (omega (arith, a)) (omega (arith, b)))
+
 pub zipped_more : (rows : List (List ℕ)) (changes : List Changed) (n : ℕ) (row : List ℕ) (one : Changed) → n < length rows → n < length changes
     → all_with_changes (take (n + 1) rows) (take (n + 1) changes) ≡ all_with_changes (take n rows) (take n changes) ++ with_changes (get_or rows n row) (get_or changes n one) ∷ []
-zipped_more [] changes n row one a b = absurd (omega (arith, a))
-zipped_more (r ∷ rows) [] n row one a b = absurd (omega (arith, b))
-zipped_more (r ∷ rows) (c ∷ changes) zero row one a b = refl
-zipped_more (r ∷ rows) (c ∷ changes) (suc n) row one a b = ap (λ z. with_changes r c ∷ z) (zipped_more rows changes n row one (omega (arith, a)) (omega (arith, b)))
+zipped_more rows changes n row one a b =
+    let on : n + 1 ≡ suc n = omega arith in ap (λ k. all_with_changes (take k rows) (take k changes)) on ∙ zipped_suc rows changes n row one a b
 
 -- as many of both as there are pairs are all
 pub zipped_all : (rows : List (List ℕ)) (changes : List Changed) (n : ℕ) → (length rows ≤ n) ⊎ (length changes ≤ n) → all_with_changes (take n rows) (take n changes) ≡ all_with_changes rows changes
