@@ -1,5 +1,6 @@
 pub mod Programs
 pub mod Runs
+pub mod Written
 pub mod Launches
 pub mod Kept
 pub mod Names

@@ -5,12 +5,14 @@ use Rattle.clmodel.specs.Launch.{Launch}
 use Rattle.clmodel.specs.Run.{State, Events, left}
 use Rattle.clmodel.specs.Law.{Determinacy, CleanIsComplete, ReportIsShown, CleanWith, Reaches, RunsClean}
 use Rattle.device.specs.Machine.{IsReported}
-use Rattle.clmodel.specs.Outcome.{Concludes, events_of, IsMerged}
+use Rattle.clmodel.specs.Outcome.{events_of, IsMerged}
 use Rattle.clmodel.specs.Setup.{Setup, item_count, group_items}
 use Rattle.launches.specs.Groups.{HasGroups}
 use Rattle.limits.specs.declared.Configuration.{Configuration}
-use Rattle.clmodel.specs.declared.outcome.Outcome.{Outcome}
-use Rattle.clmodel.specs.declared.outcome.Outcome.TheVariants.{Clean, Faulted}
+use Rattle.spaces.specs.Changes.{all_with_changes}
+use Rattle.group_join.specs.Ends.{EndsAs}
+use Rattle.group_join.specs.declared.launch_end.LaunchEnd.{LaunchEnd}
+use Rattle.group_join.specs.declared.launch_end.LaunchEnd.TheVariants.{Clean, Faulted}
 
 -- a launch in whole groups, within the limits and the budget of a device
 pub has_groups : (configuration : Configuration) (setup other : Setup) (size : ℕ) → setup ≡ other → size ≡ group_items other.range → size ≤ configuration.limits.group_items
@@ -40,23 +42,23 @@ clean_with determined complete launch events end run =
       always = λ schedule state leads ends. (determined launch events end run schedule state leads).leaves ends;
     }
 
-abbrev pub ClaimsClean : Launch → Outcome → Type 0
-ClaimsClean launch (Clean buffers) = CleanWith launch (map (λ bytes. map Some bytes) buffers.items)
+abbrev pub ClaimsClean : Launch → LaunchEnd → Type 0
+ClaimsClean launch (Clean changes) = CleanWith launch (map (λ bytes. map Some bytes) (all_with_changes launch.buffers changes.items))
 ClaimsClean launch (Faulted fault schedule) = Unit {0}
 
-abbrev pub ClaimsFault : Launch → Outcome → Type 0
-ClaimsFault launch (Clean buffers) = Unit {0}
+abbrev pub ClaimsFault : Launch → LaunchEnd → Type 0
+ClaimsFault launch (Clean changes) = Unit {0}
 ClaimsFault launch (Faulted fault schedule) = Reaches launch (events_of schedule) fault × IsReported launch (events_of schedule) fault × IsMerged schedule
 
 -- a clean run is of a clean launch
-pub clean_of : Determinacy → CleanIsComplete → (launch : Launch) (outcome : Outcome) → Concludes launch outcome → ClaimsClean launch outcome
-clean_of determined complete launch (Clean buffers) h =
+pub clean_of : Determinacy → CleanIsComplete → (launch : Launch) (end : LaunchEnd) → EndsAs launch end → ClaimsClean launch end
+clean_of determined complete launch (Clean changes) h =
     subst (λ (contents : List (List (Option ℕ))). CleanWith launch contents) h.3 (clean_with determined complete launch h.0 h.1 h.2)
 clean_of determined complete launch (Faulted fault schedule) h = tt
 
 -- a run with a report leads to a state that shows it
-pub fault_of : ReportIsShown → (launch : Launch) (outcome : Outcome) → Concludes launch outcome → ClaimsFault launch outcome
-fault_of shown launch (Clean buffers) h = tt
+pub fault_of : ReportIsShown → (launch : Launch) (end : LaunchEnd) → EndsAs launch end → ClaimsFault launch end
+fault_of shown launch (Clean changes) h = tt
 fault_of shown launch (Faulted fault schedule) h =
     let last = shown launch h.0 h.1 fault h.2 in
     (subst (λ (events : Events). Reaches launch events fault) h.3 (h.1, last.0, last.1), subst (λ (events : Events). IsReported launch events fault) h.3 (h.1, h.2), h.4)

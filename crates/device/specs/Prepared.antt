@@ -2,9 +2,9 @@
 use Rattle.std.specs.Prelude.{◌≡◌, ℕ, List, None}
 use Rattle.clmodel.specs.Setup.{Setup, buffer_names}
 use Rattle.clmodel.specs.Next.{launch_of}
-use Rattle.clmodel.specs.Outcome.{Concludes}
 use Rattle.clmodel.specs.Tree.{program}
 use Rattle.clmodel.specs.declared.setup.Range.{Range}
+use Rattle.group_join.specs.Ends.{EndsAs}
 use Rattle.host_commands.specs.declared.command.Command.TheVariants as command
 use Rattle.item_step.specs.Launches as launches
 use Rattle.item_step.specs.declared.launch.Launch.{Launch}
@@ -20,10 +20,10 @@ abbrev pub prepared_setup : Prepared → Range → Setup
 prepared_setup p range =
     record { program = program p.checked.now.tree; kernel = p.kernel.now.function; range = range; arguments = p.kernel.now.arguments; budget = p.configuration.budget }
 
--- the names of its buffers, and what its run on these bytes concludes
+-- the names of its buffers, and how its run on these bytes ends
 pub record Came (setup : Setup) (bytes : List ℕ → List ℕ) (launched : Launched) : Type 0 where
   pub names : launched.names.items ≡ buffer_names setup
-  pub concludes : Concludes (launch_of setup bytes) launched.outcome
+  pub ends : EndsAs (launch_of setup bytes) launched.end
 
 -- a launch that its row doesn't refuse: it runs the kernel of this name over this range, in whole groups, and by this
 -- kernel's code

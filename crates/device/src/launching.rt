@@ -3,9 +3,9 @@
 
 ghost use Rattle.std.specs.Prelude.{◌≡◌, ℕ, List, IfOk, IfErr, None, Some};
 ghost use Rattle.clmodel.specs.Next.{launch_of};
-ghost use Rattle.clmodel.specs.Outcome.{Concludes};
 ghost use Rattle.clmodel.specs.declared.setup.Range.{Range as RangeOf};
 ghost use Rattle.host_commands.specs.Ranges.{IsLaunchable};
+ghost use Rattle.group_join.specs.Ends.{EndsAs};
 ghost use Rattle.item_step.specs.Launches as launches;
 ghost use Rattle.launches.specs.Groups.{HasGroups};
 ghost use Rattle.spaces.specs.Buffers.{bytes_in};
@@ -13,10 +13,10 @@ ghost use Rattle.spaces.specs.Buffers.{bytes_in};
 use crate::Device;
 use crate::prepared::{Launched, Prepared, Started};
 use clmodel::determinacy::{clean_is_complete, determinacy};
-use clmodel::outcome::Outcome;
 use clmodel::run_laws::report_is_shown;
 use clmodel::setup::Range;
 use clmodel::text::Name;
+use group_join::LaunchEnd;
 use host_commands::command::{Command, Refusal, Reply};
 use host_commands::ranges::{is_bad_dimension, is_bad_group, is_too_many};
 use item_step::{Launch, is_local_too_large};
@@ -79,8 +79,8 @@ impl Device {
     }
 
     /// The launch of a kernel over a range, with the names of its buffers. A launch copies these names here
-    /// and in `Launch::new`. What the buffers hold isn't copied here: whoever runs the launch makes one copy of
-    /// each, in which the groups are joined, and a clean outcome hands it on.
+    /// and in `Launch::new`. What the buffers hold isn't copied: whoever runs the launch copies the pages that it
+    /// changes, and a clean end hands them on.
     fn start<'a>(&'a self, name: &Name, range: &'a Range) -> Result<Started<'a>, Refusal>
         ensures started { IfOk result (IsStarted (machine_of self.now) name.now range.now) }
         ensures refused { IfErr result (IsRefusal (machine_of self.now) (Command.Launch name.now range.now)) }
@@ -90,39 +90,41 @@ impl Device {
         Ok(Started { launch, names })
     }
 
-    /// What is said of a launch that came to this. Where it came out clean, the buffers hold what it left.
+    /// What is said of a launch that ended so. Where it ended clean, its changes are written into the buffers, which
+    /// takes no memory: nothing can be refused once the first byte is written.
     fn conclude(&mut self, launched: Launched) -> Reply
         ensures { (name : List ℕ) (range : RangeOf) → Comes (machine_of self.old) name range launched → Answers (machine_of self.old) (Command.Launch name range) result (machine_of self.new) }
     {
-        let Launched { names, outcome } = launched;
+        let Launched { names, end } = launched;
         determinacy();
         clean_is_complete();
         report_is_shown();
-        match outcome {
-            Outcome::Clean(contents) => {
-                self.buffers.replace_all(names.as_slice(), contents);
+        match end {
+            LaunchEnd::Clean(changes) => {
+                self.buffers
+                    .write_all_changes(names.as_slice(), changes.as_slice());
                 Reply::Clean
             }
-            Outcome::Faulted(fault, schedule) => Reply::Fault { fault, schedule },
+            LaunchEnd::Faulted(fault, schedule) => Reply::Fault { fault, schedule },
         }
     }
 
-    /// Runs a kernel over a range by what runs its launch. Where it came out clean, the buffers hold what it left.
-    pub(crate) fn launch<R: FnOnce(Global, &Launch<'_>, &Buffers) -> Result<Outcome, AllocError>>(
+    /// Runs a kernel over a range by what runs its launch. Where it ended clean, the buffers hold what it left.
+    pub(crate) fn launch<R: FnOnce(Global, &Launch<'_>, &Buffers) -> Result<LaunchEnd, AllocError>>(
         &mut self,
         name: &Name,
         range: &Range,
         run: R,
     ) -> Result<Reply, Refusal>
         requires runs { (alloc : _) (launch : _) (buffers : _) → HasGroups (launches.setup_of launch.now) → R.pre run alloc launch buffers }
-        requires concludes { (alloc : _) (launch : _) (buffers : _) (outcome : _) → R.post run alloc launch buffers outcome → IfOk outcome (Concludes (launch_of (launches.setup_of launch.now) (bytes_in buffers.now))) }
+        requires concludes { (alloc : _) (launch : _) (buffers : _) (end : _) → R.post run alloc launch buffers end → IfOk end (EndsAs (launch_of (launches.setup_of launch.now) (bytes_in buffers.now))) }
         ensures ok { IfOk result (λ reply. Answers (machine_of self.old) (Command.Launch name.now range.now) reply (machine_of self.new)) }
         ensures err { IfErr result (λ refusal. Step (machine_of self.old) (Command.Launch name.now range.now) (Reply.Refused refusal) (machine_of self.new)) }
     {
         let launched = {
             let Started { launch, names } = self.start(name, range)?;
-            let outcome = run(self.alloc, &launch, &self.buffers)?;
-            Launched { names, outcome }
+            let end = run(self.alloc, &launch, &self.buffers)?;
+            Launched { names, end }
         };
         Ok(self.conclude(launched))
     }

@@ -12,11 +12,11 @@ ghost use Rattle.std.specs.Prelude.{◌≡◌, IfOk, IfErr, IfSome, Some, is_som
 ghost use Rattle.std.specs.Option.{option_map};
 ghost use Rattle.clmodel.specs.Tree.{program};
 ghost use Rattle.clmodel.specs.Typing.Sizes.{parameter_limit};
+ghost use Rattle.group_join.specs.Ends.{EndsAs};
 ghost use Rattle.item_step.specs.Launches.{setup_of};
 ghost use Rattle.launches.specs.Groups.{HasGroups};
 ghost use Rattle.spaces.specs.Tables.{find};
 ghost use Rattle.clmodel.specs.Next.{launch_of};
-ghost use Rattle.clmodel.specs.Outcome.{Concludes};
 ghost use Rattle.spaces.specs.Buffers.{bytes_in};
 ghost use Rattle.device.specs.Kept.{ActsAs, AllCompiled, IsCodeOf};
 
@@ -26,11 +26,10 @@ mod prepared;
 mod tickets;
 
 use crate::compiled::{CompiledKernel, code_of, has_program, holds_buffer, set_argument};
-use clmodel::outcome::Outcome;
 use clmodel::setup::Argument;
 use clmodel::text::{Bytes, Name};
 use cltypes::Checked;
-use group_join::run_launch;
+use group_join::{LaunchEnd, run_launch};
 use host_commands::build::build;
 pub use host_commands::command::{BuildFault, Command, Refusal, Reply};
 use host_commands::fills::is_bad_fill;
@@ -375,13 +374,13 @@ impl Device {
     }
 
     /// What a command answers and does, a launch by what runs it. A refused one does nothing.
-    fn perform<R: FnOnce(Global, &Launch<'_>, &Buffers) -> Result<Outcome, AllocError> + Drop>(
+    fn perform<R: FnOnce(Global, &Launch<'_>, &Buffers) -> Result<LaunchEnd, AllocError> + Drop>(
         &mut self,
         command: Command,
         run: R,
     ) -> Result<Reply, Refusal>
         requires runs { (alloc : _) (launch : _) (buffers : _) → HasGroups (setup_of launch.now) → R.pre run alloc launch buffers }
-        requires concludes { (alloc : _) (launch : _) (buffers : _) (outcome : _) → R.post run alloc launch buffers outcome → IfOk outcome (Concludes (launch_of (setup_of launch.now) (bytes_in buffers.now))) }
+        requires concludes { (alloc : _) (launch : _) (buffers : _) (end : _) → R.post run alloc launch buffers end → IfOk end (EndsAs (launch_of (setup_of launch.now) (bytes_in buffers.now))) }
         ensures ok { IfOk result (λ reply. Answers (machine_of self.old) command reply (machine_of self.new)) }
         ensures err { IfErr result (λ refusal. Step (machine_of self.old) command (Reply.Refused refusal) (machine_of self.new)) }
     {
@@ -427,13 +426,13 @@ impl Device {
     }
 
     /// One step of the machine, where `run` runs a launch.
-    fn apply_by<R: FnOnce(Global, &Launch<'_>, &Buffers) -> Result<Outcome, AllocError> + Drop>(
+    fn apply_by<R: FnOnce(Global, &Launch<'_>, &Buffers) -> Result<LaunchEnd, AllocError> + Drop>(
         &mut self,
         command: Command,
         run: R,
     ) -> Reply
         requires runs { (alloc : _) (launch : _) (buffers : _) → HasGroups (setup_of launch.now) → R.pre run alloc launch buffers }
-        requires concludes { (alloc : _) (launch : _) (buffers : _) (outcome : _) → R.post run alloc launch buffers outcome → IfOk outcome (Concludes (launch_of (setup_of launch.now) (bytes_in buffers.now))) }
+        requires concludes { (alloc : _) (launch : _) (buffers : _) (end : _) → R.post run alloc launch buffers end → IfOk end (EndsAs (launch_of (setup_of launch.now) (bytes_in buffers.now))) }
         ensures { Step (machine_of self.old) command result (machine_of self.new) }
     {
         match self.perform(command, run) {

@@ -10,10 +10,10 @@ ghost use Rattle.clmodel.specs.Typing.Sizes.{parameter_limit};
 ghost use Rattle.host_commands.specs.Ranges.{IsLaunchable};
 ghost use Rattle.device.specs.Kept.{ActsAs, IsCodeOf};
 
-use clmodel::outcome::Outcome;
 use clmodel::setup::Range;
 use clmodel::text::Name;
 use cltypes::Checked;
+use group_join::LaunchEnd;
 use host_commands::kernel::Kernel;
 use host_commands::ranges::group_items;
 use item_step::{Launch, Setup};
@@ -41,11 +41,11 @@ pub(crate) struct Started<'a> {
     pub(crate) names: Vec<Name>,
 }
 
-/// What a launch came to, with the names of its buffers.
+/// How a launch ended, with the names of its buffers.
 #[derive(Drop)]
 pub(crate) struct Launched {
     pub(crate) names: Vec<Name>,
-    pub(crate) outcome: Outcome,
+    pub(crate) end: LaunchEnd,
 }
 
 impl<'a> Prepared<'a> {

@@ -1,18 +1,17 @@
 -- Changes of bytes, one after another.
-use Rattle.std.proofs.Common.{◌≡◌, ℕ, zero, suc, ◌+◌, ◌-◌, ◌<◌, ◌≤◌, ◌⊎◌, ◌==◌, ◌&&◌, Bool, true, false, Option, None, Some, List, [], ◌∷◌, ◌++◌, length, set, take, drop, refl, sym, ap, ◌∙◌, subst, inl, inr, arith, eq-eqb, length-set, length-append, length-drop}
-use Rattle.std.specs.Prelude.{if◌then◌else◌, slice_get, slice_index_or}
+use Rattle.std.proofs.Common.{◌≡◌, ℕ, zero, suc, ◌+◌, ◌-◌, ◌<◌, ◌≤◌, ◌⊎◌, ◌==◌, ◌&&◌, Bool, true, false, Option, None, Some, List, [], ◌∷◌, ◌++◌, length, set, refl, sym, ap, ◌∙◌, subst, inl, inr, arith, eq-eqb, length-set}
+use Rattle.std.specs.Prelude.{if◌then◌else◌, slice_get}
 use Rattle.std.specs.Option.{option_map}
 use Rattle.std.proofs.lemmas.Bool.{and_parts, and_from, eqb-true, true≢false, cases_lt}
 use Rattle.std.proofs.lemmas.Bool.Decides.{eqb_tells}
-use Rattle.std.proofs.lemmas.List.{length-take}
-use Rattle.std.proofs.lemmas.Option.{slice_get-get_or, slice_get_within}
-use Rattle.clmodel.specs.Cells.{covers, byte_count}
+use Rattle.std.proofs.lemmas.Option.{slice_get-get_or, slice_get_past, slice_get_within}
+use Rattle.clmodel.specs.Cells.{covers, byte_count, byte_of, written}
 use Rattle.clmodel.specs.Launch.{same_region}
 use Rattle.clmodel.specs.declared.access.Access.{Access}
 use Rattle.clmodel.specs.declared.access.Region.{Region}
 use Rattle.clmodel.specs.declared.access.Region.TheVariants as region
 use Rattle.clmodel.proofs.Steps.{if_true, if_false, some_inj, none_some}
-use Rattle.clmodel.proofs.CellLaws.{covers_parts, covers_from}
+use Rattle.clmodel.proofs.CellLaws.{covers_parts, covers_from, written_in, written_out}
 use Rattle.joining.specs.Memory.{writes, at_byte}
 use Rattle.access_list.specs.declared.log.Entry.{Entry}
 use Rattle.group_join.specs.Changes.{ByteChange, is_of, changed_byte, buffer_at, AreChanged, byte_changes, changes_at, access_changes, changes_of}
@@ -42,59 +41,7 @@ changed_more first mid last xs ys h k =
     twice n b None = refl
     twice n b (Some v) = ap Some (sym (changed_append xs ys n b v))
 
--- ---- bytes put into a row
-
-front_get : (row rest : List ℕ) (k : ℕ) → k < length row → slice_get (row ++ rest) k ≡ slice_get row k
-front_get [] rest k h = absurd (omega (arith, h))
-front_get (x ∷ row) rest zero h = refl
-front_get (x ∷ row) rest (suc k) h = front_get row rest k (omega (arith, h))
-
-later_get : (row rest : List ℕ) (k j : ℕ) → k ≡ length row + j → slice_get (row ++ rest) k ≡ slice_get rest j
-later_get [] rest k j h = let e : k ≡ j = omega (arith, h) in ap (slice_get rest) e
-later_get (x ∷ row) rest zero j h = absurd (omega (arith, h))
-later_get (x ∷ row) rest (suc k) j h = later_get row rest k j (omega (arith, h))
-
-pub take_get : (xs : List ℕ) (n k : ℕ) → k < n → slice_get (take n xs) k ≡ slice_get xs k
-take_get [] zero k h = absurd (omega (arith, h))
-take_get [] (suc n) k h = refl
-take_get (x ∷ xs) zero k h = absurd (omega (arith, h))
-take_get (x ∷ xs) (suc n) zero h = refl
-take_get (x ∷ xs) (suc n) (suc k) h = take_get xs n k (omega (arith, h))
-
-drop_get : (xs : List ℕ) (n j k : ℕ) → k ≡ n + j → slice_get (drop n xs) j ≡ slice_get xs k
-drop_get [] zero j k h = refl
-drop_get [] (suc n) j k h = refl
-drop_get (x ∷ xs) zero j k h = let e : j ≡ k = omega (arith, h) in ap (slice_get (x ∷ xs)) e
-drop_get (x ∷ xs) (suc n) j zero h = absurd (omega (arith, h))
-drop_get (x ∷ xs) (suc n) j (suc k) h = drop_get xs n j k (omega (arith, h))
-
--- a row with other bytes from one on
-abbrev pub with_row : List ℕ → ℕ → List ℕ → List ℕ
-with_row xs at row = take at xs ++ row ++ drop (at + length row) xs
-
-length_with : (xs : List ℕ) (at : ℕ) (row : List ℕ) → at + length row ≤ length xs → length (with_row xs at row) ≡ length xs
-length_with xs at row h = omega (arith, length-append (take at xs ++ row) (drop (at + length row) xs), length-append (take at xs) row, length-take at xs, length-drop (at + length row) xs, h)
-
-front_length : (xs : List ℕ) (at : ℕ) (row : List ℕ) → at ≤ length xs → length (take at xs ++ row) ≡ at + length row
-front_length xs at row h = omega (arith, length-append (take at xs) row, length-take at xs, h)
-
--- a byte of those that are put
-get_put : (xs : List ℕ) (at : ℕ) (row : List ℕ) (k : ℕ) → at ≤ length xs → k < length row → slice_get (with_row xs at row) (at + k) ≡ slice_get row k
-get_put xs at row k h b =
-    front_get (take at xs ++ row) (drop (at + length row) xs) (at + k) (omega (arith, front_length xs at row h, b))
-    ∙ later_get (take at xs) row (at + k) k (omega (arith, length-take at xs, h))
-
--- a byte below or above
-get_below : (xs : List ℕ) (at : ℕ) (row : List ℕ) (k : ℕ) → at ≤ length xs → k < at → slice_get (with_row xs at row) k ≡ slice_get xs k
-get_below xs at row k h b =
-    front_get (take at xs ++ row) (drop (at + length row) xs) k (omega (arith, front_length xs at row h, b))
-    ∙ front_get (take at xs) row k (omega (arith, length-take at xs, h, b))
-    ∙ take_get xs at k b
-
-get_above : (xs : List ℕ) (at : ℕ) (row : List ℕ) (k : ℕ) → at ≤ length xs → at + length row ≤ k → slice_get (with_row xs at row) k ≡ slice_get xs k
-get_above xs at row k h b =
-    later_get (take at xs ++ row) (drop (at + length row) xs) k (k - (at + length row)) (omega (arith, front_length xs at row h, b))
-    ∙ drop_get xs (at + length row) (k - (at + length row)) k (omega (arith, b))
+-- ---- buffers with changes
 
 row_set : (xs : List (List ℕ)) (n : ℕ) (r : List ℕ) → n < length xs → buffer_at (set xs n r) n ≡ r
 row_set [] n r h = absurd (omega (arith, h))
@@ -166,64 +113,49 @@ missed : (f : ℕ → ℕ) (m first count n b : ℕ) → (m ≡ n → covers fir
 missed f m first count n b ne None = refl
 missed f m first count n b ne (Some v) = ap Some (sym (range_kept f m first count n b v ne))
 
--- the bytes of a row are put in place of others: all of n bytes, or those up to the end of the buffer
-pub changed_put :
-    (old : List (List ℕ)) (n at count : ℕ) (row : List ℕ) (f : ℕ → ℕ) → n < length old → at + length row ≤ length (buffer_at old n) → length row ≤ count
-    → (length row < count → at + length row ≡ length (buffer_at old n)) → ((k : ℕ) → k < length row → slice_get row k ≡ Some (f (at + k)))
-    → AreChanged old (set old n (with_row (buffer_at old n) at row)) (byte_changes n at count f)
-changed_put old n at count row f there inside short whole is =
-    record { many = length-set old n put; sized = λ m. sized m (eqb_tells m n); bytes = λ m b. bytes m b (eqb_tells m n) }
+-- the low bytes of a number are put in place of those that a buffer has
+pub changed_written :
+    (old : List (List ℕ)) (n first count value : ℕ) (row : List ℕ) → n < length old → length row ≡ length (buffer_at old n)
+    → ((b : ℕ) → b < length (buffer_at old n) → slice_get row b ≡ written (slice_get (buffer_at old n)) first count value b)
+    → AreChanged old (set old n row) (byte_changes n first count (λ byte. byte_of (byte - first) value))
+changed_written old n first count value row there long is =
+    record { many = length-set old n row; sized = λ m. sized m (eqb_tells m n); bytes = λ m b. bytes m b (eqb_tells m n) }
   where
-    put : List ℕ
-    put = with_row (buffer_at old n) at row
+    f : ℕ → ℕ
+    f byte = byte_of (byte - first) value
 
-    starts : at ≤ length (buffer_at old n)
-    starts = omega (arith, inside)
+    sized : (m : ℕ) → (((m == n) ≡ true) × (m ≡ n)) ⊎ (((m == n) ≡ false) × (m ≡ n → ⊥)) → length (buffer_at (set old n row) m) ≡ length (buffer_at old m)
+    sized m (inl h) = subst (λ i. length (buffer_at (set old n row) i) ≡ length (buffer_at old i)) (sym h.1) (ap length (row_set old n row there) ∙ long)
+    sized m (inr h) = ap length (row_kept old n row m h.1)
 
-    sized : (m : ℕ) → (((m == n) ≡ true) × (m ≡ n)) ⊎ (((m == n) ≡ false) × (m ≡ n → ⊥)) → length (buffer_at (set old n put) m) ≡ length (buffer_at old m)
-    sized m (inl h) =
-        subst (λ i. length (buffer_at (set old n put) i) ≡ length (buffer_at old i)) (sym h.1) (ap length (row_set old n put there) ∙ length_with (buffer_at old n) at row inside)
-    sized m (inr h) = ap length (row_kept old n put m h.1)
-
-    -- a byte of the row
-    here : (b : ℕ) → at ≤ b → b < at + length row → slice_get put b ≡ option_map (changed_byte (byte_changes n at count f) n b) (slice_get (buffer_at old n) b)
-    here b low high =
-        let e : b ≡ at + (b - at) = omega (arith, low) in
-        ap (slice_get put) e
-        ∙ get_put (buffer_at old n) at row (b - at) starts (omega (arith, low, high))
-        ∙ is (b - at) (omega (arith, low, high))
-        ∙ ap (λ z. Some (f z)) (sym e)
-        ∙ ap Some (sym (range_put f n at count b (slice_index_or (buffer_at old n) b 0) (covers_from at count b low (omega (arith, high, short)))))
-        ∙ ap (option_map (changed_byte (byte_changes n at count f) n b)) (sym (slice_get-get_or (buffer_at old n) b 0 (omega (arith, high, inside))))
-
-    below : (b : ℕ) → b < at → slice_get put b ≡ option_map (changed_byte (byte_changes n at count f) n b) (slice_get (buffer_at old n) b)
-    below b h =
-        get_below (buffer_at old n) at row b starts h
-        ∙ missed f n at count n b (λ _ c. let p = covers_parts at count b c in absurd (omega (arith, p.0, h))) (slice_get (buffer_at old n) b)
-
-    above : (b : ℕ) → at + length row ≤ b → (o : Option ℕ) → slice_get (buffer_at old n) b ≡ o → slice_get put b ≡ option_map (changed_byte (byte_changes n at count f) n b) o
-    above b h None e = get_above (buffer_at old n) at row b starts h ∙ e
-    above b h (Some v) e =
-        get_above (buffer_at old n) at row b starts h
+    -- a byte that is put, one that isn't, and one behind the end
+    put : (b v : ℕ) → slice_get (buffer_at old n) b ≡ Some v → (c : Bool) → covers first count b ≡ c → slice_get row b ≡ Some (changed_byte (byte_changes n first count f) n b v)
+    put b v e true c =
+        is b (slice_get_within (buffer_at old n) b v e)
+        ∙ written_in (slice_get (buffer_at old n)) first count value b c
+        ∙ ap Some (sym (range_put f n first count b v c))
+    put b v e false c =
+        is b (slice_get_within (buffer_at old n) b v e)
+        ∙ written_out (slice_get (buffer_at old n)) first count value b c
         ∙ e
-        ∙ missed f n at count n b (λ _ c.
-        let p = covers_parts at count b c in
-        let w : b < length (buffer_at old n) = slice_get_within (buffer_at old n) b v e in
-        let z : at + length row ≡ length (buffer_at old n) = whole (omega (arith, p.1, h)) in absurd (omega (arith, h, w, z))) (Some v)
+        ∙ ap Some (sym (range_kept f n first count n b v (λ _ d. true≢false (sym d ∙ c))))
 
-    there_or : (b : ℕ) → (b < at) ⊎ (at ≤ b) → (b < at + length row) ⊎ (at + length row ≤ b) → slice_get put b ≡ option_map (changed_byte (byte_changes n at count f) n b) (slice_get (buffer_at old n) b)
-    there_or b (inl a) c = below b a
-    there_or b (inr a) (inl c) = here b a c
-    there_or b (inr a) (inr c) = above b c (slice_get (buffer_at old n) b) refl
+    here : (b : ℕ) (o : Option ℕ) → slice_get (buffer_at old n) b ≡ o → slice_get row b ≡ option_map (changed_byte (byte_changes n first count f) n b) o
+    here b (Some v) e = put b v e (covers first count b) refl
+    here b None e = slice_get_past row b (out (cases_lt b (length (buffer_at old n))))
+      where
+        out : (b < length (buffer_at old n)) ⊎ (length (buffer_at old n) ≤ b) → length row ≤ b
+        out (inl l) = absurd (none_some _ (sym e ∙ slice_get-get_or (buffer_at old n) b 0 l))
+        out (inr l) = omega (arith, l, long)
 
     bytes :
         (m b : ℕ) → (((m == n) ≡ true) × (m ≡ n)) ⊎ (((m == n) ≡ false) × (m ≡ n → ⊥))
-        → slice_get (buffer_at (set old n put) m) b ≡ option_map (changed_byte (byte_changes n at count f) m b) (slice_get (buffer_at old m) b)
+        → slice_get (buffer_at (set old n row) m) b ≡ option_map (changed_byte (byte_changes n first count f) m b) (slice_get (buffer_at old m) b)
     bytes m b (inl h) =
-        subst (λ i. slice_get (buffer_at (set old n put) i) b ≡ option_map (changed_byte (byte_changes n at count f) i b) (slice_get (buffer_at old i) b)) (sym h.1)
-        (ap (λ r. slice_get r b) (row_set old n put there) ∙ there_or b (cases_lt b at) (cases_lt b (at + length row)))
+        subst (λ i. slice_get (buffer_at (set old n row) i) b ≡ option_map (changed_byte (byte_changes n first count f) i b) (slice_get (buffer_at old i) b)) (sym h.1)
+        (ap (λ r. slice_get r b) (row_set old n row there) ∙ here b (slice_get (buffer_at old n) b) refl)
     bytes m b (inr h) =
-        ap (λ r. slice_get r b) (row_kept old n put m h.1) ∙ missed f n at count m b (λ e _. h.1 (sym e)) (slice_get (buffer_at old m) b)
+        ap (λ r. slice_get r b) (row_kept old n row m h.1) ∙ missed f n first count m b (λ e _. h.1 (sym e)) (slice_get (buffer_at old m) b)
 
 -- a change of what isn't there
 pub changed_nothing : (old : List (List ℕ)) (n first count : ℕ) (f : ℕ → ℕ) → length (buffer_at old n) ≤ first → AreChanged old old (byte_changes n first count f)

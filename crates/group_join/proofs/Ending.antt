@@ -1,15 +1,13 @@
 -- What a launch concludes once its groups are joined.
-use Rattle.std.proofs.Common.{◌≡◌, ℕ, suc, ◌+◌, ◌*◌, ◌<◌, ◌≤◌, ◌⊎◌, Bool, true, Option, List, [], ◌∷◌, nat_lt, refl, ap, ◌∙◌, inl, inr, arith}
+use Rattle.std.proofs.Common.{◌≡◌, ℕ, suc, ◌+◌, ◌*◌, ◌<◌, ◌≤◌, ◌⊎◌, Bool, true, Option, Some, List, [], ◌∷◌, map, nat_lt, refl, ap, ◌∙◌, inl, inr, arith}
 use Rattle.std.proofs.Math.Nat.{suc-mul, mul-le-mul_right}
 use Rattle.std.proofs.lemmas.Bool.{cases_lt, lt-ltb}
 use Rattle.clmodel.specs.Launch.{Launch}
 use Rattle.clmodel.specs.Next.{launch_of}
-use Rattle.clmodel.specs.Outcome.{Concludes, events_of}
+use Rattle.clmodel.specs.Outcome.{events_of}
 use Rattle.clmodel.specs.Run.{contents}
 use Rattle.clmodel.specs.Setup.{Setup, group_items}
 use Rattle.clmodel.specs.declared.fault.Fault.{Fault}
-use Rattle.clmodel.specs.declared.outcome.Outcome.{Outcome}
-use Rattle.clmodel.specs.declared.outcome.Outcome.TheVariants.{Clean, Faulted}
 use Rattle.clmodel.specs.declared.schedule.EventRun.{EventRun}
 use Rattle.group_run.specs.declared.result.GroupResult.{GroupResult}
 use Rattle.group_run.specs.declared.result.GroupEnd.{GroupEnd}
@@ -19,10 +17,14 @@ use Rattle.launches.specs.Groups.{HasGroups}
 use Rattle.access_list.specs.Log.{Log}
 use Rattle.access_list.specs.declared.log.Entry.{Entry}
 use Rattle.group_join.specs.Launches.{Followed, AreResults, IsShortResult, AreResultsTo}
+use Rattle.spaces.specs.Changes.{all_with_changes}
+use Rattle.group_join.specs.Ends.{EndsAs}
 use Rattle.group_join.specs.Laws.{JoiningLaws}
-use Rattle.group_join.specs.JoinedGroups.{HoldsGroups, IsStopped, CameOfNext}
+use Rattle.group_join.specs.JoinedGroups.{contents_of, HoldsGroups, IsStopped, CameOfNext}
 use Rattle.group_join.specs.declared.joined_groups.JoinEnd.TheVariants.{Continues, Ends}
 use Rattle.group_join.specs.declared.joined_groups.JoinedGroups.{JoinedGroups}
+use Rattle.group_join.specs.declared.launch_end.LaunchEnd.{LaunchEnd}
+use Rattle.group_join.specs.declared.launch_end.LaunchEnd.TheVariants.{Clean, Faulted}
 use Rattle.group_join.proofs.Contents.{contents_end}
 use Rattle.group_join.proofs.Listed.{short_whole}
 
@@ -50,21 +52,27 @@ further_there group groups size items e b =
 
 -- ---- what a join came to
 
-pub next_ends : {G : Type 0} (L : Type 0) (l : Launch) (g : ℕ) (end : GroupEnd G) (outcome : Outcome) (so_far : JoinedGroups) → CameOfNext {L = L} l g end (Ends outcome) so_far → Concludes l outcome
-next_ends L l g (Done spaces) outcome so_far h = h
-next_ends L l g (Stopped stop) outcome so_far h = h
+pub next_ends : {G : Type 0} (L : Type 0) (l : Launch) (g : ℕ) (end : GroupEnd G) (ended : LaunchEnd) (so_far : JoinedGroups) → CameOfNext {L = L} l g end (Ends ended) so_far → EndsAs l ended
+next_ends L l g (Done spaces) ended so_far h = h
+next_ends L l g (Stopped stop) ended so_far h = h
 
 pub next_held : {G L : Type 0} (l : Launch) (g : ℕ) (end : GroupEnd G) (log : L) (so_far : JoinedGroups) → CameOfNext l g end (Continues log) so_far → HoldsGroups l (suc g) so_far
 next_held l g (Done spaces) log so_far h = h
 next_held l g (Stopped stop) log so_far h = absurd h
 
-pub concludes_fault : (l : Launch) (fault : Fault) (runs : List EventRun) → IsStopped l fault runs → Concludes l (Faulted fault runs)
+pub concludes_fault : (l : Launch) (fault : Fault) (runs : List EventRun) → IsStopped l fault runs → EndsAs l (Faulted fault runs)
 concludes_fault l fault runs h = (events_of runs, h.0.0, h.0.1, refl, h.1)
 
-pub concludes_clean : (l : Launch) (g : ℕ) (so_far : JoinedGroups) → JoiningLaws → IsGrouped l → HoldsGroups l g so_far → l.items ≤ g * l.group_size → Concludes l (Clean so_far.contents)
+pub concludes_clean : (l : Launch) (g : ℕ) (so_far : JoinedGroups) → JoiningLaws → IsGrouped l → HoldsGroups l g so_far → l.items ≤ g * l.group_size → EndsAs l (Clean so_far.changes)
 concludes_clean l g so_far laws grouped holds all =
-    let end = laws.ends l g holds.joined grouped holds.is_joined all in
-    (holds.joined.events, end.0, end.1, ap (λ m. contents m 0 l.buffers) end.2 ∙ contents_end l holds.joined.memory so_far.contents.items holds.contents)
+    let end = laws.ends l g holds.joined grouped holds.is_joined all in (
+      holds.joined.events,
+      end.0,
+      end.1,
+      ap (λ m. contents m 0 l.buffers) end.2
+          ∙ contents_end l holds.joined.memory (contents_of so_far) holds.contents
+          ∙ ap (λ (rows : List (List ℕ)). map (λ bytes. map Some bytes) (all_with_changes rows so_far.changes.items)) holds.first,
+    )
 
 -- ---- results of a round
 

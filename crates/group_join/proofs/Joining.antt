@@ -36,10 +36,10 @@ use Rattle.group_join.specs.Laws.{JoiningLaws}
 use Rattle.group_join.specs.Meetings.{AreOthers, MissUpTo, IsFirstMet, report_at, is_below, meeting_fault}
 use Rattle.group_join.specs.Changes.{AreChanged, AreUpdates, AllWroteBytes, changes_of, value_of, filled_at, cells_at}
 use Rattle.group_join.specs.Memory.{HoldsBytes}
-use Rattle.group_join.specs.JoinedGroups.{HoldsLog, HoldsGroups, IsStopped}
+use Rattle.group_join.specs.JoinedGroups.{contents_of, HoldsLog, HoldsGroups, IsStopped}
 use Rattle.group_join.specs.declared.changes.JoinedUpdate.{JoinedUpdate}
 use Rattle.group_join.specs.declared.joined_groups.JoinedGroups.{JoinedGroups}
-use Rattle.group_join.proofs.Contents.{IsClear, joined_contents, own_put}
+use Rattle.group_join.proofs.Contents.{IsClear, contents_start, joined_contents, own_put}
 use Rattle.group_join.proofs.Updates.{updates_none}
 use Rattle.group_join.proofs.Written.{wrote_bytes}
 use Rattle.group_join.specs.declared.meetings.FirstConflict.{FirstConflict}
@@ -196,6 +196,25 @@ pub record IsGiven (l : Launch) (g : ℕ) (so_far : JoinedGroups) (more : List E
   pub holds : HoldsGroups l g so_far
   pub merged : IsMerged more
 
+-- before any group, nothing is changed, and no access and no event is held
+pub nothing_joined :
+    (l : Launch) (so_far : JoinedGroups) → map (λ row. row.now) so_far.first.items ≡ l.buffers → contents_of so_far ≡ map (λ row. row.now) so_far.first.items → IsFootprint so_far.footprint []
+    → so_far.runs.items ≡ [] → HoldsGroups l 0 so_far
+nothing_joined l so_far first same remembers none =
+    record {
+      joined = nothing_yet l;
+      is_joined = refl;
+      first = first;
+      contents = contents_start l (contents_of so_far) (same ∙ first);
+      log = λ _. record {
+        kept = [];
+        keeps = refl;
+        remembers = remembers;
+        events = ap events_of none;
+        merged = subst IsMerged (sym none) tt;
+      };
+    }
+
 -- what it finds to be met first, whatever is kept
 abbrev pub Finds : Bool → ℕ → JoinedGroups → Log → Option FirstConflict → Type 0
 Finds u g so_far log found =
@@ -302,12 +321,12 @@ done_meets l g so_far log more new spaces c run met report finds adds told =
 abbrev pub Changes : ℕ → JoinedGroups → List Overlaid → List Entry → List (List ℕ) → Type 0
 Changes g so_far spaces listed new =
     (kept : List Access) → IsFootprint so_far.footprint kept → (g ≡ 0 → kept ≡ []) → AllWroteBytes (map (λ (space : Overlaid). space.bytes) spaces) listed
-    → AreChanged so_far.contents.items new (changes_of (value_of (map (λ row. row.now) so_far.first.items) so_far.contents.items (λ n b. wrote kept (region.Buffer n) b) (map (λ (space : Overlaid). space.bytes) spaces)) listed)
+    → AreChanged (contents_of so_far) new (changes_of (value_of (map (λ row. row.now) so_far.first.items) (contents_of so_far) (λ n b. wrote kept (region.Buffer n) b) (map (λ (space : Overlaid). space.bytes) spaces)) listed)
 
 -- a group that has ended is joined, where a further group may follow
 pub done_joined :
     (l : Launch) (g : ℕ) (so_far : JoinedGroups) (log : Log) (more : List EventRun) (spaces : List Overlaid) (c : IsGiven l g so_far more)
-    → IsRun (plan_of l g) (Left l g spaces log) (start l) (events_of more) None → Finds l.uniform g so_far log None → (listed : List Entry) → StandsFor [] listed log.accesses → (new : JoinedGroups) → Changes g so_far spaces listed new.contents.items → new.first ≡ so_far.first
+    → IsRun (plan_of l g) (Left l g spaces log) (start l) (events_of more) None → Finds l.uniform g so_far log None → (listed : List Entry) → StandsFor [] listed log.accesses → (new : JoinedGroups) → Changes g so_far spaces listed (contents_of new) → new.first ≡ so_far.first
     → (HasGroup l (suc g) → ((kept : List Access) → IsFootprint so_far.footprint kept → IsFootprint new.footprint (accesses_of log.accesses ++ kept)) × Adds so_far.runs.items new.runs.items more (events_of more))
     → HoldsGroups l (suc g) new
 done_joined l g so_far log more spaces c run finds listed stand new changes first further_held =
@@ -316,7 +335,7 @@ done_joined l g so_far log more spaces c run finds listed stand new changes firs
     let r : IsRunning l g lower part log so_far.footprint so_far.runs.items more = done_running l g so_far log more spaces c run in
     let met : IsFirstMet l.uniform true log.accesses r.held.kept None = found_first l g lower part log so_far more r None finds in
     let none = none_crosses l g lower part log so_far.footprint so_far.runs.items more r met in
-    let clear : IsClear l g lower part so_far.contents.items log.accesses r.held.kept (map (λ row. row.now) so_far.first.items) (map (λ (space : Overlaid). space.bytes) spaces)
+    let clear : IsClear l g lower part (contents_of so_far) log.accesses r.held.kept (map (λ row. row.now) so_far.first.items) (map (λ (space : Overlaid). space.bytes) spaces)
     = record {
       law = c.laws.bytes;
       grouped = c.grouped;
@@ -334,7 +353,7 @@ done_joined l g so_far log more spaces c run finds listed stand new changes firs
       joined = join l lower part;
       is_joined = is_joined l g lower part log so_far.footprint so_far.runs.items more r met refl;
       first = ap (λ (z : Vec (Bor (List ℕ)) Global). map (λ row. row.now) z.items) first ∙ c.holds.first;
-      contents = subst (λ (j : Joined). HoldsBytes l j.memory new.contents.items) (sym (joined_whole l lower part none)) (joined_contents l g lower part so_far.contents.items log.accesses r.held.kept (map (λ row. row.now) so_far.first.items) (map (λ (space : Overlaid). space.bytes) spaces) clear listed stand new.contents.items (changes r.held.kept r.held.remembers (first_none l g lower part log so_far.footprint so_far.runs.items more r) (wrote_bytes l g lower part so_far.contents.items log.accesses r.held.kept (map (λ row. row.now) so_far.first.items) (map (λ (space : Overlaid). space.bytes) spaces) clear listed stand)));
+      contents = subst (λ (j : Joined). HoldsBytes l j.memory (contents_of new)) (sym (joined_whole l lower part none)) (joined_contents l g lower part (contents_of so_far) log.accesses r.held.kept (map (λ row. row.now) so_far.first.items) (map (λ (space : Overlaid). space.bytes) spaces) clear listed stand (contents_of new) (changes r.held.kept r.held.remembers (first_none l g lower part log so_far.footprint so_far.runs.items more r) (wrote_bytes l g lower part (contents_of so_far) log.accesses r.held.kept (map (λ row. row.now) so_far.first.items) (map (λ (space : Overlaid). space.bytes) spaces) clear listed stand)));
       log = λ h. let held = further_held h in log_joined l g lower part log so_far.footprint so_far.runs.items more r new.footprint new.runs.items met (held.0 r.held.kept r.held.remembers) held.1;
     }
 
@@ -357,7 +376,7 @@ both_ok P Q R (Err e) p q f = tt
 pub done_added :
     (l : Launch) (g : ℕ) (so_far : JoinedGroups) (log : Log) (more : List EventRun) (spaces : List Overlaid) (c : IsGiven l g so_far more)
     → IsRun (plan_of l g) (Left l g spaces log) (start l) (events_of more) None → Finds l.uniform g so_far log None → (last : Bool) (listed : List Entry) → StandsWith last listed log.accesses → (new : JoinedGroups)
-    → Changes g so_far spaces listed new.contents.items → new.first ≡ so_far.first
+    → Changes g so_far spaces listed (contents_of new) → new.first ≡ so_far.first
     → (HasGroup l (suc g) → ((kept : List Access) → IsFootprint so_far.footprint kept → IsFootprint new.footprint (accesses_of listed ++ kept)) × Adds so_far.runs.items new.runs.items more (events_of more))
     → HoldsGroups l (suc g) new
 done_added l g so_far log more spaces c run finds last listed stand new changes first held =

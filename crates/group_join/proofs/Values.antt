@@ -1,9 +1,7 @@
 -- Numbers whose bytes are what the bytes of an access become.
-use Rattle.std.proofs.Common.{◌≡◌, ℕ, zero, suc, ◌+◌, ◌-◌, ◌*◌, ◌/◌, ◌%◌, ◌^◌, ◌<◌, ◌≤◌, ◌⊎◌, Bool, true, Option, None, Some, List, [], ◌∷◌, length, set, take, refl, sym, ap, ap₂, ◌∙◌, subst, inl, inr, arith}
-use Rattle.std.specs.Prelude.{slice_get, min}
-use Rattle.std.specs.Int.{to_le_bytes, bytes_low_first, byte_at, w64}
+use Rattle.std.proofs.Common.{◌≡◌, ℕ, zero, suc, ◌+◌, ◌-◌, ◌*◌, ◌/◌, ◌%◌, ◌^◌, ◌<◌, ◌≤◌, ◌⊎◌, Bool, true, Option, None, Some, List, [], ◌∷◌, refl, sym, ap, ap₂, ◌∙◌, subst, inl, inr, arith}
+use Rattle.std.specs.Prelude.{Result, Ok, Err, OnOk}
 use Rattle.std.proofs.Math.Nat.{pow-succ', div-div-eq-div-mul, div-one}
-use Rattle.std.proofs.lemmas.List.{length-take-le}
 use Rattle.clmodel.specs.Cells.{Cells, byte_count, byte_of, covers, joined, number}
 use Rattle.clmodel.specs.declared.access.Access.{Access}
 use Rattle.clmodel.specs.declared.access.AccessKind.{AccessKind}
@@ -14,10 +12,8 @@ use Rattle.clmodel.specs.declared.access.Region.TheVariants as region
 use Rattle.clmodel.proofs.CellLaws.{covers_parts, covers_from}
 use Rattle.clmodel.proofs.Steps.{none_some, some_inj, if_true}
 use Rattle.joining.specs.Memory.{writes}
-use Rattle.group_join.specs.declared.changes.Change.{Change}
-use Rattle.group_join.specs.Changes.{ByteChange, byte_changes, changes_at, access_changes, bytes_of, number_or_0, joined_value, value_of, cells_at, filled_at, buffer_at, AreChanged, IsValue, AreBytes, IsKept}
+use Rattle.group_join.specs.Changes.{ByteChange, byte_changes, changes_at, access_changes, bytes_of, number_or_0, joined_value, value_of, cells_at, filled_at, AreChanged, IsValue, AreBytes, WroteBytes, IsKept}
 use Rattle.group_join.proofs.Numbers.{one_byte, first_or_later}
-use Rattle.group_join.proofs.Changing.{with_row, take_get, changed_put}
 
 -- ---- the bytes of a number
 
@@ -134,39 +130,11 @@ pub own_kept :
     → IsValue x.first (byte_count x.width) (λ byte. number_or_0 (cells_at own n) byte 1) v → IsValue x.first (byte_count x.width) (value n x) v
 own_kept value own n x v w r kept is = record { each = λ byte c. is.each byte c ∙ sym (kept n w r byte c) }
 
--- ---- a number as a row of bytes
-
-low_first : (i n v k : ℕ) → k < n → slice_get (bytes_low_first i n v) k ≡ Some (byte_at (i + k) v)
-low_first i zero v k h = absurd (omega (arith, h))
-low_first i (suc n) v zero h = let z : i ≡ i + 0 = omega arith in ap (λ j. Some (byte_at j v)) z
-low_first i (suc n) v (suc k) h = let z : suc i + k ≡ i + suc k = omega arith in low_first (suc i) n v k (omega (arith, h)) ∙ ap (λ j. Some (byte_at j v)) z
-
-byte_there : (k v : ℕ) → byte_at k v ≡ byte_of k v
-byte_there zero v = ap (λ z. z % 256) (sym (div-one v))
-byte_there (suc k) v = refl
-
-pub le_byte : (v k : ℕ) → k < 8 → slice_get (to_le_bytes w64 v) k ≡ Some (byte_of k v)
-le_byte v k h = let z : 0 + k ≡ k = omega arith in low_first 0 8 v k h ∙ ap Some (ap (λ j. byte_at j v) z ∙ byte_there k v)
-
--- the low bytes of a number are put in place of those that a buffer has
-pub change_put :
-    (old : List (List ℕ)) (c : Change) (whole row new : List ℕ) (k : ℕ) → new ≡ with_row whole c.first row → row ≡ take k (to_le_bytes w64 c.value) → k ≡ min (byte_count c.width) (length whole - c.first)
-    → whole ≡ buffer_at old c.buffer → c.buffer < length old → c.first < length whole → byte_count c.width ≤ 8 → AreChanged old (set old c.buffer new) (bytes_of c)
-change_put old c whole row new k e low many is there inside short =
-    subst (λ z. AreChanged old (set old c.buffer z) (bytes_of c)) (sym (e ∙ ap (λ z. with_row z c.first row) is))
-    (changed_put old c.buffer c.first (byte_count c.width) row (λ byte. byte_of (byte - c.first) c.value) there (omega (arith, long, many, same, inside)) (omega (arith, long, many))
-    (λ h. omega (arith, long, many, same, inside, h)) each)
-  where
-    same : length whole ≡ length (buffer_at old c.buffer)
-    same = ap length is
-
-    long : length row ≡ k
-    long = ap length low ∙ length-take-le k (to_le_bytes w64 c.value) (omega (arith, many, short))
-
-    each : (j : ℕ) → j < length row → slice_get row j ≡ Some (byte_of (c.first + j - c.first) c.value)
-    each j h =
-        let z : j ≡ c.first + j - c.first = omega arith in
-        ap (λ y. slice_get y j) low
-        ∙ take_get (to_le_bytes w64 c.value) k j (omega (arith, long, h))
-        ∙ le_byte c.value j (omega (arith, long, h, many, short))
-        ∙ ap (λ y. Some (byte_of y c.value)) z
+-- the same of a call that may lack memory, where what it puts is each value for which this holds
+pub change_made_ok :
+    {T E : Type 0} (r : Result T E) (old new : List (List ℕ)) (n : ℕ) (x : Access) (v : ℕ) (own : List (List (Option ℕ))) (kept : Option ℕ) → writes x.kind ≡ true → x.region ≡ region.Buffer n
+    → ((value : ℕ → Access → ℕ → ℕ) → WroteBytes own x → IsKept value own x kept → IsValue x.first (byte_count x.width) (value n x) v)
+    → OnOk r (AreChanged old new (bytes_of (record { buffer = n; width = x.width; first = x.first; value = v })))
+    → OnOk r ((value : ℕ → Access → ℕ → ℕ) → WroteBytes own x → IsKept value own x kept → AreChanged old new (access_changes value x))
+change_made_ok (Ok t) old new n x v own kept w r is h = λ value wrote k. change_made value old new n x v w r (is value wrote k) h
+change_made_ok (Err e) old new n x v own kept w r is h = tt

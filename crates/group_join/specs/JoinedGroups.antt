@@ -2,11 +2,10 @@
 use Rattle.std.specs.Prelude.{◌≡◌, ℕ, suc, ◌*◌, ◌≤◌, Option, None, Some, List, map}
 use Rattle.clmodel.specs.Launch.{Launch}
 use Rattle.clmodel.specs.Law.{Keeps, RunsIntoFault}
-use Rattle.clmodel.specs.Outcome.{events_of, IsMerged, Concludes}
+use Rattle.clmodel.specs.Outcome.{events_of, IsMerged}
 use Rattle.clmodel.specs.Run.{State}
 use Rattle.clmodel.specs.declared.access.Access.{Access}
 use Rattle.clmodel.specs.declared.fault.Fault.{Fault}
-use Rattle.clmodel.specs.declared.outcome.Outcome.TheVariants.{Clean}
 use Rattle.clmodel.specs.declared.schedule.EventRun.{EventRun}
 use Rattle.group_run.specs.declared.result.GroupEnd.{GroupEnd}
 use Rattle.group_run.specs.declared.result.GroupEnd.TheVariants.{Done, Stopped}
@@ -15,10 +14,17 @@ use Rattle.joining.specs.Parts.{IsGrouped}
 use Rattle.joining.specs.Steps.{HasGroup, IsJoined}
 use Rattle.shadow.specs.Seen.{IsFootprint}
 use Rattle.shadow.specs.declared.footprint.Footprint.{Footprint}
+use Rattle.spaces.specs.Changes.{all_with_changes}
+use Rattle.group_join.specs.Ends.{EndsAs}
 use Rattle.group_join.specs.Memory.{HoldsBytes}
 use Rattle.group_join.specs.declared.joined_groups.JoinEnd.{JoinEnd}
 use Rattle.group_join.specs.declared.joined_groups.JoinEnd.TheVariants.{Continues, Ends}
 use Rattle.group_join.specs.declared.joined_groups.JoinedGroups.{JoinedGroups}
+use Rattle.group_join.specs.declared.launch_end.LaunchEnd.TheVariants.{Clean}
+
+-- what the groups so far leave in the launch's buffers: the bytes before any group, with what they changed (own)
+abbrev pub contents_of : JoinedGroups → List (List ℕ)
+contents_of so_far = all_with_changes (map (λ row. row.now) so_far.first.items) so_far.changes.items
 
 -- a footprint and runs hold the accesses and the events of the groups so far (own)
 pub record HoldsLog (joined : Joined) (footprint : Footprint) (runs : List EventRun) : Type 0 where
@@ -34,7 +40,7 @@ pub record HoldsGroups (launch : Launch) (group : ℕ) (so_far : JoinedGroups) :
   pub joined : Joined
   pub is_joined : IsJoined launch group joined
   pub first : map (λ row. row.now) so_far.first.items ≡ launch.buffers
-  pub contents : HoldsBytes launch joined.memory so_far.contents.items
+  pub contents : HoldsBytes launch joined.memory (contents_of so_far)
   pub log : HasGroup launch group → HoldsLog joined so_far.footprint so_far.runs.items
 
 -- the canonical run of the launch makes the events of these runs and ends with this report (own)
@@ -46,20 +52,20 @@ abbrev pub CameOfDone : Launch → ℕ → Option Fault → JoinedGroups → Typ
 CameOfDone launch group (Some fault) so_far = IsStopped launch fault so_far.runs.items
 CameOfDone launch group None so_far = HoldsGroups launch (suc group) so_far
 
--- what comes of joining the result of one more group, by its end: what is held of all groups so far, or what the launch
--- concludes; a group that stopped always brings a report (own)
+-- what comes of joining the result of one more group, by its end: what is held of all groups so far, or how the launch
+-- ends; a group that stopped always brings a report (own)
 abbrev pub CameOfNext : {G L : Type 0} → Launch → ℕ → GroupEnd G → JoinEnd L → JoinedGroups → Type 0
-CameOfNext launch group end (Ends outcome) so_far = Concludes launch outcome
+CameOfNext launch group end (Ends ended) so_far = EndsAs launch ended
 CameOfNext launch group (Done spaces) (Continues log) so_far = HoldsGroups launch (suc group) so_far
 CameOfNext launch group (Stopped fault) (Continues log) so_far = ⊥
 
 -- the log that a join hands back, if the launch goes on, is that of the result (own)
 abbrev pub HandsBack : {L : Type 0} → L → JoinEnd L → Type 0
 HandsBack log (Continues back) = back ≡ log
-HandsBack log (Ends outcome) = Unit {0}
+HandsBack log (Ends ended) = Unit {0}
 
 -- where all groups of a launch are joined without a report, the launch ends clean with what they leave (3.2)
 abbrev pub JoinedConclude : Type 0
 JoinedConclude =
     (launch : Launch) (group : ℕ) (so_far : JoinedGroups) → IsGrouped launch → HoldsGroups launch group so_far → launch.items ≤ group * launch.group_size
-    → Concludes launch (Clean so_far.contents)
+    → EndsAs launch (Clean so_far.changes)

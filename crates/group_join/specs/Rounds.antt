@@ -1,13 +1,13 @@
 -- What comes of joining some groups that follow one another (own, on OpenCL 1.2, 3.2).
 use Rattle.std.specs.Prelude.{ℕ}
 use Rattle.clmodel.specs.Launch.{Launch}
-use Rattle.clmodel.specs.Outcome.{Concludes}
+use Rattle.group_join.specs.Ends.{EndsAs}
 use Rattle.group_join.specs.JoinedGroups.{HoldsGroups}
 use Rattle.group_join.specs.declared.joined_groups.JoinEnd.{JoinEnd}
 use Rattle.group_join.specs.declared.joined_groups.JoinEnd.TheVariants.{Continues, Ends}
 use Rattle.group_join.specs.declared.joined_groups.JoinedGroups.{JoinedGroups}
 
--- the groups below one are joined without a report, or it is known what the launch concludes (own)
+-- the groups below one are joined without a report, or it is known how the launch ends (own)
 abbrev pub CameOfRound : Launch → ℕ → JoinEnd JoinedGroups → Type 0
 CameOfRound launch last (Continues so_far) = HoldsGroups launch last so_far
-CameOfRound launch last (Ends outcome) = Concludes launch outcome
+CameOfRound launch last (Ends ended) = EndsAs launch ended

@@ -5,7 +5,7 @@
 //! afterwards, each by the number kept of it or else by the group's own bytes. A group without such updates keeps
 //! nothing.
 
-ghost use Rattle.std.specs.Prelude.{◌≡◌, ◌<◌, ◌≤◌, ◌+◌, ◌++◌, ◌∷◌, ◌%◌, ◌^◌, ℕ, List, Some, map, drop, true, IfSome, OnOk};
+ghost use Rattle.std.specs.Prelude.{◌≡◌, ◌<◌, ◌≤◌, ◌+◌, ◌++◌, ◌∷◌, ◌%◌, ◌^◌, ℕ, List, Some, length, map, drop, true, IfSome, OnOk};
 ghost use Rattle.clmodel.specs.Cells.{cells_of, byte_count, byte_of, covers, number};
 ghost use Rattle.clmodel.specs.declared.access.Access.{Access as TheAccess};
 ghost use Rattle.clmodel.specs.declared.access.AccessKind.TheVariants as kind;
@@ -13,15 +13,15 @@ ghost use Rattle.clmodel.specs.declared.access.Region.TheVariants as region;
 ghost use Rattle.group_run.specs.Logs.{accesses_of};
 ghost use Rattle.joining.specs.Memory as joining;
 ghost use Rattle.shadow.specs.Seen.{IsFootprint};
+ghost use Rattle.spaces.specs.Changes.{all_with_changes, with_changes};
 ghost use Rattle.group_join.specs.Changes.{number_or_0, joined_value, value_of, access_changes, changes_of, cells_at, filled_at, bytes_of, IsValue, AreBytes, WroteBytes, AllWroteBytes, AreChanged, IsKept, AreUpdates, kept_at, next_after};
 
 use crate::joined_numbers::joined_number;
 use access_list::byte_of;
 use clmodel::access::{Access, AccessKind, Class, Region, Width};
-use clmodel::text::Bytes;
 use shadow::{Footprint, GroupAccesses};
 use spaces::cells::{is_inside, read};
-use spaces::{Overlay, Space};
+use spaces::{Changes, Overlay, Space};
 use std::alloc::{AllocError, Global};
 
 /// The bytes of a buffer that an access of a further group wrote, and what they become once the group is joined. They
@@ -45,12 +45,12 @@ pub(crate) struct JoinedUpdate {
     pub(crate) value: u64,
 }
 
-/// What is known before a further group is joined: the first bytes of the launch's buffers, what the lower groups left
-/// in them and which bytes they accessed, and what the further group alone leaves in them.
+/// What is known before a further group is joined: the first bytes of the launch's buffers, what the lower groups
+/// changed in them and which bytes they accessed, and what the further group alone leaves in them.
 #[derive(Clone, Copy)]
 pub(crate) struct Before<'a, 'b, 's, 'o> {
     pub(crate) first: &'a [&'b [u8]],
-    pub(crate) lower: &'a [Bytes],
+    pub(crate) lower: &'a [Changes],
     pub(crate) footprint: &'a Footprint,
     pub(crate) own: &'s [Overlay<'o>],
 }
@@ -66,6 +66,16 @@ fn word_in(row: &[u8], at: u64) -> u32
         Ok(value) => value as u32,
         Err(_) => 0,
     }
+}
+
+/// The number of four bytes of a row with changes, 0 where the row ends before.
+fn changed_word(row: &[u8], changes: &Changes, at: u64) -> u32
+    ensures { result ≡ number_or_0 (cells_of (map Some (with_changes row.now changes.now))) at 4 }
+{
+    if !is_inside(row.len(), at, 4) {
+        return 0;
+    }
+    changes.number(row, at as usize, Width::Four) as u32
 }
 
 /// The number of an element in a space, if there is one.
@@ -143,17 +153,20 @@ impl Before<'_, '_, '_, '_> {
 
     /// The number of four bytes of a buffer as the lower groups left it, 0 where it ends before.
     fn lower_word(&self, number: u32, at: u64) -> u32
-        ensures { result ≡ number_or_0 (filled_at self.now.lower.now number) at 4 }
+        ensures { result ≡ number_or_0 (filled_at (all_with_changes (map (λ row. row.now) self.now.first.now) self.now.lower.now) number) at 4 }
     {
-        match self.lower.get(number as usize) {
-            Some(row) => word_in(row.as_slice(), at),
-            None => 0,
+        let place = number as usize;
+        let count = self.first.len().min(self.lower.len());
+        if place < count {
+            changed_word(self.first[place], &self.lower[place], at)
+        } else {
+            0
         }
     }
 
     /// The number that updates of a class by the lower groups and by the further group leave of four bytes.
     fn joined_word(&self, class: Class, number: u32, at: u64) -> u32
-        ensures { result ≡ joining.joined_number class (number_or_0 (filled_at (map (λ row. row.now) self.now.first.now) number) at 4) (number_or_0 (filled_at self.now.lower.now number) at 4) (number_or_0 (cells_at (map (λ space. space.bytes) self.now.own.now) number) at 4) }
+        ensures { result ≡ joining.joined_number class (number_or_0 (filled_at (map (λ row. row.now) self.now.first.now) number) at 4) (number_or_0 (filled_at (all_with_changes (map (λ row. row.now) self.now.first.now) self.now.lower.now) number) at 4) (number_or_0 (cells_at (map (λ space. space.bytes) self.now.own.now) number) at 4) }
     {
         let first = self.first_word(number, at);
         let lower = self.lower_word(number, at);
@@ -163,7 +176,7 @@ impl Before<'_, '_, '_, '_> {
 
     /// What a byte of a buffer becomes that an update of the further group wrote.
     fn joined_byte(&self, class: Class, number: u32, byte: u64) -> u8
-        ensures { (log : List TheAccess) → IsFootprint self.now.footprint.now log → result ≡ joined_value (kind.Update class) (joining.wrote log (region.Buffer number) byte) (filled_at (map (λ row. row.now) self.now.first.now) number) (filled_at self.now.lower.now number) (cells_at (map (λ space. space.bytes) self.now.own.now) number) byte }
+        ensures { (log : List TheAccess) → IsFootprint self.now.footprint.now log → result ≡ joined_value (kind.Update class) (joining.wrote log (region.Buffer number) byte) (filled_at (map (λ row. row.now) self.now.first.now) number) (filled_at (all_with_changes (map (λ row. row.now) self.now.first.now) self.now.lower.now) number) (cells_at (map (λ space. space.bytes) self.now.own.now) number) byte }
     {
         if self.footprint.is_written(number, byte) {
             let word = self.joined_word(class, number, byte / 4 * 4);
@@ -177,7 +190,7 @@ impl Before<'_, '_, '_, '_> {
     fn value_by_bytes(&self, class: Class, number: u32, first: u64, count: u64) -> u64
         requires short { count ≤ 8 }
         requires inside { first + count < 2 ^ 64 }
-        ensures value { (log : List TheAccess) → IsFootprint self.now.footprint.now log → IsValue first count (λ byte. joined_value (kind.Update class) (joining.wrote log (region.Buffer number) byte) (filled_at (map (λ row. row.now) self.now.first.now) number) (filled_at self.now.lower.now number) (cells_at (map (λ space. space.bytes) self.now.own.now) number) byte) result }
+        ensures value { (log : List TheAccess) → IsFootprint self.now.footprint.now log → IsValue first count (λ byte. joined_value (kind.Update class) (joining.wrote log (region.Buffer number) byte) (filled_at (map (λ row. row.now) self.now.first.now) number) (filled_at (all_with_changes (map (λ row. row.now) self.now.first.now) self.now.lower.now) number) (cells_at (map (λ space. space.bytes) self.now.own.now) number) byte) result }
         ensures below { result < 256 ^ count }
     {
         if count == 0 {
@@ -207,7 +220,7 @@ impl Before<'_, '_, '_, '_> {
         requires bound { x.now.first + byte_count x.now.width < 2 ^ 64 }
         requires update { x.now.kind ≡ kind.Update class }
         requires place { x.now.region ≡ region.Buffer number }
-        ensures { (log : List TheAccess) → IsFootprint self.now.footprint.now log → IsKept (value_of (map (λ row. row.now) self.now.first.now) self.now.lower.now (λ n b. joining.wrote log (region.Buffer n) b) (map (λ space. space.bytes) self.now.own.now)) (map (λ space. space.bytes) self.now.own.now) x.now result }
+        ensures { (log : List TheAccess) → IsFootprint self.now.footprint.now log → IsKept (value_of (map (λ row. row.now) self.now.first.now) (all_with_changes (map (λ row. row.now) self.now.first.now) self.now.lower.now) (λ n b. joining.wrote log (region.Buffer n) b) (map (λ space. space.bytes) self.now.own.now)) (map (λ space. space.bytes) self.now.own.now) x.now result }
     {
         match self.lower_wrote(number, x) {
             Some(false) => None,
@@ -220,7 +233,7 @@ impl Before<'_, '_, '_, '_> {
     /// wrote some.
     pub(crate) fn kept_value(&self, x: &Access) -> Option<u64>
         requires { x.now.first + byte_count x.now.width < 2 ^ 64 }
-        ensures { (log : List TheAccess) → IsFootprint self.now.footprint.now log → IsKept (value_of (map (λ row. row.now) self.now.first.now) self.now.lower.now (λ n b. joining.wrote log (region.Buffer n) b) (map (λ space. space.bytes) self.now.own.now)) (map (λ space. space.bytes) self.now.own.now) x.now result }
+        ensures { (log : List TheAccess) → IsFootprint self.now.footprint.now log → IsKept (value_of (map (λ row. row.now) self.now.first.now) (all_with_changes (map (λ row. row.now) self.now.first.now) self.now.lower.now) (λ n b. joining.wrote log (region.Buffer n) b) (map (λ space. space.bytes) self.now.own.now)) (map (λ space. space.bytes) self.now.own.now) x.now result }
     {
         let AccessKind::Update(class) = x.kind else {
             return None;
@@ -232,18 +245,17 @@ impl Before<'_, '_, '_, '_> {
     }
 }
 
-/// Makes a change, of those of its bytes that the buffer has.
-fn make_change(contents: &mut [Bytes], change: Change)
-    ensures { AreChanged contents.old contents.new (bytes_of change) }
+/// Makes a change, of those of its bytes that the buffer has. An error is out of memory.
+fn make_change(first: &[&[u8]], changes: &mut [Changes], change: Change) -> Result<(), AllocError>
+    ensures many { length changes.new ≡ length changes.old }
+    ensures changed { OnOk result (AreChanged (all_with_changes (map (λ row. row.now) first.now) changes.old) (all_with_changes (map (λ row. row.now) first.now) changes.new) (bytes_of change)) }
 {
     let number = change.buffer as usize;
-    if number < contents.len() {
-        let bytes = &mut contents[number];
-        let length = bytes.len() as u64;
-        if change.first < length {
-            let count = change.width.bytes().min(length - change.first) as usize;
-            bytes.put(change.first as usize, &change.value.to_le_bytes()[..count]);
-        }
+    let count = first.len().min(changes.len());
+    if number < count {
+        changes[number].put(first[number], change.first, change.width, change.value)
+    } else {
+        Ok(())
     }
 }
 
@@ -260,26 +272,34 @@ fn changed_value(own: &[Overlay<'_>], number: u32, x: &Access, kept: Option<u64>
 }
 
 /// Makes the change of an access, if it wrote bytes of a buffer: they become the number kept of it, or else the group's
-/// own.
-fn change_access(contents: &mut [Bytes], own: &[Overlay<'_>], x: &Access, kept: Option<u64>)
+/// own. An error is out of memory.
+fn change_access(
+    first: &[&[u8]],
+    changes: &mut [Changes],
+    own: &[Overlay<'_>],
+    x: &Access,
+    kept: Option<u64>,
+) -> Result<(), AllocError>
     requires { x.now.first + byte_count x.now.width < 2 ^ 64 }
-    ensures { (value : ℕ → TheAccess → ℕ → ℕ) → WroteBytes (map (λ space. space.bytes) own.now) x.now → IsKept value (map (λ space. space.bytes) own.now) x.now kept → AreChanged contents.old contents.new (access_changes value x.now) }
+    ensures many { length changes.new ≡ length changes.old }
+    ensures changed { OnOk result ((value : ℕ → TheAccess → ℕ → ℕ) → WroteBytes (map (λ space. space.bytes) own.now) x.now → IsKept value (map (λ space. space.bytes) own.now) x.now kept → AreChanged (all_with_changes (map (λ row. row.now) first.now) changes.old) (all_with_changes (map (λ row. row.now) first.now) changes.new) (access_changes value x.now)) }
 {
     if let AccessKind::Load = x.kind {
-        return;
+        return Ok(());
     }
     let Region::Buffer(buffer) = x.region else {
-        return;
+        return Ok(());
     };
     make_change(
-        contents,
+        first,
+        changes,
         Change {
             buffer,
             width: x.width,
             first: x.first,
             value: changed_value(own, buffer, x, kept),
         },
-    );
+    )
 }
 
 /// The number kept of the access at a place, if the next of the updates is of it.
@@ -324,14 +344,16 @@ fn mark_access(
 /// a group after it is to be joined. Each access is got once. An error is out of memory.
 pub(crate) fn join_accesses<L: GroupAccesses>(
     alloc: Global,
-    contents: &mut [Bytes],
+    first: &[&[u8]],
+    changes: &mut [Changes],
     footprint: &mut Footprint,
     further: bool,
     own: &[Overlay<'_>],
     log: &L,
     updates: &[JoinedUpdate],
 ) -> Result<(), AllocError>
-    ensures changed { OnOk result ((value : ℕ → TheAccess → ℕ → ℕ) → AllWroteBytes (map (λ space. space.bytes) own.now) (L.listed log.now) → AreUpdates value (map (λ space. space.bytes) own.now) 0 (L.listed log.now) updates.now → AreChanged contents.old contents.new (changes_of value (L.listed log.now))) }
+    ensures many { length changes.new ≡ length changes.old }
+    ensures changed { OnOk result ((value : ℕ → TheAccess → ℕ → ℕ) → AllWroteBytes (map (λ space. space.bytes) own.now) (L.listed log.now) → AreUpdates value (map (λ space. space.bytes) own.now) 0 (L.listed log.now) updates.now → AreChanged (all_with_changes (map (λ row. row.now) first.now) changes.old) (all_with_changes (map (λ row. row.now) first.now) changes.new) (changes_of value (L.listed log.now))) }
     ensures marked { OnOk result (further ≡ true → (kept : List TheAccess) → IsFootprint footprint.old kept → IsFootprint footprint.new (accesses_of (L.listed log.now) ++ kept)) }
 {
     let count = log.len();
@@ -339,7 +361,7 @@ pub(crate) fn join_accesses<L: GroupAccesses>(
     for place in 0..count {
         let entry = log.get(place);
         let kept = kept_at(updates, next, place);
-        change_access(contents, own, &entry.access, kept);
+        change_access(first, changes, own, &entry.access, kept)?;
         mark_access(alloc, footprint, further, &entry.access)?;
         next = next_after(next, kept);
     }

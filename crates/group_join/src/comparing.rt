@@ -6,6 +6,7 @@ ghost use Rattle.clmodel.specs.declared.access.Access.{Access as TheAccess};
 ghost use Rattle.clmodel.specs.declared.access.Region.TheVariants as region;
 ghost use Rattle.joining.specs.Memory as joining;
 ghost use Rattle.shadow.specs.Seen.{IsFootprint, OfOthers};
+ghost use Rattle.spaces.specs.Changes.{all_with_changes};
 ghost use Rattle.group_join.specs.Changes.{value_of};
 ghost use Rattle.group_join.specs.Comparing.{met_of, KeepsUpdates, with_update};
 ghost use Rattle.group_join.specs.Conflicts.{conflict_at};
@@ -96,7 +97,7 @@ impl Before<'_, '_, '_, '_> {
         log: &L,
     ) -> Result<Compared, AllocError>
         ensures met { IfOk result (λ found. (kept : List TheAccess) → IsFootprint self.now.footprint.now kept → AreOthers (L.listed log.now) kept → IsFirstMet uniform (L.has_last log.now) (L.listed log.now) kept (met_of found)) }
-        ensures updates { IfOk result (λ found. (kept : List TheAccess) → IsFootprint self.now.footprint.now kept → KeepsUpdates (value_of (map (λ row. row.now) self.now.first.now) self.now.lower.now (λ n b. joining.wrote kept (region.Buffer n) b) (map (λ space. space.bytes) self.now.own.now)) (map (λ space. space.bytes) self.now.own.now) (L.listed log.now) found) }
+        ensures updates { IfOk result (λ found. (kept : List TheAccess) → IsFootprint self.now.footprint.now kept → KeepsUpdates (value_of (map (λ row. row.now) self.now.first.now) (all_with_changes (map (λ row. row.now) self.now.first.now) self.now.lower.now) (λ n b. joining.wrote kept (region.Buffer n) b) (map (λ space. space.bytes) self.now.own.now)) (map (λ space. space.bytes) self.now.own.now) (L.listed log.now) found) }
     {
         let mut updates = Vec::new(alloc);
         for place in 0..log.len() {

@@ -3,7 +3,7 @@
 ghost use Rattle.std.specs.Prelude.{◌≡◌, ◌+◌, ◌*◌, ◌++◌, ◌<◌, ℕ, List, Option, Some, None, [], map, suc, take, true, IfOk, OnOk};
 ghost use Rattle.clmodel.specs.Next.{launch_of};
 ghost use Rattle.clmodel.specs.Launch.{Launch as TheLaunch};
-ghost use Rattle.clmodel.specs.Outcome.{events_of, Concludes, IsMerged};
+ghost use Rattle.clmodel.specs.Outcome.{events_of, IsMerged};
 ghost use Rattle.clmodel.specs.Run.{start};
 ghost use Rattle.clmodel.specs.declared.access.Access.{Access as TheAccess};
 ghost use Rattle.clmodel.specs.declared.access.Region.TheVariants as region;
@@ -18,37 +18,40 @@ ghost use Rattle.shadow.specs.Lasting.{StandsWith};
 ghost use Rattle.shadow.specs.Seen.{IsFootprint};
 ghost use Rattle.access_list.specs.Log.{Log};
 ghost use Rattle.spaces.specs.Buffers.{bytes_in};
+ghost use Rattle.spaces.specs.Changes.{all_with_changes};
 ghost use Rattle.group_join.specs.Changes.{AreChanged, AreUpdates, AllWroteBytes, changes_of, value_of};
 ghost use Rattle.group_join.specs.Comparing.{met_of, KeepsUpdates};
+ghost use Rattle.group_join.specs.Ends.{EndsAs};
 ghost use Rattle.group_join.specs.Launches.{IsShortResult};
 ghost use Rattle.group_join.specs.Meetings.{AreOthers, IsFirstMet, report_at};
 ghost use Rattle.group_join.specs.Runs.{Adds, MayFollow};
-ghost use Rattle.group_join.specs.JoinedGroups.{HoldsGroups, IsStopped, CameOfDone, CameOfNext, HandsBack};
+ghost use Rattle.group_join.specs.JoinedGroups.{contents_of, HoldsGroups, IsStopped, CameOfDone, CameOfNext, HandsBack};
 
 use crate::changes::{Before, JoinedUpdate, join_accesses};
 use crate::comparing::{Compared, first_conflict};
 use crate::cutting::{add_all, add_first, add_runs};
+use crate::launch_end::LaunchEnd;
 use crate::laws::laws;
 use crate::meetings::{FirstConflict, report_at};
 use clmodel::fault::Fault;
-use clmodel::outcome::Outcome;
 use clmodel::schedule::{EventRun, Schedule};
-use clmodel::text::{Bytes, Name};
+use clmodel::text::Name;
 use group_run::{GroupEnd, GroupResult};
 use item_step::Launch;
 use launches::Described;
 use shadow::{Footprint, GroupAccesses};
-use spaces::{Buffers, Overlay};
+use spaces::{Buffers, Changes, Overlay};
 use std::alloc::{AllocError, Global};
 use std::mem::replace;
 
-/// The groups that are joined so far: what they leave in the launch's buffers, the bytes that they accessed, and their
+/// The groups that are joined so far: what they change in the launch's buffers, the bytes that they accessed, and their
 /// events.
 #[derive(Drop)]
 pub struct JoinedGroups<'a> {
     /// The bytes of the launch's buffers before any group.
     pub(crate) first: Vec<&'a [u8]>,
-    pub(crate) contents: Vec<Bytes>,
+    /// What the groups changed in each of them.
+    pub(crate) changes: Vec<Changes>,
     pub(crate) footprint: Footprint,
     pub(crate) runs: Vec<EventRun>,
 }
@@ -58,8 +61,8 @@ pub struct JoinedGroups<'a> {
 pub enum JoinEnd<T> {
     /// The launch goes on, and this is handed back.
     Continues(T),
-    /// The launch ends with this outcome.
-    Ends(Outcome),
+    /// The launch ends so.
+    Ends(LaunchEnd),
 }
 
 /// A group's number, and whether a further group will be joined after it.
@@ -84,27 +87,27 @@ fn rows_of<'a>(
     Ok(rows)
 }
 
-/// Copies the rows of bytes.
-fn copies_of(alloc: Global, rows: &[&[u8]]) -> Result<Vec<Bytes>, AllocError>
-    ensures { IfOk result (λ copies. copies.items ≡ map (λ row. row.now) rows.now) }
+/// No changes of each of these rows of bytes.
+fn no_changes_of(alloc: Global, rows: &[&[u8]]) -> Result<Vec<Changes>, AllocError>
+    ensures { IfOk result (λ changes. all_with_changes (map (λ row. row.now) rows.now) changes.items ≡ map (λ row. row.now) rows.now) }
 {
-    let mut copies = Vec::new(alloc);
-    for i in 0..rows.len() {
-        copies.push(Bytes::copy_of(alloc, rows[i])?)?;
+    let mut changes = Vec::new(alloc);
+    for _ in 0..rows.len() {
+        changes.push(Changes::new(alloc))?;
     }
-    Ok(copies)
+    Ok(changes)
 }
 
 impl<'a> JoinedGroups<'a> {
-    /// The join before any group. It copies the bytes of the launch's buffers once.
+    /// The join before any group. It copies no byte of the launch's buffers.
     pub fn new(alloc: Global, launch: &Launch<'_>, buffers: &'a Buffers) -> Result<Self, AllocError>
         ensures { IfOk result (HoldsGroups (launch_of (setup_of launch.now) (bytes_in buffers.now)) 0) }
     {
         let first = rows_of(alloc, launch.buffer_names(), buffers)?;
-        let contents = copies_of(alloc, first.as_slice())?;
+        let changes = no_changes_of(alloc, first.as_slice())?;
         Ok(JoinedGroups {
             first,
-            contents,
+            changes,
             footprint: Footprint::new(alloc),
             runs: Vec::new(alloc),
         })
@@ -121,14 +124,14 @@ impl<'a> JoinedGroups<'a> {
         log: &L,
     ) -> Result<Compared, AllocError>
         ensures met { IfOk result (λ found. (kept : List TheAccess) → IsFootprint self.now.footprint kept → (group ≡ 0 → kept ≡ []) → AreOthers (L.listed log.now) kept → IsFirstMet uniform (L.has_last log.now) (L.listed log.now) kept (met_of found)) }
-        ensures updates { IfOk result (λ found. (kept : List TheAccess) → IsFootprint self.now.footprint kept → (group ≡ 0 → kept ≡ []) → KeepsUpdates (value_of (map (λ row. row.now) self.now.first.items) self.now.contents.items (λ n b. joining.wrote kept (region.Buffer n) b) (map (λ space. space.bytes) spaces.now)) (map (λ space. space.bytes) spaces.now) (L.listed log.now) found) }
+        ensures updates { IfOk result (λ found. (kept : List TheAccess) → IsFootprint self.now.footprint kept → (group ≡ 0 → kept ≡ []) → KeepsUpdates (value_of (map (λ row. row.now) self.now.first.items) (contents_of self.now) (λ n b. joining.wrote kept (region.Buffer n) b) (map (λ space. space.bytes) spaces.now)) (map (λ space. space.bytes) spaces.now) (L.listed log.now) found) }
     {
         if group == 0 {
             return Ok(Compared::Apart(Vec::new(alloc)));
         }
         let before = Before {
             first: self.first.as_slice(),
-            lower: self.contents.as_slice(),
+            lower: self.changes.as_slice(),
             footprint: &self.footprint,
             own: spaces,
         };
@@ -164,14 +167,15 @@ impl<'a> JoinedGroups<'a> {
         runs: &Schedule,
     ) -> Result<(), AllocError>
         requires { MayFollow self.old.runs.items runs.now }
-        ensures changed { OnOk result ((value : ℕ → TheAccess → ℕ → ℕ) → AllWroteBytes (map (λ space. space.bytes) spaces.now) (L.listed log.now) → AreUpdates value (map (λ space. space.bytes) spaces.now) 0 (L.listed log.now) updates.now → AreChanged self.old.contents.items self.new.contents.items (changes_of value (L.listed log.now))) }
+        ensures changed { OnOk result ((value : ℕ → TheAccess → ℕ → ℕ) → AllWroteBytes (map (λ space. space.bytes) spaces.now) (L.listed log.now) → AreUpdates value (map (λ space. space.bytes) spaces.now) 0 (L.listed log.now) updates.now → AreChanged (contents_of self.old) (contents_of self.new) (changes_of value (L.listed log.now))) }
         ensures accesses { OnOk result (further ≡ true → (kept : List TheAccess) → IsFootprint self.old.footprint kept → IsFootprint self.new.footprint (accesses_of (L.listed log.now) ++ kept)) }
         ensures runs { OnOk result (further ≡ true → Adds self.old.runs.items self.new.runs.items runs.now (events_of runs.now)) }
         ensures first { self.new.first ≡ self.old.first }
     {
         join_accesses(
             alloc,
-            self.contents.as_mut_slice(),
+            self.first.as_slice(),
+            self.changes.as_mut_slice(),
             &mut self.footprint,
             further,
             spaces,
@@ -255,12 +259,12 @@ impl<'a> JoinedGroups<'a> {
         }
     }
 
-    /// The outcome of a launch that ends with this report. Its schedule takes over the events of the groups so far.
-    fn faulted(&mut self, alloc: Global, report: Fault) -> Outcome
-        ensures { (launch : TheLaunch) → IsStopped launch report self.old.runs.items → Concludes launch result }
+    /// The end of a launch with this report. Its schedule takes over the events of the groups so far.
+    fn faulted(&mut self, alloc: Global, report: Fault) -> LaunchEnd
+        ensures { (launch : TheLaunch) → IsStopped launch report self.old.runs.items → EndsAs launch result }
     {
         let runs = replace(&mut self.runs, Vec::new(alloc));
-        Outcome::Faulted(report, Schedule::new(runs))
+        LaunchEnd::Faulted(report, Schedule::new(runs))
     }
 
     /// Joins the result of group `group` of the launch's `groups`. The group's log is handed back, or the launch ends
@@ -302,10 +306,10 @@ impl<'a> JoinedGroups<'a> {
         }
     }
 
-    /// The bytes that the groups left in the launch's buffers.
-    pub fn into_contents(self) -> Vec<Bytes>
-        ensures { result ≡ self.entry.contents }
+    /// What the groups changed in the launch's buffers.
+    pub fn into_changes(self) -> Vec<Changes>
+        ensures { result ≡ self.entry.changes }
     {
-        self.contents
+        self.changes
     }
 }

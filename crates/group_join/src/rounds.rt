@@ -2,18 +2,18 @@
 
 ghost use Rattle.std.specs.Prelude.{◌≡◌, ◌*◌, ◌<◌, ◌≤◌, IfOk};
 ghost use Rattle.clmodel.specs.Next.{launch_of};
-ghost use Rattle.clmodel.specs.Outcome.{Concludes};
 ghost use Rattle.clmodel.specs.Setup.{item_count, group_items};
 ghost use Rattle.item_step.specs.Launches.{setup_of};
 ghost use Rattle.spaces.specs.Buffers.{bytes_in};
 ghost use Rattle.launches.specs.Groups.{HasGroups};
+ghost use Rattle.group_join.specs.Ends.{EndsAs};
 ghost use Rattle.group_join.specs.JoinedGroups.{HoldsGroups, JoinedConclude};
 ghost use Rattle.group_join.specs.Launches.{AreResultsTo};
 ghost use Rattle.group_join.specs.Rounds.{CameOfRound};
 
 use crate::joined_groups::{JoinEnd, JoinedGroups};
+use crate::launch_end::LaunchEnd;
 use crate::laws::laws;
-use clmodel::outcome::Outcome;
 use group_run::GroupResult;
 use item_step::Launch;
 use launches::{LoadedLaunch, group_count};
@@ -47,7 +47,7 @@ pub fn join_round<'a, L: GroupAccesses + Drop>(
         };
         match so_far.join(alloc, &loaded, groups, group, result)? {
             JoinEnd::Continues(log) => drop(log),
-            JoinEnd::Ends(outcome) => return Ok(JoinEnd::Ends(outcome)),
+            JoinEnd::Ends(end) => return Ok(JoinEnd::Ends(end)),
         }
     }
     Ok(JoinEnd::Continues(so_far))
@@ -60,22 +60,22 @@ fn joined_groups_conclude()
     laws();
 }
 
-/// What a launch comes to, of which all groups are joined or one brought a report.
-pub fn outcome_of(
+/// How a launch ends, of which all groups are joined or one brought a report.
+pub fn end_of(
     launch: &Launch<'_>,
     buffers: &Buffers,
     end: JoinEnd<JoinedGroups<'_>>,
     groups: u32,
-) -> Outcome
+) -> LaunchEnd
     requires whole { HasGroups (setup_of launch.now) }
     requires some { 0 < group_items (setup_of launch.now).range }
     requires all { groups * group_items (setup_of launch.now).range ≡ item_count (setup_of launch.now).range }
     requires end { CameOfRound (launch_of (setup_of launch.now) (bytes_in buffers.now)) groups end }
-    ensures { Concludes (launch_of (setup_of launch.now) (bytes_in buffers.now)) result }
+    ensures { EndsAs (launch_of (setup_of launch.now) (bytes_in buffers.now)) result }
 {
     joined_groups_conclude();
     match end {
-        JoinEnd::Continues(joined) => Outcome::Clean(joined.into_contents()),
-        JoinEnd::Ends(outcome) => outcome,
+        JoinEnd::Continues(joined) => LaunchEnd::Clean(joined.into_changes()),
+        JoinEnd::Ends(end) => end,
     }
 }

@@ -3,20 +3,20 @@
 ghost use Rattle.std.specs.Prelude.{◌≡◌, ℕ, IfOk};
 ghost use Rattle.clmodel.specs.Launch.{Launch as TheLaunch};
 ghost use Rattle.clmodel.specs.Next.{launch_of};
-ghost use Rattle.clmodel.specs.Outcome.{Concludes};
 ghost use Rattle.group_run.specs.Results.{IsResult};
 ghost use Rattle.item_step.specs.Launches.{setup_of};
 ghost use Rattle.joining.specs.Steps.{HasGroup};
 ghost use Rattle.launches.specs.Groups.{HasGroups};
 ghost use Rattle.access_list.specs.Log.{fresh_log};
+ghost use Rattle.group_join.specs.Ends.{EndsAs};
 ghost use Rattle.group_join.specs.Launches.{heap_log, heap_listed, heap_has_last, IsShortResult};
 ghost use Rattle.spaces.specs.Buffers.{bytes_in};
 
 use crate::groups::one_group;
 use crate::heap_log::HeapLog;
 use crate::joined_groups::{JoinEnd, JoinedGroups};
+use crate::launch_end::LaunchEnd;
 use crate::laws::laws;
-use clmodel::outcome::Outcome;
 use group_run::GroupResult;
 use item_step::Launch;
 use launches::{LoadedLaunch, group_count};
@@ -52,15 +52,15 @@ fn stands(came: &GroupResult<Overlay<'_>, HeapLog>)
 }
 
 /// The canonical run of a launch of any number of work-groups (OpenCL 1.2, sections 3.2 and 5.8): each group runs on
-/// the buffers as they are, and the groups are joined in their order. It ends clean, with what the launch's buffers
-/// then hold, or with its report and its schedule. The buffers stay as they are. An error is out of memory.
+/// the buffers as they are, and the groups are joined in their order. It ends clean, with what the groups changed in the
+/// launch's buffers, or with its report and its schedule. The buffers stay as they are. An error is out of memory.
 pub fn run_launch(
     alloc: Global,
     launch: &Launch<'_>,
     buffers: &Buffers,
-) -> Result<Outcome, AllocError>
+) -> Result<LaunchEnd, AllocError>
     requires { HasGroups (setup_of launch.now) }
-    ensures { IfOk result (Concludes (launch_of (setup_of launch.now) (bytes_in buffers.now))) }
+    ensures { IfOk result (EndsAs (launch_of (setup_of launch.now) (bytes_in buffers.now))) }
 {
     run_launch_around(alloc, launch, buffers, &OpenGate)
 }
@@ -73,9 +73,9 @@ pub fn run_launch_around<G: Gate>(
     launch: &Launch<'_>,
     buffers: &Buffers,
     gate: &G,
-) -> Result<Outcome, AllocError>
+) -> Result<LaunchEnd, AllocError>
     requires { HasGroups (setup_of launch.now) }
-    ensures { IfOk result (Concludes (launch_of (setup_of launch.now) (bytes_in buffers.now))) }
+    ensures { IfOk result (EndsAs (launch_of (setup_of launch.now) (bytes_in buffers.now))) }
 {
     laws();
     let groups = group_count(launch);
@@ -87,8 +87,8 @@ pub fn run_launch_around<G: Gate>(
         stands(&result);
         match so_far.join(alloc, &loaded, groups, group, result)? {
             JoinEnd::Continues(used) => log = used.cleared(alloc),
-            JoinEnd::Ends(outcome) => return Ok(outcome),
+            JoinEnd::Ends(end) => return Ok(end),
         }
     }
-    Ok(Outcome::Clean(so_far.into_contents()))
+    Ok(LaunchEnd::Clean(so_far.into_changes()))
 }

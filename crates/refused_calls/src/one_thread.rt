@@ -12,8 +12,7 @@ use crate::came::{Came, done_if, is_done, refuse_all, refuse_none};
 use access_list::ListLog;
 use clmodel::action::{Action, Answer};
 use clmodel::fault::Fault;
-use clmodel::outcome::Outcome;
-use group_join::{has_stopped, merge, one_group, run_launch};
+use group_join::{LaunchEnd, has_stopped, merge, one_group, run_launch};
 use group_run::GroupResult;
 use item_step::{Item, Launch};
 use launches::group_count;
@@ -25,20 +24,20 @@ use std::alloc::{AllocError, Global};
 type Results<'a> = Vec<GroupResult<Overlay<'a>, ListLog>>;
 
 /// Whether a launch came to the fault of group 1.
-fn is_fault(outcome: &Outcome) -> bool {
-    match outcome {
-        Outcome::Faulted(Fault::DivideByZero { item }, _) => *item == 1,
+fn is_fault(end: &LaunchEnd) -> bool {
+    match end {
+        LaunchEnd::Faulted(Fault::DivideByZero { item }, _) => *item == 1,
         _ => false,
     }
 }
 
 /// What came of a call that runs the launch.
-pub fn ran(outcome: Result<Outcome, AllocError>) -> Came {
-    let came = match &outcome {
-        Ok(outcome) => done_if(is_fault(outcome)),
+pub fn ran(end: Result<LaunchEnd, AllocError>) -> Came {
+    let came = match &end {
+        Ok(end) => done_if(is_fault(end)),
         Err(AllocError) => Came::OutOfMemory,
     };
-    drop(outcome);
+    drop(end);
     came
 }
 
@@ -123,11 +122,11 @@ fn try_groups<R: Print>(rt: &R, alloc: Global, launch: &Launch<'_>, buffers: &Bu
     }
 }
 
-/// Whether the schedule of an outcome leads the launch to its fault.
-fn replayed(alloc: Global, launch: &Launch<'_>, buffers: &Buffers, outcome: &Outcome) -> Came
+/// Whether the schedule of a launch's end leads the launch to its fault.
+fn replayed(alloc: Global, launch: &Launch<'_>, buffers: &Buffers, end: &LaunchEnd) -> Came
     requires whole { HasGroups (setup_of launch.now) }
 {
-    let Outcome::Faulted(fault, schedule) = outcome else {
+    let LaunchEnd::Faulted(fault, schedule) = end else {
         return Came::Wrong;
     };
     match replay(alloc, launch, buffers, schedule, fault) {
@@ -136,33 +135,33 @@ fn replayed(alloc: Global, launch: &Launch<'_>, buffers: &Buffers, outcome: &Out
     }
 }
 
-/// The schedule of an outcome, replayed. False where that is refused.
+/// The schedule of a launch's end, replayed. False where that is refused.
 fn try_replay<R: Print>(
     rt: &R,
     alloc: Global,
     launch: &Launch<'_>,
     buffers: &Buffers,
-    outcome: &Outcome,
+    end: &LaunchEnd,
 ) -> bool
     requires whole { HasGroups (setup_of launch.now) }
 {
-    let came = replayed(alloc, launch, buffers, outcome);
+    let came = replayed(alloc, launch, buffers, end);
     is_done(rt, "launches replay", came)
 }
 
-/// An outcome, judged and replayed, again where that is refused.
-fn try_outcome<R: Print>(
+/// A launch's end, judged and replayed, again where that is refused.
+fn try_end<R: Print>(
     rt: &R,
     alloc: Global,
     launch: &Launch<'_>,
     buffers: &Buffers,
-    outcome: &Outcome,
+    end: &LaunchEnd,
 ) -> bool
     requires whole { HasGroups (setup_of launch.now) }
 {
-    is_done(rt, "launches run_launch", done_if(is_fault(outcome)))
-        && (try_replay(rt, alloc, launch, buffers, outcome)
-            || try_replay(rt, alloc, launch, buffers, outcome))
+    is_done(rt, "launches run_launch", done_if(is_fault(end)))
+        && (try_replay(rt, alloc, launch, buffers, end)
+            || try_replay(rt, alloc, launch, buffers, end))
 }
 
 /// The launch, run whole.
@@ -170,9 +169,9 @@ fn try_whole<R: Print>(rt: &R, alloc: Global, launch: &Launch<'_>, buffers: &Buf
     requires whole { HasGroups (setup_of launch.now) }
 {
     match run_launch(alloc, launch, buffers) {
-        Ok(outcome) => {
-            let is_tried = try_outcome(rt, alloc, launch, buffers, &outcome);
-            drop(outcome);
+        Ok(end) => {
+            let is_tried = try_end(rt, alloc, launch, buffers, &end);
+            drop(end);
             is_tried
         }
         Err(AllocError) => is_done(rt, "launches run_launch", Came::OutOfMemory),

@@ -126,7 +126,8 @@ fn run_with_lists<L: NewLog + Accesses>(
 {
     let results: Results<'_, L> = run_groups(alloc, launch, buffers)?;
     let are_told = tell_groups(alloc, results.as_slice(), report);
-    tell_end(merge(alloc, launch, buffers, results)?, report)?;
+    let end = merge(alloc, launch, buffers, results)?;
+    tell_end(end.outcome(alloc, launch, buffers)?, report)?;
     are_told
 }
 
@@ -154,7 +155,8 @@ fn run_with_group_logs(
     requires { HasGroups (setup_of launch.now) }
 {
     run_apart::<GroupLog>(alloc, launch, buffers, report)?;
-    tell_end(run_launch(alloc, launch, buffers)?, report)
+    let end = run_launch(alloc, launch, buffers)?;
+    tell_end(end.outcome(alloc, launch, buffers)?, report)
 }
 
 /// Whether a launch comes to the same with the log with pages, which counts its comparisons right.

@@ -6,3 +6,4 @@ pub mod Rows
 pub mod Tables
 pub mod Fills
 pub mod Performed
+pub mod Changed

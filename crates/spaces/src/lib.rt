@@ -9,11 +9,13 @@
 //! `Plain`, `LocalMem` and `PrivateArray` have bytes of their own, and `ConstView` is a view that isn't written. An
 //! `Overlay` is a group's view of a buffer: it reads the buffer, and keeps the pages of 256 bytes that the group
 //! changes. It obeys the laws of a space, and the buffer itself stays. `changed` names pages outside of which nothing
-//! was changed. The crate knows neither work-items nor launches.
+//! was changed. `Changes` are pages that lend nothing: they are made over a buffer that stays, and then written into it
+//! in place, without memory. The crate knows neither work-items nor launches.
 #![tactic(auto)]
 
 mod buffers;
 pub mod cells;
+mod changes;
 mod constant;
 mod element;
 mod operations;
@@ -25,6 +27,7 @@ pub mod space;
 mod table;
 
 pub use buffers::Buffers;
+pub use changes::Changes;
 pub use constant::ConstView;
 pub use operations::{first_byte, perform};
 pub use overlay::Overlay;

@@ -1,6 +1,7 @@
 //! Copies of a buffer's pages of 256 bytes.
 
-ghost use Rattle.std.specs.Prelude.{◌≡◌, ◌<◌, ◌≤◌, ◌+◌, ◌*◌, ◌/◌, ◌%◌, ◌^◌, ℕ, Some, [], length, slice_index, IfOk, OnOk, OnErr};
+ghost use Rattle.std.specs.Prelude.{◌≡◌, ◌<◌, ◌≤◌, ◌+◌, ◌-◌, ◌*◌, ◌/◌, ◌%◌, ◌^◌, ℕ, Some, [], length, map, slice_index, IfOk, OnOk, OnErr};
+ghost use Rattle.std.specs.List.{range_with_len};
 ghost use Rattle.clmodel.specs.Cells.{byte_count, cells_of, number, written};
 ghost use Rattle.spaces.specs.Overlay.{copies, overlaid_byte, overlaid_cells, overlaid, IsCopied, AreNumbered};
 ghost use Rattle.spaces.specs.Space.{Becomes};
@@ -8,6 +9,7 @@ ghost use Rattle.spaces.specs.Space.{Becomes};
 use crate::element::{number_in, put_in};
 use crate::page_table::PageTable;
 use clmodel::access::Width;
+use clmodel::text::Bytes;
 use std::alloc::{AllocError, Global};
 
 /// The bytes of a page, a power of two: an aligned element lies on one page.
@@ -201,5 +203,54 @@ impl Pages {
             return Ok(());
         }
         self.change_new(base, at, width, value)
+    }
+
+    /// Puts the low n bytes of a value in place of as many others, which may be of two pages. An error is out of
+    /// memory, and no byte is changed.
+    #[cold]
+    #[inline(never)]
+    pub(crate) fn change_few(
+        &mut self,
+        base: &[u8],
+        first: usize,
+        count: usize,
+        value: u64,
+    ) -> Result<(), AllocError>
+        requires some { 0 < count }
+        requires short { count ≤ 8 }
+        requires inside { first + count ≤ length base.now }
+        ensures changed { OnOk result (Becomes (overlaid base.now (copies self.old.table) self.old.cells.items) (overlaid base.now (copies self.new.table) self.new.cells.items) (written (cells_of (overlaid base.now (copies self.old.table) self.old.cells.items)) first count value)) }
+        ensures same { OnErr result (overlaid base.now (copies self.new.table) self.new.cells.items ≡ overlaid base.now (copies self.old.table) self.old.cells.items) }
+    {
+        let last = first + (count - 1);
+        self.copy(base, first / PAGE)?;
+        self.copy(base, last / PAGE)?;
+        self.put_by_bytes(base, first, count, value);
+        Ok(())
+    }
+
+    /// Writes the copy of a page over the page of a buffer, if there are both.
+    fn write_page(&self, buffer: &mut Bytes, page: usize)
+        ensures length { length buffer.new ≡ length buffer.old }
+        ensures here { (byte : ℕ) → byte < length buffer.old → byte / 256 ≡ page → IsCopied (copies self.now.table) page → slice_index buffer.new byte ≡ slice_index self.now.cells.items ((copies self.now.table page - 1) * 256 + byte % 256) }
+        ensures there { (byte : ℕ) → (byte / 256 ≡ page → copies self.now.table page ≡ 0) → slice_index buffer.new byte ≡ slice_index buffer.old byte }
+    {
+        let copy = self.table.copy_of(page);
+        if copy == 0 || page > buffer.len() / PAGE {
+            return;
+        }
+        let start = page * PAGE;
+        let count = (buffer.len() - start).min(PAGE);
+        let place = (copy - 1) * PAGE;
+        buffer.put(start, &self.cells[place..place + count]);
+    }
+
+    /// Writes all copies over the pages of a buffer. It takes no memory, and one step for each copy.
+    pub(crate) fn write_into(&self, buffer: &mut Bytes)
+        ensures { buffer.new ≡ map (overlaid_byte buffer.old (copies self.now.table) self.now.cells.items) (range_with_len 0 (length buffer.old)) }
+    {
+        for k in 0..self.numbers.len() {
+            self.write_page(buffer, self.numbers[k]);
+        }
     }
 }

@@ -6,7 +6,7 @@ ghost use Rattle.std.specs.Map.{remove_entry, set_value, values_of};
 ghost use Rattle.std.specs.Map.Iter.{ShowsInOrder, deref};
 ghost use Rattle.std.specs.Option.{option_map, option_copied_mut};
 ghost use Rattle.std.specs.Borrow.{sem, LendsIf};
-ghost use Rattle.spaces.specs.Tables.{is, find, with_values};
+ghost use Rattle.spaces.specs.Tables.{is, find};
 ghost use Rattle.spaces.specs.contracts.table.Table.{the_row};
 
 use clmodel::text::Name;
@@ -96,19 +96,5 @@ impl<T: Drop> Table<T> {
         ensures runs { ShowsInOrder (deref {X = T}) }
     {
         self.map.values()
-    }
-
-    /// Puts values in the places of what has these names, one after another, as far as there are both.
-    #[tactic(auto, using(crate::proofs::Tables::one_more_value))]
-    pub fn replace_all(&mut self, names: &[Name], values: Vec<T>)
-        ensures { self.new ≡ with_values self.old names.now values.items }
-    {
-        let mut place = 0;
-        for value in values {
-            if place < names.len() {
-                self.replace(&names[place], value);
-                place += 1;
-            }
-        }
     }
 }

@@ -90,10 +90,17 @@ fn merged(
         let stopped = has_stopped(&came);
         results.push(came)?;
         if stopped {
-            return merge(alloc, launch, buffers, results);
+            return merge(alloc, launch, buffers, results)?.outcome(alloc, launch, buffers);
         }
     }
-    merge(alloc, launch, buffers, results)
+    merge(alloc, launch, buffers, results)?.outcome(alloc, launch, buffers)
+}
+
+/// A launch run whole.
+fn run_whole(alloc: Global, launch: &Launch<'_>, buffers: &Buffers) -> Result<Outcome, AllocError>
+    requires { HasGroups (setup_of launch.now) }
+{
+    run_launch(alloc, launch, buffers)?.outcome(alloc, launch, buffers)
 }
 
 /// A source's program. None where it isn't built.
@@ -206,7 +213,7 @@ fn comes_to(
     let launch = Launch::new(alloc, setup, group_items(&limits, range), &code).ok()?;
     let groups = group_count(&launch);
     Some(
-        is_as(run_launch(alloc, &launch, buffers), expected)
+        is_as(run_whole(alloc, &launch, buffers), expected)
             & is_as(merged(alloc, &launch, buffers, groups), expected),
     )
 }

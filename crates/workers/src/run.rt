@@ -2,16 +2,17 @@
 
 ghost use Rattle.std.specs.Prelude.{◌≤◌, IfOk};
 ghost use Rattle.clmodel.specs.Next.{launch_of};
-ghost use Rattle.clmodel.specs.Outcome.{Concludes};
 ghost use Rattle.item_step.specs.Launches.{setup_of};
 ghost use Rattle.launches.specs.Groups.{HasGroups};
+ghost use Rattle.group_join.specs.Ends.{EndsAs};
 ghost use Rattle.spaces.specs.Buffers.{bytes_in};
 
 use crate::overlap::{join_and_run, run_round};
 use crate::round_size::{first_round, next_round};
 use crate::spare::SpareLogs;
-use clmodel::outcome::Outcome;
-use group_join::{JoinEnd, JoinedGroups, group_count, join_round, outcome_of, run_launch_around};
+use group_join::{
+    JoinEnd, JoinedGroups, LaunchEnd, end_of, group_count, join_round, run_launch_around,
+};
 use item_step::Launch;
 use spaces::Buffers;
 use std::alloc::{AllocError, Global};
@@ -29,10 +30,10 @@ fn run_rounds<G: Gate, R: Threads + Wait + Sync>(
     buffers: &Buffers,
     workers: u32,
     gate: &G,
-) -> Result<Outcome, AllocError>
+) -> Result<LaunchEnd, AllocError>
     requires whole { HasGroups (setup_of launch.now) }
     requires workers { (1 ≤ workers) × (workers ≤ 16) }
-    ensures { IfOk result (Concludes (launch_of (setup_of launch.now) (bytes_in buffers.now))) }
+    ensures { IfOk result (EndsAs (launch_of (setup_of launch.now) (bytes_in buffers.now))) }
 {
     let spares = SpareLogs::new(alloc)?;
     let groups = group_count(launch);
@@ -50,22 +51,22 @@ fn run_rounds<G: Gate, R: Threads + Wait + Sync>(
         );
         match joined? {
             JoinEnd::Continues(joined) => so_far = joined,
-            JoinEnd::Ends(outcome) => return Ok(outcome),
+            JoinEnd::Ends(end) => return Ok(end),
         }
         results = next?;
         first = last;
         last = end;
     }
     let end = join_round(alloc, launch, buffers, so_far, first, last, results)?;
-    Ok(outcome_of(launch, buffers, end, last))
+    Ok(end_of(launch, buffers, end, last))
 }
 
 /// The canonical run of a launch, by 1 to 16 workers (OpenCL 1.2, sections 3.2 and 5.8). Each worker draws groups and
 /// runs them on the buffers as they are, between two calls of the gate with the group's number; a thread that can't be
 /// started is done without. Several workers run the groups in rounds, and the calling thread joins each round before it
 /// runs groups of the next. One worker is the calling thread: it runs and joins group after group, as `run_launch`
-/// does. What the launch comes to is what `run_launch` answers, however many workers there are and whatever the gate
-/// does. The buffers stay as they are. An error is out of memory.
+/// does. The launch ends as `run_launch` answers, however many workers there are and whatever the gate does. The buffers
+/// stay as they are. An error is out of memory.
 pub fn run_parallel<G: Gate, R: Threads + Wait + Sync>(
     rt: &R,
     alloc: Global,
@@ -73,10 +74,10 @@ pub fn run_parallel<G: Gate, R: Threads + Wait + Sync>(
     buffers: &Buffers,
     workers: u32,
     gate: &G,
-) -> Result<Outcome, AllocError>
+) -> Result<LaunchEnd, AllocError>
     requires whole { HasGroups (setup_of launch.now) }
     requires workers { (1 ≤ workers) × (workers ≤ 16) }
-    ensures { IfOk result (Concludes (launch_of (setup_of launch.now) (bytes_in buffers.now))) }
+    ensures { IfOk result (EndsAs (launch_of (setup_of launch.now) (bytes_in buffers.now))) }
 {
     if workers == 1 {
         run_launch_around(alloc, launch, buffers, gate)

@@ -58,8 +58,9 @@ fn ran<W: Threads + Wait + Sync, G: Gate>(
     let Ok(launch) = device.prepare(kernel, range) else {
         return None;
     };
-    match run_parallel(rt, alloc, &launch, device.buffers(), workers, gate) {
-        Ok(outcome) => Some(outcome),
+    let buffers = device.buffers();
+    match run_parallel(rt, alloc, &launch, buffers, workers, gate) {
+        Ok(end) => end.outcome(alloc, &launch, buffers).ok(),
         Err(_) => None,
     }
 }

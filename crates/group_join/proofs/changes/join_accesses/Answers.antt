@@ -1,8 +1,10 @@
-use Rattle.std.proofs.Common.{◌≡◌, ◌+◌, ◌<◌, ◌≤◌, Some, ◌++◌, length, take, drop, map, sym, ap, subst, arith}
+use Rattle.std.proofs.Common.{◌≡◌, ◌+◌, ◌<◌, ◌≤◌, ℕ, List, Some, ◌++◌, length, take, drop, map, sym, ap, ◌∙◌, subst, arith}
 use Rattle.std.specs.Prelude.{slice_get}
+use denote.Bor.{Bor}
 use Rattle.std.proofs.lemmas.List.{take_all}
 use Rattle.group_run.specs.Logs.{accesses_of}
 use Rattle.shadow.specs.Seen.{IsFootprint}
+use Rattle.spaces.specs.Changes.{all_with_changes}
 use Rattle.spaces.specs.Overlay.{Overlaid}
 use Rattle.group_join.specs.Changes.{AreChanged, AreUpdates, changes_of}
 use Rattle.group_join.proofs.Entries.{entry_at, accesses_more, changes_more}
@@ -13,6 +15,7 @@ pub loop-place-preserved : goal.loop-place-preserved
 loop-place-preserved g c =
     let entries = (g.L.GroupAccesses.listed c.args.log.now) in
     let own = map (λ (space : Overlaid). space.bytes) c.args.own.now in
+    let rows = map (λ (row : Bor (List ℕ)). row.now) c.args.first.now in
     let i = c.loop-place.place in
     let n = c.loop-place.next in
     let x = c.get-entry.result in
@@ -23,9 +26,10 @@ loop-place-preserved g c =
     let before = c.loop-place.invariant in
     record {
       order = subst (λ m. m ≤ i + 1) (sym c.next_after-next.ensures) (next_within n i kept before.order);
+      many = c.change_access.ensures.many ∙ before.many;
       changed = λ value wrote all. (
-        changes_more value c.args.contents.now c.loop-place.contents c.change_access.new.contents entries i x at (before.changed value wrote all).0
-            (c.change_access.ensures value (wrote i x at) (kept_here value own entries i n x updates kept inside c.get-entry.ensures.value c.kept_at-kept.ensures (before.changed value wrote all).1)),
+        changes_more value (all_with_changes rows c.args.changes.now) (all_with_changes rows c.loop-place.changes) (all_with_changes rows c.change_access.new.changes) entries i x at (before.changed value wrote all).0
+            (c.in_ok-change_access.ensures.changed value (wrote i x at) (kept_here value own entries i n x updates kept inside c.get-entry.ensures.value c.kept_at-kept.ensures (before.changed value wrote all).1)),
         subst (λ m. AreUpdates value own (i + 1) (drop (i + 1) entries) (drop m updates)) (sym c.next_after-next.ensures)
             (after_next value own entries i n x updates kept inside c.get-entry.ensures.value c.kept_at-kept.ensures (before.changed value wrote all).1),
       );
@@ -37,7 +41,8 @@ loop-place-preserved g c =
 pub returns-clause-changed : goal.returns-clause-changed
 returns-clause-changed g c = λ value wrote all.
     let entries = (g.L.GroupAccesses.listed c.args.log.now) in
-    subst (λ ys. AreChanged c.args.contents.now c.loop-place.contents (changes_of value ys)) (take_all c.loop-place.place entries (omega (arith, c.loop-place-test.false, c.len-count.ensures)))
+    let rows = map (λ (row : Bor (List ℕ)). row.now) c.args.first.now in
+    subst (λ ys. AreChanged (all_with_changes rows c.args.changes.now) (all_with_changes rows c.loop-place.changes) (changes_of value ys)) (take_all c.loop-place.place entries (omega (arith, c.loop-place-test.false, c.len-count.ensures)))
     (c.loop-place.invariant.changed value wrote all).0
 
 pub returns-clause-marked : goal.returns-clause-marked

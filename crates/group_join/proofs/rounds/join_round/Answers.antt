@@ -37,10 +37,10 @@ returns-in-Ends g c =
     let same = ap₂ (λ x y. launch_of (setup_of x) (bytes_in y)) c.new-loaded.ensures.launch c.new-loaded.ensures.buffers in
     let l = launch_of (setup_of c.args.launch.now) (bytes_in c.args.buffers.now) in
     let group = c.loop-group.group in
-    let next : CameOfNext {L = g.row.L.Denot} l group c.in-Some.result.end (Ends c.in-Ends.outcome) c.join.new.self
+    let next : CameOfNext {L = g.row.L.Denot} l group c.in-Some.result.end (Ends c.in-Ends.end) c.join.new.self
     = subst (λ (end : JoinEnd g.row.L.Denot). CameOfNext l group c.in-Some.result.end end c.join.new.self) c.in-Ends.is
     (subst (λ (z : model.Launch). CameOfNext z group c.in-Some.result.end c.in_ok-log.field-0 c.join.new.self) same c.in_ok-log.ensures.came) in
-    next_ends g.row.L.Denot l group c.in-Some.result.end c.in-Ends.outcome c.join.new.self next
+    next_ends g.row.L.Denot l group c.in-Some.result.end c.in-Ends.end c.join.new.self next
 
 pub loop-group-preserved : goal.loop-group-preserved
 loop-group-preserved g c =

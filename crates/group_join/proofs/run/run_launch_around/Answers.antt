@@ -1,16 +1,17 @@
-use Rattle.std.proofs.Common.{◌≡◌, ℕ, ◌*◌, ◌≤◌, List, sym, ap, ap₂, ◌∙◌, subst, add-one}
+use Rattle.std.proofs.Common.{◌≡◌, ◌*◌, ◌≤◌, sym, ap, ap₂, ◌∙◌, subst, add-one}
 use Rattle.std.specs.Prelude.{Vec}
 use Rattle.std.specs.declared.alloc.Global.{Global}
 use Rattle.std.proofs.Math.Nat.{mul-le-mul_right}
 use Rattle.clmodel.specs.Launch as model
 use Rattle.clmodel.specs.Next.{launch_of}
-use Rattle.clmodel.specs.Outcome.{Concludes}
-use Rattle.clmodel.specs.declared.outcome.Outcome.TheVariants.{Clean}
 use Rattle.item_step.specs.Launches.{setup_of}
 use Rattle.spaces.specs.Buffers.{bytes_in}
+use Rattle.group_join.specs.Ends.{EndsAs}
 use Rattle.group_join.specs.JoinedGroups.{HoldsGroups, CameOfNext, HandsBack}
 use Rattle.access_list.specs.Log.{fresh_log}
 use Rattle.group_join.specs.declared.heap_log.HeapLog.{HeapLog}
+use Rattle.spaces.specs.Changes.{Changed}
+use Rattle.group_join.specs.declared.launch_end.LaunchEnd.TheVariants.{Clean}
 use Rattle.group_join.specs.declared.joined_groups.JoinEnd.{JoinEnd}
 use Rattle.group_join.specs.declared.joined_groups.JoinEnd.TheVariants.{Continues, Ends}
 use Rattle.group_join.proofs.Ending.{grouped_of, next_ends, next_held, concludes_clean}
@@ -37,10 +38,10 @@ pub returns-in-Ends : goal.returns-in-Ends
 returns-in-Ends g c =
     let same = ap₂ (λ x y. launch_of (setup_of x) (bytes_in y)) c.new-loaded.ensures.launch c.new-loaded.ensures.buffers in
     let l = launch_of (setup_of c.args.launch.now) (bytes_in c.args.buffers.now) in
-    let next : CameOfNext {L = HeapLog} l c.loop-group.group c.in_ok-result.result.end (Ends c.in-Ends.outcome) c.join.new.self
+    let next : CameOfNext {L = HeapLog} l c.loop-group.group c.in_ok-result.result.end (Ends c.in-Ends.end) c.join.new.self
     = subst (λ (end : JoinEnd HeapLog). CameOfNext l c.loop-group.group c.in_ok-result.result.end end c.join.new.self) c.in-Ends.is
     (subst (λ (z : model.Launch). CameOfNext z c.loop-group.group c.in_ok-result.result.end c.in_ok-used.field-0 c.join.new.self) same c.in_ok-used.ensures.came) in
-    next_ends HeapLog l c.loop-group.group c.in_ok-result.result.end c.in-Ends.outcome c.join.new.self next
+    next_ends HeapLog l c.loop-group.group c.in_ok-result.result.end c.in-Ends.end c.join.new.self next
 
 pub loop-group-preserved : goal.loop-group-preserved
 loop-group-preserved g c =
@@ -59,6 +60,6 @@ pub returns : goal.returns
 returns g c =
     let l = launch_of (setup_of c.args.launch.now) (bytes_in c.args.buffers.now) in
     let all : c.group_count-groups.result * l.group_size ≤ c.loop-group.group * l.group_size = mul-le-mul_right l.group_size c.loop-group-test.false in
-    subst (λ (z : Vec (List ℕ) Global). Concludes l (Clean z)) (sym c.into_contents.ensures)
+    subst (λ (z : Vec Changed Global). EndsAs l (Clean z)) (sym c.into_changes.ensures)
     (concludes_clean l c.loop-group.group c.loop-group.so_far c.laws.ensures (grouped_of (setup_of c.args.launch.now) (bytes_in c.args.buffers.now) c.requires c.group_count-groups.ensures.some) c.loop-group.invariant.held
     (subst (λ n. n ≤ c.loop-group.group * l.group_size) c.group_count-groups.ensures.count all))

@@ -6,6 +6,7 @@ use Rattle.clmodel.specs.declared.access.Access.{Access}
 use Rattle.clmodel.specs.declared.access.Region.TheVariants as region
 use Rattle.joining.specs.Memory.{wrote}
 use Rattle.shadow.specs.Seen.{IsFootprint, met_at}
+use Rattle.spaces.specs.Changes.{all_with_changes}
 use Rattle.spaces.specs.Overlay.{Overlaid}
 use Rattle.group_join.specs.Changes.{value_of, AreUpdates}
 use Rattle.group_join.specs.Meetings.{AreOthers}
@@ -20,7 +21,7 @@ loop-place-preserved g c =
     let last = g.L.GroupAccesses.has_last c.args.log.now in
     let own = map (λ (space : Overlaid). space.bytes) c.args.self.now.own.now in
     let value : List Access → ℕ → Access → ℕ → ℕ
-    = λ kept. value_of (map (λ (row : Bor (List ℕ)). row.now) c.args.self.now.first.now) c.args.self.now.lower.now (λ n b. wrote kept (region.Buffer n) b) own in
+    = λ kept. value_of (map (λ (row : Bor (List ℕ)). row.now) c.args.self.now.first.now) (all_with_changes (map (λ (row : Bor (List ℕ)). row.now) c.args.self.now.first.now) c.args.self.now.lower.now) (λ n b. wrote kept (region.Buffer n) b) own in
     let i = c.loop-place.place in
     let x = c.get-entry.result in
     let inside : i < length entries = omega (arith, c.loop-place-test.true, c.len-place-end.ensures) in
@@ -54,6 +55,6 @@ returns-clause-met g c = λ kept h others. λ k e b q. c.loop-place.invariant.mi
 pub returns-clause-updates : goal.returns-clause-updates
 returns-clause-updates g c = λ kept h.
     let own = map (λ (space : Overlaid). space.bytes) c.args.self.now.own.now in
-    let value : ℕ → Access → ℕ → ℕ = value_of (map (λ (row : Bor (List ℕ)). row.now) c.args.self.now.first.now) c.args.self.now.lower.now (λ n b. wrote kept (region.Buffer n) b) own in
+    let value : ℕ → Access → ℕ → ℕ = value_of (map (λ (row : Bor (List ℕ)). row.now) c.args.self.now.first.now) (all_with_changes (map (λ (row : Bor (List ℕ)). row.now) c.args.self.now.first.now) c.args.self.now.lower.now) (λ n b. wrote kept (region.Buffer n) b) own in
     subst (λ ys. AreUpdates value own 0 ys c.loop-place.updates.items)
     (take_all c.loop-place.place (g.L.GroupAccesses.listed c.args.log.now) (omega (arith, c.loop-place-test.false, c.len-place-end.ensures))) (c.loop-place.invariant.updates kept h)

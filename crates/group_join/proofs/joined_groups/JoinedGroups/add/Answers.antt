@@ -1,5 +1,7 @@
-use Rattle.std.proofs.Common.{◌≡◌, List, length, drop, sym, subst, arith}
+use Rattle.std.proofs.Common.{◌≡◌, ℕ, List, length, map, drop, sym, subst, arith}
+use denote.Bor.{Bor}
 use Rattle.access_list.specs.declared.log.Entry.{Entry}
+use Rattle.spaces.specs.Changes.{all_with_changes}
 use Rattle.group_join.specs.Changes.{AreChanged, changes_of}
 use Rattle.group_join.proofs.Joining.{front}
 use Rattle.group_join.proofs.joined_groups.JoinedGroups.add.Goals as goal
@@ -7,9 +9,13 @@ use Rattle.group_join.proofs.joined_groups.JoinedGroups.add.Goals as goal
 pub returns-clause-changed : goal.returns-clause-changed
 returns-clause-changed g c = λ value w there.
     let entries : List Entry = (g.L.GroupAccesses.listed c.args.log.now) in
-    let new = c.join_accesses.new.contents in
-    let old = c.args.self.now.contents in
-    let made : AreChanged c.as_mut_slice.result.now new (changes_of value entries) = c.in_ok-join_accesses.ensures.changed value w there in
-    let long : length new ≡ old.len = omega (arith, made.many, c.as_mut_slice.ensures.len) in
-    subst (λ z. AreChanged old.items z (changes_of value entries)) (sym (front old.len new (drop (length new) old.items) long))
-    (subst (λ z. AreChanged z new (changes_of value entries)) c.as_mut_slice.ensures.value made)
+    let new = c.join_accesses.new.changes in
+    let old = c.args.self.now.changes in
+    let rows : List (Bor (List ℕ)) → List (List ℕ) = map (λ row. row.now) in
+    let first = c.args.self.now.first.items in
+    let made : AreChanged (all_with_changes (rows c.as_slice.result.now) c.as_mut_slice.result.now) (all_with_changes (rows c.as_slice.result.now) new) (changes_of value entries)
+    = c.in_ok-join_accesses.ensures.changed value w there in
+    let long : length new ≡ old.len = omega (arith, c.join_accesses.ensures.many, c.as_mut_slice.ensures.len) in
+    subst (λ z. AreChanged (all_with_changes (rows first) old.items) (all_with_changes (rows first) z) (changes_of value entries)) (sym (front old.len new (drop (length new) old.items) long))
+    (subst (λ z. AreChanged (all_with_changes (rows first) z) (all_with_changes (rows first) new) (changes_of value entries)) c.as_mut_slice.ensures.value
+    (subst (λ z. AreChanged (all_with_changes (rows z) c.as_mut_slice.result.now) (all_with_changes (rows z) new) (changes_of value entries)) c.as_slice.ensures.value made))

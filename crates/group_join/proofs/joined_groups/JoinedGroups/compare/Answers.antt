@@ -4,6 +4,7 @@ use denote.Bor.{Bor}
 use Rattle.clmodel.specs.declared.access.Access.{Access}
 use Rattle.shadow.specs.Seen.{IsFootprint}
 use Rattle.group_join.specs.Comparing.{met_of}
+use Rattle.group_join.specs.JoinedGroups.{contents_of}
 use Rattle.group_join.specs.Meetings.{AreOthers, IsFirstMet}
 use Rattle.group_join.specs.declared.comparing.Compared.{Compared}
 use Rattle.spaces.specs.Overlay.{Overlaid}
@@ -12,7 +13,7 @@ use Rattle.group_join.proofs.joined_groups.JoinedGroups.compare.Goals as goal
 
 pub returns-then-group-eq0-clause-updates : goal.returns-then-group-eq0-clause-updates
 returns-then-group-eq0-clause-updates g c = λ kept h none.
-    updates_alone (map (λ (row : Bor (List ℕ)). row.now) c.args.self.now.first.items) c.args.self.now.contents.items (map (λ (space : Overlaid). space.bytes) c.args.spaces.now) kept
+    updates_alone (map (λ (row : Bor (List ℕ)). row.now) c.args.self.now.first.items) (contents_of c.args.self.now) (map (λ (space : Overlaid). space.bytes) c.args.spaces.now) kept
     (g.L.GroupAccesses.listed c.args.log.now) c.new.result.items c.new.ensures.items (none c.if-group-eq0.true)
 
 pub returns-clause-met : goal.returns-clause-met

@@ -1,9 +1,9 @@
 use Rattle.std.proofs.Common.{◌≡◌, List, sym, ap, ◌∙◌, subst}
 use Rattle.std.specs.Prelude.{Vec}
 use Rattle.std.specs.declared.alloc.Global.{Global}
-use Rattle.clmodel.specs.Outcome.{Concludes}
-use Rattle.clmodel.specs.declared.outcome.Outcome.TheVariants.{Faulted}
 use Rattle.clmodel.specs.declared.schedule.EventRun.{EventRun}
+use Rattle.group_join.specs.Ends.{EndsAs}
+use Rattle.group_join.specs.declared.launch_end.LaunchEnd.TheVariants.{Faulted}
 use Rattle.group_join.proofs.Ending.{concludes_fault}
 use Rattle.group_join.proofs.joined_groups.JoinedGroups.faulted.Goals as goal
 
@@ -11,4 +11,4 @@ pub returns : goal.returns
 returns c = λ l stopped.
     let old = c.args.self.now.runs.items in
     let runs : c.new-2.result ≡ old = c.new-2.ensures ∙ ap (λ (v : Vec EventRun Global). v.items) c.replace-runs.ensures.value in
-    subst (λ (z : List EventRun). Concludes l (Faulted c.args.report z)) (sym runs) (concludes_fault l c.args.report old stopped)
+    subst (λ (z : List EventRun). EndsAs l (Faulted c.args.report z)) (sym runs) (concludes_fault l c.args.report old stopped)

@@ -8,6 +8,7 @@ use Rattle.access_list.specs.Log.{Log}
 use Rattle.spaces.specs.Overlay.{Overlaid}
 use Rattle.group_join.specs.Changes.{AreUpdates, value_of}
 use Rattle.group_join.specs.Comparing.{met_of, KeepsUpdates}
+use Rattle.group_join.specs.JoinedGroups.{contents_of}
 use Rattle.group_join.specs.declared.comparing.Compared.{Compared}
 use Rattle.group_join.proofs.Joining.{IsGiven, Changes, Finds, FindsIn, finds_whole, done_follows, done_meets, done_added}
 use Rattle.group_join.proofs.joined_groups.JoinedGroups.join_done.Goals as goal
@@ -47,12 +48,12 @@ returns-in_ok-add-in-Apart g c =
     let before = c.args.self.now in
     let own = map (λ (space : Overlaid). space.bytes) c.args.spaces.now in
     let value : List Access → ℕ → Access → ℕ → ℕ
-    = λ kept. value_of (map (λ (row : Bor (List ℕ)). row.now) before.first.items) before.contents.items (λ n b. wrote kept (region.Buffer n) b) own in
+    = λ kept. value_of (map (λ (row : Bor (List ℕ)). row.now) before.first.items) (contents_of before) (λ n b. wrote kept (region.Buffer n) b) own in
     let given : IsGiven l c.args.place.group before c.args.runs.now = record { laws = c.laws.ensures; grouped = c.requires.grouped; there = c.requires.there; holds = c.requires.so_far; merged = c.requires.merged } in
     let found : FindsIn c.uniform.result c.args.place.group before last listed None
     = subst (λ (found : Compared). FindsIn c.uniform.result c.args.place.group before last listed (met_of found)) c.in-Apart.is c.in_ok-met.ensures.met in
     let finds : Finds l.uniform c.args.place.group before log None = finds_whole l c.args.place.group before last listed log None c.uniform.ensures stand found in
-    let changes : Changes c.args.place.group before c.args.spaces.now listed c.add.new.self.contents.items
+    let changes : Changes c.args.place.group before c.args.spaces.now listed (contents_of c.add.new.self)
     = λ kept k none w.
     let updates : AreUpdates (value kept) own 0 listed c.in-Apart.updates.items = subst (λ (found : Compared). KeepsUpdates (value kept) own listed found) c.in-Apart.is (c.in_ok-met.ensures.updates kept k none) in
     c.in_ok-add-in-Apart.ensures.changed (value kept) w (subst (AreUpdates (value kept) own 0 listed) (sym c.as_slice.ensures.value) updates) in

@@ -1,0 +1,15 @@
+use Rattle.std.proofs.Common.{◌≡◌, ℕ, List, map, subst, rules}
+use denote.Bor.{Bor}
+use Rattle.clmodel.specs.Next.{launch_of}
+use Rattle.item_step.specs.Launches.{setup_of}
+use Rattle.spaces.specs.Buffers.{bytes_in}
+use Rattle.spaces.specs.Changes.{all_with_changes}
+use Rattle.group_join.proofs.Joining.{nothing_joined}
+use Rattle.group_join.proofs.joined_groups.JoinedGroups.new.Goals as goal
+
+pub returns : goal.returns
+returns c =
+    let l = launch_of (setup_of c.args.launch.now) (bytes_in c.args.buffers.now) in
+    let rows : List (Bor (List ℕ)) → List (List ℕ) = map (λ row. row.now) in
+    nothing_joined l _ (search rules)
+    (subst (λ (z : List (Bor (List ℕ))). all_with_changes (rows z) c.in_ok-changes.changes.items ≡ rows z) c.as_slice.ensures.value c.in_ok-changes.ensures) (search rules) (search rules)
