@@ -15,6 +15,7 @@ mod result;
 mod running;
 mod runs;
 
-pub use faults::conflict_fault;
+pub use faults::{bounds_fault, conflict_fault, fault_of, unset_fault};
 pub use result::{GroupEnd, GroupResult};
 pub use running::run_group;
+pub use runs::Runs;
