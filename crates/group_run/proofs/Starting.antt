@@ -189,7 +189,8 @@ cells_are : (ys : List (Option ℕ)) → cells_from (cells_of ys) 0 (length ys) 
 cells_are [] = refl
 cells_are (y ∷ ys) = ap (λ z. y ∷ z) (shifted y ys 0 (length ys) ∙ cells_are ys)
 
-contents_are :
+-- what spaces of these sizes and cells hold is what a memory leaves in its buffers from `k` on
+pub contents_are :
     {G : Type 0} (bytes : G → List (Option ℕ)) (m : Memory) (k : ℕ) (bs : List (List ℕ)) (xs : List G) → length xs ≡ length bs
     → ((n : ℕ) (x : G) → slice_get xs n ≡ Some x → (length (bytes x) ≡ length (slice_index_or bs n [])) × (cells_of (bytes x) ≡ m (region.Buffer (k + n))))
     → contents m k bs ≡ map bytes xs
