@@ -1,5 +1,5 @@
 use Rattle.std.proofs.Common.{◌≡◌, ℕ, List, Bor, get_or, length, map, sym, arith}
-use Rattle.std.proofs.lemmas.List.{length-map, get_or-map}
+use Rattle.std.proofs.lemmas.List.{length-map, get_or_default, get_or-map}
 use Rattle.group_join.proofs.Zipped.{no_row, word_at, word_past}
 use Rattle.group_join.proofs.changes.Before.lower_word.Goals as goal
 
@@ -11,8 +11,10 @@ returns-then-place-count c =
     let many : length rows ≡ length before.first.now = length-map before.first.now now in
     let n = c.args.number in
     let row = (get_or before.first.now n no_row).now in
-    word_at rows before.lower.now n c.args.at row c.index-self-place.result c.changed_word.result (omega arith) (omega arith)
-    (sym (get_or-map now before.first.now n no_row row (omega arith))) c.index-self-place.is c.changed_word.ensures
+    let one = get_or before.lower.now n c.index-self-place.result in
+    word_at rows before.lower.now n c.args.at row one c.changed_word.result (omega arith) (omega arith)
+    (sym (get_or-map now before.first.now n no_row row (omega arith))) (get_or_default before.lower.now n c.index-self-place.result one (omega arith))
+    c.changed_word.ensures
 
 pub returns-else-place-count : goal.returns-else-place-count
 returns-else-place-count c =
