@@ -1,3 +1,3 @@
-mod Lines
+mod Added
 mod OneLine
 mod Rendering

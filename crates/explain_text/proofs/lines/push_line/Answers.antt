@@ -1,5 +1,5 @@
 use Rattle.std.proofs.Common.{string_bytes}
-use Rattle.explain_text.proofs.Lines.{line_added}
+use Rattle.explain_text.proofs.Added.{line_added}
 use Rattle.explain_text.proofs.lines.push_line.Goals as goal
 
 pub returns : goal.returns

@@ -1,5 +1,5 @@
 use Rattle.std.proofs.Common.{string_bytes}
-use Rattle.explain_text.proofs.Lines.{lines_more, no_lines}
+use Rattle.explain_text.proofs.Added.{lines_more, no_lines}
 use Rattle.explain_text.proofs.quotes.push_loops.Goals as goal
 
 pub loop-number-init : goal.loop-number-init

@@ -2,7 +2,7 @@ use Rattle.std.proofs.Common.{◌+◌, List, length, string_bytes, subst}
 use Rattle.explanation.specs.declared.places.CallSite.{CallSite}
 use Rattle.explanation.specs.declared.places.LoopSite.{LoopSite}
 use Rattle.explain_text.specs.Texts.{AddsLines}
-use Rattle.explain_text.proofs.Lines.{lines_alone, lines_more}
+use Rattle.explain_text.proofs.Added.{lines_alone, lines_more}
 use Rattle.explain_text.proofs.quotes.quote_of.Goals as goal
 
 pub returns : goal.returns

@@ -1,5 +1,5 @@
 use Rattle.std.proofs.Common.{string_bytes}
-use Rattle.explain_text.proofs.Lines.{lines_more}
+use Rattle.explain_text.proofs.Added.{lines_more}
 use Rattle.explain_text.proofs.quotes.write_quote.Goals as goal
 
 pub returns : goal.returns

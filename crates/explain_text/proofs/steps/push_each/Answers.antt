@@ -1,5 +1,5 @@
 use Rattle.std.proofs.Common.{◌+◌, string_bytes}
-use Rattle.explain_text.proofs.Lines.{no_steps, steps_more}
+use Rattle.explain_text.proofs.Added.{no_steps, steps_more}
 use Rattle.explain_text.proofs.steps.push_each.Goals as goal
 
 pub loop-at-init : goal.loop-at-init

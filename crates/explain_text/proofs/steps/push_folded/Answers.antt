@@ -1,5 +1,5 @@
 use Rattle.std.proofs.Common.{◌≡◌, ◌+◌, ◌-◌, string_bytes, arith}
-use Rattle.explain_text.proofs.Lines.{more_added, steps_more, steps_same}
+use Rattle.explain_text.proofs.Added.{more_added, steps_more, steps_same}
 use Rattle.explain_text.proofs.steps.push_folded.Goals as goal
 
 pub returns : goal.returns

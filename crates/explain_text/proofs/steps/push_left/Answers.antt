@@ -1,5 +1,5 @@
 use Rattle.std.proofs.Common.{◌≡◌, ◌+◌, string_bytes, refl, arith}
-use Rattle.explain_text.proofs.Lines.{more_added, no_steps, steps_same}
+use Rattle.explain_text.proofs.Added.{more_added, no_steps, steps_same}
 use Rattle.explain_text.proofs.steps.push_left.Goals as goal
 
 pub returns : goal.returns

@@ -1,5 +1,5 @@
 use Rattle.std.proofs.Common.{string_bytes}
-use Rattle.explain_text.proofs.Lines.{step_added}
+use Rattle.explain_text.proofs.Added.{step_added}
 use Rattle.explain_text.proofs.steps.push_step.Goals as goal
 
 pub returns : goal.returns

@@ -1,7 +1,7 @@
 use Rattle.std.proofs.Common.{◌≡◌, ◌+◌, ◌++◌, ℕ, List, length, string_bytes, ap, ◌∙◌, append_assoc, subst}
 use Rattle.explanation.specs.declared.steps.ToldEvent.{ToldEvent}
 use Rattle.explain_text.specs.Texts.{AddsShown}
-use Rattle.explain_text.proofs.Lines.{steps_more}
+use Rattle.explain_text.proofs.Added.{steps_more}
 use Rattle.explain_text.proofs.steps.steps_text.Goals as goal
 
 pub returns : goal.returns

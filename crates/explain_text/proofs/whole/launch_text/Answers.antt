@@ -1,7 +1,7 @@
 use Rattle.std.proofs.Common.{◌+◌, List, length, string_bytes, subst}
 use Rattle.explanation.specs.declared.told.ParameterFacts.{ParameterFacts}
 use Rattle.explain_text.specs.Texts.{AddsLines, parameters_of}
-use Rattle.explain_text.proofs.Lines.{lines_alone, lines_more}
+use Rattle.explain_text.proofs.Added.{lines_alone, lines_more}
 use Rattle.explain_text.proofs.whole.launch_text.Goals as goal
 
 pub returns : goal.returns
