@@ -25,7 +25,7 @@ is_release_of group (event.Release other) = other == group
 
 -- what an item does: it makes an access of a kind, waits at a barrier in these turns of the loops round it, has ended,
 -- or can't go on
-data pub Deed : Type 0 where
+pub data Deed : Type 0 where
   Accesses : AccessKind → Deed
   WaitsAt : ℕ → List ℕ → Deed
   HasEnded : Deed

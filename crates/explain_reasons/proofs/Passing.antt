@@ -1,5 +1,5 @@
 -- Barriers between two accesses, and what accesses leave.
-use Rattle.std.proofs.Common.{◌≡◌, ◌<◌, ◌≤◌, ◌&&◌, ℕ, min, max, nat_lt, Bool, true, false, Option, None, Some, List, count_by, length, slice_get, refl, sym, ap, ◌∙◌, subst, eqb-true, eq-eqb, arith}
+use Rattle.std.proofs.Common.{◌≡◌, ◌<◌, ◌≤◌, ◌&&◌, ◌+◌, ℕ, if◌then◌else◌, below_more, min, max, nat_lt, Bool, true, false, Option, None, Some, List, count_by, length, slice_get, refl, sym, ap, ◌∙◌, subst, eqb-true, eq-eqb, arith}
 use Rattle.std.specs.Option.{IfNone, IfSome, option_map_or}
 use Rattle.std.proofs.lemmas.Bool.{and_from, and_parts, false≢true, lt-ltb, ltb-true}
 use Rattle.std.proofs.lemmas.Option.{slice_get_within}
@@ -17,6 +17,16 @@ none_some x e = cc
 
 some_same : {A : Type 0} (x y : A) → Some x ≡ Some y → x ≡ y
 some_same x y e = cc
+
+last_before : (p : ℕ → Bool) (n : ℕ) (o : Option ℕ) → p n ≡ false → IsLastEvent p n o → IsLastEvent p (n + 1) o
+last_before p n None h i = below_more (λ k. p k ≡ false) n i h
+last_before p n (Some last) h i =
+    (omega (arith, i.0), i.1, λ k a b. below_more (λ j. last < j → p j ≡ false) n (λ j x y. i.2 j y x) (λ _. h) k b a)
+
+-- the last one, with one more
+pub last_more : (p : ℕ → Bool) (n : ℕ) (b : Bool) (old new : Option ℕ) → b ≡ p n → new ≡ (if b then Some n else old) → IsLastEvent p n old → IsLastEvent p (n + 1) new
+last_more p n true old new h e i = subst (IsLastEvent p (n + 1)) (sym e) (omega arith, sym h, λ k a b. absurd (omega arith))
+last_more p n false old new h e i = subst (IsLastEvent p (n + 1)) (sym e) (last_before p n old (sym h) i)
 
 -- one event made an access
 made_once : (marks : List Mark) (access m n : ℕ) → MadeAccess marks access m → MadeAccess marks access n → m ≡ n
@@ -77,7 +87,7 @@ last_between marks pair group from to (Some n) first second i =
     let p = passing marks group from to n i.1 in (
       record { from = from; to = to; first = first; second = second; behind = p.0; before = p.1; releases = p.2 },
       λ later behind b.
-      never marks group from to later (between_passes marks pair group from to later first second b) (i.2 later behind (release_within marks group later b.releases)),
+          never marks group from to later (between_passes marks pair group from to later first second b) (i.2 later behind (release_within marks group later b.releases)),
     )
 
 pub none_between :

@@ -33,7 +33,7 @@ pub step_more :
     → AllZip (λ made step. IsStep made step) (events_told 0 (xs ++ x ∷ []) touches) new
 step_more xs x touches count touch old new counted at told added =
     let next : told_as x.event x touch ≡ told_as x.event x (slice_get touches (count_by (λ mark. is_access mark.event) xs)) =
-        ap (λ o. told_as x.event x o) (at ∙ ap (λ n. slice_get touches n) counted) in
+    ap (λ o. told_as x.event x o) (at ∙ ap (λ n. slice_get touches n) counted) in
     let all = sym (events_more 0 xs x touches) in
     subst (λ (l : List ToldEvent). AllZip (λ made step. IsStep made step) (events_told 0 (xs ++ x ∷ []) touches) l) (sym added.2)
     (subst (λ l. AllZip (λ made step. IsStep made step) l (old ++ added.0)) all

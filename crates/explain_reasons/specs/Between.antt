@@ -1,6 +1,6 @@
 -- What stands between the two accesses of a conflict, and what they leave (own; barriers are those of OpenCL 1.2,
 -- section 6.12.8).
-use Rattle.std.specs.Prelude.{◌≡◌, ◌<◌, ◌&&◌, ⊥, ℕ, Bool, false, min, max, nat_lt, Some, List, slice_get}
+use Rattle.std.specs.Prelude.{◌≡◌, ◌<◌, ◌&&◌, ℕ, Bool, false, min, max, nat_lt, Some, List, slice_get}
 use Rattle.std.specs.Option.{option_map_or}
 use Rattle.clmodel.specs.declared.schedule.Event.TheVariants as event
 use Rattle.explain_items.specs.Deeds.{is_release_of}

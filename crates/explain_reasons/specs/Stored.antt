@@ -1,5 +1,5 @@
 -- Which bytes of an object were set beside one that is unset (own).
-use Rattle.std.specs.Prelude.{◌≡◌, ◌<◌, ◌≤◌, ◌-◌, ⊥, ℕ, nat_lt, Option, None, Some, List, slice_get, if◌then◌else◌}
+use Rattle.std.specs.Prelude.{◌≡◌, ◌<◌, ◌≤◌, ◌-◌, ℕ, nat_lt, Option, None, Some, List, slice_get, if◌then◌else◌}
 use Rattle.std.specs.Option.{IfNone, IfSome}
 use Rattle.clmodel.specs.declared.access.AccessKind.TheVariants as kind
 use Rattle.clmodel.specs.declared.fault.Location.{Location}

@@ -1,7 +1,7 @@
 //! Why a fault comes about.
 #![tactic(auto)]
 
-ghost use Rattle.std.specs.Prelude.{◌≡◌, ◌/◌, ⊥, ℕ, [], ◌∷◌, Some, length, string_bytes, IfOk, IfNone, IfSome, if◌then◌else◌};
+ghost use Rattle.std.specs.Prelude.{◌≡◌, ◌/◌, ℕ, [], ◌∷◌, Some, length, string_bytes, IfOk, IfNone, IfSome, if◌then◌else◌};
 ghost use Rattle.std.specs.Bool.{Decides};
 ghost use Rattle.std.specs.Option.{option_map};
 ghost use Rattle.clmodel.specs.Setup.{group_items};
@@ -64,8 +64,7 @@ fn barrier_of(marks: &[Mark], pair: Pair, group: u32) -> Option<usize>
     let (Some(from), Some(to)) = (
         event_of(marks, pair.first.min(pair.second)),
         event_of(marks, pair.first.max(pair.second)),
-    )
-    else {
+    ) else {
         return None;
     };
     release_between(marks, group, from, to)
@@ -237,11 +236,7 @@ fn elements_of(name: String, bytes: u64, width: u64) -> Reason
 }
 
 /// Why an element is outside of a private array.
-fn private_reason(
-    context: &Context<'_>,
-    played: &Played,
-    name: &Name,
-) -> Result<Reason, AllocError>
+fn private_reason(context: &Context<'_>, played: &Played, name: &Name) -> Result<Reason, AllocError>
     ensures { IfOk result (IsPrivate name.now) }
 {
     match array_of(context, played.first.stand.as_ref(), name)? {

@@ -104,7 +104,11 @@ fn with_event(accesses: usize, event: Event) -> usize
 fn first_of(marks: &[Mark], most: usize) -> &[Mark]
     ensures { result.now ≡ take most marks.now }
 {
-    if most < marks.len() { &marks[..most] } else { marks }
+    if most < marks.len() {
+        &marks[..most]
+    } else {
+        marks
+    }
 }
 
 /// The first steps of what was played. An error is out of memory.

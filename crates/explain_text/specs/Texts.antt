@@ -1,6 +1,6 @@
 -- The text of an explanation (own): its ids, places, sentences and schedule as they are told, and the numbers of its
 -- steps. The rest is worded in any way, in lines that have no line feed of their own.
-use Rattle.std.specs.Prelude.{◌≡◌, ◌≢◌, ◌⊎◌, ⊥, ℕ, ◌==◌, ◌+◌, ◌-◌, ◌^◌, All, false, Option, None, Some, List, [], ◌∷◌, ◌++◌, length, codes, decimal, string_bytes, if◌then◌else◌}
+use Rattle.std.specs.Prelude.{◌≡◌, ◌≢◌, ◌⊎◌, ℕ, ◌==◌, ◌+◌, ◌-◌, ◌^◌, All, false, Option, None, Some, List, [], ◌∷◌, ◌++◌, length, codes, decimal, string_bytes, if◌then◌else◌}
 use Rattle.std.specs.Fmt.{format_spec, padded_integral}
 use Rattle.std.specs.List.{AllZip, flat_map}
 use Rattle.explanation.specs.declared.places.Spot.{Spot}
@@ -112,7 +112,7 @@ abbrev pub more_line : ℕ → List ℕ
 more_line count = codes "      ..  " ++ decimal count ++ codes " more\n"
 
 -- a step that is told in words behind its number, or steps that are only counted
-data pub Shown : Type 0 where
+pub data Shown : Type 0 where
   Step : ℕ → List ℕ → Shown
   More : ℕ → Shown
 
