@@ -1,6 +1,6 @@
 -- Why a fault comes about: a reason is told only where it holds, and none that stands behind another that holds (own;
 -- what orders accesses is that of OpenCL 1.2, sections 3.3.1 and 6.12.8).
-use Rattle.std.specs.Prelude.{◌≡◌, ◌≢◌, ◌⊎◌, ◌==◌, ◌/◌, ℕ, ℤ, Option, None, Some, List, [], ◌∷◌, string_bytes, if◌then◌else◌}
+use Rattle.std.specs.Prelude.{◌≡◌, ◌≢◌, ◌⊎◌, ◌==◌, ◌/◌, ⊤, ℕ, Option, None, Some, List, [], ◌∷◌, string_bytes, if◌then◌else◌}
 use Rattle.std.specs.Option.{option_map}
 use Rattle.std.specs.Str.Lossy.{utf8_lossy}
 use Rattle.clmodel.specs.declared.access.AccessKind.{AccessKind}

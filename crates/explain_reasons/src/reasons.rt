@@ -61,10 +61,10 @@ fn barrier_of(marks: &[Mark], pair: Pair, group: u32) -> Option<usize>
     ensures some { IfSome result (IsLastBetween marks.now pair group) }
     ensures none { IfNone result ((number : ℕ) → IsBetween marks.now pair group number → ⊥) }
 {
-    let (Some(from), Some(to)) = (
-        event_of(marks, pair.first.min(pair.second)),
-        event_of(marks, pair.first.max(pair.second)),
-    ) else {
+    let Some(from) = event_of(marks, pair.first.min(pair.second)) else {
+        return None;
+    };
+    let Some(to) = event_of(marks, pair.first.max(pair.second)) else {
         return None;
     };
     release_between(marks, group, from, to)
