@@ -1,0 +1,4 @@
+mod Mattering
+mod Nearest
+mod Passing
+mod Told
