@@ -1,14 +1,13 @@
 //! A command that was refused, explained.
 #![tactic(auto)]
 
-ghost use Rattle.std.specs.Prelude.{◌≡◌, ◌<◌, Some, true, length, IfOk, IfSome, slice_get, string_bytes};
+ghost use Rattle.std.specs.Prelude.{◌≡◌, ◌<◌, Some, length, IfOk, IfSome, slice_get, string_bytes};
 ghost use Rattle.device.specs.Machine.{machine_of};
 ghost use Rattle.explain_refusals.specs.Reasons.{Holds};
 ghost use Rattle.host_commands.specs.declared.command.Command.{Command as CommandOf};
 ghost use Rattle.simfile.specs.Places.{AreAt};
 ghost use Rattle.explaining.specs.Refusing.{IsRefusalText, TellsRefusal};
 
-use crate::answers::Answer;
 use crate::facts::Format;
 use crate::told::{PerformedScript, place_of};
 use crate::walks::RefusedCase;
@@ -59,12 +58,11 @@ pub(crate) fn explain_refused(
     device: &Device,
     performed: &PerformedScript<'_>,
     case: RefusedCase,
-) -> Result<Answer, AllocError>
+) -> Result<String, AllocError>
     requires placed { AreAt performed.now.given.script.now performed.now.commands.now performed.now.places.now }
     requires within { case.ticket < length performed.now.commands.now }
-    ensures yes { IfOk result (λ answer. answer.yes ≡ true) }
-    ensures says { IfOk result (λ answer. TellsRefusal performed.now.options.configuration.limits (machine_of device.now).buffers performed.now.options.format
-        performed.now.given.script.now performed.now.commands.now case.ticket case.refusal (string_bytes answer.text)) }
+    ensures { IfOk result (λ text. TellsRefusal performed.now.options.configuration.limits (machine_of device.now).buffers performed.now.options.format
+        performed.now.given.script.now performed.now.commands.now case.ticket case.refusal (string_bytes text)) }
 {
     let found = reason_at(alloc, device, performed, case)?;
     let place = place_of(performed.places, case.ticket);
@@ -76,6 +74,5 @@ pub(crate) fn explain_refused(
         refusal: case.refusal,
     };
     let told = refused_command(alloc, &at, found)?;
-    let text = written(alloc, &told, performed.options.format)?;
-    Ok(Answer { text, yes: true })
+    written(alloc, &told, performed.options.format)
 }
