@@ -1,5 +1,5 @@
 -- Each reply of a script that is a fault or a refusal, told.
-use Rattle.std.proofs.Common.{◌≡◌, ◌+◌, ◌++◌, ◌∷◌, [], ◌∙◌, ℕ, suc, Bool, true, false, ⊎, List, Some, length, codes, inl, inr, refl, sym, ap, subst, append_assoc, arith}
+use Rattle.std.proofs.Common.{◌≡◌, ◌+◌, ◌++◌, ◌∷◌, [], ◌∙◌, ℕ, suc, Bool, true, false, ◌⊎◌, List, Some, length, codes, inl, inr, refl, sym, ap, subst, append_assoc, arith}
 use Rattle.std.specs.Prelude.{MatchBool, slice_get}
 use Rattle.std.proofs.lemmas.Bool.{false≢true}
 use Rattle.std.proofs.lemmas.List.{append-nil}
@@ -72,7 +72,7 @@ goes_told options script commands ticket old c new r text met step memory on = r
   replied = step;
   memory = memory;
   part = [];
-  tells = subst (λ b. MatchBool b ([] ≡ []) (IsHeaded options script commands new ticket r [])) (sym on) refl;
+  tells = subst (λ b. MatchBool b (◌≡◌ {A = List ℕ} [] []) (IsHeaded options script commands new ticket r [])) (sym on) refl;
   added = sym (append-nil text);
   stays = λ e. refl;
   turns = λ e. absurd (false≢true (sym e ∙ on));
