@@ -145,11 +145,12 @@ fn options_of(wish: ExplainWish) -> ExplainOptions {
         },
         configuration: wish.configuration,
         as_given: wish.as_given,
+        all: wish.all,
     }
 }
 
-/// Explains the fault of a schedule file, or without one the first fault of a script of this name, with the explanation
-/// on standard output.
+/// Explains the fault of a schedule file, or without one the first fault of a script of this name or all of them, with
+/// what is told on standard output.
 fn explain_fault<R: Files + io::Input + Print + AllocGlobal>(
     rt: &R,
     name: &str,
