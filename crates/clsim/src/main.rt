@@ -5,11 +5,12 @@
 //! What stands on standard error is only tested.
 #![tactic(auto)]
 
-ghost use Rattle.std.specs.Prelude.{◌≡◌, ◌≤◌, IfOk};
+ghost use Rattle.std.specs.Prelude.{◌≡◌, ◌≤◌, IfOk, if◌then◌else◌};
 ghost use Rattle.std.specs.Process.{exit_status};
 ghost use Rattle.cli.specs.Checking.{source_status_of};
 ghost use Rattle.cli.specs.Replaying.{replay_status_of};
 ghost use Rattle.cli.specs.Session.{status_of};
+ghost use Rattle.clsim.specs.Files.{IsWished};
 ghost use Rattle.wide_text.specs.Widened.{status_of as wide_status_of};
 
 mod explain_files;
@@ -135,14 +136,19 @@ fn replay_schedule<R: Files + io::Input + Print + AllocGlobal>(
     outcome
 }
 
+/// The format of an explanation.
+fn format_of(json: bool) -> Format
+    ensures { result ≡ (if json then Format.Json else Format.Text) }
+{
+    if json { Format::Json } else { Format::Text }
+}
+
 /// How an explanation is made, as it is wished.
-fn options_of(wish: ExplainWish) -> ExplainOptions {
+fn options_of(wish: ExplainWish) -> ExplainOptions
+    ensures { IsWished wish result }
+{
     ExplainOptions {
-        format: if wish.json {
-            Format::Json
-        } else {
-            Format::Text
-        },
+        format: format_of(wish.json),
         configuration: wish.configuration,
         as_given: wish.as_given,
         all: wish.all,
