@@ -1,5 +1,5 @@
 -- From the run of a launch to what the machine says of it.
-use Rattle.std.proofs.Common.{◌≡◌, ℕ, ◌*◌, ◌%◌, ◌<◌, ◌≤◌, ◌^◌, List, map, Some, Option, refl, sym, subst, arith}
+use Rattle.std.proofs.Common.{◌≡◌, ℕ, ◌%◌, ◌<◌, ◌≤◌, ◌^◌, List, map, Some, Option, refl, sym, subst, arith}
 use Rattle.clmodel.specs.Launch.{Launch}
 use Rattle.clmodel.specs.Run.{State, Events, left}
 use Rattle.clmodel.specs.Law.{Determinacy, CleanIsComplete, ReportIsShown, CleanWith, Reaches, RunsClean}

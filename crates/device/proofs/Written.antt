@@ -76,11 +76,12 @@ buffers_apart setup = names_apart [] setup.arguments tt
 -- what has another name stays
 found_other : (es : Table (List ℕ)) (name other value : List ℕ) → same_text name other ≡ false → find (set_value (is name) es value) other ≡ find es other
 found_other [] name other value h = refl
-found_other (e ∷ es) name other value h = go (is name e.0) refl
+found_other (e ∷ es) name other value h = go (is name e.0) refl (found_other es name other value h)
   where
-    go : (b : Bool) → is name e.0 ≡ b → find (cond b ((e.0, value) ∷ es) (e ∷ set_value (is name) es value)) other ≡ cond (is other e.0) (Some e.1) (find es other)
-    go false p = ap (cond (is other e.0) (Some e.1)) (found_other es name other value h)
-    go true p =
+    go : (b : Bool) → is name e.0 ≡ b → find (set_value (is name) es value) other ≡ find es other
+        → find (cond b ((e.0, value) ∷ es) (e ∷ set_value (is name) es value)) other ≡ cond (is other e.0) (Some e.1) (find es other)
+    go false p rest = ap (cond (is other e.0) (Some e.1)) rest
+    go true p rest =
         let same : name ≡ e.0 = (bytes_eq-Decides name e.0).0 p in
         let apart : is other e.0 ≡ false = ap (is other) (sym same) ∙ turned name other h in
         ap (λ b. cond b (Some value) (find es other)) apart ∙ sym (ap (λ b. cond b (Some e.1) (find es other)) apart)

@@ -6,7 +6,7 @@ use Rattle.device.proofs.Device.conclude.Goals as goal
 pub returns-in-Clean : goal.returns-in-Clean
 returns-in-Clean c = λ name range comes.
     clean_answers (machine_of c.args.self.now) _ name range c.args.launched c.in-Clean.changes c.determinacy.ensures c.clean_is_complete.ensures
-    comes c.in-Clean.is (rw (c.write_all_changes.ensures, c.as_slice.ensures.value, c.as_slice-2.ensures.value) refl)
+    comes c.in-Clean.is (rw (c.write_all_changes.ensures, c.as_slice.ensures.value, c.as_slice-in-Clean.ensures.value) refl)
 
 pub returns : goal.returns
 returns c = λ name range comes.
