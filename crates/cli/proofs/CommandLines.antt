@@ -19,7 +19,7 @@ use Rattle.cli.specs.declared.command_line.Invocation.{Invocation}
 use Rattle.cli.specs.declared.command_line.Invocation.TheVariants as invocation
 use Rattle.limits.specs.declared.Configuration.{Configuration}
 use Rattle.limits.specs.declared.Limits.{Limits}
-use Rattle.cli.specs.CommandLine.{AreForms, IsArgument, IsForm, all_forms, alone, as_given, form_of, needed, number, option, program, program_of, some_schedule, AreLimits, GivesBudget, GivesConfiguration, GivesFormat, GivesLimits, GivesWorkers, IsFormat, IsNumber, AsksBy, IsRefused, Reads, Holds}
+use Rattle.cli.specs.CommandLine.{AreForms, IsArgument, IsForm, all_forms, alone, flag, form_of, needed, number, option, program, program_of, some_schedule, AreLimits, GivesBudget, GivesConfiguration, GivesFormat, GivesLimits, GivesWorkers, IsFormat, IsNumber, AsksBy, IsRefused, Reads, Holds}
 
 -- what holds of the value that was made
 pub of_made : {T E : Type 0} (P : T → Type 0) (made : Result T E) (x : T) → made ≡ Ok x → IfOk made P → P x
@@ -61,12 +61,12 @@ are_program forms are = are.are
 
 -- the matches of the program are known
 pub simple_program : is_simple program ≡ true
-unfolding program program_of form_of needed option number some_schedule as_given
+unfolding program program_of form_of needed option number some_schedule flag
 simple_program = refl
 
 -- so are the faults of its words
 pub free_program : is_simple_and_free program ≡ true
-unfolding program program_of form_of needed option number some_schedule as_given
+unfolding program program_of form_of needed option number some_schedule flag
 free_program = refl
 
 -- no option was read where it isn't there

@@ -84,9 +84,17 @@ limits = option (codes "limits")
 abbrev pub format : Rule
 format = option (codes "format")
 
+-- an option without a value
+unfoldable pub flag : Text → Rule
+flag name = record (new_rule name) { long = Some name; action = Some action.SetTrue }
+
 -- `--as-given`
-unfoldable pub as_given : Rule
-as_given = record (new_rule (codes "as-given")) { long = Some (codes "as-given"); action = Some action.SetTrue }
+abbrev pub as_given : Rule
+as_given = flag (codes "as-given")
+
+-- `--all`
+abbrev pub all : Rule
+all = flag (codes "all")
 
 -- what a device is made with: `--budget N` and `--limits LIMITS`
 abbrev pub configured : List Rule
@@ -120,9 +128,9 @@ serve_arguments = working
 abbrev pub explained : List Rule
 explained = script ∷ some_schedule ∷ format ∷ []
 
--- `explain SCRIPT [SCHEDULE] [--format text|json] [--budget N] [--limits LIMITS] [--as-given]`
+-- `explain SCRIPT [SCHEDULE] [--format text|json] [--budget N] [--limits LIMITS] [--as-given] [--all]`
 abbrev pub explain_arguments : List Rule
-explain_arguments = script ∷ some_schedule ∷ format ∷ budget ∷ limits ∷ as_given ∷ []
+explain_arguments = script ∷ some_schedule ∷ format ∷ budget ∷ limits ∷ as_given ∷ all ∷ []
 
 -- `version [--format text|json]`
 abbrev pub version_arguments : List Rule
@@ -202,8 +210,8 @@ pub record IsFlag (found : Option Text) (given : Bool) : Type 0 where
   pub absent : found ≡ Some (codes "false") → given ≡ false
   pub unknown : found ≡ None → given ≡ false
 
-abbrev pub GivesFlag : List Row → Bool → Type 0
-GivesFlag rows given = IsFlag (one_of (codes "as-given") rows) given
+abbrev pub GivesFlag : Text → List Row → Bool → Type 0
+GivesFlag name rows given = IsFlag (one_of name rows) given
 
 -- the name of the form by which this is asked for
 abbrev pub form_name : Invocation → Text
@@ -230,7 +238,7 @@ Gives rows (invocation.Replay script schedule configuration) =
 Gives rows (invocation.Serve options) = GivesWorkers rows options.workers × GivesConfiguration rows options.configuration
 Gives rows (invocation.Explain script schedule wish) =
     (first_of (codes "SCRIPT") rows ≡ Some script.now) × (first_of (codes "SCHEDULE") rows ≡ option_map (λ s. s.now) schedule)
-    × GivesConfiguration rows wish.configuration × GivesFormat rows wish.json × GivesFlag rows wish.as_given
+    × GivesConfiguration rows wish.configuration × GivesFormat rows wish.json × GivesFlag (codes "as-given") rows wish.as_given × GivesFlag (codes "all") rows wish.all
 Gives rows (invocation.Version json) = GivesFormat rows json
 Gives rows (invocation.Widen script json limits) =
     (first_of (codes "SCRIPT") rows ≡ Some script.now) × GivesFormat rows json × GivesLimits rows limits

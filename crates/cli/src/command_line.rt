@@ -3,7 +3,7 @@
 
 ghost use Rattle.std.specs.Prelude.{◌≡◌, ◌≤◌, List, [], ◌∷◌, ◌++◌, codes, map, Ok, IfOk, IfErr, IfSome};
 ghost use Rattle.clap.specs.Words.{Rule, Shape, Text, kind_of, found_of, rows_of, subcommand_rows_of};
-ghost use Rattle.cli.specs.CommandLine.{AreForms, IsArgument, IsForm, all_forms, form_of, needed, option, number, limits, some_schedule, format, as_given, configured, working, explained, run_arguments, check_arguments, dump_arguments, replay_arguments, serve_arguments, explain_arguments, version_arguments, widen_arguments, GivesWorkers, GivesLimits, GivesBudget, GivesConfiguration, GivesFormat, AsksBy, Reads, Holds, AsksFor, IsRefused};
+ghost use Rattle.cli.specs.CommandLine.{AreForms, IsArgument, IsForm, all_forms, form_of, needed, option, number, limits, some_schedule, format, flag, configured, working, explained, run_arguments, check_arguments, dump_arguments, replay_arguments, serve_arguments, explain_arguments, version_arguments, widen_arguments, GivesWorkers, GivesLimits, GivesBudget, GivesConfiguration, GivesFormat, AsksBy, Reads, Holds, AsksFor, IsRefused};
 
 use crate::session::Options;
 use crate::wish::ExplainWish;
@@ -103,15 +103,15 @@ fn some_schedule<'a>(alloc: Global) -> Arg<'a>
     )
 }
 
-/// The option `--as-given`.
-#[tactic(auto, unfolding(crate::specs::CommandLine::as_given))]
-fn as_given<'a>(alloc: Global) -> Arg<'a>
-    ensures { IsArgument as_given result }
+/// An option without a value, by its name, and what help says of it.
+#[tactic(auto, unfolding(crate::specs::CommandLine::flag))]
+fn flag<'a>(alloc: Global, name: &'a str, help: &'a str) -> Arg<'a>
+    ensures { IsArgument (flag name.entry.now) result }
 {
-    Arg::new(alloc, "as-given")
-        .long("as-given")
+    Arg::new(alloc, name)
+        .long(name)
         .action(ArgAction::SetTrue)
-        .help("Explains the schedule as it is given, and looks for no shorter one")
+        .help(help)
 }
 
 /// A form without arguments, and what help says of it.
@@ -297,11 +297,21 @@ fn explained<'a>(alloc: Global) -> Result<Command<'a>, AllocError>
     )
 }
 
-/// The form `explain SCRIPT [SCHEDULE] [--format text|json] [--budget N] [--limits LIMITS] [--as-given]`.
+/// The form `explain SCRIPT [SCHEDULE] [--format text|json] [--budget N] [--limits LIMITS] [--as-given] [--all]`.
 fn explain_form<'a>(alloc: Global) -> Result<Command<'a>, AllocError>
     ensures { IfOk result (IsForm (codes "explain") explain_arguments) }
 {
-    with(configured(alloc, explained(alloc)), as_given(alloc))
+    let as_given = flag(
+        alloc,
+        "as-given",
+        "Explains the schedule as it is given, and looks for no shorter one",
+    );
+    let all = flag(
+        alloc,
+        "all",
+        "Explains each fault and each refused command of the script",
+    );
+    with(with(configured(alloc, explained(alloc)), as_given), all)
 }
 
 /// The form `version [--format text|json]`.
@@ -476,6 +486,7 @@ fn explain_of<'a>(explain: &ArgMatches<'a>) -> Option<Invocation<'a>>
     let configuration = configuration_of(explain)?;
     let json = format_of(explain)?;
     let as_given = explain.get_flag("as-given");
+    let all = explain.get_flag("all");
     Some(Invocation::Explain {
         script,
         schedule,
@@ -483,6 +494,7 @@ fn explain_of<'a>(explain: &ArgMatches<'a>) -> Option<Invocation<'a>>
             configuration,
             json,
             as_given,
+            all,
         },
     })
 }
@@ -645,7 +657,8 @@ fn command_by<'a>(
 /// - `clsim dump FILE KERNEL [--limits LIMITS]`
 /// - `clsim replay SCRIPT SCHEDULE [--limits LIMITS]`
 /// - `clsim serve [--workers N] [--budget N] [--limits LIMITS]`
-/// - `clsim explain SCRIPT [SCHEDULE] [--format text|json] [--budget N] [--limits LIMITS] [--as-given]`
+/// - `clsim explain SCRIPT [SCHEDULE] [--format text|json] [--budget N] [--limits LIMITS] [--as-given]
+///   [--all]`
 /// - `clsim version [--format text|json]`
 /// - `clsim widen SCRIPT [--format text|json] [--limits LIMITS]`
 ///

@@ -12,4 +12,6 @@ pub struct ExplainWish {
     pub json: bool,
     /// Whether the schedule is told as it was given, and not made shorter
     pub as_given: bool,
+    /// Whether each fault and each refused command of the script is told, and not the first one alone
+    pub all: bool,
 }

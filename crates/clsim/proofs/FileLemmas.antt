@@ -5,16 +5,19 @@ use Rattle.std.specs.Result.{IfErr, IfOk}
 use Rattle.byte_io.specs.Sink.{Sink, Wrote}
 use Rattle.clsim.specs.Files.{Answered, IsGiven, Unanswered}
 use Rattle.explaining.specs.Explaining.{Explains, Unwritten}
+use Rattle.explaining.specs.Whole.{Says}
+use Rattle.explaining.specs.declared.facts.ExplainOptions.{ExplainOptions}
 use Rattle.explaining.specs.declared.facts.Given.{Given}
 use Rattle.limits.specs.declared.Configuration.{Configuration}
 use Rattle.simfile.specs.declared.faults.RunFault.{RunFault}
 
 pub told :
-    (configuration : Configuration) (given : Given) (name script : List ℕ) (schedule : Option (List ℕ)) (old new : Sink) (r : Result Bool RunFault) → IsGiven given name script schedule
-    → IfOk r (Explains configuration given) → OnOk r ((text : List ℕ) × Wrote old new text) → OnOk r (new.held ≡ []) → IfOk r (Answered configuration name script schedule old new)
-told configuration given name script schedule old new (Ok answer) is explains wrote released =
-    record { given = given; is = is; told = record { explains = explains; text = wrote.0; wrote = wrote.1; released = released } }
-told configuration given name script schedule old new (Err why) is explains wrote released = tt
+    (options : ExplainOptions) (given : Given) (name script : List ℕ) (schedule : Option (List ℕ)) (old new : Sink) (r : Result Bool RunFault) → IsGiven given name script schedule
+    → IfOk r (Explains options.configuration given) → IfOk r (λ answer. (text : List ℕ) × Wrote old new text × Says options given answer text) → OnOk r (new.held ≡ [])
+    → IfOk r (Answered options name script schedule old new)
+told options given name script schedule old new (Ok answer) is explains says released =
+    record { given = given; is = is; told = record { explains = explains; text = says.0; wrote = says.1; says = says.2; released = released } }
+told options given name script schedule old new (Err why) is explains says released = tt
 
 pub untold :
     (configuration : Configuration) (given : Given) (name script : List ℕ) (schedule : Option (List ℕ)) (old new : Sink) (r : Result Bool RunFault) → IsGiven given name script schedule

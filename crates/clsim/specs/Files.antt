@@ -1,20 +1,25 @@
 -- Files that are explained: what is read, and what is written (own).
-use Rattle.std.specs.Prelude.{◌≡◌, ◌⊎◌, ℕ, Bool, Option, None, Some, option_map, List, []}
+use Rattle.std.specs.Prelude.{◌≡◌, ◌⊎◌, ℕ, Bool, Option, None, Some, option_map, List, [], if◌then◌else◌}
 use Rattle.cli.specs.Reading.{ReadFails}
+use Rattle.cli.specs.declared.wish.ExplainWish.{ExplainWish}
 use Rattle.simfile.specs.declared.faults.Reader.{Reader}
 use Rattle.simfile.specs.declared.faults.Reader.TheVariants as reader
 use Rattle.simfile.specs.declared.faults.RunFault.{RunFault}
 use Rattle.byte_io.specs.Sink.{Sink, Wrote}
 use Rattle.byte_io.specs.Source.{Are}
 use Rattle.explaining.specs.Explaining.{Explains, Unwritten}
+use Rattle.explaining.specs.Whole.{Says}
+use Rattle.explaining.specs.declared.facts.ExplainOptions.{ExplainOptions}
+use Rattle.explaining.specs.declared.facts.Format.TheVariants as format
 use Rattle.explaining.specs.declared.facts.Given.{Given}
 use Rattle.limits.specs.declared.Configuration.{Configuration}
 
--- the answer to what is given, and a text that was written whole
-pub record AnswerWritten (configuration : Configuration) (given : Given) (old new : Sink) (answer : Bool) : Type 0 where
-  pub explains : Explains configuration given answer
+-- the answer to what is given, and the text that says so, which was written whole
+pub record AnswerWritten (options : ExplainOptions) (given : Given) (old new : Sink) (answer : Bool) : Type 0 where
+  pub explains : Explains options.configuration given answer
   pub text : List ℕ
   pub wrote : Wrote old new text
+  pub says : Says options given answer text
   pub released : new.held ≡ []
 
 -- these texts are given
@@ -24,10 +29,10 @@ pub record IsGiven (given : Given) (name script : List ℕ) (schedule : Option (
   pub leads : option_map (λ bytes. bytes.now) given.schedule ≡ schedule
 
 -- the answer to texts was written
-pub record Answered (configuration : Configuration) (name script : List ℕ) (schedule : Option (List ℕ)) (old new : Sink) (answer : Bool) : Type 0 where
+pub record Answered (options : ExplainOptions) (name script : List ℕ) (schedule : Option (List ℕ)) (old new : Sink) (answer : Bool) : Type 0 where
   pub given : Given
   pub is : IsGiven given name script schedule
-  pub told : AnswerWritten configuration given old new answer
+  pub told : AnswerWritten options given old new answer
 
 -- why there is no answer to texts
 pub record Unanswered (configuration : Configuration) (name script : List ℕ) (schedule : Option (List ℕ)) (old new : Sink) (why : RunFault) : Type 0 where
@@ -36,18 +41,18 @@ pub record Unanswered (configuration : Configuration) (name script : List ℕ) (
   pub untold : Unwritten configuration given old new why
 
 -- a script was read, and the answer to it was written
-pub record ScriptTold (configuration : Configuration) (name : List ℕ) (rest : Option (List ℕ)) (old new : Sink) (answer : Bool) : Type 0 where
+pub record ScriptTold (options : ExplainOptions) (name : List ℕ) (rest : Option (List ℕ)) (old new : Sink) (answer : Bool) : Type 0 where
   pub script : List ℕ
   pub read : Are rest script
-  pub answered : Answered configuration name script None old new answer
+  pub answered : Answered options name script None old new answer
 
 -- a script and a schedule file were read, and the answer to them was written
-pub record FileTold (configuration : Configuration) (name : List ℕ) (rest rest' : Option (List ℕ)) (old new : Sink) (answer : Bool) : Type 0 where
+pub record FileTold (options : ExplainOptions) (name : List ℕ) (rest rest' : Option (List ℕ)) (old new : Sink) (answer : Bool) : Type 0 where
   pub script : List ℕ
   pub schedule : List ℕ
   pub read : Are rest script
   pub file : Are rest' schedule
-  pub answered : Answered configuration name script (Some schedule) old new answer
+  pub answered : Answered options name script (Some schedule) old new answer
 
 -- a script was read, and there is no answer to it
 pub record ScriptUnanswered (configuration : Configuration) (name : List ℕ) (rest : Option (List ℕ)) (old new : Sink) (why : RunFault) : Type 0 where
@@ -62,6 +67,13 @@ pub record FileUnanswered (configuration : Configuration) (name : List ℕ) (res
   pub read : Are rest script
   pub file : Are rest' schedule
   pub unanswered : Unanswered configuration name script (Some schedule) old new why
+
+-- an explanation is made as it is wished
+pub record IsWished (wish : ExplainWish) (options : ExplainOptions) : Type 0 where
+  pub format : options.format ≡ (if wish.json then format.Json else format.Text)
+  pub configuration : options.configuration ≡ wish.configuration
+  pub as_given : options.as_given ≡ wish.as_given
+  pub all : options.all ≡ wish.all
 
 -- a reader wasn't read to its end, or no memory was left, and nothing was written
 abbrev pub Unread : Reader → ℕ → ℕ → Sink → Sink → RunFault → Type 0

@@ -1,7 +1,7 @@
 //! Files explained: a script is read, with a schedule file where one is named, and the explanation is written.
 //!
-//! What is explained, and which answer is given, `explaining` defines. A reader's failure is told apart from its
-//! faults.
+//! What is explained, which answer is given, and what is written, `explaining` defines. A reader's failure is told apart
+//! from its faults.
 #![tactic(auto)]
 
 ghost use Rattle.std.specs.Prelude.{◌≡◌, IfOk, IfErr};
@@ -53,15 +53,15 @@ fn explain_texts<W: Write>(
     options: ExplainOptions,
     writer: &mut W,
 ) -> Result<bool, RunFault>
-    ensures told { IfOk result (Answered options.configuration texts.now.name.items texts.now.script.items (option_map (λ bytes. bytes.items) texts.now.schedule) (W.sink writer.old) (W.sink writer.new)) }
+    ensures told { IfOk result (Answered options texts.now.name.items texts.now.script.items (option_map (λ bytes. bytes.items) texts.now.schedule) (W.sink writer.old) (W.sink writer.new)) }
     ensures untold { IfErr result (Unanswered options.configuration texts.now.name.items texts.now.script.items (option_map (λ bytes. bytes.items) texts.now.schedule) (W.sink writer.old) (W.sink writer.new)) }
 {
     explain(alloc, texts.given(), options, writer)
 }
 
-/// Reads a script and explains its first fault, or its first build that is refused; a source, which is a file whose
-/// name ends in `.cl`, is built alone. Writes the explanation and answers true, or the word `clean` or `ok` and answers
-/// false.
+/// Reads a script and explains its first fault, or its first command that is refused, or all of them; a source, which is
+/// a file whose name ends in `.cl`, is built alone. Writes the explanation and answers true, or the word `clean` or `ok`
+/// and answers false.
 ///
 /// Faults are `Read(First)`, `BadLine`, `OutOfMemory`, and `Write`, after which a beginning of the text was written;
 /// after the others nothing was.
@@ -72,7 +72,7 @@ pub(crate) fn explain_script<R: Read, W: Write>(
     options: ExplainOptions,
     writer: &mut W,
 ) -> Result<bool, RunFault>
-    ensures told { IfOk result (ScriptTold options.configuration name.now (R.rest reader.old) (W.sink writer.old) (W.sink writer.new)) }
+    ensures told { IfOk result (ScriptTold options name.now (R.rest reader.old) (W.sink writer.old) (W.sink writer.new)) }
     ensures untold { IfErr result
         (ScriptUntold options.configuration name.now (R.rest reader.old) (R.failures reader.old) (R.failures reader.new) (W.sink writer.old) (W.sink writer.new)) }
 {
@@ -98,7 +98,7 @@ pub(crate) fn explain_schedule<R: Read, S: Read, W: Write>(
     options: ExplainOptions,
     writer: &mut W,
 ) -> Result<bool, RunFault>
-    ensures told { IfOk result (FileTold options.configuration name.now (R.rest reader.old) (S.rest file.old) (W.sink writer.old) (W.sink writer.new)) }
+    ensures told { IfOk result (FileTold options name.now (R.rest reader.old) (S.rest file.old) (W.sink writer.old) (W.sink writer.new)) }
     ensures untold { IfErr result
         (FileUntold options.configuration name.now (R.rest reader.old) (S.rest file.old) (R.failures reader.old) (R.failures reader.new) (S.failures file.old) (S.failures file.new)
         (W.sink writer.old) (W.sink writer.new)) }

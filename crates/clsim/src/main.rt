@@ -5,11 +5,12 @@
 //! What stands on standard error is only tested.
 #![tactic(auto)]
 
-ghost use Rattle.std.specs.Prelude.{◌≡◌, ◌≤◌, IfOk};
+ghost use Rattle.std.specs.Prelude.{◌≡◌, ◌≤◌, IfOk, if◌then◌else◌};
 ghost use Rattle.std.specs.Process.{exit_status};
 ghost use Rattle.cli.specs.Checking.{source_status_of};
 ghost use Rattle.cli.specs.Replaying.{replay_status_of};
 ghost use Rattle.cli.specs.Session.{status_of};
+ghost use Rattle.clsim.specs.Files.{IsWished};
 ghost use Rattle.wide_text.specs.Widened.{status_of as wide_status_of};
 
 mod explain_files;
@@ -135,21 +136,27 @@ fn replay_schedule<R: Files + io::Input + Print + AllocGlobal>(
     outcome
 }
 
+/// The format of an explanation.
+fn format_of(json: bool) -> Format
+    ensures { result ≡ (if json then Format.Json else Format.Text) }
+{
+    if json { Format::Json } else { Format::Text }
+}
+
 /// How an explanation is made, as it is wished.
-fn options_of(wish: ExplainWish) -> ExplainOptions {
+fn options_of(wish: ExplainWish) -> ExplainOptions
+    ensures { IsWished wish result }
+{
     ExplainOptions {
-        format: if wish.json {
-            Format::Json
-        } else {
-            Format::Text
-        },
+        format: format_of(wish.json),
         configuration: wish.configuration,
         as_given: wish.as_given,
+        all: wish.all,
     }
 }
 
-/// Explains the fault of a schedule file, or without one the first fault of a script of this name, with the explanation
-/// on standard output.
+/// Explains the fault of a schedule file, or without one the first fault of a script of this name or all of them, with
+/// what is told on standard output.
 fn explain_fault<R: Files + io::Input + Print + AllocGlobal>(
     rt: &R,
     name: &str,

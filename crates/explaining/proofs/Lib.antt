@@ -1,4 +1,5 @@
 pub mod Answering
+pub mod Each
 pub mod Faulting
 pub mod Inside
 pub mod Marking

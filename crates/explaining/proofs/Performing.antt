@@ -28,7 +28,7 @@ leads_cleanly old new [] led = led
 leads_cleanly old new (c ∷ done) (mid, r, step, had, on, rest) = (mid, r, step, had, leads_cleanly mid new done rest)
 
 -- the first command behind others
-get_behind : (done rest : List Command) (c : Command) → slice_get (done ++ c ∷ rest) (length done) ≡ Some c
+pub get_behind : (done rest : List Command) (c : Command) → slice_get (done ++ c ∷ rest) (length done) ≡ Some c
 get_behind [] rest c = refl
 get_behind (d ∷ done) rest c =
     let counted : length (d ∷ done) ≡ suc (length done) = omega arith in
@@ -37,6 +37,18 @@ get_behind (d ∷ done) rest c =
 take_before : (done rest : List Command) → take (length done) (done ++ rest) ≡ done
 take_before done rest = grind (arith, common_steps)
 
+-- the first command behind others that led without a fault
+pub first_behind :
+    (old : Machine) (commands done rest : List Command) (c : Command) (before new : Machine) → commands ≡ done ++ c ∷ rest → LeadsCleanly old done before → (r : Reply)
+    → Step before c r new → (ticket : ℕ) → ticket ≡ length done → IsFirst old commands new ticket r
+first_behind old commands done rest c before new split led r step ticket counted = record {
+  before = before;
+  command = c;
+  at = ap (λ l. slice_get l ticket) split ∙ ap (λ n. slice_get (done ++ c ∷ rest) n) counted ∙ get_behind done rest c;
+  led = subst (λ l. LeadsCleanly old l before) (sym (ap (λ l. take ticket l) split ∙ ap (λ n. take n (done ++ c ∷ rest)) counted ∙ take_before done (c ∷ rest))) led;
+  replied = step;
+}
+
 -- a walk that ends at a reply
 pub walk_ends :
     (old : Machine) (commands done rest : List Command) (c : Command) (before new : Machine) → commands ≡ done ++ c ∷ rest → LeadsCleanly old done before → (r : Reply)
@@ -44,13 +56,7 @@ pub walk_ends :
 walk_ends old commands done rest c before new split led r step ticket counted w ends = go w ends
   where
     at : IsFirst old commands new ticket r
-    at = record {
-      before = before;
-      command = c;
-      at = ap (λ l. slice_get l ticket) split ∙ ap (λ n. slice_get (done ++ c ∷ rest) n) counted ∙ get_behind done rest c;
-      led = subst (λ l. LeadsCleanly old l before) (sym (ap (λ l. take ticket l) split ∙ ap (λ n. take n (done ++ c ∷ rest)) counted ∙ take_before done (c ∷ rest))) led;
-      replied = step;
-    }
+    at = first_behind old commands done rest c before new split led r step ticket counted
 
     go : (w : Walked) → EndsAt ticket r w → WalkedTo old commands new w
     go walked.Clean h = absurd h

@@ -29,6 +29,11 @@ pub ok_both : {A E : Type 0} (r : Result A E) (P Q R : A → Type 0) → IfOk r 
 ok_both (Ok x) P Q R p q h = h x p q
 ok_both (Err e) P Q R p q h = tt
 
+-- what follows of what was answered
+pub ok_then : {A E : Type 0} (r : Result A E) (P Q : A → Type 0) → IfOk r P → ((x : A) → P x → Q x) → IfOk r Q
+ok_then (Ok x) P Q p h = h x p
+ok_then (Err e) P Q p h = tt
+
 -- what is known where there is nothing
 pub if_none : {A : Type 0} (o : Option A) {P : Type 0} → o ≡ None → IfNone o P → P
 if_none o {P} e h = subst (λ p. IfNone p P) e h

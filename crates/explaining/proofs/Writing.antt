@@ -1,5 +1,5 @@
 -- What is told of launches, and the texts of it.
-use Rattle.std.proofs.Common.{◌≡◌, ℕ, Bool, true, Option, None, Some, Result, Ok, Err, List, codes, string_bytes, take, inl, inr, sym, ap, ◌∙◌, subst}
+use Rattle.std.proofs.Common.{◌≡◌, ℕ, Bool, true, Option, None, Some, Result, Ok, Err, List, codes, string_bytes, take, inl, inr, refl, sym, ap, ◌∙◌, subst}
 use Rattle.std.specs.Prelude.{slice_get}
 use Rattle.std.specs.Option.{IfSome, is_some}
 use Rattle.std.specs.Result.{IfOk}
@@ -35,10 +35,11 @@ use Rattle.spaces.specs.Tables.{Table}
 use Rattle.explaining.proofs.Faulting.{faults, told_yes}
 use Rattle.explaining.proofs.Inside.{each_inside, told_inside}
 use Rattle.explaining.specs.Explaining.{IsShort, Tells}
-use Rattle.explaining.specs.Leading.{IsFirst, Leads, WalkedTo}
+use Rattle.explaining.specs.Leading.{Leads, RepliesAt, WalkedTo, is_end}
 use Rattle.explaining.specs.Refusing.{TellsRefusal}
-use Rattle.explaining.specs.Whole.{AnswersTo, AreNamed, HasWhole, IsAsWanted, IsExplained, IsSourceOf, IsToldOf, IsToldThere, SaysOf, SaysScript, TellsFault, TellsLaunch, schedule_words}
+use Rattle.explaining.specs.Whole.{AnswersTo, AreNamed, HasWhole, IsAsWanted, IsExplained, IsSourceOf, IsToldOf, IsToldThere, SaysOf, SaysOne, TellsEnd, TellsFault, TellsFaulted, TellsLaunch, schedule_words}
 use Rattle.explaining.specs.declared.answers.Answer.{Answer}
+use Rattle.explaining.specs.declared.facts.ExplainOptions.{ExplainOptions}
 use Rattle.explaining.specs.declared.facts.Format.{Format}
 use Rattle.simfile.specs.declared.faults.RunFault.{RunFault}
 use Rattle.explaining.specs.declared.told.ExplainedCase.{ExplainedCase}
@@ -129,45 +130,47 @@ pub says_of :
 says_of configuration as_given f script schedule (Some told) answer is agrees h = subst (λ y. SaysOf configuration as_given f script schedule y (string_bytes answer.text)) (sym agrees) (told, is, h)
 says_of configuration as_given f script schedule None answer is agrees h = subst (λ y. SaysOf configuration as_given f script schedule y (string_bytes answer.text)) (sym agrees) h
 
-pub says_unbuilt :
-    (configuration : Configuration) (as_given : Bool) (f : Format) (script : List ℕ) (commands : List Command) (m : Machine) (w : Walked) (u : Unbuilt) (answer : Answer) → IsScript script commands
-    → WalkedTo (opening configuration) commands m w → w ≡ walked.Unbuilt u → answer.yes ≡ true → SaysScript configuration as_given f script answer.yes (string_bytes answer.text)
-says_unbuilt configuration as_given f script commands m w u answer is h e agrees =
-    let first : IsFirst (opening configuration) commands m u.ticket (reply.Refused (refusal.BuildFailed u.fault)) = subst (λ (v : Walked). WalkedTo (opening configuration) commands m v) e h in
-    subst (λ y. SaysScript configuration as_given f script y (string_bytes answer.text)) (sym agrees)
-    (record { commands = commands; ticket = u.ticket; machine = m; is = is; found = inr (inl (u.fault, first)) })
+-- what is told of a launch's fault
+pub tells_faulted :
+    (options : ExplainOptions) (script : List ℕ) (commands : List Command) (m : Machine) (ticket : ℕ) (f : Fault) (runs : List EventRun) (o : Option ExplainedCase) (answer : Answer)
+    → RepliesAt commands m ticket (reply.Fault f runs) → Tells m commands ticket f runs (is_some o) → IfSome o (λ told. HasWhole m options.as_given script commands ticket f runs told.schedule told.whole)
+    → AnswersTo options.format (codes "no\n") o answer → TellsFaulted options script commands m ticket f runs (string_bytes answer.text)
+tells_faulted options script commands m ticket f runs o answer at tells has text =
+    go o (told_yes m commands ticket at.command f runs (is_some o) at.at (faults at.before m at.command f runs at.replied) tells) has text
+  where
+    go :
+        (o : Option ExplainedCase) → is_some o ≡ true → IfSome o (λ told. HasWhole m options.as_given script commands ticket f runs told.schedule told.whole) → AnswersTo options.format (codes "no\n") o answer
+        → TellsFaulted options script commands m ticket f runs (string_bytes answer.text)
+    go None agrees has text = absurd (false≢true agrees)
+    go (Some told) agrees has text = record { told = told; whole = has; written = text }
 
-pub says_refused :
-    (configuration : Configuration) (as_given : Bool) (f : Format) (script : List ℕ) (commands : List Command) (m : Machine) (w : Walked) (case : RefusedCase) (answer : Answer) → IsScript script commands
-    → WalkedTo (opening configuration) commands m w → w ≡ walked.Refused case → answer.yes ≡ true
-    → TellsRefusal configuration.limits m.buffers f script commands case.ticket case.refusal (string_bytes answer.text) → SaysScript configuration as_given f script answer.yes (string_bytes answer.text)
-says_refused configuration as_given f script commands m w case answer is h e agrees tells =
-    let first : IsFirst (opening configuration) commands m case.ticket (reply.Refused case.refusal) = subst (λ (v : Walked). WalkedTo (opening configuration) commands m v) e h in
-    subst (λ y. SaysScript configuration as_given f script y (string_bytes answer.text)) (sym agrees)
-    (record { commands = commands; ticket = case.ticket; machine = m; is = is; found = inr (inr (case.refusal, first, tells)) })
+-- what is told of what a walk ended at
+pub unbuilt_end :
+    (options : ExplainOptions) (script : List ℕ) (commands : List Command) (m : Machine) (w : Walked) (u : Unbuilt) (text : List ℕ) → w ≡ walked.Unbuilt u → TellsEnd options script commands m w text
+unbuilt_end options script commands m w u text e = subst (λ (v : Walked). TellsEnd options script commands m v text) (sym e) (inl (u.fault, refl))
 
-told_first :
-    (configuration : Configuration) (as_given : Bool) (f : Format) (script : List ℕ) (commands : List Command) (m : Machine) (ticket : ℕ) (fault : Fault) (runs : List EventRun) (o : Option ExplainedCase) (answer : Answer)
-    → IsScript script commands → IsFirst (opening configuration) commands m ticket (reply.Fault fault runs) → is_some o ≡ true
-    → IfSome o (λ told. HasWhole m as_given script commands ticket fault runs told.schedule told.whole) → answer.yes ≡ is_some o → AnswersTo f (codes "no\n") o answer
-    → SaysScript configuration as_given f script answer.yes (string_bytes answer.text)
-told_first configuration as_given f script commands m ticket fault runs None answer is first agrees has same text = absurd (false≢true agrees)
-told_first configuration as_given f script commands m ticket fault runs (Some told) answer is first agrees has same text =
-    subst (λ y. SaysScript configuration as_given f script y (string_bytes answer.text)) (sym same)
-    (record {
-      commands = commands;
-      ticket = ticket;
-      machine = m;
-      is = is;
-      found = inl (record { fault = fault; runs = runs; first = first; told = told; whole = has; written = text });
-    })
+pub refused_end :
+    (options : ExplainOptions) (script : List ℕ) (commands : List Command) (m : Machine) (w : Walked) (case : RefusedCase) (text : List ℕ) → w ≡ walked.Refused case
+    → TellsRefusal options.configuration.limits m.buffers options.format script commands case.ticket case.refusal text → TellsEnd options script commands m w text
+refused_end options script commands m w case text e h = subst (λ (v : Walked). TellsEnd options script commands m v text) (sym e) (inr h)
 
-pub says_faulted :
-    (configuration : Configuration) (as_given : Bool) (f : Format) (script : List ℕ) (commands : List Command) (m : Machine) (w : Walked) (case : Case) (o : Option ExplainedCase) (answer : Answer) → IsScript script commands
-    → WalkedTo (opening configuration) commands m w → w ≡ walked.Faulted case → Tells m commands case.ticket case.fault case.schedule (is_some o)
-    → IfSome o (λ told. HasWhole m as_given script commands case.ticket case.fault case.schedule told.schedule told.whole) → answer.yes ≡ is_some o → AnswersTo f (codes "no\n") o answer
-    → SaysScript configuration as_given f script answer.yes (string_bytes answer.text)
-says_faulted configuration as_given f script commands m w case o answer is h e tells has same text =
-    let first : IsFirst (opening configuration) commands m case.ticket (reply.Fault case.fault case.schedule) = subst (λ (v : Walked). WalkedTo (opening configuration) commands m v) e h in
-    let agrees = told_yes m commands case.ticket first.command case.fault case.schedule (is_some o) first.at (faults first.before m first.command case.fault case.schedule first.replied) tells in
-    told_first configuration as_given f script commands m case.ticket case.fault case.schedule o answer is first agrees has same text
+pub faulted_end :
+    (options : ExplainOptions) (script : List ℕ) (commands : List Command) (m : Machine) (w : Walked) (case : Case) {A : Type 0} (bytes : A → List ℕ) (r : Result A RunFault) → w ≡ walked.Faulted case
+    → IfOk r (λ text. TellsFaulted options script commands m case.ticket case.fault case.schedule (bytes text)) → IfOk r (λ text. TellsEnd options script commands m w (bytes text))
+faulted_end options script commands m w case bytes r e h = subst (λ (v : Walked). IfOk r (λ text. TellsEnd options script commands m v (bytes text))) (sym e) h
+
+-- and it is what is said of the script
+says : (options : ExplainOptions) (script : List ℕ) (commands : List Command) (m : Machine) (w : Walked) (text : List ℕ) → IsScript script commands → WalkedTo (opening options.configuration) commands m w
+    → TellsEnd options script commands m w text → SaysOne options script (is_end w) text
+says options script commands m walked.Clean text is h tells = tells
+says options script commands m (walked.Faulted case) text is h tells =
+    record { commands = commands; ticket = case.ticket; machine = m; answer = reply.Fault case.fault case.schedule; is = is; first = h; tells = tells }
+says options script commands m (walked.Unbuilt u) text is h tells =
+    record { commands = commands; ticket = u.ticket; machine = m; answer = reply.Refused (refusal.BuildFailed u.fault); is = is; first = h; tells = tells }
+says options script commands m (walked.Refused case) text is h tells =
+    record { commands = commands; ticket = case.ticket; machine = m; answer = reply.Refused case.refusal; is = is; first = h; tells = tells }
+
+pub says_one :
+    (options : ExplainOptions) (script : List ℕ) (commands : List Command) (m : Machine) (w : Walked) (answer : Bool) (text : List ℕ) → IsScript script commands
+    → WalkedTo (opening options.configuration) commands m w → TellsEnd options script commands m w text → answer ≡ is_end w → SaysOne options script answer text
+says_one options script commands m w answer text is h tells same = subst (λ y. SaysOne options script y text) (sym same) (says options script commands m w text is h tells)

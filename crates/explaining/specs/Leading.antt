@@ -1,5 +1,5 @@
 -- Commands that are performed one after another, up to one whose reply is to be explained (own).
-use Rattle.std.specs.Prelude.{◌≡◌, ℕ, Bool, true, false, Some, List, [], ◌∷◌, take, slice_get}
+use Rattle.std.specs.Prelude.{◌≡◌, ℕ, Bool, true, false, ⊤, Some, List, [], ◌∷◌, take, slice_get}
 use Rattle.device.specs.Machine.{Machine, Step}
 use Rattle.host_commands.specs.declared.command.Command.{Command}
 use Rattle.host_commands.specs.declared.command.Refusal.TheVariants as refusal
@@ -51,3 +51,37 @@ WalkedTo old commands new walked.Clean = LeadsCleanly old commands new
 WalkedTo old commands new (walked.Faulted case) = IsFirst old commands new case.ticket (reply.Fault case.fault case.schedule)
 WalkedTo old commands new (walked.Unbuilt build) = IsFirst old commands new build.ticket (reply.Refused (refusal.BuildFailed build.fault))
 WalkedTo old commands new (walked.Refused case) = IsFirst old commands new case.ticket (reply.Refused case.refusal)
+
+-- the command of a number gets this reply, behind which a machine is this one
+pub record RepliesAt (commands : List Command) (new : Machine) (ticket : ℕ) (r : Reply) : Type 0 where
+  pub before : Machine
+  pub command : Command
+  pub at : slice_get commands ticket ≡ Some command
+  pub replied : Step before command r new
+
+-- what a walk ends at is the reply to a command, behind which a machine is this one
+abbrev pub StandsBehind : List Command → Machine → Walked → Type 0
+StandsBehind commands new walked.Clean = ⊤
+StandsBehind commands new (walked.Faulted case) = RepliesAt commands new case.ticket (reply.Fault case.fault case.schedule)
+StandsBehind commands new (walked.Unbuilt build) = RepliesAt commands new build.ticket (reply.Refused (refusal.BuildFailed build.fault))
+StandsBehind commands new (walked.Refused case) = RepliesAt commands new case.ticket (reply.Refused case.refusal)
+
+-- whether a walk ends at a fault or a refusal
+abbrev pub is_end : Walked → Bool
+is_end walked.Clean = false
+is_end (walked.Faulted case) = true
+is_end (walked.Unbuilt build) = true
+is_end (walked.Refused case) = true
+
+-- a reply to commands is a fault or a refusal; it is told by the first
+pub record HasEnd (old : Machine) (commands : List Command) : Type 0 where
+  pub ticket : ℕ
+  pub machine : Machine
+  pub answer : Reply
+  pub first : IsFirst old commands machine ticket answer
+  pub ends : goes_on answer ≡ false
+
+-- commands of which the first ones were done: whether a reply to these is a fault or a refusal
+abbrev pub IsMet : Machine → List Command → List Command → Machine → Bool → Type 0
+IsMet old commands done new true = HasEnd old commands
+IsMet old commands done new false = LeadsCleanly old done new

@@ -1,3 +1,4 @@
+pub mod Every
 pub mod Explaining
 pub mod Leading
 pub mod Refusing

@@ -1,5 +1,5 @@
 -- What an explanation tells of a launch and its fault, and the text that is written of it (own).
-use Rattle.std.specs.Prelude.{◌≡◌, ◌⊎◌, ℕ, Bool, true, false, ⊤, Option, None, Some, List, [], ◌∷◌, ◌++◌, codes, string_bytes, take, slice_get, MatchBool, MatchOption}
+use Rattle.std.specs.Prelude.{◌≡◌, ◌⊎◌, ℕ, suc, Bool, true, false, ⊤, Option, None, Some, List, [], ◌∷◌, ◌++◌, codes, decimal, string_bytes, take, slice_get, MatchBool, MatchOption}
 use Rattle.std.specs.Str.Lossy.{utf8_lossy}
 use Rattle.serde_json.specs.Read.{read}
 use Rattle.clmodel.specs.Launch.{Launch}
@@ -10,7 +10,7 @@ use Rattle.clmodel.specs.declared.fault.Fault.{Fault}
 use Rattle.clmodel.specs.declared.schedule.EventRun.{EventRun}
 use Rattle.clmodel.specs.declared.setup.Range.{Range}
 use Rattle.device.specs.Kept.{IsCodeOf}
-use Rattle.device.specs.Machine.{Machine, opening, kernel_of, program_of, setup_of, bytes_of}
+use Rattle.device.specs.Machine.{Machine, Step, opening, kernel_of, program_of, setup_of, bytes_of}
 use Rattle.explain_json.specs.Lines.{IsExplanationLine}
 use Rattle.fault_play.specs.PlayedOut.{IsPlayedOut}
 use Rattle.fault_play.specs.declared.played.Played.{Played}
@@ -26,6 +26,7 @@ use Rattle.host_commands.specs.declared.command.Command.{Command}
 use Rattle.host_commands.specs.declared.command.Command.TheVariants as command
 use Rattle.host_commands.specs.declared.command.Refusal.{Refusal}
 use Rattle.host_commands.specs.declared.command.Refusal.TheVariants as refusal
+use Rattle.host_commands.specs.declared.command.Reply.{Reply}
 use Rattle.host_commands.specs.declared.command.Reply.TheVariants as reply
 use Rattle.item_step.specs.Launches as launches
 use Rattle.launch_facts.specs.Commands.{HasNoSource, IsSource}
@@ -36,13 +37,16 @@ use Rattle.simfile.specs.Places.{StandsAt}
 use Rattle.simfile.specs.Script.{IsScript}
 use Rattle.simfile.specs.declared.script.CommandPlace.{CommandPlace}
 use Rattle.explaining.specs.Explaining.{IsShort, is_source}
-use Rattle.explaining.specs.Leading.{IsFirst, Leads}
+use Rattle.explaining.specs.Leading.{HadMemory, IsFirst, Leads, goes_on}
 use Rattle.explaining.specs.Refusing.{TellsRefusal}
 use Rattle.explaining.specs.declared.answers.Answer.{Answer}
+use Rattle.explaining.specs.declared.facts.ExplainOptions.{ExplainOptions}
 use Rattle.explaining.specs.declared.facts.Format.{Format}
 use Rattle.explaining.specs.declared.facts.Format.TheVariants as format
 use Rattle.explaining.specs.declared.facts.Given.{Given}
 use Rattle.explaining.specs.declared.told.ExplainedCase.{ExplainedCase}
+use Rattle.explaining.specs.declared.walks.Walked.{Walked}
+use Rattle.explaining.specs.declared.walks.Walked.TheVariants as walked
 use Rattle.limits.specs.declared.Configuration.{Configuration}
 
 -- a schedule as a schedule file has it
@@ -148,29 +152,86 @@ abbrev pub SaysOf : Configuration → Bool → Format → List ℕ → List ℕ 
 SaysOf configuration as_given f script schedule true text = (told : ExplainedCase) × IsToldOf configuration as_given script schedule told × IsTextOf f told.whole text
 SaysOf configuration as_given f script schedule false text = text ≡ codes "no\n"
 
--- what is told of the first fault of a script, and its text
-pub record TellsFirst (configuration : Configuration) (as_given : Bool) (f : Format) (script : List ℕ) (commands : List Command) (machine : Machine) (ticket : ℕ) (text : List ℕ) : Type 0 where
-  pub fault : Fault
-  pub runs : List EventRun
-  pub first : IsFirst (opening configuration) commands machine ticket (reply.Fault fault runs)
+-- a text of a launch's fault, behind which a machine is this one, as it was before
+pub record TellsFaulted (options : ExplainOptions) (script : List ℕ) (commands : List Command) (machine : Machine) (ticket : ℕ) (f : Fault) (runs : List EventRun) (text : List ℕ) : Type 0 where
   pub told : ExplainedCase
-  pub whole : HasWhole machine as_given script commands ticket fault runs told.schedule told.whole
-  pub written : IsTextOf f told.whole text
+  pub whole : HasWhole machine options.as_given script commands ticket f runs told.schedule told.whole
+  pub written : IsTextOf options.format told.whole text
 
--- the text for a script: an explanation of its first fault; or of its first refusal, or any text where that is the one
--- of a build; whichever comes first
-pub record SaysFirst (configuration : Configuration) (as_given : Bool) (f : Format) (script text : List ℕ) : Type 0 where
+-- a text of a refused command, behind which a machine is this one, as it was before; any text where a build was refused
+abbrev pub TellsAnyRefusal : ExplainOptions → List ℕ → List Command → Machine → ℕ → Refusal → List ℕ → Type 0
+TellsAnyRefusal options script commands machine ticket why text =
+    ((fault : BuildFault) × (why ≡ refusal.BuildFailed fault)) ⊎ TellsRefusal options.configuration.limits machine.buffers options.format script commands ticket why text
+
+-- a text of the reply to the command of a number, behind which a machine is this one: only of a fault or a refusal
+abbrev pub TellsReply : ExplainOptions → List ℕ → List Command → Machine → ℕ → Reply → List ℕ → Type 0
+TellsReply options script commands machine ticket reply.Done text = ⊥
+TellsReply options script commands machine ticket (reply.Data bytes) text = ⊥
+TellsReply options script commands machine ticket reply.Clean text = ⊥
+TellsReply options script commands machine ticket (reply.Fault f runs) text = TellsFaulted options script commands machine ticket f runs text
+TellsReply options script commands machine ticket (reply.Refused why) text = TellsAnyRefusal options script commands machine ticket why text
+
+-- the text of what a walk ends at
+abbrev pub TellsEnd : ExplainOptions → List ℕ → List Command → Machine → Walked → List ℕ → Type 0
+TellsEnd options script commands machine walked.Clean text = text ≡ codes "clean\n"
+TellsEnd options script commands machine (walked.Faulted case) text = TellsReply options script commands machine case.ticket (reply.Fault case.fault case.schedule) text
+TellsEnd options script commands machine (walked.Unbuilt build) text = TellsReply options script commands machine build.ticket (reply.Refused (refusal.BuildFailed build.fault)) text
+TellsEnd options script commands machine (walked.Refused case) text = TellsReply options script commands machine case.ticket (reply.Refused case.refusal) text
+
+-- the text for a script: of the first reply that is a fault or a refusal
+pub record SaysFirst (options : ExplainOptions) (script text : List ℕ) : Type 0 where
   pub commands : List Command
   pub ticket : ℕ
   pub machine : Machine
+  pub answer : Reply
   pub is : IsScript script commands
-  pub found : TellsFirst configuration as_given f script commands machine ticket text
-      ⊎ ((why : BuildFault) × IsFirst (opening configuration) commands machine ticket (reply.Refused (refusal.BuildFailed why)))
-      ⊎ ((why : Refusal) × IsFirst (opening configuration) commands machine ticket (reply.Refused why) × TellsRefusal configuration.limits machine.buffers f script commands ticket why text)
+  pub first : IsFirst (opening options.configuration) commands machine ticket answer
+  pub tells : TellsReply options script commands machine ticket answer text
 
-abbrev pub SaysScript : Configuration → Bool → Format → List ℕ → Bool → List ℕ → Type 0
-SaysScript configuration as_given f script true text = SaysFirst configuration as_given f script text
-SaysScript configuration as_given f script false text = text ≡ codes "clean\n"
+-- the line in front of one of several texts: the number of its command, and the command's line in the script; lines of
+-- JSON have none
+abbrev pub heading : Format → ℕ → ℕ → List ℕ
+heading format.Text ticket line = codes "---- command " ++ decimal ticket ++ codes ", line " ++ decimal line ++ codes " of the script ----\n"
+heading format.Json ticket line = []
+
+-- a text of the reply to the command of a number, behind its heading
+pub record IsHeaded (options : ExplainOptions) (script : List ℕ) (commands : List Command) (machine : Machine) (ticket : ℕ) (answer : Reply) (text : List ℕ) : Type 0 where
+  pub place : CommandPlace
+  pub stands : StandsAt script commands ticket place
+  pub own : List ℕ
+  pub tells : TellsReply options script commands machine ticket answer own
+  pub whole : text ≡ heading options.format ticket place.line ++ own
+
+-- a text of a reply that is a fault or a refusal, and nothing of any other one
+abbrev pub TellsAny : ExplainOptions → List ℕ → List Command → Machine → ℕ → Reply → List ℕ → Type 0
+TellsAny options script commands machine ticket answer text = MatchBool (goes_on answer) (text ≡ []) (IsHeaded options script commands machine ticket answer text)
+
+-- The texts of the replies to commands, one behind another. The first of these commands has this number in the script,
+-- each is done on the machine to which the one before led, and none is refused for want of memory.
+abbrev pub TellsEach : ExplainOptions → List ℕ → List Command → ℕ → Machine → List Command → Machine → List ℕ → Type 0
+TellsEach options script commands ticket old [] new text = (new ≡ old) × (text ≡ [])
+TellsEach options script commands ticket old (c ∷ cs) new text =
+    (mid : Machine) × (answer : Reply) × (first : List ℕ) × (rest : List ℕ) × Step old c answer mid × HadMemory answer × TellsAny options script commands mid ticket answer first
+    × TellsEach options script commands (suc ticket) mid cs new rest × (text ≡ first ++ rest)
+
+-- the text for a script of which all is told: of each reply that is a fault or a refusal, in the commands' order
+pub record SaysEach (options : ExplainOptions) (script text : List ℕ) : Type 0 where
+  pub commands : List Command
+  pub machine : Machine
+  pub is : IsScript script commands
+  pub each : TellsEach options script commands 0 (opening options.configuration) commands machine text
+
+abbrev pub SaysOne : ExplainOptions → List ℕ → Bool → List ℕ → Type 0
+SaysOne options script true text = SaysFirst options script text
+SaysOne options script false text = text ≡ codes "clean\n"
+
+abbrev pub SaysAll : ExplainOptions → List ℕ → Bool → List ℕ → Type 0
+SaysAll options script true text = SaysEach options script text
+SaysAll options script false text = text ≡ codes "clean\n"
+
+-- the text for a script: of all faults and refusals where that is wanted, else of the first
+abbrev pub SaysScript : ExplainOptions → List ℕ → Bool → List ℕ → Type 0
+SaysScript options script answer text = MatchBool options.all (SaysAll options script answer text) (SaysOne options script answer text)
 
 -- the text for a source: any text where it isn't built
 abbrev pub SaysSource : Bool → List ℕ → Type 0
@@ -178,7 +239,7 @@ SaysSource true text = ⊤
 SaysSource false text = text ≡ codes "ok\n"
 
 -- the text for what is given, by the answer
-abbrev pub Says : Configuration → Bool → Format → Given → Bool → List ℕ → Type 0
-Says configuration as_given f given answer text =
+abbrev pub Says : ExplainOptions → Given → Bool → List ℕ → Type 0
+Says options given answer text =
     MatchBool (is_source given.name.now) (SaysSource answer text)
-    (MatchOption given.schedule (SaysScript configuration as_given f given.script.now answer text) (λ schedule. SaysOf configuration as_given f given.script.now schedule.now answer text))
+    (MatchOption given.schedule (SaysScript options given.script.now answer text) (λ schedule. SaysOf options.configuration options.as_given options.format given.script.now schedule.now answer text))

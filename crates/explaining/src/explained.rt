@@ -9,14 +9,15 @@ ghost use Rattle.simfile.specs.Places.{AreAt};
 ghost use Rattle.simfile.specs.Script.{IsScript};
 ghost use Rattle.explaining.specs.Explaining.{Explained, Explains, Found, IsTold, Unanswered, Unexplained, Unled, Unwritten};
 ghost use Rattle.explaining.specs.Leading.{WalkedTo};
-ghost use Rattle.explaining.specs.Whole.{IsToldOf, IsToldThere, Says, SaysOf, SaysScript};
+ghost use Rattle.explaining.specs.Whole.{IsToldOf, IsToldThere, Says, SaysOf, SaysOne, SaysScript};
 
-use crate::answers::{Answer, answer_of, tell, word_answer};
-use crate::building::{explain_source, explain_unbuilt};
-use crate::facts::{ExplainOptions, Format, Given};
-use crate::refusing::explain_refused;
+use crate::answers::{Answer, answer_of, tell};
+use crate::building::explain_source;
+use crate::ends::end_text;
+use crate::every::{ReadScript, explain_all};
+use crate::facts::{ExplainOptions, Given};
 use crate::told::{ExplainedCase, PerformedScript, explain_case};
-use crate::walks::{Performed, Unbuilt, Walked, perform_all, walk_anew};
+use crate::walks::{Performed, Walked, perform_all, walk_anew};
 use byte_io::Write;
 use clmodel::fault::Fault;
 use clmodel::schedule::Schedule;
@@ -112,26 +113,6 @@ fn explain_schedule(
     Ok(answer_of(alloc, told, options.format, "no\n")?)
 }
 
-/// The first build of a script that is refused, in a format.
-fn unbuilt_answer(
-    alloc: Global,
-    format: Format,
-    performed: &PerformedScript<'_>,
-    unbuilt: Unbuilt,
-) -> Result<Answer, AllocError>
-    ensures { IfOk result (λ answer. answer.yes ≡ true) }
-{
-    let text = explain_unbuilt(
-        alloc,
-        format,
-        performed.given.name,
-        performed.commands,
-        performed.places,
-        unbuilt,
-    )?;
-    Ok(Answer { text, yes: true })
-}
-
 /// Explains what a walk over the commands of a script came to, on the device that they led to it.
 fn answer_at(
     alloc: Global,
@@ -143,21 +124,12 @@ fn answer_at(
     requires placed { AreAt performed.now.given.script.now performed.now.commands.now performed.now.places.now }
     requires walked { WalkedTo (opening performed.now.options.configuration) performed.now.commands.now (machine_of device.now) end }
     ensures found { IfOk result (λ answer. Found performed.now.options.configuration performed.now.given.script.now answer.yes) }
-    ensures says { IfOk result (λ answer. SaysScript performed.now.options.configuration performed.now.options.as_given performed.now.options.format performed.now.given.script.now answer.yes (string_bytes answer.text)) }
+    ensures says { IfOk result (λ answer. SaysOne performed.now.options performed.now.given.script.now answer.yes (string_bytes answer.text)) }
     ensures failed { IfErr result (NoScript performed.now.given.script.now) }
 {
-    match end {
-        Walked::Clean => Ok(word_answer(alloc, "clean\n")?),
-        Walked::Unbuilt(unbuilt) => {
-            Ok(unbuilt_answer(alloc, performed.options.format, performed, unbuilt)?)
-        }
-        Walked::Refused(case) => Ok(explain_refused(alloc, device, performed, case)?),
-        Walked::Faulted(case) => {
-            let (ticket, fault) = (case.ticket, case.fault);
-            let told = explain_case(alloc, device, performed, ticket, &fault, case.schedule)?;
-            Ok(answer_of(alloc, told, performed.options.format, "no\n")?)
-        }
-    }
+    let yes = end.is_end();
+    let text = end_text(alloc, device, performed, end)?;
+    Ok(Answer { text, yes })
 }
 
 /// Performs the commands of a script on a new device, and explains what they come to.
@@ -171,7 +143,7 @@ fn explain_commands(
     requires script { IsScript given.script.now commands.now }
     requires placed { AreAt given.script.now commands.now places.now }
     ensures found { IfOk result (λ answer. Found options.configuration given.entry.script.now answer.yes) }
-    ensures says { IfOk result (λ answer. SaysScript options.configuration options.as_given options.format given.entry.script.now answer.yes (string_bytes answer.text)) }
+    ensures says { IfOk result (λ answer. SaysOne options given.entry.script.now answer.yes (string_bytes answer.text)) }
     ensures failed { IfErr result (NoScript given.entry.script.now) }
 {
     let same = copies_of(alloc, commands)?;
@@ -186,17 +158,26 @@ fn explain_commands(
     answer_at(alloc, &device, &performed, end)
 }
 
-/// Explains the first fault of a script, or the first command that is refused, if that comes first.
+/// Explains the first fault of a script, or the first command that is refused, if that comes first; or all of them.
 fn explain_script(
     alloc: Global,
     given: Given<'_>,
     options: ExplainOptions,
 ) -> Result<Answer, RunFault>
     ensures found { IfOk result (λ answer. Found options.configuration given.entry.script.now answer.yes) }
-    ensures says { IfOk result (λ answer. SaysScript options.configuration options.as_given options.format given.entry.script.now answer.yes (string_bytes answer.text)) }
+    ensures says { IfOk result (λ answer. SaysScript options given.entry.script.now answer.yes (string_bytes answer.text)) }
     ensures failed { IfErr result (NoScript given.entry.script.now) }
 {
     let Script { commands, places } = read_script(alloc, given.script)?;
+    if options.all {
+        let script = ReadScript {
+            given,
+            options,
+            commands: commands.as_slice(),
+            places: places.as_slice(),
+        };
+        return explain_all(alloc, &script);
+    }
     explain_commands(
         alloc,
         given,
@@ -209,7 +190,7 @@ fn explain_script(
 /// What is explained of what is given.
 fn answer_to(alloc: Global, given: Given<'_>, options: ExplainOptions) -> Result<Answer, RunFault>
     ensures explains { IfOk result (λ answer. Explains options.configuration given.entry answer.yes) }
-    ensures says { IfOk result (λ answer. Says options.configuration options.as_given options.format given.entry answer.yes (string_bytes answer.text)) }
+    ensures says { IfOk result (λ answer. Says options given.entry answer.yes (string_bytes answer.text)) }
     ensures failed { IfErr result (Unanswered options.configuration given.entry) }
 {
     if given.name.ends_with(b".cl") {
@@ -223,10 +204,10 @@ fn answer_to(alloc: Global, given: Given<'_>, options: ExplainOptions) -> Result
 }
 
 /// Explains a fault. With a schedule file: that of its line, for which its schedule is replayed. Without one: the first
-/// fault of the script, or its first command that is refused, whichever comes first. A source, which is a file whose
-/// name ends in `.cl`, is built alone. Writes the explanation and answers true; or writes `no` where the schedule
-/// doesn't lead to the fault, `clean` where no launch has a fault and no command is refused, and `ok` where a source
-/// builds, and answers false.
+/// fault of the script, or its first command that is refused, whichever comes first; or each fault and each such
+/// command, one behind another. A source, which is a file whose name ends in `.cl`, is built alone. Writes what it
+/// explains and answers true; or writes `no` where the schedule doesn't lead to the fault, `clean` where no launch has a
+/// fault and no command is refused, and `ok` where a source builds, and answers false.
 ///
 /// After `Write` a beginning of the text was written, after every other error nothing. No memory may be left at any
 /// step.
@@ -238,7 +219,7 @@ pub fn explain<W: Write>(
 ) -> Result<bool, RunFault>
     ensures explains { IfOk result (Explains options.configuration given.entry) }
     ensures wrote { OnOk result ((text : List ℕ) × Wrote (W.sink writer.old) (W.sink writer.new) text) }
-    ensures says { IfOk result (λ answer. (text : List ℕ) × Wrote (W.sink writer.old) (W.sink writer.new) text × Says options.configuration options.as_given options.format given.entry answer text) }
+    ensures says { IfOk result (λ answer. (text : List ℕ) × Wrote (W.sink writer.old) (W.sink writer.new) text × Says options given.entry answer text) }
     ensures released { OnOk result ((W.sink writer.new).held ≡ []) }
     ensures failed { IfErr result (Unwritten options.configuration given.entry (W.sink writer.old) (W.sink writer.new)) }
 {

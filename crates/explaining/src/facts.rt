@@ -41,6 +41,8 @@ pub struct ExplainOptions {
     pub configuration: Configuration,
     /// Whether the schedule is told as it was given, and not made shorter
     pub as_given: bool,
+    /// Whether each fault and each refusal of a script is told, and not the first one alone
+    pub all: bool,
 }
 
 /// The texts that are given: the name of the script as on the command line and its bytes, and those of a schedule file,

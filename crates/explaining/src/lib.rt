@@ -3,11 +3,13 @@
 //! and played with the places of its items, which lead back to the source. Where a command is refused before that, it
 //! is explained in place of the fault. Which schedules lead there, and the errors, are those defined; the text is that
 //! of an explanation whose launch, fault, items and schedule are those defined, or of the first command that was
-//! refused. It knows no file and no option's text.
+//! refused; or of all of them, one behind another. It knows no file and no option's text.
 #![tactic(auto)]
 
 mod answers;
 mod building;
+mod ends;
+mod every;
 mod explained;
 mod facts;
 mod refusing;

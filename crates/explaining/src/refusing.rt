@@ -1,22 +1,61 @@
 //! A command that was refused, explained.
 #![tactic(auto)]
 
-ghost use Rattle.std.specs.Prelude.{◌≡◌, ◌<◌, Some, true, length, IfOk, IfSome, slice_get, string_bytes};
+ghost use Rattle.std.specs.Prelude.{◌≡◌, ◌<◌, Some, length, IfOk, IfSome, slice_get, string_bytes};
 ghost use Rattle.device.specs.Machine.{machine_of};
 ghost use Rattle.explain_refusals.specs.Reasons.{Holds};
 ghost use Rattle.host_commands.specs.declared.command.Command.{Command as CommandOf};
 ghost use Rattle.simfile.specs.Places.{AreAt};
 ghost use Rattle.explaining.specs.Refusing.{IsRefusalText, TellsRefusal};
 
-use crate::answers::Answer;
 use crate::facts::Format;
 use crate::told::{PerformedScript, place_of};
 use crate::walks::RefusedCase;
-use device::Device;
+use device::{Command, Device};
 use explain_json::command_json;
 use explain_refusals::{Found, RefusedAt, Refusing, reason_of, refused_command};
 use refused_commands::{RefusedCommand, refused_text};
+use simfile::copies::copy_of;
+use simfile::script::CommandPlace;
 use std::alloc::{AllocError, Global};
+
+/// Commands that were done, with their places in the script.
+#[derive(Drop)]
+struct Done {
+    commands: Vec<Command>,
+    places: Vec<CommandPlace>,
+}
+
+/// The command of a number, if it was done, with its place.
+fn done_at<'a>(
+    performed: &PerformedScript<'a>,
+    number: usize,
+) -> Option<(&'a Command, CommandPlace)> {
+    let done = performed.done.get(number)?;
+    if !*done {
+        return None;
+    }
+    let command = performed.commands.get(number)?;
+    let place = performed.places.get(number)?;
+    Some((command, *place))
+}
+
+/// The commands before the one of a number that were done. An error is out of memory.
+fn done_before(
+    alloc: Global,
+    performed: &PerformedScript<'_>,
+    number: usize,
+) -> Result<Done, AllocError> {
+    let mut commands = Vec::new(alloc);
+    let mut places = Vec::new(alloc);
+    for at in 0..number {
+        if let Some((command, place)) = done_at(performed, at) {
+            commands.push(copy_of(alloc, command)?)?;
+            places.push(place)?;
+        }
+    }
+    Ok(Done { commands, places })
+}
 
 /// Why a command was refused, on the device to which those before it led.
 fn reason_at(
@@ -28,17 +67,16 @@ fn reason_at(
     ensures { (command : CommandOf) → slice_get performed.now.commands.now case.ticket ≡ Some command
         → IfOk result (λ found. IfSome found (λ f. Holds performed.now.options.configuration.limits (machine_of device.now).buffers command f.reason)) }
 {
-    let commands = performed.commands;
-    let Some(command) = commands.get(case.ticket) else {
+    let Some(command) = performed.commands.get(case.ticket) else {
         return Ok(None);
     };
-    let (before, _) = commands.split_at(case.ticket.min(commands.len()));
+    let done = done_before(alloc, performed, case.ticket)?;
     let refusing = Refusing {
         alloc,
         limits: performed.options.configuration.limits,
         buffers: device.buffers(),
-        before,
-        places: performed.places,
+        before: done.commands.as_slice(),
+        places: done.places.as_slice(),
     };
     reason_of(&refusing, command, case.refusal)
 }
@@ -59,12 +97,11 @@ pub(crate) fn explain_refused(
     device: &Device,
     performed: &PerformedScript<'_>,
     case: RefusedCase,
-) -> Result<Answer, AllocError>
+) -> Result<String, AllocError>
     requires placed { AreAt performed.now.given.script.now performed.now.commands.now performed.now.places.now }
     requires within { case.ticket < length performed.now.commands.now }
-    ensures yes { IfOk result (λ answer. answer.yes ≡ true) }
-    ensures says { IfOk result (λ answer. TellsRefusal performed.now.options.configuration.limits (machine_of device.now).buffers performed.now.options.format
-        performed.now.given.script.now performed.now.commands.now case.ticket case.refusal (string_bytes answer.text)) }
+    ensures { IfOk result (λ text. TellsRefusal performed.now.options.configuration.limits (machine_of device.now).buffers performed.now.options.format
+        performed.now.given.script.now performed.now.commands.now case.ticket case.refusal (string_bytes text)) }
 {
     let found = reason_at(alloc, device, performed, case)?;
     let place = place_of(performed.places, case.ticket);
@@ -76,6 +113,5 @@ pub(crate) fn explain_refused(
         refusal: case.refusal,
     };
     let told = refused_command(alloc, &at, found)?;
-    let text = written(alloc, &told, performed.options.format)?;
-    Ok(Answer { text, yes: true })
+    written(alloc, &told, performed.options.format)
 }

@@ -3,7 +3,7 @@
 
 ghost use Rattle.std.specs.Prelude.{◌≡◌, ◌+◌, length, IfOk, IfSome, IfNone, OnOk, Decides, true};
 ghost use Rattle.device.specs.Machine.{Step, machine_of, opening};
-ghost use Rattle.explaining.specs.Leading.{HadMemory, Leads, WalkedTo, EndsAt, goes_on};
+ghost use Rattle.explaining.specs.Leading.{HadMemory, Leads, WalkedTo, EndsAt, goes_on, is_end};
 
 use crate::facts::ExplainOptions;
 use clmodel::fault::Fault;
@@ -47,6 +47,18 @@ pub(crate) enum Walked {
     Refused(RefusedCase),
 }
 
+impl Walked {
+    /// Whether a command has a fault or is refused there.
+    pub(crate) fn is_end(&self) -> bool
+        ensures { result ≡ is_end self.now }
+    {
+        match self {
+            Walked::Clean => false,
+            Walked::Faulted(_) | Walked::Unbuilt(_) | Walked::Refused(_) => true,
+        }
+    }
+}
+
 /// What a walk came to, and of each command that was performed whether it was done.
 #[derive(Drop)]
 struct Walk {
@@ -70,7 +82,11 @@ fn lacked_memory(reply: &Reply) -> bool
 }
 
 /// Performs a command, and notes whether it was done. An error is out of memory.
-fn perform(device: &mut Device, command: Command, done: &mut Vec<bool>) -> Result<Reply, AllocError>
+pub(crate) fn perform(
+    device: &mut Device,
+    command: Command,
+    done: &mut Vec<bool>,
+) -> Result<Reply, AllocError>
     ensures step { IfOk result (λ reply. Step (machine_of device.old) command reply (machine_of device.new)) }
     ensures memory { IfOk result HadMemory }
     ensures counted { OnOk result (length done.new.items ≡ length done.old.items + 1) }
@@ -99,7 +115,7 @@ pub(crate) fn perform_all(
 }
 
 /// What a reply to the command of a number comes to, if a walk ends there.
-fn end_of(ticket: usize, reply: Reply) -> Option<Walked>
+pub(crate) fn end_of(ticket: usize, reply: Reply) -> Option<Walked>
     ensures ends { IfSome result (EndsAt ticket reply) }
     ensures goes_on { IfNone result (goes_on reply ≡ true) }
 {

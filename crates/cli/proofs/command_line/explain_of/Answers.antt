@@ -7,7 +7,8 @@ use Rattle.cli.proofs.command_line.explain_of.Goals as goal
 pub returns : goal.returns
 returns c =
     let found : c.get_str.result ≡ Some c.in_ok-script.script = search rules in
-    let flag = one_text-rows (found_of c.args.explain.now) (codes "as-given") in (
+    let flag = one_text-rows (found_of c.args.explain.now) (codes "as-given") in
+    let all = one_text-rows (found_of c.args.explain.now) (codes "all") in (
       refl,
       (
         sym (first_value-rows (found_of c.args.explain.now) (codes "SCRIPT")) ∙ (sym c.get_str.ensures ∙ ap (option_map (λ s. s.now)) found),
@@ -18,6 +19,11 @@ returns c =
           there = λ is. c.get_flag-as_given.ensures.value (flag ∙ is);
           absent = λ is. c.get_flag-as_given.ensures.other (flag ∙ is);
           unknown = λ is. c.get_flag-as_given.ensures.none (flag ∙ is);
+        },
+        record {
+          there = λ is. c.get_flag-all.ensures.value (all ∙ is);
+          absent = λ is. c.get_flag-all.ensures.other (all ∙ is);
+          unknown = λ is. c.get_flag-all.ensures.none (all ∙ is);
         },
       ),
     )

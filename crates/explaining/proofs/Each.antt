@@ -1,0 +1,198 @@
+-- Each reply of a script that is a fault or a refusal, told.
+use Rattle.std.proofs.Common.{◌≡◌, ◌+◌, ◌++◌, ◌∷◌, [], ◌∙◌, ℕ, suc, Bool, true, false, ◌⊎◌, List, Some, length, codes, inl, inr, refl, sym, ap, subst, append_assoc, arith}
+use Rattle.std.specs.Prelude.{MatchBool, slice_get}
+use Rattle.std.proofs.lemmas.Bool.{false≢true}
+use Rattle.std.proofs.lemmas.List.{append-nil}
+use Rattle.clmodel.specs.declared.fault.Fault.{Fault}
+use Rattle.clmodel.specs.declared.schedule.EventRun.{EventRun}
+use Rattle.device.specs.Machine.{Machine, Step, opening}
+use Rattle.host_commands.specs.declared.command.Command.{Command}
+use Rattle.host_commands.specs.declared.command.Refusal.{Refusal}
+use Rattle.host_commands.specs.declared.command.Refusal.TheVariants as refusal
+use Rattle.host_commands.specs.declared.command.Reply.{Reply}
+use Rattle.host_commands.specs.declared.command.Reply.TheVariants as reply
+use Rattle.limits.specs.declared.Configuration.{Configuration}
+use Rattle.simfile.specs.Script.{IsScript}
+use Rattle.explaining.proofs.Performing.{cleanly_more, first_behind, get_behind}
+use Rattle.explaining.specs.Every.{IsEndAdded, TellsCommand}
+use Rattle.explaining.specs.Explaining.{Found}
+use Rattle.explaining.specs.Leading.{EndsAt, HadMemory, HasEnd, IsFirst, IsMet, LeadsCleanly, RepliesAt, StandsBehind, goes_on}
+use Rattle.explaining.specs.Whole.{IsHeaded, SaysAll, TellsAny, TellsEach, TellsEnd, TellsReply, heading}
+use Rattle.explaining.specs.declared.facts.ExplainOptions.{ExplainOptions}
+use Rattle.explaining.specs.declared.walks.Walked.{Walked}
+use Rattle.explaining.specs.declared.walks.Walked.TheVariants as walked
+
+-- the next command
+pub next_is : (commands done rest : List Command) (c : Command) (n : ℕ) → commands ≡ done ++ c ∷ rest → n ≡ length done → slice_get commands n ≡ Some c
+next_is commands done rest c n split counted = ap (λ l. slice_get l n) split ∙ ap (λ n. slice_get (done ++ c ∷ rest) n) counted ∙ get_behind done rest c
+
+-- a reply at which a walk ends is a fault or a refusal
+ends_false : (ticket : ℕ) (r : Reply) (w : Walked) → EndsAt ticket r w → goes_on r ≡ false
+ends_false ticket r walked.Clean h = absurd h
+ends_false ticket r (walked.Faulted case) (same, is) = ap goes_on is
+ends_false ticket r (walked.Unbuilt build) (same, is) = ap goes_on is
+ends_false ticket r (walked.Refused case) (same, is) = ap goes_on is
+
+pub stands_at : (commands : List Command) (before new : Machine) (c : Command) (ticket : ℕ) (r : Reply) (w : Walked) → EndsAt ticket r w → slice_get commands ticket ≡ Some c → Step before c r new
+    → StandsBehind commands new w
+stands_at commands before new c ticket r w ends at step = go w ends
+  where
+    replies : RepliesAt commands new ticket r
+    replies = record { before = before; command = c; at = at; replied = step }
+
+    go : (w : Walked) → EndsAt ticket r w → StandsBehind commands new w
+    go walked.Clean h = absurd h
+    go (walked.Faulted case) (same, is) =
+        subst (λ n. RepliesAt commands new n (reply.Fault case.fault case.schedule)) (sym same) (subst (RepliesAt commands new ticket) is replies)
+    go (walked.Unbuilt build) (same, is) =
+        subst (λ n. RepliesAt commands new n (reply.Refused (refusal.BuildFailed build.fault))) (sym same) (subst (RepliesAt commands new ticket) is replies)
+    go (walked.Refused case) (same, is) = subst (λ n. RepliesAt commands new n (reply.Refused case.refusal)) (sym same) (subst (RepliesAt commands new ticket) is replies)
+
+-- what is told of the end of a walk is told of the reply
+tells_reply :
+    (options : ExplainOptions) (script : List ℕ) (commands : List Command) (m : Machine) (ticket : ℕ) (r : Reply) (w : Walked) (text : List ℕ) → EndsAt ticket r w
+    → TellsEnd options script commands m w text → TellsReply options script commands m ticket r text
+tells_reply options script commands m ticket r walked.Clean text h tells = absurd h
+tells_reply options script commands m ticket r (walked.Faulted case) text (same, is) tells =
+    subst (λ (a : Reply). TellsReply options script commands m ticket a text) (sym is)
+    (subst (λ n. TellsReply options script commands m n (reply.Fault case.fault case.schedule) text) same tells)
+tells_reply options script commands m ticket r (walked.Unbuilt build) text (same, is) tells =
+    subst (λ (a : Reply). TellsReply options script commands m ticket a text) (sym is)
+    (subst (λ n. TellsReply options script commands m n (reply.Refused (refusal.BuildFailed build.fault)) text) same tells)
+tells_reply options script commands m ticket r (walked.Refused case) text (same, is) tells =
+    subst (λ (a : Reply). TellsReply options script commands m ticket a text) (sym is)
+    (subst (λ n. TellsReply options script commands m n (reply.Refused case.refusal) text) same tells)
+
+-- of a reply that goes on nothing is told
+pub goes_told :
+    (options : ExplainOptions) (script : List ℕ) (commands : List Command) (ticket : ℕ) (old : Machine) (c : Command) (new : Machine) (r : Reply) (text : List ℕ) (met : Bool) → Step old c r new
+    → HadMemory r → goes_on r ≡ true → TellsCommand options script commands ticket old c new text text met met
+goes_told options script commands ticket old c new r text met step memory on = record {
+  answer = r;
+  replied = step;
+  memory = memory;
+  part = [];
+  tells = subst (λ b. MatchBool b (◌≡◌ {A = List ℕ} [] []) (IsHeaded options script commands new ticket r [])) (sym on) refl;
+  added = sym (append-nil text);
+  stays = λ e. refl;
+  turns = λ e. absurd (false≢true (sym e ∙ on));
+}
+
+-- and of another one what is told of the end of a walk
+pub end_told :
+    (options : ExplainOptions) (script : List ℕ) (commands : List Command) (ticket at : ℕ) (old : Machine) (c : Command) (new : Machine) (r : Reply) (w : Walked) (before after : List ℕ) (met : Bool)
+    → Step old c r new → HadMemory r → ticket ≡ at → EndsAt ticket r w → IsEndAdded options script commands new ticket w before after
+    → TellsCommand options script commands at old c new before after met true
+end_told options script commands ticket at old c new r w before after met step memory same ends told = record {
+  answer = r;
+  replied = step;
+  memory = memory;
+  part = part;
+  tells = subst (λ n. TellsAny options script commands new n r part) same any;
+  added = told.added;
+  stays = λ e. absurd (false≢true (sym (ends_false ticket r w ends) ∙ e));
+  turns = λ e. refl;
+}
+  where
+    part : List ℕ
+    part = heading options.format ticket told.place.line ++ told.own
+
+    headed : IsHeaded options script commands new ticket r part
+    headed = record { place = told.place; stands = told.stands; own = told.own; tells = tells_reply options script commands new ticket r w told.own ends told.tells; whole = refl }
+
+    any : TellsAny options script commands new ticket r part
+    any = subst (λ b. MatchBool b (part ≡ []) (IsHeaded options script commands new ticket r part)) (sym (ends_false ticket r w ends)) headed
+
+-- one command more is told
+pub each_more :
+    (options : ExplainOptions) (script : List ℕ) (commands : List Command) (n : ℕ) (old now new : Machine) (done : List Command) (c : Command) (r : Reply) (at : ℕ) (text part whole : List ℕ)
+    → TellsEach options script commands n old done now text → Step now c r new → HadMemory r → at ≡ n + length done → TellsAny options script commands new at r part → whole ≡ text ++ part
+    → TellsEach options script commands n old (done ++ c ∷ []) new whole
+each_more options script commands n old now new [] c r at text part whole (same, empty) step memory counted tells added =
+    let here : at ≡ n = omega (arith, counted) in (
+      new,
+      r,
+      part,
+      [],
+      subst (λ m. Step m c r new) same step,
+      memory,
+      subst (λ k. TellsAny options script commands new k r part) here tells,
+      (refl, refl),
+      added ∙ ap (λ t. t ++ part) empty ∙ sym (append-nil part),
+    )
+each_more options script commands n old now new (d ∷ done) c r at text part whole (mid, s, first, rest, did, had, any, more, split) step memory counted tells added =
+    let behind : at ≡ suc n + length done = omega (arith, counted) in (
+      mid,
+      s,
+      first,
+      rest ++ part,
+      did,
+      had,
+      any,
+      each_more options script commands (suc n) mid now new done c r at rest part (rest ++ part) more step memory behind tells refl,
+      added ∙ ap (λ t. t ++ part) split ∙ append_assoc first rest part,
+    )
+
+-- a command is told behind those that were done
+pub command_more :
+    (options : ExplainOptions) (script : List ℕ) (commands : List Command) (old now new : Machine) (done : List Command) (c : Command) (at : ℕ) (text whole : List ℕ) (met met' : Bool)
+    → TellsEach options script commands 0 old done now text → at ≡ length done → TellsCommand options script commands at now c new text whole met met'
+    → TellsEach options script commands 0 old (done ++ c ∷ []) new whole
+command_more options script commands old now new done c at text whole met met' each counted told =
+    let here : at ≡ 0 + length done = omega (arith, counted) in
+    each_more options script commands 0 old now new done c told.answer at text told.part whole each told.replied told.memory here told.tells told.added
+
+-- and whether a fault or a refusal was met
+pub met_more :
+    (options : ExplainOptions) (script : List ℕ) (all : List Command) (old now new : Machine) (commands done rest : List Command) (c : Command) (at : ℕ) (text whole : List ℕ) (met met' : Bool)
+    → commands ≡ done ++ c ∷ rest → IsMet old commands done now met → TellsCommand options script all at now c new text whole met met' → IsMet old commands (done ++ c ∷ []) new met'
+met_more options script all old now new commands done rest c at text whole met met' split so_far told = go (goes_on told.answer) refl met so_far told.stays
+  where
+    go : (b : Bool) → goes_on told.answer ≡ b → (met : Bool) → IsMet old commands done now met → (goes_on told.answer ≡ true → met' ≡ met) → IsMet old commands (done ++ c ∷ []) new met'
+    go true e true h stays = subst (IsMet old commands (done ++ c ∷ []) new) (sym (stays e)) h
+    go true e false h stays =
+        subst (IsMet old commands (done ++ c ∷ []) new) (sym (stays e)) (cleanly_more old now new done c told.answer h told.replied told.memory e)
+    go false e true h stays = subst (IsMet old commands (done ++ c ∷ []) new) (sym (told.turns e)) h
+    go false e false h stays =
+        subst (IsMet old commands (done ++ c ∷ []) new) (sym (told.turns e))
+        (record { ticket = length done; machine = new; answer = told.answer; first = first_behind old commands done rest c now new split h told.answer told.replied (length done) refl; ends = e })
+
+-- what is said of a script whose commands are all done
+found :
+    (configuration : Configuration) (script : List ℕ) (commands : List Command) (m : Machine) (met : Bool) → IsScript script commands → IsMet (opening configuration) commands commands m met
+    → Found configuration script met
+found configuration script commands m false is h = record { commands = commands; machine = m; is = is; led = h }
+found configuration script commands m true is h =
+    record { commands = commands; ticket = h.ticket; machine = h.machine; is = is; found = split h.answer h.first h.ends }
+  where
+    First : Reply → Type 0
+    First r = IsFirst (opening configuration) commands h.machine h.ticket r
+
+    split : (r : Reply) → First r → goes_on r ≡ false → ((f : Fault) × (runs : List EventRun) × First (reply.Fault f runs)) ⊎ ((why : Refusal) × First (reply.Refused why))
+    split reply.Done first ends = absurd (false≢true (sym ends))
+    split (reply.Data bytes) first ends = absurd (false≢true (sym ends))
+    split reply.Clean first ends = absurd (false≢true (sym ends))
+    split (reply.Fault f runs) first ends = inl (f, runs, first)
+    split (reply.Refused why) first ends = inr (why, first)
+
+pub found_all :
+    (configuration : Configuration) (script : List ℕ) (commands same : List Command) (first m : Machine) (met answer : Bool) → IsScript script commands → same ≡ commands
+    → first ≡ opening configuration → IsMet first same same m met → answer ≡ met → Found configuration script answer
+found_all configuration script commands same first m met answer is equal opened h yes =
+    subst (Found configuration script) (sym yes)
+    (found configuration script commands m met is (subst (λ (s : Machine). IsMet s commands commands m met) opened (subst (λ (l : List Command). IsMet first l l m met) equal h)))
+
+pub says_all :
+    (options : ExplainOptions) (script : List ℕ) (commands same : List Command) (first m : Machine) (met answer : Bool) (told text : List ℕ) → IsScript script commands → same ≡ commands
+    → first ≡ opening options.configuration → TellsEach options script commands 0 first same m told → answer ≡ met → (met ≡ true → text ≡ told) → (met ≡ false → text ≡ codes "clean\n")
+    → SaysAll options script answer text
+says_all options script commands same first m met answer told text is equal opened each yes some none = subst (λ y. SaysAll options script y text) (sym yes) (go met some none)
+  where
+    here : TellsEach options script commands 0 (opening options.configuration) commands m told
+    here =
+        subst (λ (s : Machine). TellsEach options script commands 0 s commands m told) opened (subst (λ (l : List Command). TellsEach options script commands 0 first l m told) equal each)
+
+    go : (b : Bool) → (b ≡ true → text ≡ told) → (b ≡ false → text ≡ codes "clean\n") → SaysAll options script b text
+    go true some none =
+        record { commands = commands; machine = m; is = is; each = subst (λ (t : List ℕ). TellsEach options script commands 0 (opening options.configuration) commands m t) (sym (some refl)) here }
+    go false some none = none refl

@@ -1,0 +1,14 @@
+use Rattle.std.proofs.Common.{◌≡◌, ◌++◌, length, string_bytes}
+use Rattle.std.specs.Vec.Iter.{into_iter_items}
+use Rattle.device.specs.Machine.{machine_of}
+use Rattle.explaining.specs.Leading.{IsMet}
+use Rattle.explaining.specs.Whole.{TellsEach}
+use Rattle.explaining.proofs.every.tell_commands.Given as goal
+
+abbrev pub invariant-loop-command : goal.invariant-loop-command
+invariant-loop-command l = record {
+  split : l.fn.same.items ≡ l.yielded ++ into_iter_items l.command-iterator;
+  counted : length l.done.items ≡ length l.yielded;
+  each : TellsEach l.fn.script.now.options l.fn.script.now.given.script.now l.fn.script.now.commands.now 0 (machine_of l.initial.device) l.yielded (machine_of l.device) (string_bytes l.text);
+  met : IsMet (machine_of l.initial.device) l.fn.same.items l.yielded (machine_of l.device) l.met;
+}

@@ -1,0 +1,178 @@
+//! Every fault and every refusal of a script, told one behind another.
+#![tactic(auto)]
+
+ghost use Rattle.std.specs.Prelude.{◌≡◌, ◌+◌, ◌<◌, ◌++◌, Some, true, false, codes, length, IfOk, IfErr, OnOk, slice_get, string_bytes};
+ghost use Rattle.device.specs.Machine.{machine_of};
+ghost use Rattle.simfile.specs.Faults.{NoScript};
+ghost use Rattle.simfile.specs.Places.{AreAt};
+ghost use Rattle.simfile.specs.Script.{IsScript};
+ghost use Rattle.explaining.specs.Every.{IsEndAdded, TellsCommand};
+ghost use Rattle.explaining.specs.Explaining.{Found};
+ghost use Rattle.explaining.specs.Leading.{IsMet, StandsBehind};
+ghost use Rattle.explaining.specs.Whole.{SaysAll, TellsEach, heading};
+
+use crate::answers::{Answer, word_answer};
+use crate::ends::end_text;
+use crate::facts::{ExplainOptions, Format, Given};
+use crate::told::{PerformedScript, place_of};
+use crate::walks::{Walked, end_of, perform};
+use device::{Command, Device};
+use simfile::copies::copies_of;
+use simfile::faults::RunFault;
+use simfile::script::CommandPlace;
+use std::alloc::{AllocError, Global};
+use std::fmt::Write;
+
+/// A script that was read: what is given of it, how it is told, and its commands with their places.
+#[derive(Clone, Copy)]
+pub(crate) struct ReadScript<'a> {
+    pub given: Given<'a>,
+    pub options: ExplainOptions,
+    pub commands: &'a [Command],
+    pub places: &'a [CommandPlace],
+}
+
+/// Adds the line in front of what is told of the command of a number, which stands in this line of the script. Lines of
+/// JSON have none.
+fn push_heading(
+    format: Format,
+    ticket: usize,
+    line: usize,
+    out: &mut String,
+) -> Result<(), AllocError>
+    ensures { OnOk result (string_bytes out.new ≡ string_bytes out.old ++ heading format ticket line) }
+{
+    match format {
+        Format::Text => write!(
+            out,
+            "---- command {ticket}, line {line} of the script ----\n"
+        ),
+        Format::Json => Ok(()),
+    }
+}
+
+/// Adds a text behind the heading of the command of a number, which stands in this line of the script.
+fn push_headed(
+    format: Format,
+    ticket: usize,
+    line: usize,
+    text: &str,
+    out: &mut String,
+) -> Result<(), AllocError>
+    ensures { OnOk result (string_bytes out.new ≡ string_bytes out.old ++ (heading format ticket line ++ text.now)) }
+{
+    push_heading(format, ticket, line, out)?;
+    out.push_str(text)
+}
+
+/// Adds what is told of the command of a number, at which a walk ended, on the device behind it. An error is out of
+/// memory.
+fn push_end(
+    alloc: Global,
+    device: &Device,
+    performed: &PerformedScript<'_>,
+    ticket: usize,
+    end: Walked,
+    out: &mut String,
+) -> Result<(), RunFault>
+    requires placed { AreAt performed.now.given.script.now performed.now.commands.now performed.now.places.now }
+    requires within { ticket < length performed.now.commands.now }
+    requires ended { StandsBehind performed.now.commands.now (machine_of device.now) end }
+    ensures told { OnOk result (IsEndAdded performed.now.options performed.now.given.script.now performed.now.commands.now (machine_of device.now) ticket end (string_bytes out.old) (string_bytes out.new)) }
+    ensures failed { IfErr result (NoScript performed.now.given.script.now) }
+{
+    let text = end_text(alloc, device, performed, end)?;
+    let place = place_of(performed.places, ticket);
+    push_headed(
+        performed.options.format,
+        ticket,
+        place.line,
+        text.as_str(),
+        out,
+    )?;
+    Ok(())
+}
+
+/// Performs the next command of a script, and adds what is told of its reply, if that is a fault or a refusal. Answers
+/// whether one was met, now or before. An error is out of memory.
+fn tell_command(
+    alloc: Global,
+    device: &mut Device,
+    script: &ReadScript<'_>,
+    command: Command,
+    met: bool,
+    done: &mut Vec<bool>,
+    out: &mut String,
+) -> Result<bool, RunFault>
+    requires placed { AreAt script.now.given.script.now script.now.commands.now script.now.places.now }
+    requires next { slice_get script.now.commands.now (length done.old.items) ≡ Some command }
+    ensures told { IfOk result (TellsCommand script.now.options script.now.given.script.now script.now.commands.now (length done.old.items) (machine_of device.old) command (machine_of device.new)
+        (string_bytes out.old) (string_bytes out.new) met) }
+    ensures counted { OnOk result (length done.new.items ≡ length done.old.items + 1) }
+    ensures failed { IfErr result (NoScript script.now.given.script.now) }
+{
+    let ticket = done.len();
+    let reply = perform(device, command, done)?;
+    let Some(end) = end_of(ticket, reply) else {
+        return Ok(met);
+    };
+    let performed = PerformedScript {
+        given: script.given,
+        options: script.options,
+        commands: script.commands,
+        places: script.places,
+        done: done.as_slice(),
+    };
+    push_end(alloc, device, &performed, ticket, end, out)?;
+    Ok(true)
+}
+
+/// Performs the commands of a script, and tells each reply that is a fault or a refusal. An error is out of memory.
+fn tell_commands(
+    alloc: Global,
+    device: &mut Device,
+    script: &ReadScript<'_>,
+    same: Vec<Command>,
+) -> Result<Answer, RunFault>
+    requires placed { AreAt script.now.given.script.now script.now.commands.now script.now.places.now }
+    requires same { same.items ≡ script.now.commands.now }
+    ensures each { IfOk result (λ answer. TellsEach script.now.options script.now.given.script.now script.now.commands.now 0 (machine_of device.old) same.items (machine_of device.new) (string_bytes answer.text)) }
+    ensures met { IfOk result (λ answer. IsMet (machine_of device.old) same.items same.items (machine_of device.new) answer.yes) }
+    ensures failed { IfErr result (NoScript script.now.given.script.now) }
+{
+    let mut done = Vec::new(alloc);
+    let mut text = String::new(alloc);
+    let mut met = false;
+    for command in same {
+        met = tell_command(alloc, device, script, command, met, &mut done, &mut text)?;
+    }
+    Ok(Answer { text, yes: met })
+}
+
+/// What was told, or that there was nothing. An error is out of memory.
+fn or_clean(alloc: Global, told: Answer) -> Result<Answer, AllocError>
+    ensures yes { IfOk result (λ answer. answer.yes ≡ told.yes) }
+    ensures some { IfOk result (λ answer. told.yes ≡ true → string_bytes answer.text ≡ string_bytes told.text) }
+    ensures none { IfOk result (λ answer. told.yes ≡ false → string_bytes answer.text ≡ codes "clean\n") }
+{
+    if told.yes {
+        return Ok(told);
+    }
+    word_answer(alloc, "clean\n")
+}
+
+/// Tells each fault and each refusal of a script, in the order of its commands; `clean` where there is none. A launch
+/// that has a fault and a command that is refused leave the device as it was, so that each is told by the buffers that
+/// it had. An error is out of memory.
+pub(crate) fn explain_all(alloc: Global, script: &ReadScript<'_>) -> Result<Answer, RunFault>
+    requires script { IsScript script.now.given.script.now script.now.commands.now }
+    requires placed { AreAt script.now.given.script.now script.now.commands.now script.now.places.now }
+    ensures found { IfOk result (λ answer. Found script.now.options.configuration script.now.given.script.now answer.yes) }
+    ensures says { IfOk result (λ answer. SaysAll script.now.options script.now.given.script.now answer.yes (string_bytes answer.text)) }
+    ensures failed { IfErr result (NoScript script.now.given.script.now) }
+{
+    let same = copies_of(alloc, script.commands)?;
+    let mut device = Device::new(alloc, script.options.configuration);
+    let told = tell_commands(alloc, &mut device, script, same)?;
+    Ok(or_clean(alloc, told)?)
+}
