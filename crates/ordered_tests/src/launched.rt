@@ -1,5 +1,9 @@
-//! A launch of a kernel with one buffer, run in the canonical order over one memory.
+//! A launch of a kernel over one buffer, run in the canonical order over one memory.
 
+ghost use Rattle.item_step.specs.Launches.{setup_of};
+ghost use Rattle.launches.specs.Groups.{HasGroups};
+
+use clmodel::access::Clash;
 use clmodel::fault::Fault;
 use clmodel::schedule::{EventRun, Schedule};
 use clmodel::setup::{Argument, Range};
@@ -12,14 +16,24 @@ use limits::Limits;
 use lower::lower_kernel;
 use ordered_play::{OrderedEnd, run_ordered};
 use replay::replay;
-use spaces::Buffers;
+use spaces::{Buffers, Plain};
 use std::alloc::Global;
 
+/// A kernel `k` over one buffer of words, its items and the size of a group, and what its ordered run comes to.
+pub struct Case {
+    pub source: &'static str,
+    pub words: &'static [u32],
+    pub items: u64,
+    pub group: u64,
+    pub end: End,
+    pub events: u64,
+}
+
 /// How an ordered run ends, as far as a test asks.
-#[derive(Clone, Copy, PartialEq, Eq)]
+#[derive(Clone, Copy)]
 pub enum End {
-    /// Without a report
-    Ended,
+    /// Without a report, and with these words in the buffer
+    Ended(&'static [u32]),
     /// With a race of two items on a byte
     Race(u32, u32, u64),
     /// With an access of an item that is out of range
@@ -28,35 +42,32 @@ pub enum End {
     Divergence(u32, u32),
     /// With an item that uses up the budget
     Budget(u32),
-    /// With another fault
-    Other,
 }
 
-/// What an ordered run came to: its end, how many events it made, and whether its schedule leads to its fault.
-#[derive(Clone, Copy, PartialEq, Eq)]
-pub struct Came {
-    pub end: End,
-    pub events: u64,
-    pub is_replayed: bool,
-}
-
-/// A fault as a test asks for it.
-fn end_of(fault: &Fault) -> End {
-    match fault {
-        Fault::Conflict {
-            item,
-            other_item,
-            byte,
-            ..
-        } => End::Race(*item, *other_item, *byte),
-        Fault::Bounds { item, .. } => End::Bounds(*item),
-        Fault::Divergence {
-            item,
-            other_item,
-            ..
-        } => End::Divergence(*item, *other_item),
-        Fault::Budget { item } => End::Budget(*item),
-        _ => End::Other,
+/// Whether a fault is the one that a test asks for.
+fn is_told(end: End, fault: &Fault) -> bool {
+    match (end, fault) {
+        (
+            End::Race(item, other, byte),
+            Fault::Conflict {
+                clash: Clash::Race,
+                item: told,
+                other_item,
+                byte: told_byte,
+                ..
+            },
+        ) => item == *told && other == *other_item && byte == *told_byte,
+        (End::Bounds(item), Fault::Bounds { item: told, .. }) => item == *told,
+        (
+            End::Divergence(item, other),
+            Fault::Divergence {
+                item: told,
+                other_item,
+                ..
+            },
+        ) => item == *told && other == *other_item,
+        (End::Budget(item), Fault::Budget { item: told }) => item == *told,
+        _ => false,
     }
 }
 
@@ -71,6 +82,22 @@ fn event_count(schedule: &Schedule) -> u64 {
         events = events.saturating_add(more);
     }
     events
+}
+
+/// The bytes of words, the lowest byte of each first. None where memory runs out.
+fn bytes_of(alloc: Global, words: &[u32]) -> Option<Vec<u8>> {
+    let mut bytes = Vec::new(alloc);
+    for word in words {
+        bytes.extend_from_slice(&word.to_le_bytes()).ok()?;
+    }
+    Some(bytes)
+}
+
+/// Whether buffers are one that holds these words. None where memory runs out.
+fn holds(alloc: Global, mut buffers: Vec<Plain>, words: &[u32]) -> Option<bool> {
+    let found = buffers.pop()?.into_bytes();
+    let told = bytes_of(alloc, words)?;
+    Some(buffers.is_empty() && found.as_slice() == told.as_slice())
 }
 
 /// The range of some items in groups of a size. None where memory runs out.
@@ -92,22 +119,55 @@ fn one_buffer(alloc: Global, bytes: &[u8]) -> Option<Buffers> {
     Some(buffers)
 }
 
-/// What the ordered run of a launch came to.
-fn came_of(
+/// The buffer `a` as each of so many arguments. None where memory runs out.
+fn arguments_of(alloc: Global, count: usize) -> Option<Vec<Option<Argument>>> {
+    let mut arguments = Vec::new(alloc);
+    for _ in 0..count {
+        let name = Name::copy_of(alloc, b"a").ok()?;
+        arguments.push(Some(Argument::Buffer(name))).ok()?;
+    }
+    Some(arguments)
+}
+
+/// Whether the ordered run of a launch comes to what a case tells. The schedule of a fault is replayed.
+fn is_as_told(alloc: Global, launch: &Launch<'_>, buffers: &Buffers, case: &Case) -> Option<bool>
+    requires { HasGroups (setup_of launch.now) }
+{
+    match run_ordered(alloc, launch, buffers).ok()? {
+        OrderedEnd::Ended(schedule, left) => match case.end {
+            End::Ended(words) => {
+                Some(event_count(&schedule) == case.events && holds(alloc, left, words)?)
+            }
+            _ => Some(false),
+        },
+        OrderedEnd::Faulted(fault, schedule) => {
+            let reached = replay(alloc, launch, buffers, &schedule, &fault).ok()?;
+            Some(reached && is_told(case.end, &fault) && event_count(&schedule) == case.events)
+        }
+    }
+}
+
+/// The same of a case's kernel, which was built.
+fn launched(
     alloc: Global,
     program: &Checked,
     range: &Range,
     buffers: &Buffers,
-    buffer: Name,
-) -> Option<Came> {
+    case: &Case,
+) -> Option<bool> {
     let found = program.kernel(b"k")?;
     let limits = Limits::profile();
     if is_bad_dimension(range) || is_bad_group(&limits, range) || is_too_many(&limits, range) {
         return None;
     }
-    let arguments = [Some(Argument::Buffer(buffer))];
     let kernel = found.function.name;
-    if is_local_too_large(limits.local_bytes, &program.tree, kernel, &arguments) {
+    let arguments = arguments_of(alloc, found.function.parameters.len())?;
+    if is_local_too_large(
+        limits.local_bytes,
+        &program.tree,
+        kernel,
+        arguments.as_slice(),
+    ) {
         return None;
     }
     let code = lower_kernel(alloc, program, found).ok()?;
@@ -115,30 +175,22 @@ fn came_of(
         tree: &program.tree,
         kernel,
         range,
-        arguments: &arguments,
+        arguments: arguments.as_slice(),
         budget: 200,
     };
     let launch = Launch::new(alloc, setup, group_items(&limits, range), &code).ok()?;
-    match run_ordered(alloc, &launch, buffers).ok()? {
-        OrderedEnd::Ended(schedule) => Some(Came {
-            end: End::Ended,
-            events: event_count(&schedule),
-            is_replayed: true,
-        }),
-        OrderedEnd::Faulted(fault, schedule) => Some(Came {
-            end: end_of(&fault),
-            events: event_count(&schedule),
-            is_replayed: replay(alloc, &launch, buffers, &schedule, &fault).ok()?,
-        }),
-    }
+    is_as_told(alloc, &launch, buffers, case)
 }
 
-/// What the ordered run of the kernel `k` of a source came to, over one buffer with these bytes. None where it can't be
-/// launched.
-pub fn came(alloc: Global, source: &str, bytes: &[u8], items: u64, group: u64) -> Option<Came> {
-    let range = range_of(alloc, items, group)?;
-    let buffers = one_buffer(alloc, bytes)?;
-    let program = build(alloc, Limits::profile(), source.as_bytes()).ok()?;
-    let buffer = Name::copy_of(alloc, b"a").ok()?;
-    came_of(alloc, &program, &range, &buffers, buffer)
+/// The same of a case. None where memory runs out, or where its kernel isn't one.
+fn try_case(alloc: Global, case: &Case) -> Option<bool> {
+    let range = range_of(alloc, case.items, case.group)?;
+    let buffers = one_buffer(alloc, bytes_of(alloc, case.words)?.as_slice())?;
+    let program = build(alloc, Limits::profile(), case.source.as_bytes()).ok()?;
+    launched(alloc, &program, &range, &buffers, case)
+}
+
+/// Whether the ordered run of a case's launch comes to what the case tells.
+pub fn ends_as_told(alloc: Global, case: &Case) -> bool {
+    try_case(alloc, case) == Some(true)
 }
