@@ -4,17 +4,19 @@ use Rattle.std.proofs.lemmas.Bool.{false≢true}
 use Rattle.clmodel.specs.Cells.{Cells, byte_count, found, joined, lowest_unset, number, reads, size_of, unset_or, width_of}
 use Rattle.clmodel.specs.Launch.{Launch, group_of, kind_of, location_of, region_of}
 use Rattle.clmodel.specs.Run.{State, access_of, byte_at, next_action, step, stop_of}
-use Rattle.clmodel.specs.Law.{Makes, Reports, access_turn, fault_of, item_turn, unset_turn}
+use Rattle.clmodel.specs.Law.{Makes, Reports, Shows, access_turn, fault_of, item_turn, unset_turn}
 use Rattle.clmodel.specs.declared.access.Access.{Access}
 use Rattle.clmodel.specs.declared.access.Object.{Object}
 use Rattle.clmodel.specs.declared.access.Operation.{Operation}
 use Rattle.clmodel.specs.declared.action.Action.TheVariants as action
 use Rattle.clmodel.specs.declared.action.Cause.{Cause}
+use Rattle.clmodel.specs.declared.action.Cause.TheVariants as cause
 use Rattle.clmodel.specs.declared.fault.Fault.TheVariants as fault
 use Rattle.clmodel.specs.declared.schedule.Event.{Event}
 use Rattle.clmodel.specs.declared.schedule.Event.TheVariants.{Item}
-use Rattle.clmodel.proofs.Steps.{none_some, some_inj, if_true, if_false, made, region_for, item_at}
+use Rattle.clmodel.proofs.Steps.{none_some, some_inj, if_some, if_true, if_false, made, region_for, item_at}
 use Rattle.replay.specs.States.{IsPlayed}
+use Rattle.ordered_runs.specs.Ordered.{is_order}
 use Rattle.ordered_play.specs.Stepping.{CannotGo, IsJudged, IsStepped, MakesAccess}
 use Rattle.ordered_play.specs.declared.stepping.Stepped.{Stepped}
 use Rattle.ordered_play.specs.declared.stepping.Stepped.TheVariants as stepped
@@ -66,6 +68,8 @@ module _
       record {
         goes = ap stop_of acts;
         reports = λ first. ap (item_turn l s first k) acts ∙ ap (access_turn l s k o element op) p;
+        shows = (o, op, below, acts, refl, refl, p);
+        no_order = refl;
       }
 
   -- it reads an unset byte
@@ -73,9 +77,12 @@ module _
       (first byte : ℕ) → byte_at l k o element op ≡ Some first → unset_at l s k o op first ≡ Some byte
       → CannotGo l s k (fault.Unset k (kind_of op) (location_of l (region_of (group_of l k) o)) byte)
   reads_unset first byte p u =
+      let w = if_some (reads op) (lowest_unset (s.memory (region_of (group_of l k) o)) first (size_of op)) byte u in
       record {
         goes = ap stop_of acts;
         reports = λ lead. ap (item_turn l s lead k) acts ∙ ap (access_turn l s k o element op) p ∙ ap (unset_turn l k (kind_of op) (region_of (group_of l k) o)) u;
+        shows = (o, element, op, first, below, acts, refl, refl, p, w.0, w.1);
+        no_order = refl;
       }
 
   -- it is possible
@@ -110,11 +117,22 @@ module _
       subst (λ (z : Access). z.first + byte_count z.width < 2 ^ 64) newest small
 
 -- an item that can do nothing more
-pub failed : (l : Launch) (s : State) (k : ℕ) (c : Cause) → next_action l s k ≡ action.Fault c → CannotGo l s k (fault_of l k c)
-failed l s k c acts =
+failure_shown : (l : Launch) (s : State) (k : ℕ) (c : Cause) → k < l.items → next_action l s k ≡ action.Fault c → Shows l s (fault_of l k c) × (is_order (fault_of l k c) ≡ false)
+failure_shown l s k (cause.PrivateBounds array element) b e = ((_, b, e, refl), refl)
+failure_shown l s k (cause.UnsetVariable variable) b e = ((_, b, e, refl), refl)
+failure_shown l s k (cause.UnsetElement array element) b e = ((_, b, e, refl), refl)
+failure_shown l s k cause.DivideByZero b e = ((_, b, e, refl), refl)
+failure_shown l s k cause.DivideOverflow b e = ((_, b, e, refl), refl)
+failure_shown l s k cause.Budget b e = ((_, b, e, refl), refl)
+
+pub failed : (l : Launch) (s : State) (k : ℕ) (c : Cause) → k < l.items → next_action l s k ≡ action.Fault c → CannotGo l s k (fault_of l k c)
+failed l s k c b acts =
+    let w : Shows l s (fault_of l k c) × (is_order (fault_of l k c) ≡ false) = failure_shown l s k c b acts in
     record {
       goes = ap stop_of acts;
       reports = λ first. ap (item_turn l s first k) acts;
+      shows = w.0;
+      no_order = w.1;
     }
 
 -- ---- an event that was played

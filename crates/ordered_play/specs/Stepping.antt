@@ -1,12 +1,12 @@
 -- What comes of one item's turn (own, on OpenCL 1.2, 3.2).
-use Rattle.std.specs.Prelude.{◌≡◌, ℕ, Option, None, Some}
+use Rattle.std.specs.Prelude.{◌≡◌, ℕ, false, Option, None, Some}
 use Rattle.clmodel.specs.Launch.{Launch}
 use Rattle.clmodel.specs.Run.{State, next_action, step, stop_of}
-use Rattle.clmodel.specs.Law.{Makes, Reports, conflict_fault, item_turn}
+use Rattle.clmodel.specs.Law.{Makes, Reports, Shows, conflict_fault, item_turn}
 use Rattle.clmodel.specs.declared.access.Conflict as conflict_type
 use Rattle.clmodel.specs.declared.fault.Fault.{Fault}
 use Rattle.clmodel.specs.declared.schedule.Event.TheVariants.{Item}
-use Rattle.ordered_runs.specs.Ordered.{newest_race}
+use Rattle.ordered_runs.specs.Ordered.{newest_race, is_order}
 use Rattle.ordered_play.specs.declared.stepping.Stepped.{Stepped}
 use Rattle.ordered_play.specs.declared.stepping.Stepped.TheVariants as stepped
 
@@ -16,10 +16,13 @@ pub record MakesAccess (launch : Launch) (state : State) (item : ℕ) (next : St
   pub makes : (first : ℕ) → item_turn launch state first item (next_action launch state item) ≡ Makes (Item item)
   pub steps : step launch state (Item item) ≡ Some next
 
--- an item is at no stop and can't go on, as this fault tells (own, on C99 6.5.5, 6.5.6, 6.7.8)
+-- an item is at no stop and can't go on, as this fault tells: the state shows it, and it is no conflict (own, on C99
+-- 6.5.5, 6.5.6, 6.7.8)
 pub record CannotGo (launch : Launch) (state : State) (item : ℕ) (fault : Fault) : Type 0 where
   pub goes : stop_of (next_action launch state item) ≡ None
   pub reports : (first : ℕ) → item_turn launch state first item (next_action launch state item) ≡ Reports fault
+  pub shows : Shows launch state fault
+  pub no_order : is_order fault ≡ false
 
 -- whether the newest access of a state races, as it is told of an access that was made (3.3.1)
 abbrev pub IsJudged : Launch → State → Stepped → Type 0

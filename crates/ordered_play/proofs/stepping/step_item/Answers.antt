@@ -46,7 +46,7 @@ returns-in-Some-Fault g c = λ s at.
     let l = g.D.Described.launch c.args.launch.now in
     let r = g.D.Runnable.started c.args.launch.now in
     let next = subst (ActsNext l s c.args.item) c.in-Some-Fault.is (c.in_ok-action.ensures.value l r s at) in
-    (subst (CannotGo l s c.args.item) (sym c.in_ok-fault_of.ensures) (failed l s c.args.item c.in-Some-Fault.cause (next.1 ∙ c.in-Some-Fault.field-0-is)), c.action.ensures.same l r s at)
+    (subst (CannotGo l s c.args.item) (sym c.in_ok-fault_of.ensures) (failed l s c.args.item c.in-Some-Fault.cause next.0 (next.1 ∙ c.in-Some-Fault.field-0-is)), c.action.ensures.same l r s at)
 
 pub unreachable-requires : goal.unreachable-requires
 unreachable-requires g c =
