@@ -46,27 +46,33 @@ pub enum End {
 
 /// Whether a fault is the one that a test asks for.
 fn is_told(end: End, fault: &Fault) -> bool {
-    match (end, fault) {
-        (
-            End::Race(item, other, byte),
-            Fault::Conflict {
-                clash: Clash::Race,
-                item: told,
-                other_item,
-                byte: told_byte,
-                ..
-            },
-        ) => item == *told && other == *other_item && byte == *told_byte,
-        (End::Bounds(item), Fault::Bounds { item: told, .. }) => item == *told,
-        (
-            End::Divergence(item, other),
-            Fault::Divergence {
-                item: told,
-                other_item,
-                ..
-            },
-        ) => item == *told && other == *other_item,
-        (End::Budget(item), Fault::Budget { item: told }) => item == *told,
+    match fault {
+        Fault::Conflict {
+            clash: Clash::Race,
+            item,
+            other_item,
+            byte,
+            ..
+        } => match end {
+            End::Race(one, other, at) => *item == one && *other_item == other && *byte == at,
+            _ => false,
+        },
+        Fault::Bounds { item, .. } => match end {
+            End::Bounds(told) => *item == told,
+            _ => false,
+        },
+        Fault::Divergence {
+            item,
+            other_item,
+            ..
+        } => match end {
+            End::Divergence(one, other) => *item == one && *other_item == other,
+            _ => false,
+        },
+        Fault::Budget { item } => match end {
+            End::Budget(told) => *item == told,
+            _ => false,
+        },
         _ => false,
     }
 }

@@ -1,4 +1,4 @@
-use Rattle.std.proofs.Common.{◌≡◌, ◌∙◌, ℕ, false, Some, map, ap, ap₂, sym, subst}
+use Rattle.std.proofs.Common.{◌≡◌, ◌∙◌, ◌*◌, ℕ, false, Some, map, ap, ap₂, sym, subst}
 use Rattle.clmodel.specs.Launch.{Launch}
 use Rattle.clmodel.specs.Next.{launch_of}
 use Rattle.clmodel.specs.Law.{Reaches}
@@ -54,7 +54,7 @@ returns-in-None c =
     let l = of_loaded c.new-loaded.result in
     let r = of_starts c.new-loaded.result in
     let runnable = subst IsRunnable (sym same) (c.setups_are_runnable.ensures (setup_of c.args.launch.now) (bytes_in c.args.buffers.now) c.group_count-groups.ensures.some c.requires) in
-    let counted = c.group_count-groups.ensures.count ∙ ap (λ z. z.items) (sym same) in
+    let counted = subst (λ z. c.group_count-groups.result * z.group_size ≡ z.items) (sym same) c.group_count-groups.ensures.count in
     let w =
     ends_launch l c.group_count-groups.result (IsAt {D = LoadedLaunch} of_loaded of_starts l r c.run_groups.new.player) c.run_groups.new.runs c.in_ok-report.report c.into_buffers.result.items runnable counted
     c.in_ok-report.ensures c.in-None.is (λ s at. c.into_buffers.ensures l r s at) in
