@@ -1,6 +1,8 @@
 -- How an ordered run goes on, group by group.
 use Rattle.std.proofs.Common.{◌≡◌, ℕ, suc, ◌+◌, ◌*◌, ◌<◌, ◌≤◌, ◌^◌, Bool, true, false, Option, None, Some, List, [], ◌∷◌, ◌++◌, length, map-id, refl, sym, ap, ◌∙◌, subst, arith}
 use Rattle.std.proofs.Math.Nat.{suc-mul, mul-le-mul_right}
+use Rattle.std.proofs.lemmas.Bool.{false≢true}
+use Rattle.std.proofs.lemmas.List.{length-append}
 use Rattle.clmodel.specs.Launch.{Launch, group_of}
 use Rattle.clmodel.specs.Run.{State, Events, Memory, start, step, next_action, released, same_stop, stop_of, both_stop, contents, left}
 use Rattle.clmodel.specs.Law.{Makes, Reports, Finishes, IsBounded, Reaches, answers_left, has_ended, conflict_turn}
@@ -31,7 +33,7 @@ use Rattle.ordered_runs.specs.Laws.{OrderedReportIsReached}
 use Rattle.ordered_runs.specs.Ordered.{OrderedTo, RunsOrdered, OrderedIntoFault, newest_race, ordered_turn, is_order}
 use Rattle.ordered_runs.proofs.Turns.{ordered_parts}
 use Rattle.ordered_runs.proofs.Unlogged.{quiet_turn}
-use Rattle.ordered_play.specs.Groups.{AreOver, Reached, Gathers, GathersOrReports, Reported, ReachedOrReports, Waits}
+use Rattle.ordered_play.specs.Groups.{AreOver, Reached, Gathers, GathersOrReports, Reported, ReachedOrReports, is_barrier}
 use Rattle.ordered_play.specs.Stepping.{CannotGo, IsJudged, IsStepped, MakesAccess}
 use Rattle.ordered_play.specs.declared.stepping.Stepped.{Stepped}
 use Rattle.ordered_play.specs.declared.stepping.Stepped.TheVariants as stepped
@@ -62,6 +64,10 @@ grouped l ready = record { some = ready.grouped; whole = ready.whole }
 
 pub whole_is : (l : Launch) (g : ℕ) → IsRunnable l → g * l.group_size < l.items → IsGroup (plan_of l g)
 whole_is l g ready there = group_is l g (grouped l ready) there
+
+-- a list with one event more is one longer
+pub pushed_longer : (events pushed : Events) (e : Event) → pushed ≡ events ++ e ∷ [] → length pushed ≡ length events + 1
+pushed_longer events pushed e h = ap length h ∙ length-append events (e ∷ [])
 
 -- ---- an item's turn
 
@@ -226,6 +232,13 @@ module _
 pub begins_group : (l : Launch) (g : ℕ) (fits : State → Type 0) (events : Events) → Reached l g fits events → Gathers l g fits events 0 None
 begins_group l g fits events at = record { reached = at; gathered = λ j b. absurd (omega (arith, b)); leads = refl }
 
+-- what an action is that is a barrier
+barrier_is : (a : Action) → is_barrier a ≡ true → (i : Instance) × (fences : Fences) × (a ≡ action.Barrier i fences)
+barrier_is (action.Access o element op) h = absurd (false≢true h)
+barrier_is (action.Barrier i fences) h = (i, fences, refl)
+barrier_is action.End h = absurd (false≢true h)
+barrier_is (action.Fault c) h = absurd (false≢true h)
+
 -- what an action is at which an item waits, and which is no barrier
 is_end : (a : Action) (x : Stop) → stop_of a ≡ Some x → ((i : Instance) (fences : Fences) → a ≡ action.Barrier i fences → ⊥) → a ≡ action.End
 is_end (action.Access o element op) x h other = absurd (none_some x h)
@@ -282,25 +295,25 @@ module _
 
   -- ---- the same as the code has it, by the number of the first item
 
-  pub release_held : (first : ℕ) (yes b : Bool) (new : State → Type 0) → first ≡ q.first → yes ≡ true → Waits l u first yes → b ≡ false → IsPlayed l u (Release g) new b → ⊥
-  release_held first yes b new at_first is waits none h =
-      let w = subst (λ z. Waits l u first z) is waits in
+  pub release_held : (first : ℕ) (waiting b : Bool) (new : State → Type 0) → first ≡ q.first → waiting ≡ true → is_barrier (next_action l u first) ≡ waiting → b ≡ false → IsPlayed l u (Release g) new b → ⊥
+  release_held first waiting b new at_first is waits none h =
+      let w = barrier_is (next_action l u first) (waits ∙ is) in
       never_kept w.0 w.1 (ap (next_action l u) (sym at_first) ∙ w.2) (unplayed l u (Release g) new b none h)
 
   pub release_room : (b : Bool) (new : State → Type 0) → b ≡ true → IsPlayed l u (Release g) new b → length events + 1 < 2 ^ 64
   release_room b new done h = let r = played l u (Release g) new b done h in release_roomy r.0 r.1
 
   pub release_step :
-      (first : ℕ) (yes b : Bool) (new : State → Type 0) (pushed : Events) → first ≡ q.first → yes ≡ true → Waits l u first yes → b ≡ true → IsPlayed l u (Release g) new b
+      (first : ℕ) (waiting b : Bool) (new : State → Type 0) (pushed : Events) → first ≡ q.first → waiting ≡ true → is_barrier (next_action l u first) ≡ waiting → b ≡ true → IsPlayed l u (Release g) new b
       → pushed ≡ events ++ Release g ∷ [] → Reached l g new pushed
-  release_step first yes b new pushed at_first is waits done h e =
-      let w = subst (λ z. Waits l u first z) is waits in
+  release_step first waiting b new pushed at_first is waits done h e =
+      let w = barrier_is (next_action l u first) (waits ∙ is) in
       let r = played l u (Release g) new b done h in
       subst (λ z. Reached l g new z) (sym e) (released_on new w.0 w.1 r.0 (ap (next_action l u) (sym at_first) ∙ w.2) r.1 r.2)
 
-  pub over_step : (first : ℕ) (yes : Bool) (new : State → Type 0) → first ≡ q.first → yes ≡ false → Waits l u first yes → new u → Reached l (g + 1) new events
-  over_step first yes new at_first is waits holds =
-      over_on new (λ i fences acts. subst (λ z. Waits l u first z) is waits i fences (ap (next_action l u) at_first ∙ acts)) holds
+  pub over_step : (first : ℕ) (waiting : Bool) (new : State → Type 0) → first ≡ q.first → waiting ≡ false → is_barrier (next_action l u first) ≡ waiting → new u → Reached l (g + 1) new events
+  over_step first waiting new at_first is waits holds =
+      over_on new (λ i fences acts. false≢true (sym (waits ∙ is) ∙ ap is_barrier (ap (next_action l u) at_first ∙ acts))) holds
 
 -- ---- what is left
 

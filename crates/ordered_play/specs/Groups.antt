@@ -3,9 +3,8 @@ use Rattle.std.specs.Prelude.{◌≡◌, ℕ, ◌<◌, Bool, true, false, Option
 use Rattle.clmodel.specs.Launch.{Launch, group_of}
 use Rattle.clmodel.specs.Run.{State, Events, start, next_action}
 use Rattle.clmodel.specs.Law.{Reports, has_ended}
+use Rattle.clmodel.specs.declared.action.Action.{Action}
 use Rattle.clmodel.specs.declared.action.Action.TheVariants as action
-use Rattle.clmodel.specs.declared.action.Fences.{Fences}
-use Rattle.clmodel.specs.declared.action.Instance.{Instance}
 use Rattle.clmodel.specs.declared.action.Stop.{Stop}
 use Rattle.clmodel.specs.declared.fault.Fault.{Fault}
 use Rattle.joining.specs.Group.{plan_of}
@@ -16,10 +15,12 @@ use Rattle.ordered_runs.specs.Ordered.{OrderedTo, newest_race, ordered_turn}
 abbrev pub AreOver : Launch → ℕ → State → Type 0
 AreOver launch group state = (item : ℕ) → item < launch.items → group_of launch item < group → has_ended (next_action launch state item) ≡ true
 
--- an item is at a barrier, or it isn't (6.12.8)
-abbrev pub Waits : Launch → State → ℕ → Bool → Type 0
-Waits launch state item true = (instance : Instance) × (fences : Fences) × (next_action launch state item ≡ action.Barrier instance fences)
-Waits launch state item false = (instance : Instance) (fences : Fences) → next_action launch state item ≡ action.Barrier instance fences → ⊥
+-- an action is a barrier (6.12.8)
+abbrev pub is_barrier : Action → Bool
+is_barrier (action.Access _ _ _) = false
+is_barrier (action.Barrier _ _) = true
+is_barrier action.End = false
+is_barrier (action.Fault _) = false
 
 -- The ordered run of a launch has made these events and come to a state that fits, whose newest access has no race. All
 -- groups below this one are over (own).

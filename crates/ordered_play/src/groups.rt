@@ -1,12 +1,12 @@
 //! The ordered run, item by item to their stops, and group after group.
 
 ghost use Rattle.std.specs.Prelude.{◌≡◌, ◌+◌, ◌*◌, ◌<◌, ◌≤◌, ℕ, true, false, length, Option, None, Some, IfOk};
-ghost use Rattle.clmodel.specs.Run.{State, same_stop};
+ghost use Rattle.clmodel.specs.Run.{State, next_action, same_stop};
 ghost use Rattle.clmodel.specs.declared.action.Stop.{Stop as TheStop};
 ghost use Rattle.clmodel.specs.declared.fault.Fault.TheVariants as faults;
 ghost use Rattle.launches.specs.Groups.{IsRunnable};
 ghost use Rattle.replay.specs.States.{IsAt};
-ghost use Rattle.ordered_play.specs.Groups.{Gathers, GathersOrReports, Reached, ReachedOrReports, Waits};
+ghost use Rattle.ordered_play.specs.Groups.{Gathers, GathersOrReports, Reached, ReachedOrReports, is_barrier};
 
 use crate::stepping::{Stepped, step_item};
 use clmodel::action::{Action, Stop};
@@ -97,15 +97,24 @@ fn run_interval<D: Runnable>(
     Ok(None)
 }
 
+/// Whether an action is a barrier (OpenCL 1.2, section 6.12.8).
+fn is_barrier(action: &Action) -> bool
+    ensures { result ≡ is_barrier action.now }
+{
+    match action {
+        Action::Barrier { .. } => true,
+        Action::Access { .. } | Action::End | Action::Fault(_) => false,
+    }
+}
+
 /// Whether an item waits at a barrier (OpenCL 1.2, section 6.12.8). An error is out of memory.
 fn waits<D: Runnable>(launch: &D, player: &mut Player<'_, D>, item: u32) -> Result<bool, AllocError>
     requires { item < (D.launch launch.now).items }
     ensures same { (state : State) → IsAt D.launch D.started (D.launch launch.now) (D.started launch.now) player.old state → IsAt D.launch D.started (D.launch launch.now) (D.started launch.now) player.new state }
-    ensures value { IfOk result (λ yes. (state : State) → IsAt D.launch D.started (D.launch launch.now) (D.started launch.now) player.old state → Waits (D.launch launch.now) state item yes) }
+    ensures value { IfOk result (λ yes. (state : State) → IsAt D.launch D.started (D.launch launch.now) (D.started launch.now) player.old state → is_barrier (next_action (D.launch launch.now) state item) ≡ yes) }
 {
     match player.action(item)? {
-        Some(Action::Barrier { .. }) => Ok(true),
-        Some(_) => Ok(false),
+        Some(action) => Ok(is_barrier(&action)),
         None => unreachable!(),
     }
 }

@@ -96,7 +96,7 @@ fn race_with<D: Runnable>(launch: &D, x: &Access, log: &[Access]) -> Option<Conf
 /// The race of the last access of a log, which has the oldest first: on the lowest byte that has one, there with the
 /// earliest access. It searches the whole log.
 pub fn newest_race<D: Runnable>(launch: &D, log: &[Access]) -> Option<Conflict>
-    requires placed { (x : TheAccess) (earlier : List TheAccess) → reverse log.now ≡ x ∷ earlier → x.first + byte_count x.width < 2 ^ 64 }
+    requires { (x : TheAccess) (earlier : List TheAccess) → reverse log.now ≡ x ∷ earlier → x.first + byte_count x.width < 2 ^ 64 }
     ensures { result ≡ newest_race (D.Described.launch launch.now) (reverse log.now) }
 {
     let Some((newest, earlier)) = log.split_last() else {

@@ -97,8 +97,8 @@ fn access_item<D: Runnable>(
         return Ok(Stepped::Fails(Box::into_inner(fault)));
     };
     if let Some(byte) = unset_of(launch, player, item, object, first, operation) {
-        let fault = unset_fault(alloc, launch, item, object, group, byte, kind)?;
-        return Ok(Stepped::Fails(Box::into_inner(fault)));
+        let unset = unset_fault(alloc, launch, item, object, group, byte, kind)?;
+        return Ok(Stepped::Fails(Box::into_inner(unset)));
     }
     if player.play_item(item)? {
         judge(launch, player)
