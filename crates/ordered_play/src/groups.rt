@@ -109,7 +109,7 @@ fn is_barrier(action: &Action) -> bool
 
 /// Whether an item waits at a barrier (OpenCL 1.2, section 6.12.8). An error is out of memory.
 fn waits<D: Runnable>(launch: &D, player: &mut Player<'_, D>, item: u32) -> Result<bool, AllocError>
-    requires { item < (D.launch launch.now).items }
+    requires { (state : State) × IsAt D.launch D.started (D.launch launch.now) (D.started launch.now) player.old state × (item < (D.launch launch.now).items) }
     ensures same { (state : State) → IsAt D.launch D.started (D.launch launch.now) (D.started launch.now) player.old state → IsAt D.launch D.started (D.launch launch.now) (D.started launch.now) player.new state }
     ensures value { IfOk result (λ yes. (state : State) → IsAt D.launch D.started (D.launch launch.now) (D.started launch.now) player.old state → is_barrier (next_action (D.launch launch.now) state item) ≡ yes) }
 {

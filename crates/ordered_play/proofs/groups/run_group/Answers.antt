@@ -18,8 +18,14 @@ returns-in-Some g c =
 
 pub waits-requires : goal.waits-requires
 waits-requires g c =
+    let l = g.D.Described.launch c.args.launch.now in
+    let r = g.D.Runnable.started c.args.launch.now in
+    let fits = IsAt {D = g.row.D.Denot} g.D.Described.launch g.D.Runnable.started l r c.run_interval.new.player in
+    let w = c.in_ok-run_interval.ensures.ran in
+    let at : Gathers l c.args.group fits c.run_interval.new.runs l.group_size w.0 = subst (λ z. GathersOrReports l c.args.group fits c.run_interval.new.runs l.group_size w.0 z) c.in-None.is w.1 in
     let e = ap (λ n. c.args.group * n) c.group_size.ensures.value in
-    omega (arith, e, c.requires.there)
+    let below : c.args.group * c.group_size.result < l.items = omega (arith, e, c.requires.there) in
+    (at.reached.state, at.reached.holds, below)
 
 pub returns-then-not-branch : goal.returns-then-not-branch
 returns-then-not-branch g c =

@@ -62,19 +62,19 @@ pub steps-preserved : goal.steps-preserved
 steps-preserved g c =
     let l = g.D.Described.launch c.args.launch.now in
     let at = c.steps.invariant.gathers in
-    let more = pushed_longer c.steps.runs c.push.new.self _ c.in_ok-push.ensures.added in
+    let more = pushed_longer c.steps.runs c.push.new.self _ c.in_ok-push-in-Made.ensures.added in
     record {
       grows = omega (arith, c.steps.invariant.grows, more);
       gathers =
           made_step l c.args.group _ (IsAt {D = g.row.D.Denot} g.D.Described.launch g.D.Runnable.started l (g.D.Runnable.started c.args.launch.now) c.step_item.new.player) c.steps.runs c.args.k c.steps.leading c.requires.runnable c.requires.there c.requires.inside at
-          _ c.in_ok-step_item.field-0 c.push.new.self (ap (λ n. c.args.group * n + c.args.k) c.group_size.ensures.value) c.in-Made.is (c.in_ok-step_item.ensures at.reached.state at.reached.holds) c.in_ok-push.ensures.added;
+          _ c.in_ok-step_item.field-0 c.push.new.self (ap (λ n. c.args.group * n + c.args.k) c.group_size.ensures.value) c.in-Made.is (c.in_ok-step_item.ensures at.reached.state at.reached.holds) c.in_ok-push-in-Made.ensures.added;
     }
 
 pub steps-smaller : goal.steps-smaller
 steps-smaller g c =
     let l = g.D.Described.launch c.args.launch.now in
     let at = c.steps.invariant.gathers in
-    let more = pushed_longer c.steps.runs c.push.new.self _ c.in_ok-push.ensures.added in
+    let more = pushed_longer c.steps.runs c.push.new.self _ c.in_ok-push-in-Made.ensures.added in
     let room =
     made_room l c.args.group _ (IsAt {D = g.row.D.Denot} g.D.Described.launch g.D.Runnable.started l (g.D.Runnable.started c.args.launch.now) c.step_item.new.player) c.steps.runs c.args.k c.steps.leading c.requires.runnable c.requires.there c.requires.inside at
     _ c.in_ok-step_item.field-0 (ap (λ n. c.args.group * n + c.args.k) c.group_size.ensures.value) c.in-Made.is (c.in_ok-step_item.ensures at.reached.state at.reached.holds) in
