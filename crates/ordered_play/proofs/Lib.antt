@@ -1,0 +1,4 @@
+pub mod Searches
+pub mod Accesses
+pub mod Turns
+pub mod Going

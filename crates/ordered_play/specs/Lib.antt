@@ -1,0 +1,4 @@
+pub mod Races
+pub mod Stepping
+pub mod Groups
+pub mod Outcomes
