@@ -280,9 +280,9 @@ static void *mapped_at(cl_command_queue q, cl_mem m, cl_map_flags flags, size_t 
     return at;
 }
 
-// Commands on what is mapped (5.4.2.1). Told: 2, 3 and 5, which access what 1 and 4 have mapped for writing, by a kernel
-// in other bytes too; 9 and 10, which store to what 8 has mapped for reading. Not told: 7, behind the end of both
-// mappings; 11, which loads from what is mapped for reading; what another buffer does.
+// Commands on what is mapped (5.4.2.1). Told: 2, 3 and 5, which access what 1 and 4 have mapped for writing, by a
+// kernel in other bytes too; 9 and 10, which store to what 8 has mapped for reading. Not told: 7, behind the end of the
+// first mapping; 11, which loads from what is mapped for reading.
 static void mapped(void) {
     cl_command_queue q = queue_with(0);
     cl_mem m = buffer(), other = buffer();
@@ -337,8 +337,8 @@ static void mapped_parts(void) {
     OK(clReleaseCommandQueue(q));
 }
 
-// A mapping that waits isn't there for the command in front of it, 1, and is there for the launch behind it, 3. A second
-// one over the same bytes is refused by its call all the same.
+// A mapping that waits isn't there for the command in front of it, 1, and is there for the launch behind it, 3. A
+// second one over the same bytes is refused by its call all the same.
 static void mapped_later(void) {
     cl_command_queue q = queue_with(0);
     cl_mem m = buffer();
