@@ -422,7 +422,7 @@ static const mapping *mapping_over(cl_mem m, size_t first, size_t n) {
     }
     return NULL;
 }
-// Regions that are mapped for writing have no byte in common (OpenCL 1.2, 5.4.2.1).
+// Regions that are mapped for writing have no byte in common (OpenCL 1.2, 5.4.3).
 static cl_int judge_region(cl_mem m, cl_map_flags flags, size_t offset, size_t n) {
     if (!(flags & MAPPED_FOR_WRITING)) return CL_SUCCESS;
     cl_mem whole = whole_of(m), with = whole;

@@ -191,7 +191,7 @@ void note_accesses(command *c) { visit_all(c, note); }
 // ---- buffers that are mapped ----
 
 // A mapping of an object by which an access is undefined: nothing accesses what is mapped for writing, and nothing
-// stores to what is mapped for reading, whatever region is mapped (OpenCL 1.2, 5.4.2.1).
+// stores to what is mapped for reading, whatever region is mapped (OpenCL 1.2, 5.4.3).
 static const mapping *mapping_against(cl_mem m, unsigned accesses) {
     for (const mapping *p = m->mappings; p; p = p->next)
         if (p->is_there && (p->flags & MAPPED_FOR_WRITING || (p->flags & CL_MAP_READ && accesses & STORES))) return p;
@@ -210,7 +210,7 @@ static void tell_mapped(cl_mem m, cl_mem mapped, const mapping *p, const buffer_
     tell("  command %u, clEnqueueMapBuffer, maps bytes %zu to %zu for %s", p->command, first, first + p->size - 1, why);
     put_access(text, sizeof text, a);
     tell("  %s", text);
-    tell("  why: until it is unmapped, what such a command finds or leaves is undefined (OpenCL 1.2, 5.4.2.1)");
+    tell("  why: until it is unmapped, what such a command finds or leaves is undefined (OpenCL 1.2, 5.4.3)");
 }
 
 // One access of an object, against mappings of it, of its buffer, and of its parts.

@@ -280,7 +280,7 @@ static void *mapped_at(cl_command_queue q, cl_mem m, cl_map_flags flags, size_t 
     return at;
 }
 
-// Commands on what is mapped (5.4.2.1). Told: 2, 3 and 5, which access what 1 and 4 have mapped for writing, by a
+// Commands on what is mapped (5.4.3). Told: 2, 3 and 5, which access what 1 and 4 have mapped for writing, by a
 // kernel in other bytes too; 9 and 10, which store to what 8 has mapped for reading. Not told: 7, behind the end of the
 // first mapping; 11, which loads from what is mapped for reading.
 static void mapped(void) {
