@@ -71,6 +71,9 @@ void drop_memory(cl_mem m) {
     free_accesses(m->accesses);
     let_go(m);
     if (parent) {
+        cl_mem *link = &parent->parts;
+        while (*link != m) link = &(*link)->next;
+        *link = m->next;
         parent->uses--;
         drop_memory(parent);
     }
@@ -191,6 +194,8 @@ CL_API_ENTRY cl_mem CL_API_CALL clCreateSubBuffer(cl_mem m, cl_mem_flags flags, 
     part->size = r->size;
     part->flags = flags_of_part(m, flags);
     if (m->host) part->host = (char *)m->host + r->origin;
+    part->next = m->parts;
+    m->parts = part;
     m->uses++;
     m->context->uses++;
     done(errcode);
@@ -403,10 +408,34 @@ CL_API_ENTRY cl_int CL_API_CALL clEnqueueCopyBufferRect(cl_command_queue q, cl_m
 
 // Whether a buffer may be mapped so (OpenCL 1.2, 5.2.3).
 static cl_int judge_mapping(cl_mem m, cl_map_flags flags) {
-    bool writes = flags & (CL_MAP_WRITE | CL_MAP_WRITE_INVALIDATE_REGION);
+    bool writes = flags & MAPPED_FOR_WRITING;
     if (flags & ~(cl_map_flags)(CL_MAP_READ | CL_MAP_WRITE | CL_MAP_WRITE_INVALIDATE_REGION)) return CL_INVALID_VALUE;
     if (flags & CL_MAP_WRITE_INVALIDATE_REGION && flags & (CL_MAP_READ | CL_MAP_WRITE)) return CL_INVALID_VALUE;
     return (flags & CL_MAP_READ && no_reading(m)) || (writes && no_writing(m)) ? CL_INVALID_OPERATION : CL_SUCCESS;
+}
+
+// The mapping for writing of an object that has a byte of a region of its buffer.
+static const mapping *mapping_over(cl_mem m, size_t first, size_t n) {
+    for (const mapping *p = m->mappings; p; p = p->next) {
+        size_t begin = m->origin + p->offset;
+        if (p->flags & MAPPED_FOR_WRITING && begin < first + n && first < begin + p->size) return p;
+    }
+    return NULL;
+}
+// Regions that are mapped for writing have no byte in common (OpenCL 1.2, 5.4.3).
+static cl_int judge_region(cl_mem m, cl_map_flags flags, size_t offset, size_t n) {
+    if (!(flags & MAPPED_FOR_WRITING)) return CL_SUCCESS;
+    cl_mem whole = whole_of(m), with = whole;
+    size_t first = m->origin + offset;
+    const mapping *p = mapping_over(whole, first, n);
+    for (cl_mem part = whole->parts; !p && part; part = part->next) p = mapping_over(with = part, first, n);
+    if (!p) return CL_SUCCESS;
+    size_t begin = with->origin + p->offset;
+    refuse(m->context,
+           "clEnqueueMapBuffer: bytes %zu to %zu of b%u aren't mapped for writing: command %u, clEnqueueMapBuffer, "
+           "maps bytes %zu to %zu for writing",
+           first, first + n - 1, whole->number, p->command, begin, begin + p->size - 1);
+    return CL_INVALID_OPERATION;
 }
 
 void leave_mapping(cl_mem m, mapping *map) {
@@ -435,7 +464,7 @@ static mapping *new_mapping(cl_mem m, cl_map_flags flags, size_t offset, size_t 
         if (!m->host) free(at);
         return NULL;
     }
-    *map = (mapping){m->mappings, at, offset, n, flags, 1};
+    *map = (mapping){.next = m->mappings, .at = at, .offset = offset, .size = n, .flags = flags, .uses = 1};
     return m->mappings = map;
 }
 
@@ -451,6 +480,7 @@ CL_API_ENTRY void *CL_API_CALL clEnqueueMapBuffer(cl_command_queue q, cl_mem m, 
     if (fault) return fail(errcode, fault);
     if (!n || is_outside(m, offset, n)) return fail(errcode, CL_INVALID_VALUE);
     fault = judge_mapping(m, flags);
+    if (!fault) fault = judge_region(m, flags, offset, n);
     if (fault) return fail(errcode, fault);
     mapping *map = new_mapping(m, flags, offset, n);
     if (!map) return fail(errcode, CL_MAP_FAILURE);
@@ -480,7 +510,7 @@ CL_API_ENTRY cl_int CL_API_CALL clEnqueueUnmapMemObject(cl_command_queue q, cl_m
     mapping *map = m->mappings;
     while (map && map->at != at) map = map->next;
     if (!map) return CL_INVALID_VALUE;
-    bool is_written = map->flags & (CL_MAP_WRITE | CL_MAP_WRITE_INVALIDATE_REGION);
+    bool is_written = map->flags & MAPPED_FOR_WRITING;
     command c = {.queue = q,
                  .queued = queued,
                  .type = CL_COMMAND_UNMAP_MEM_OBJECT,

@@ -68,9 +68,11 @@ static unsigned wait_for_all(command *c, cl_uint n, const cl_event *list, bool i
 static cl_int perform(command *c) {
     cl_command_queue q = c->queue;
     take_place(c);
+    look_at_mappings(c);
     cl_int fault = c->act ? c->act(c) : CL_SUCCESS;
     c->is_done = !fault;
     if (fault) return fault;
+    if (c->type == CL_COMMAND_MAP_BUFFER) c->map->is_there = true;
     if (!c->went) note_accesses(c);
     come_after(&q->done, &c->after);
     if (c->type == CL_COMMAND_BARRIER) come_after(&q->fenced, &c->after);
@@ -184,6 +186,7 @@ static cl_int put_off(command *c, bool is_blocking, cl_uint n, const cl_event *l
 cl_int submit(command *c, bool is_blocking, cl_uint n, const cl_event *list, cl_event *event) {
     cl_context x = c->queue->context;
     c->number = ++x->commands;
+    if (c->type == CL_COMMAND_MAP_BUFFER) c->map->command = c->number;
     c->after = x->seen;
     unsigned count = wait_for_all(c, n, list, false);
     return count ? put_off(c, is_blocking, n, list, count, event) : do_at_once(c, is_blocking, event);

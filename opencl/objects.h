@@ -73,8 +73,12 @@ typedef struct mapping {
     void *at;
     size_t offset, size;
     cl_map_flags flags;
-    unsigned uses; // by its buffer, and by commands
+    unsigned uses;    // by its buffer, and by commands
+    unsigned command; // that maps it, by its number in the context; 0 before it has one
+    bool is_there;    // that command is done
 } mapping;
+// Flags of a mapping for writing.
+enum { MAPPED_FOR_WRITING = CL_MAP_WRITE | CL_MAP_WRITE_INVALIDATE_REGION };
 typedef struct memory_end {
     struct memory_end *next;
     void(CL_CALLBACK *call)(cl_mem, void *);
@@ -87,10 +91,12 @@ struct _cl_mem {
     unsigned number; // b1, b2 ..; 0 for a sub-buffer that no kernel was given yet
     cl_mem parent;   // of a sub-buffer the buffer that it is a part of, else NULL
     size_t origin;   // where in that it begins
+    cl_mem parts;    // its sub-buffers,
+    cl_mem next;     // and the next one of those of its buffer
     size_t size;
     cl_mem_flags flags;
     void *host;
-    mapping *mappings;
+    mapping *mappings; // from the call that maps to the one that unmaps
     buffer_access
         *accesses; // that commands made of its bytes, the last ones first; those of a sub-buffer are its buffer's
     memory_end *ends;

@@ -149,29 +149,82 @@ static void compare(command *c, cl_mem m, buffer_access *made, bool *is_told) {
 }
 
 // One access. Where memory is refused, it isn't compared.
-static void note(command *c, cl_mem m, const rectangle *bytes, unsigned accesses, int argument, bool *is_told) {
-    buffer_access *a = accesses ? calloc(1, sizeof *a) : NULL;
+static void note(command *c, cl_mem m, const buffer_access *access, bool *is_told) {
+    buffer_access *a = malloc(sizeof *a);
     if (!a) return;
-    *a = (buffer_access){.chain = c->chain,
-                         .place = c->after.at[c->chain],
-                         .accesses = (unsigned char)accesses,
-                         .bytes = *bytes,
-                         .command = c->number,
-                         .type = c->type,
-                         .argument = argument};
-    a->bytes.first += m->origin;
-    if (c->kernel) snprintf(a->kernel, sizeof a->kernel, "%s", c->kernel->form->name);
+    *a = *access;
     compare(c, whole_of(m), a, is_told);
 }
 
-void note_accesses(command *c) {
+typedef void visitor(command *c, cl_mem m, const buffer_access *access, bool *is_told);
+
+static void visit(command *c, cl_mem m, const rectangle *bytes, unsigned accesses, int argument, visitor *to,
+                  bool *is_told) {
+    if (!accesses) return;
+    buffer_access a = {.chain = c->chain,
+                       .place = c->after.at[c->chain],
+                       .accesses = (unsigned char)accesses,
+                       .bytes = *bytes,
+                       .command = c->number,
+                       .type = c->type,
+                       .argument = argument};
+    a.bytes.first += m->origin;
+    if (c->kernel) snprintf(a.kernel, sizeof a.kernel, "%s", c->kernel->form->name);
+    to(c, m, &a, is_told);
+}
+
+// All accesses of a command.
+static void visit_all(command *c, visitor *to) {
     bool is_told = false;
     cl_kernel k = c->kernel;
-    if (c->memory) note(c, c->memory, &c->bytes, c->accesses, -1, &is_told);
-    if (c->target) note(c, c->target, &c->other, STORES, -1, &is_told);
+    if (c->memory) visit(c, c->memory, &c->bytes, c->accesses, -1, to, &is_told);
+    if (c->target) visit(c, c->target, &c->other, STORES, -1, to, &is_told);
     for (unsigned i = 0; k && i < k->form->count; i++) {
         cl_mem m = k->arguments[i].memory;
         rectangle all = range_of(0, m ? m->size : 0);
-        if (m) note(c, m, &all, possible_accesses(k->form, i) & (LOADS | STORES), (int)i, &is_told);
+        if (m) visit(c, m, &all, possible_accesses(k->form, i) & (LOADS | STORES), (int)i, to, &is_told);
     }
+}
+
+void note_accesses(command *c) { visit_all(c, note); }
+
+// ---- buffers that are mapped ----
+
+// A mapping of an object by which an access is undefined: nothing accesses what is mapped for writing, and nothing
+// stores to what is mapped for reading, whatever region is mapped (OpenCL 1.2, 5.4.3).
+static const mapping *mapping_against(cl_mem m, unsigned accesses) {
+    for (const mapping *p = m->mappings; p; p = p->next)
+        if (p->is_there && (p->flags & MAPPED_FOR_WRITING || (p->flags & CL_MAP_READ && accesses & STORES))) return p;
+    return NULL;
+}
+
+static void tell_mapped(cl_mem m, cl_mem mapped, const mapping *p, const buffer_access *a) {
+    static unsigned told;
+    char text[256];
+    const char *why = p->flags & MAPPED_FOR_WRITING ? "writing" : "reading";
+    size_t first = mapped->origin + p->offset;
+    if (told == MOST_TOLD) tell("mapped: further commands on what is mapped aren't told");
+    if (told++ >= MOST_TOLD) return;
+    tell("mapped buffer b%u: command %u is made while command %u has mapped it", whole_of(m)->number, a->command,
+         p->command);
+    tell("  command %u, clEnqueueMapBuffer, maps bytes %zu to %zu for %s", p->command, first, first + p->size - 1, why);
+    put_access(text, sizeof text, a);
+    tell("  %s", text);
+    tell("  why: until it is unmapped, what such a command finds or leaves is undefined (OpenCL 1.2, 5.4.3)");
+}
+
+// One access of an object, against mappings of it, of its buffer, and of its parts.
+static void look(command *c, cl_mem m, const buffer_access *access, bool *is_told) {
+    (void)c;
+    cl_mem mapped = m;
+    const mapping *p = mapping_against(m, access->accesses);
+    if (!p && m->parent) p = mapping_against(mapped = m->parent, access->accesses);
+    for (cl_mem part = m->parts; !p && part; part = part->next) p = mapping_against(mapped = part, access->accesses);
+    if (!p || *is_told) return;
+    tell_mapped(m, mapped, p, access);
+    *is_told = true;
+}
+
+void look_at_mappings(command *c) {
+    if (c->type != CL_COMMAND_MAP_BUFFER && c->type != CL_COMMAND_UNMAP_MEM_OBJECT) visit_all(c, look);
 }

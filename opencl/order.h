@@ -41,6 +41,8 @@ struct command;
 void take_place(struct command *c);
 // Looks at what a command that is done has accessed, and tells where another order could change that.
 void note_accesses(struct command *c);
+// Looks at what a command that begins accesses, and tells where a mapping makes that undefined (OpenCL 1.2, 5.4.3).
+void look_at_mappings(struct command *c);
 void free_accesses(buffer_access *list);
 // The call that commands of a type come from.
 const char *name_of_call(cl_command_type type);

@@ -273,6 +273,92 @@ static void moves(void) {
     OK(clReleaseCommandQueue(q));
 }
 
+static void *mapped_at(cl_command_queue q, cl_mem m, cl_map_flags flags, size_t first, size_t n, cl_int wanted) {
+    cl_int fault;
+    void *at = clEnqueueMapBuffer(q, m, CL_FALSE, flags, first, n, 0, NULL, NULL, &fault);
+    WANT(fault == wanted && !at == (wanted != CL_SUCCESS));
+    return at;
+}
+
+// Commands on what is mapped (5.4.3). Told: 2, 3 and 5, which access what 1 and 4 have mapped for writing, by a
+// kernel in other bytes too; 9 and 10, which store to what 8 has mapped for reading. Not told: 7, behind the end of the
+// first mapping; 11, which loads from what is mapped for reading.
+static void mapped(void) {
+    cl_command_queue q = queue_with(0);
+    cl_mem m = buffer(), other = buffer();
+    cl_kernel k = kernel_with(m, 1, 1);
+    cl_int got[N];
+    void *one = mapped_at(q, m, CL_MAP_WRITE, 0, 4, CL_SUCCESS);
+    release(launch(q, k, 0, NULL));
+    OK(clEnqueueCopyBuffer(q, m, other, 8, 8, 8, 0, NULL, NULL));
+    void *two = mapped_at(q, other, CL_MAP_WRITE_INVALIDATE_REGION, 0, 4, CL_SUCCESS);
+    OK(clEnqueueCopyBuffer(q, m, other, 8, 8, 8, 0, NULL, NULL));
+    mapped_at(q, m, CL_MAP_READ | CL_MAP_WRITE, 3, 8, CL_INVALID_OPERATION);
+    OK(clEnqueueUnmapMemObject(q, m, one, 0, NULL, NULL));
+    release(launch(q, k, 0, NULL));
+    one = mapped_at(q, m, CL_MAP_READ, 0, 4, CL_SUCCESS);
+    release(launch(q, k, 0, NULL));
+    release(fill(q, m, 1, 0, NULL));
+    OK(clEnqueueReadBuffer(q, m, CL_TRUE, 0, BYTES, got, 0, NULL, NULL));
+    OK(clEnqueueUnmapMemObject(q, m, one, 0, NULL, NULL));
+    OK(clEnqueueUnmapMemObject(q, other, two, 0, NULL, NULL));
+    OK(clReleaseKernel(k));
+    OK(clReleaseMemObject(m));
+    OK(clReleaseMemObject(other));
+    OK(clReleaseCommandQueue(q));
+}
+
+// A buffer and its parts. Told: 2, on the buffer of the part that 1 maps; 6, on a part of the buffer that 4 maps. Not
+// told: 3, on the part beside it. A part that goes while it is mapped takes its mapping along: 9 isn't told.
+static void mapped_parts(void) {
+    enum { PART = 128 };
+    cl_command_queue q = queue_with(0);
+    cl_int fault, five = 5;
+    cl_mem m = clCreateBuffer(h.context, 0, 3 * PART, NULL, &fault), parts[3];
+    OK(fault);
+    for (size_t i = 0; i < 3; i++) {
+        cl_buffer_region region = {i * PART, PART};
+        parts[i] = clCreateSubBuffer(m, 0, CL_BUFFER_CREATE_TYPE_REGION, &region, &fault);
+        OK(fault);
+    }
+    void *at = mapped_at(q, parts[1], CL_MAP_WRITE, 4, 8, CL_SUCCESS);
+    OK(clEnqueueFillBuffer(q, m, &five, 4, 0, 4, 0, NULL, NULL));
+    OK(clEnqueueFillBuffer(q, parts[2], &five, 4, 0, 4, 0, NULL, NULL));
+    mapped_at(q, m, CL_MAP_WRITE, PART, 8, CL_INVALID_OPERATION);
+    void *end = mapped_at(q, m, CL_MAP_WRITE, 2 * PART, 8, CL_SUCCESS);
+    mapped_at(q, parts[2], CL_MAP_WRITE, 0, 4, CL_INVALID_OPERATION);
+    OK(clEnqueueUnmapMemObject(q, parts[1], at, 0, NULL, NULL));
+    OK(clEnqueueFillBuffer(q, parts[0], &five, 4, 0, 4, 0, NULL, NULL));
+    OK(clEnqueueUnmapMemObject(q, m, end, 0, NULL, NULL));
+    mapped_at(q, parts[2], CL_MAP_WRITE, 0, 4, CL_SUCCESS);
+    for (int i = 0; i < 3; i++) OK(clReleaseMemObject(parts[i]));
+    OK(clEnqueueFillBuffer(q, m, &five, 4, 0, 4, 0, NULL, NULL));
+    OK(clReleaseMemObject(m));
+    OK(clReleaseCommandQueue(q));
+}
+
+// A mapping that waits isn't there for the command in front of it, 1, and is there for the launch behind it, 3. A
+// second one over the same bytes is refused by its call all the same.
+static void mapped_later(void) {
+    cl_command_queue q = queue_with(0);
+    cl_mem m = buffer();
+    cl_kernel k = kernel_with(m, 1, 1);
+    cl_event u = user_event(), a;
+    cl_int one = 1;
+    OK(clEnqueueFillBuffer(q, m, &one, 4, 0, 4, 1, &u, &a));
+    void *at = mapped_at(q, m, CL_MAP_WRITE, 0, 4, CL_SUCCESS);
+    mapped_at(q, m, CL_MAP_WRITE, 0, 4, CL_INVALID_OPERATION);
+    OK(clSetUserEventStatus(u, CL_COMPLETE));
+    release(launch(q, k, 0, NULL));
+    OK(clEnqueueUnmapMemObject(q, m, at, 0, NULL, NULL));
+    release(launch(q, k, 0, NULL));
+    release(a);
+    release(u);
+    OK(clReleaseKernel(k));
+    OK(clReleaseMemObject(m));
+    OK(clReleaseCommandQueue(q));
+}
+
 // A launch with a fault behind an event: its event has the error, and what waits for that isn't done.
 static void faults(void) {
     cl_command_queue q = queue_with(0);
@@ -431,6 +517,9 @@ int main(int count, char **words) {
                  {"released", released},
                  {"blocking", blocking},
                  {"moves", moves},
+                 {"mapped", mapped},
+                 {"mapped parts", mapped_parts},
+                 {"mapped later", mapped_later},
                  {"faults", faults},
                  {"queues", queues},
                  {"apart", apart},

@@ -1,0 +1,85 @@
+"""Piglit's OpenCL programs (Debian: piglit) on the driver, each with what becomes of its tests. By hand:
+
+    OCL_ICD_VENDORS=../../vendors python3 piglit.py LOG [FOLDER]..
+
+FOLDER is one of Piglit's, as tests/cl/program/execute; without one all that have OpenCL programs are taken. A line for
+each program goes to the end of LOG: `pass`, `fail` or `skip` as Piglit tells it, how many of its tests pass, and of
+those that don't what the driver says: `race`, `bounds` .., `refused` for a source that isn't built, else `wrong`.
+Programs that LOG has are left out, so that a run may go on. The last lines count.
+"""
+import collections
+import glob
+import os
+import re
+import subprocess
+import sys
+
+PIGLIT = next(iter(glob.glob("/usr/lib/*/piglit")), "/usr/lib/piglit")
+LIMIT = 600
+
+
+def programs(folders):
+    """Sources that aren't told to need images, and descriptions of tests, by their paths below Piglit's folder."""
+    for folder in folders:
+        for path in sorted(glob.glob(os.path.join(PIGLIT, folder, "*"))):
+            if path.endswith((".cl", ".program_test")) and os.path.isfile(path):
+                with open(path, encoding="utf-8", errors="replace") as file:
+                    if not re.search(r"image[123]d|sampler_t|read_image|write_image", file.read()):
+                        yield os.path.relpath(path, PIGLIT)
+
+
+def all_folders():
+    found = glob.glob(os.path.join(PIGLIT, "**/cl/**/*.cl"), recursive=True)
+    return sorted({os.path.relpath(os.path.dirname(path), PIGLIT) for path in found})
+
+
+def kinds_of_failures(told):
+    """What the driver says in front of each test that fails."""
+    kinds = collections.Counter()
+    for part in re.split(r"^> Running kernel test", told, flags=re.M):
+        if not re.search(r'"subtest".*"fail"', part):
+            continue
+        fault = re.search(r"clsim: *reply: fault \d+ (\w+)", part)
+        kinds[fault.group(1) if fault else "wrong"] += 1
+    if not kinds and re.search(r"error: |Could not build", told):
+        kinds["refused"] += 1
+    return kinds
+
+
+def tried(program):
+    try:
+        done = subprocess.run([os.path.join(PIGLIT, "bin/cl-program-tester"), program], cwd=PIGLIT, text=True,
+                              stdout=subprocess.PIPE, stderr=subprocess.STDOUT, stdin=subprocess.DEVNULL,
+                              errors="replace", timeout=LIMIT)
+        told = done.stdout
+    except subprocess.TimeoutExpired:
+        return f"{program} fail 0 timeout=1"
+    result = re.findall(r'^PIGLIT: \{"result": "(\w+)"', told, re.M)
+    passes = len(re.findall(r'"subtest".*"pass"', told))
+    kinds = kinds_of_failures(told) if result and result[-1] == "fail" else {}
+    return " ".join([program, result[-1] if result else "none", str(passes), *(f"{k}={n}" for k, n in kinds.items())])
+
+
+def main():
+    log, folders = sys.argv[1], sys.argv[2:] or all_folders()
+    lines = []
+    if os.path.exists(log):
+        with open(log, encoding="utf-8") as file:
+            lines = file.read().splitlines()
+    known = {line.split()[0] for line in lines}
+    for program in programs(folders):
+        if program not in known:
+            lines.append(tried(program))
+            with open(log, "a", encoding="utf-8") as file:
+                file.write(lines[-1] + "\n")
+    counts, kinds = collections.Counter(line.split()[1] for line in lines), collections.Counter()
+    for line in lines:
+        for word in line.split()[3:]:
+            kinds[word.split("=")[0]] += int(word.split("=")[1])
+    print(f"{len(lines)} programs: " + ", ".join(f"{n} {what}" for what, n in counts.most_common()))
+    print(f"{sum(int(line.split()[2]) for line in lines)} of their tests pass"
+          + "".join(f", {n} {what}" for what, n in kinds.most_common()))
+
+
+if __name__ == "__main__":
+    main()
