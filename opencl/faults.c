@@ -4,6 +4,7 @@
 #include "digits.h"
 #include "explained.h"
 #include "reasons.h"
+#include <inttypes.h>
 #include <stdio.h>
 #include <stdlib.h>
 #include <string.h>
@@ -115,10 +116,25 @@ static bool read_place(const char *line, memory_place *m) {
 }
 
 // The number of an element as the line has it, with how many there are.
-static void put_element(char *room, size_t n, const memory_place *m, const char *before, const char *behind,
-                        uint64_t count) {
-    snprintf(room, n, "%s%.*s%s, of %llu element%s", before, (int)strcspn(m->element, " "), m->element, behind,
-             (unsigned long long)count, count == 1 ? "" : "s");
+static void put_element(char *room, size_t n, const memory_place *m, uint64_t count) {
+    snprintf(room, n, "element %.*s, of %" PRIu64 " element%s", (int)strcspn(m->element, " "), m->element, count,
+             count == 1 ? "" : "s");
+}
+
+// The width of the numbers that a type is one of, or a vector of; 0 of any other type.
+static unsigned number_width(const type *t) {
+    if (t->kind == VECTOR_TYPE) t = t->of;
+    return t->kind == INTEGER_TYPE || t->kind == FLOATING_TYPE ? (unsigned)t->size : 0;
+}
+
+// The same as an index, of numbers or of vectors of them, whose numbers the element counts: `[8]`, `[8].y`.
+static void put_index(char *room, size_t n, const memory_place *m, const type *of, uint64_t bytes) {
+    int64_t each = (int64_t)(of->size / number_width(of)), number = strtoll(m->element, NULL, 10);
+    int64_t index = number / each - (number % each < 0);
+    uint64_t count = bytes / of->size;
+    char part[16];
+    put_part(part, sizeof part, of, (uint64_t)(number - index * each) * number_width(of));
+    snprintf(room, n, "[%" PRId64 "]%s, of %" PRIu64 " element%s", index, part, count, count == 1 ? "" : "s");
 }
 
 // An index that the driver writes in place of one that leaves its row, which may be in the object still: it lies far in
@@ -139,8 +155,8 @@ static int outside_of(const memory_place *m) {
     return number >= OUTSIDE_ELEMENT && number < OUTSIDE_ELEMENT + MAX_ARGUMENTS ? (int)(number - OUTSIDE_ELEMENT) : -1;
 }
 
-// An argument, or a table, of this type that the buffer of a fault is. An element is told only where it is one of its
-// width, as all elements are by whose number the fault may name it.
+// An argument, or a table, of this type that the buffer of a fault is. An element is told only where it is one of the
+// width of the type's numbers, as all elements are by whose number the fault may name it.
 static void tell_object(const memory_place *m, const char *what, const char *name, size_t bytes, const type *type,
                         bool is_of_width) {
     char place[160] = "", part[96];
@@ -149,9 +165,9 @@ static void tell_object(const memory_place *m, const char *what, const char *nam
     else if (is_out_of_row(m)) snprintf(place, sizeof place, ", an index outside of its row");
     else if (!m->element) {
         put_part(part, sizeof part, type, m->byte % width);
-        bool is_inside = type->kind == INTEGER_TYPE && m->byte % width;
+        bool is_inside = number_width(type) && m->byte % number_width(type);
         snprintf(place, sizeof place, "[%lu]%s%s", m->byte / width, part, is_inside ? ", not its first byte" : "");
-    } else if (is_of_width) put_element(place, sizeof place, m, "[", "]", bytes / width);
+    } else if (is_of_width) put_index(place, sizeof place, m, type, bytes);
     if (*place)
         tell("  buffer %.*s has %zu bytes and is %s %s: %s%s", (int)m->length, m->name, bytes, what, name, name, place);
     else
@@ -298,8 +314,8 @@ static void tell_buffer(cl_kernel k, const memory_place *m) {
         if (!b || given_number(k, i, b) != number || !find_in_part(k, i, &in)) continue;
         const type *of = form->parameters[i].type->of;
         snprintf(what, sizeof what, "argument %u,", i);
-        tell_object(&in, what, form->parameters[i].name, b->size, of,
-                    of->kind == INTEGER_TYPE && are_all_of(k, number, of->size));
+        unsigned numbers = number_width(of);
+        tell_object(&in, what, form->parameters[i].name, b->size, of, numbers && are_all_of(k, number, numbers));
         if (b->parent) tell("  argument %u is a sub-buffer of b%u, from byte %zu on", i, b->parent->number, b->origin);
     }
     for (unsigned i = 0; i < k->source->table_count; i++) {
@@ -318,12 +334,13 @@ static void tell_local(cl_kernel k, const memory_place *m) {
         const type *of = l->is_parameter || l->type->kind == ARRAY_TYPE ? l->type : NULL;
         unsigned width = width_of(l->element);
         uint64_t all = local_bytes(k, l), each = of && l->is_parameter ? of->size : 0;
-        bool is_row = of && (l->is_parameter ? of : of->of)->kind == INTEGER_TYPE;
+        const type *one = of && !l->is_parameter ? of->of : of;
+        bool is_row = one && number_width(one) == width;
         if (strlen(l->judged) != m->length || strncmp(l->judged, m->name, m->length)) continue;
         put_part(part, sizeof part, l->type, each ? m->byte % each : m->byte);
         if (is_out_of_row(m)) snprintf(place, sizeof place, "an index outside of its row");
-        else if (m->element)
-            put_element(place, sizeof place, m, is_row ? "[" : "element ", is_row ? "]" : "", all / width);
+        else if (m->element && is_row) put_index(place, sizeof place, m, one, all);
+        else if (m->element) put_element(place, sizeof place, m, all / width);
         else if (each) snprintf(place, sizeof place, "[%llu]%s", (unsigned long long)(m->byte / each), part);
         else snprintf(place, sizeof place, "%s", part);
         bool has_name = !is_out_of_row(m) && (!m->element || is_row);

@@ -1,7 +1,9 @@
 // Operators and conversions of floating-point numbers: calls of the helpers of opencl/floats, in whole numbers. A
 // float is the uint of its bits, a double the ulong.
 #include "floats.h"
+#include "../session.h"
 #include "front.h"
+#include "straight.h"
 #include <string.h>
 
 // ---- calls of helpers ----
@@ -10,6 +12,7 @@
 static void use_helper(translator *t, unsigned number) {
     if (t->helpers[number]) return;
     t->helpers[number] = true;
+    if (widens() && divides_straight(helper_at(number))) use_helper(t, (unsigned)helper_named("whole_quotient"));
     for (const char *at = helper_at(number)->calls; *at;) {
         size_t n = strcspn(at, " ");
         int called = helper_named(copy_text(&t->pass, at, n));
@@ -45,9 +48,14 @@ static integer call_helper(translator *t, const char *name, const integer *argum
     return variable(variable_name, h->result, true);
 }
 
+// For `clsim widen` those without branches: with them the numbers of a kernel decide nothing that they don't in itself.
 void write_helpers(translator *t, text *to) {
-    for (unsigned i = 0; i < helper_count(); i++)
-        if (t->helpers[i]) add(to, helper_at(i)->text);
+    const bool *straight = widens() ? find_straight(&t->pass) : NULL;
+    for (unsigned i = 0; i < helper_count(); i++) {
+        if (!t->helpers[i]) continue;
+        if (straight && straight[i]) add_straight(&t->pass, to, helper_at(i));
+        else add(to, helper_at(i)->text);
+    }
 }
 
 void begin_helpers(translator *t) {

@@ -1,5 +1,6 @@
 // Integers as expressions of Clsim's language. clang writes every conversion of C as a node of its own; here one is
 // pending until its value is used, and left out where the language does the same itself.
+#include "../session.h"
 #include "front.h"
 #include <inttypes.h>
 #include <string.h>
@@ -328,9 +329,20 @@ integer unary(translator *t, operation op, integer a, integer_type type) {
     return limited(t, v);
 }
 
+// A choice without a branch, for `clsim widen`, of values that may both be worked out: b, with the bits changed in which
+// a differs, or with none.
+static integer masked_choice(translator *t, integer condition, integer a, integer b, integer_type type) {
+    integer_type wide = promoted(type);
+    integer mask = cast_to(t, unary(t, MINUS, is_not_zero(t, condition), INT), wide);
+    b = kept(t, cast_to(t, b, type));
+    integer other = binary(t, BIT_AND, binary(t, BIT_XOR, a, b, wide), mask, wide);
+    return cast_to(t, binary(t, BIT_XOR, b, other, wide), type);
+}
+
 integer choice(translator *t, integer condition, integer a, integer b, integer_type type) {
     integer_type wanted = promoted(type);
     if (condition.is_literal) return cast_to(t, condition.value ? a : b, type);
+    if (widens() && !a.has_effect && !b.has_effect) return masked_choice(t, condition, a, b, type);
     a = cast_to(t, a, type);
     b = cast_to(t, b, type);
     if (is_narrowing(&a)) a = forced(t, a);
@@ -370,6 +382,8 @@ integer call_of(translator *t, const char *name, const integer *arguments, unsig
 }
 
 integer joined_conditions(translator *t, operation op, integer a, integer b) {
+    if (widens() && !b.has_effect)
+        return binary(t, op == LOGICAL_AND ? BIT_AND : BIT_OR, is_not_zero(t, a), is_not_zero(t, b), INT);
     integer v = operator_text(t, op, a, b, INT, INT);
     v.pending = NO_INTEGER;
     return v;

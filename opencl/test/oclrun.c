@@ -78,7 +78,8 @@ static cl_int set_argument(run *r, char **w) {
     char type[64];
     cl_int fault = clGetKernelArgInfo(k->kernel, index, CL_KERNEL_ARG_TYPE_NAME, sizeof type, type, NULL);
     int64_t value = *w[4] == '-' ? strtoll(w[4], NULL, 10) : (int64_t)NUMBER(4);
-    size_t n = strstr(type, "char") ? 1 : strstr(type, "short") ? 2 : strstr(type, "int") ? 4 : 8;
+    int has_four = strstr(type, "int") || strstr(type, "float"); // (a float is given by its bits)
+    size_t n = strstr(type, "char") ? 1 : strstr(type, "short") ? 2 : has_four ? 4 : 8;
     return fault ? fault : clSetKernelArg(k->kernel, index, n, &value);
 }
 

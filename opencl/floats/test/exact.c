@@ -1,5 +1,6 @@
 // The exact operations: addition to square root, fused multiplication and addition, comparisons, conversions.
 //   exact [COUNT [SEED]]   all arguments of a format of 8 bits, and COUNT arguments by chance of float and double
+//   exact chance COUNT [SEED]   only those by chance
 //   exact all              all arguments of the operations of one float: some 10 minutes
 // The last line tells how many answers were wrong; the status is 0 where none was.
 #include "floats.cl"
@@ -95,6 +96,17 @@ static ulong near_half(void) {
     return bits + (chance() & 1) * (1ul << 41) + chance() % 3 - 1;
 }
 
+// The quotient by products alone (floats/common.cl) is that of the unit.
+static void test_quotients(unsigned long count) {
+    for (unsigned long i = 0; i < count; i++) {
+        ulong x = chance() >> chance() % 64, y = chance() >> chance() % 64;
+        if (chance() % 4 == 0) x = ~0ul >> chance() % 64;
+        if (chance() % 4 == 0) y = 1ul << chance() % 64;
+        if (chance() % 4 == 0) x = x / (y | !y) * (y | !y) - chance() % 2;
+        if (y) want_between("whole_quotient", x, 0, whole_quotient(x, y), x / y);
+    }
+}
+
 static void test_between(unsigned long count) {
     for (uint a = 0; a < 0x10000; a++) {
         double sign = a & 0x8000 ? -1 : 1, magnitude = half_value(a & 0x7fff);
@@ -179,14 +191,20 @@ static int test_all(void) {
 
 int main(int argc, char **argv) {
     if (argc > 1 && strcmp(argv[1], "all") == 0) return test_all();
+    bool is_by_chance = argc > 1 && strcmp(argv[1], "chance") == 0;
+    argv += is_by_chance;
+    argc -= is_by_chance;
     unsigned long count = argc > 1 ? strtoul(argv[1], NULL, 10) : 100000;
     set_seed(argc > 2 ? strtoul(argv[2], NULL, 10) : 1);
     fill_magnitudes();
-    test_tiny32_test();
-    test_tiny64_test();
+    if (!is_by_chance) {
+        test_tiny32_test();
+        test_tiny64_test();
+    }
     host_float_test(count);
     host_double_test(count);
     test_between(count);
+    test_quotients(count);
     printf("exact: %lu arguments by chance, %lu wrong\n", count, failures);
     return failures != 0;
 }
