@@ -123,3 +123,14 @@ pub no_side :
     (touches : List Touch) (place : Location) (on : Side) (byte count : ℕ) → ((k : ℕ) (other : Touch) → slice_get touches k ≡ Some other → k < count)
     → IsNearestOf touches place on byte count None → IsOnSide on touches place byte None
 no_side touches place on byte count within none = λ k distance other h. none k distance other (within k other h.at) h
+
+-- a store's distance, and that of another access
+pub distance_yes : (place : Location) (on : Side) (byte : ℕ) (touch : Touch) (found : Option ℕ) → Stores place touch → found ≡ away on byte touch.byte → IsDistance place on byte touch found
+distance_yes place on byte touch None s e = λ _ distance far. let g : None ≡ Some distance = e ∙ far in absurd (not_some distance g)
+  where
+    not_some : (d : ℕ) → None ≡ Some d → ⊥
+    not_some d h = cc
+distance_yes place on byte touch (Some d) s e = (s, sym e)
+
+pub distance_no : (place : Location) (on : Side) (byte : ℕ) (touch : Touch) → (Stores place touch → ⊥) → IsDistance place on byte touch None
+distance_no place on byte touch not = λ s distance far. not s

@@ -316,13 +316,16 @@ fn bounds_reasons(
 ) -> Result<Vec<Reason>, AllocError>
     ensures { IfOk result (λ why. AreBounds memory.now (size_of memory.now) played.now.first.width why.items) }
 {
-    match memory {
-        Some(memory) => match (memory.size, played.first.width) {
-            (Some(size), Some(width)) => sized_reasons(alloc, memory, size, width),
-            _ => Ok(Vec::new(alloc)),
-        },
-        None => Ok(Vec::new(alloc)),
-    }
+    let Some(memory) = memory else {
+        return Ok(Vec::new(alloc));
+    };
+    let Some(size) = memory.size else {
+        return Ok(Vec::new(alloc));
+    };
+    let Some(width) = played.first.width else {
+        return Ok(Vec::new(alloc));
+    };
+    sized_reasons(alloc, memory, size, width)
 }
 
 /// Why a budget was used up.
