@@ -39,6 +39,11 @@ OPTIONS = [(["--uniform"], "CLSIM_UNIFORM=1"), (["--widen"], "CLSIM_WIDEN=1"), (
            (["--limits", "profile"], "CLSIM_LIMITS=profile")]
 WRONG = [(["--sarif"], "--sarif takes a value"), (["--orders"], "there is no option --orders"),
          (["--limits", "x", "true"], "--limits takes profile or large, and not x"),
+         (["--workers", "17", "true"], "--workers takes a number from 1 to 16, and not 17"),
+         (["--workers", "two", "true"], "--workers takes a number from 1 to 16, and not two"),
+         (["--budget", "0", "true"], "--budget takes a number from 1 to 1000000, and not 0"),
+         (["--local", "99999999999999999999", "true"], "--local takes a number from 1 to 1024, and not 9999"),
+         (["--local"], "--local takes a value"),
          (["--on-fault", "x", "true"], "--on-fault takes error, go, exit or abort, and not x"),
          (["--sarif", "/no/such/x", "true"], "/no/such/x can't be written"),
          (["--html", "/proc/x", "true"], "/proc/x can't be made"), (["/no/such/x"], "there is no program /no/such/x")]
@@ -61,7 +66,8 @@ def options(bench):
     for words, line in WRONG:
         told = bench.run([EXEC, *words], 2)
         want(line in told and "never asked" not in told, told)
-    want(bench.run([EXEC, "--help"]).startswith("Usage: clsim-exec"), "no help")
+    for word in ("--help", "-h"):
+        want(bench.run([EXEC, word]).startswith("Usage: clsim-exec"), "no help")
     bench.run([EXEC, "sh", "-c", "exit 7"], 7)
 
 
