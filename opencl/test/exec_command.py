@@ -103,8 +103,8 @@ def shown(bench):
     page = read(folder, "page/of/index.html")
     for text in ["kernels/shift.cl:5: <code>__kernel void shift(__global int *data) {</code>, function shift, launch 1 "
                  "of its context, global size 4, local size 2",
-                 '<tr class="marked"><td>3</td><td>    /* &quot;é&quot; \\ */ <mark>data</mark>[i] = data[NEXT(i)];'
-                 '</td>',
+                 '<tr class="marked"><td>3</td><td>    /* &quot;é&quot; \\ */ <mark>data</mark>[i] = <mark>data</mark>'
+                 '[NEXT(i)];</td>',
                  '<td>8</td><td>            move(data, get_global_id(0));</td><td class="dim">called at column 13</td>',
                  "both work-items are of group 0"]:
         want(text in page, f"{text}\n{page}")
