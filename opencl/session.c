@@ -278,8 +278,9 @@ session *session_open(void) {
     if (!fault) tie_life(held, s->child);
     if (held >= 0) close(held);
     if (fault) {
-        const char *help = fault == ENOENT ? " (it is looked for on the PATH; CLSIM_SERVE may name it)" : "";
-        tell("cannot start %s: %s%s", words[0] ? words[0] : "the simulator", strerror(fault), help);
+        bool is_named = fault != ENOENT || setting("CLSIM_SERVE");
+        tell("cannot start %s: %s%s", words[0] ? words[0] : "the simulator", strerror(fault),
+             is_named ? "" : " (it is looked for on the PATH; CLSIM_SERVE may name it)");
         close(ends[0]);
         return leave(s, fault);
     }
