@@ -41,7 +41,10 @@ class Inside:
 
     def moved(self, place):
         """A place of the text as one of the file; its own text is kept, but that of a whole line is the file's."""
-        byte, line = place["offset"], self.line_of(place["offset"])
+        byte = place["offset"]
+        if not 0 <= byte < len(self.places):
+            return place
+        line = self.line_of(byte)
         at, start, raw = self.places[byte], self.starts[line - 1], self.lines[line - 1]
         own = {"file": self.path, "offset": at, "line": line, "script_line": line, "column": at - start + 1}
         if "length" in place:
@@ -82,7 +85,7 @@ class Folder:
     """The files below the current folder that may be sources by their sizes, and those of host programs."""
 
     def __init__(self):
-        self.by_size, self.hosts, left = {}, [], MOST
+        self.by_size, self.hosts, self.known, left = {}, [], {}, MOST
         for at, folders, names in os.walk("."):
             folders[:] = sorted(name for name in folders if not name.startswith("."))
             for name in sorted(names):
@@ -99,7 +102,13 @@ class Folder:
 
     def inside(self, text):
         """Where the text stands in the first file of a host program that has it; None where there is none."""
-        for path in self.hosts if text.strip() else []:
+        if text not in self.known:
+            self.known[text] = self.look_inside(text) if text.strip() else None
+        return self.known[text]
+
+    def look_inside(self, text):
+        """Looks into the files of host programs."""
+        for path in self.hosts:
             content = content_of(path)
             places = places_in(content, text) if b"kernel" in content else None
             if places is not None:
@@ -129,7 +138,7 @@ def renamed(value, names, inside):
 
 def launched(launch, text, where):
     """A launch whose kernel's line is that of the file in which the source stands."""
-    line = launch["script_line"]
+    line = launch["script_line"] or len(where.places)
     byte = sum(len(it) + 1 for it in text.split(b"\n")[: line - 1])
     return {**launch, "script_line": where.line_of(byte)} if byte < len(where.places) else launch
 
