@@ -3,9 +3,10 @@
 
 Reads the explanations of host programs, which the driver writes (docs/use/host-programs.md, CLSIM_JSON), from the files
 that are named or from standard input. Where a file below the current folder has the very text of one of their sources,
-and a name that ends in one of ENDS, that source is named by its path, in all places too. Where none has, but the text
-stands in a file of a host program (HOSTS), as it is or as string literals in a row, the places are those of that file.
-Each explanation is written in a line. The status is 0, or 2 where the input is bad."""
+and a name that ends in one of ENDS, that source is named by its path, in all places too. Where none has, but such a
+file is a part of the text, or the text stands in a file of a host program (HOSTS), as it is or as string literals in a
+row, but for a few lines at its end, the places there are those of that file. Each explanation is written in a line. The
+status is 0, or 2 where the input is bad."""
 
 import bisect
 import json
@@ -18,6 +19,8 @@ ENDS = (".cl", ".clh", ".h", ".inc", ".opencl", ".ocl")
 HOSTS = (".c", ".cc", ".cpp", ".cxx", ".h", ".hh", ".hpp", ".hxx", ".inc", ".py", ".rs", ".go", ".jl", ".java", ".js")
 MOST = 20000  # files that are looked at
 LARGEST = 1 << 20  # bytes of a file of a host program that is looked into
+ADDED = 4  # lines that a library may add at the end of a text
+LEAST = 40  # bytes of a file, or of what is left of a text, that are enough to know it by
 
 # a string literal of one line, what stands between two that belong together, and what its escapes are
 LITERAL = re.compile(rb'"((?:[^"\\\n]|\\[^\n])*)"')
@@ -27,10 +30,10 @@ ESCAPED = {b"n": b"\n", b"t": b"\t", b"r": b"\r"}
 
 
 class Inside:
-    """Where the text of a source stands in a file of a host program."""
+    """Where a part of the text of a source stands in a file: where it begins, and the places of its bytes."""
 
-    def __init__(self, path, content, places):
-        self.path, self.lines, self.places = path, content.split(b"\n"), places
+    def __init__(self, path, content, places, begin=0):
+        self.path, self.lines, self.places, self.begin = path, content.split(b"\n"), places, begin
         self.starts = [0]
         for line in self.lines[:-1]:
             self.starts.append(self.starts[-1] + len(line) + 1)
@@ -41,7 +44,7 @@ class Inside:
 
     def moved(self, place):
         """A place of the text as one of the file; its own text is kept, but that of a whole line is the file's."""
-        byte = place["offset"]
+        byte = place["offset"] - self.begin
         if not 0 <= byte < len(self.places):
             return place
         line = self.line_of(byte)
@@ -70,14 +73,18 @@ def literals_of(content):
 
 
 def places_in(content, text):
-    """Where the bytes of a text stand in a file, as it is or in string literals; None where it doesn't."""
-    at = content.find(text)
-    if at >= 0:
-        return range(at, at + len(text))
-    for joined, places in literals_of(content):
-        at = joined.find(text)
-        if at >= 0:
-            return places[at : at + len(text)]
+    """Where the bytes of a text, but for some lines at its end, stand in a file, as it is or in string literals; None
+    where they don't."""
+    joined = [(content, range(len(content))), *literals_of(content)]
+    lines = text.split(b"\n")
+    for added in range(min(ADDED, len(lines) - 1) + 1):
+        wanted = b"\n".join(lines[: len(lines) - added])
+        if added and len(wanted) < LEAST:
+            return None
+        for part, places in joined:
+            at = part.find(wanted)
+            if at >= 0:
+                return places[at : at + len(wanted)]
     return None
 
 
@@ -107,7 +114,12 @@ class Folder:
         return self.known[text]
 
     def look_inside(self, text):
-        """Looks into the files of host programs."""
+        """Looks for files that are a part of the text, and into those of host programs."""
+        for size in sorted((it for it in self.by_size if LEAST <= it < len(text)), reverse=True):
+            for path in [path for path in self.by_size[size] if path.endswith(ENDS)]:
+                begin = text.find(content_of(path) or text + b" ")
+                if begin >= 0:
+                    return Inside(path, content_of(path), range(size), begin)
         for path in self.hosts:
             content = content_of(path)
             places = places_in(content, text) if b"kernel" in content else None
@@ -138,9 +150,9 @@ def renamed(value, names, inside):
 
 def launched(launch, text, where):
     """A launch whose kernel's line is that of the file in which the source stands."""
-    line = launch["script_line"] or len(where.places)
-    byte = sum(len(it) + 1 for it in text.split(b"\n")[: line - 1])
-    return {**launch, "script_line": where.line_of(byte)} if byte < len(where.places) else launch
+    line = launch["script_line"] or 0
+    byte = sum(len(it) + 1 for it in text.split(b"\n")[: line - 1]) - where.begin
+    return {**launch, "script_line": where.line_of(byte)} if line and 0 <= byte < len(where.places) else launch
 
 
 def named(whole, folder):
@@ -153,10 +165,8 @@ def named(whole, folder):
     if script in inside:
         whole["launch"] = launched(whole["launch"], texts[script], inside[script])
     whole["script"] = inside[script].path if script in inside else names.get(script, script)
-    if "sources" in whole:
-        # (what stands in a file is read there)
-        whole["sources"] = [{**source, "name": names.get(source["name"], source["name"])}
-                            for source in whole["sources"] if source["name"] not in inside]
+    for source in whole.get("sources", []):
+        source["name"] = names.get(source["name"], source["name"])
     return whole
 
 
