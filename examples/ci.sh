@@ -1,8 +1,10 @@
 #!/bin/sh
 # Runs each script that is named with $CLSIM, or with the clsim on the path, and shows the first fault, refusal or bad
 # line of each: FILE:LINE of its command, and below it the explanation where `clsim explain` has one of that fault,
-# refusal or source, else the line itself. A file named *.cl is a source: it is checked, and explained where it doesn't
-# build. Where $SARIF names a file, these and the explanations are written there as SARIF 2.1.0, which takes Python 3.
+# refusal or source, else the line itself. A file named *.cl is a source: it is checked, and where it isn't in Clsim's
+# language, clsim-kernel beside the program or on the path builds it as OpenCL C, as the driver does. What doesn't build
+# is shown with the errors of clang, else it is explained.
+# Where $SARIF names a file, these and the explanations are written there as SARIF 2.1.0, which takes Python 3.
 # $CLSIM_WORKERS, $CLSIM_BUDGET and $CLSIM_LIMITS, where they are set, are the options of the program by these names.
 # Status 0 if there are none, else 1, and 2 where there is no such program, nothing is named, or the file can't be
 # written.
@@ -59,21 +61,41 @@ first_reply() {
     ' "$folder/replies" script=1 - | LC_ALL=C tr '\000-\010\013-\037\177' '[?*]'
 }
 
-# Shows why a source doesn't build, and keeps its explanation.
+# Whether a source builds: in Clsim's own language, or as OpenCL C on the driver. (Its kernels are then listed.)
+# shellcheck disable=SC2086
+builds() {
+    : >"$folder/errors" >"$folder/said"
+    "$CLSIM" check "$1" $limits >"$folder/replies" 2>&1 && return
+    [ -n "$kernels" ] || return 1
+    CLSIM_SERVE=${CLSIM_SERVE:-"$CLSIM serve"} "$kernels" "$1" $limits >"$folder/listed" 2>"$folder/said" </dev/null
+    grep -q '^kernel ' "$folder/listed" || grep -q ' has no kernel$' "$folder/said" && return
+    grep -E '^[^:]+:[0-9]+:[0-9]+: (fatal )?error: ' "$folder/said" >"$folder/errors"
+    return 1
+}
+
+# Shows why a source doesn't build, and keeps it: the errors of clang, else the explanation.
 # shellcheck disable=SC2086
 show_source() {
+    if [ -s "$folder/errors" ]; then
+        cat "$folder/errors"
+        sed 1q "$folder/errors" >>"$folder/explained"
+        return
+    fi
     told=$("$CLSIM" explain "$1" $limits 2>/dev/null) || told=
     if [ -n "$told" ]; then printf '%s\n' "$told"; else printf '%s: %s\n' "$1" "$(sed 1q "$folder/replies")"; fi
+    # (without clang nothing reads OpenCL C)
+    sed -n '/^cannot start /p' "$folder/said"
     [ -z "${SARIF:-}" ] || "$CLSIM" explain "$1" $limits --format json 2>/dev/null >>"$folder/explained"
 }
 
+kernels=$(dirname "$(command -v "$CLSIM")")/clsim-kernel
+[ -x "$kernels" ] || kernels=$(command -v clsim-kernel)
 failed=0
 limits=${CLSIM_LIMITS:+--limits $CLSIM_LIMITS}
 device="${CLSIM_BUDGET:+--budget $CLSIM_BUDGET} $limits"
 for script in "$@"; do
     case $script in *.cl)
-        # shellcheck disable=SC2086
-        "$CLSIM" check "$script" $limits >"$folder/replies" 2>&1 || { failed=1; show_source "$script"; }
+        builds "$script" || { failed=1; show_source "$script"; }
         continue ;;
     esac
     # (CLSIM_WORKERS, CLSIM_BUDGET and CLSIM_LIMITS are options of the program, as for the driver)

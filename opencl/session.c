@@ -2,6 +2,8 @@
 #include "session.h"
 #include <errno.h>
 #include <fcntl.h>
+#include <limits.h>
+#include <link.h>
 #include <sched.h>
 #include <signal.h>
 #include <spawn.h>
@@ -167,11 +169,46 @@ static void put_options(char *room, size_t n, const char *command) {
              budget ? " --budget " : "", budget ? budget : "");
 }
 
+// The device's program: that on the path or, where none is there, the one that is installed beside this library.
+static const char *device = "clsim";
+
+// Whether a library is this one, whose path is then given.
+static int is_own(struct dl_phdr_info *about, size_t size, void *path) {
+    (void)size;
+    for (int i = 0; i < about->dlpi_phnum; i++) {
+        const ElfW(Phdr) *part = &about->dlpi_phdr[i];
+        uintptr_t begin = (uintptr_t)about->dlpi_addr + part->p_vaddr;
+        if (part->p_type != PT_LOAD || (uintptr_t)&device - begin >= part->p_memsz) continue;
+        *(const char **)path = about->dlpi_name;
+        return 1;
+    }
+    return 0;
+}
+
+// Takes the program that is installed beside this library: in `bin` beside its folder, or beside the one above. False
+// where there is none, or a space in its path, at which the command is taken apart.
+static bool take_installed(void) {
+    static char path[PATH_MAX];
+    static const char *const places[] = {"/../bin/clsim", "/../../bin/clsim"};
+    const char *own = NULL;
+    char folder[PATH_MAX], place[PATH_MAX + 32];
+    if (!dl_iterate_phdr(is_own, &own) || !own || !*own || !realpath(own, folder)) return false;
+    *strrchr(folder, '/') = 0;
+    for (size_t i = 0; i < sizeof places / sizeof *places; i++) {
+        snprintf(place, sizeof place, "%s%s", folder, places[i]);
+        if (access(place, X_OK) || !realpath(place, path) || strchr(path, ' ')) continue;
+        device = path;
+        return true;
+    }
+    return false;
+}
+
 // The command of the device. False where it is too long.
 static bool serve_command(char *room, size_t n) {
     const char *command = setting("CLSIM_SERVE"), *workers = setting("CLSIM_WORKERS");
-    char options[COMMAND_ROOM];
-    if (!command) command = "clsim serve";
+    char options[COMMAND_ROOM], plain[COMMAND_ROOM];
+    snprintf(plain, sizeof plain, "%s serve", device);
+    if (!command) command = plain;
     put_options(options, sizeof options, command);
     int put = snprintf(room, n, "%s%s%s%s", command, options, workers ? " --workers " : "", workers ? workers : "");
     return put > 0 && (size_t)put < n;
@@ -233,11 +270,17 @@ session *session_open(void) {
     split_words(room, words);
     s->life = open_life(&held);
     int fault = s->life < 0 ? errno : start(words, ends[1], held, &s->child);
+    if (fault == ENOENT && !setting("CLSIM_SERVE") && take_installed() && serve_command(room, sizeof room)) {
+        split_words(room, words);
+        fault = start(words, ends[1], held, &s->child);
+    }
     close(ends[1]);
     if (!fault) tie_life(held, s->child);
     if (held >= 0) close(held);
     if (fault) {
-        tell("cannot start %s: %s", words[0] ? words[0] : "the simulator", strerror(fault));
+        bool is_named = fault != ENOENT || setting("CLSIM_SERVE");
+        tell("cannot start %s: %s%s", words[0] ? words[0] : "the simulator", strerror(fault),
+             is_named ? "" : " (it is looked for on the PATH; CLSIM_SERVE may name it)");
         close(ends[0]);
         return leave(s, fault);
     }
@@ -367,7 +410,7 @@ void session_record(session *s, bool on) { s->recording = on; }
 static bool command_on(char *room, size_t n, const char *command, const char *word, const char *file) {
     const char *serve = setting("CLSIM_SERVE");
     char base[COMMAND_ROOM], options[COMMAND_ROOM];
-    snprintf(base, sizeof base, "clsim %s", word);
+    snprintf(base, sizeof base, "%s %s", device, word);
     if (command) {
         if (!*command) return false;
         snprintf(base, sizeof base, "%s", command);

@@ -213,19 +213,23 @@ def verdict_of(status, lines):
 
 
 def explanation_of(program, script, verdict, shown):
-    """What `clsim explain` says of the line that is shown of a script with a fault, or with a source that doesn't
-    build; None of other lines, and where it says nothing."""
-    unbuilt = verdict == "refused" and shown.startswith("refused 10 ")
-    if verdict != FAULTY and not unbuilt:
-        return None
+    """What `clsim explain` says of the line that is shown of a script with a fault or a refusal; None where that is
+    another one, as of want of memory, and where it says nothing."""
     words = ["./bin/clsim", "explain", script, "--format", "json", *program.options.device]
     text, _, ended, _, _, _ = program.run(words)
     try:
         explanation = code_of_json().loads(text) if ended == 0 else None
-    except ValueError:
+        is_refusal = (explanation or {}).get("kind") == "refusal"
+        # (of a script that has a fault before it, the explanation is that of the fault)
+        is_of_it = is_refusal == (verdict != FAULTY) and (not is_refusal or number_of(explanation) == shown.split(" ")[1])
+        return explanation if is_of_it else None
+    except (AttributeError, LookupError, TypeError, ValueError):
         return None
-    # (of a script that has a fault before it, the explanation is that of the fault)
-    return explanation if not unbuilt or (explanation or {}).get("kind") == "refusal" else None
+
+
+def number_of(refusal):
+    """The number of a refusal that is explained, as its reply has it: that of a source that doesn't build is 10."""
+    return str(refusal["fault"]["number"]) if refusal["fault"]["kind"] == "command" else "10"
 
 
 def line_of(script, lines, told, shown):
@@ -277,7 +281,7 @@ def judge(program, key):
         first = shown
         shown = next((it for it in lines if it.startswith(f"{verdict} ")), first)
         line = line_of(script, lines, first, shown)
-        explanation = explanation_of(program, script, verdict, shown)
+        explanation = explanation_of(program, script, verdict, shown) if shown in lines else None
     found = {"key": key, "verdict": verdict, "status": status, "line": shown[:2000], "script_line": line,
              "seconds": round(seconds, 3), "mb": round(memory, 1), "mb_at_most": at_most, "host": HOST,
              "explanation": explanation}
@@ -332,7 +336,8 @@ def main():
         else:
             judge_keys(program, results, names if form == "judge" else keys_of_queue())
     except OSError as fault:
-        print(f"tools/farm: {fault.filename or results.path}: {fault.strerror}", file=sys.stderr)
+        named = os.environ.get("CLSIM_FARM_NAME", "tools/farm")
+        print(f"{named}: {fault.filename or results.path}: {fault.strerror}", file=sys.stderr)
         return 2
     return 130 if program.is_over else 0
 

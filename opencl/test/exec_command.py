@@ -39,6 +39,11 @@ OPTIONS = [(["--uniform"], "CLSIM_UNIFORM=1"), (["--widen"], "CLSIM_WIDEN=1"), (
            (["--limits", "profile"], "CLSIM_LIMITS=profile")]
 WRONG = [(["--sarif"], "--sarif takes a value"), (["--orders"], "there is no option --orders"),
          (["--limits", "x", "true"], "--limits takes profile or large, and not x"),
+         (["--workers", "17", "true"], "--workers takes a number from 1 to 16, and not 17"),
+         (["--workers", "two", "true"], "--workers takes a number from 1 to 16, and not two"),
+         (["--budget", "0", "true"], "--budget takes a number from 1 to 1000000, and not 0"),
+         (["--local", "99999999999999999999", "true"], "--local takes a number from 1 to 1024, and not 9999"),
+         (["--local"], "--local takes a value"),
          (["--on-fault", "x", "true"], "--on-fault takes error, go, exit or abort, and not x"),
          (["--sarif", "/no/such/x", "true"], "/no/such/x can't be written"),
          (["--html", "/proc/x", "true"], "/proc/x can't be made"), (["/no/such/x"], "there is no program /no/such/x")]
@@ -61,7 +66,8 @@ def options(bench):
     for words, line in WRONG:
         told = bench.run([EXEC, *words], 2)
         want(line in told and "never asked" not in told, told)
-    want(bench.run([EXEC, "--help"]).startswith("Usage: clsim-exec"), "no help")
+    for word in ("--help", "-h"):
+        want(bench.run([EXEC, word]).startswith("Usage: clsim-exec"), "no help")
     bench.run([EXEC, "sh", "-c", "exit 7"], 7)
 
 
@@ -97,8 +103,8 @@ def shown(bench):
     page = read(folder, "page/of/index.html")
     for text in ["kernels/shift.cl:5: <code>__kernel void shift(__global int *data) {</code>, function shift, launch 1 "
                  "of its context, global size 4, local size 2",
-                 '<tr class="marked"><td>3</td><td>    /* &quot;é&quot; \\ */ <mark>data</mark>[i] = data[NEXT(i)];'
-                 '</td>',
+                 '<tr class="marked"><td>3</td><td>    /* &quot;é&quot; \\ */ <mark>data</mark>[i] = <mark>data</mark>'
+                 '[NEXT(i)];</td>',
                  '<td>8</td><td>            move(data, get_global_id(0));</td><td class="dim">called at column 13</td>',
                  "both work-items are of group 0"]:
         want(text in page, f"{text}\n{page}")

@@ -54,6 +54,7 @@ td { padding: 0 .6rem 0 0; vertical-align: top; white-space: pre; }
 td:first-child { color: var(--dim); text-align: right; }
 tr.marked { background: var(--mark); }
 mark { background: none; color: var(--bad); font-weight: bold; text-decoration: underline; text-underline-offset: 3px; }
+mark.inner { text-decoration-style: double; }
 svg { display: block; max-width: none; }
 svg text { font: 12px system-ui, sans-serif; fill: var(--ink); }
 .lane { stroke: var(--line); }
@@ -232,12 +233,17 @@ def picture(whole):
     return "".join(parts) + (f'<p class="dim">{drawn} of {count} events are drawn</p>' if drawn < count else "")
 
 
-def marked_text(raw, place):
-    """A line of source with what stands at a place marked."""
-    begin = place["column"] - 1
-    end = begin + max(1, place["length"])
-    first, middle, last = (quoted(piece.decode(errors="replace")) for piece in (raw[:begin], raw[begin:end], raw[end:]))
-    return f"{first}<mark>{middle}</mark>{last}"
+def marked_text(raw, places):
+    """A line of source with what stands at places marked; what several of them cover is marked twice."""
+    spans = [(place["column"] - 1, place["column"] - 1 + max(1, place["length"])) for place in places]
+    ends = sorted({0, len(raw), *(min(end, len(raw)) for span in spans for end in span)})
+    parts = []
+    for begin, end in zip(ends, ends[1:]):
+        text = quoted(raw[begin:end].decode(errors="replace"))
+        depth = len({span for span in spans if span[0] <= begin and end <= span[1]})
+        mark = '<mark class="inner">' if depth > 1 else "<mark>"
+        parts.append(f"{mark}{text}</mark>" if depth else text)
+    return "".join(parts)
 
 
 def places_of(whole):
@@ -276,24 +282,23 @@ def source_tables(whole):
     return tables
 
 
-def source_table(lines, told):
-    """The lines of places of a file, each with what is said of it, those of the calls of helpers round them among them,
-    with the lines round these where they are known."""
-    marked = {place["script_line"] for place, _ in told}
-    near = lines_round(lines, [place for place, _ in told])
-    rows = [(number, "", quoted(raw.decode(errors="replace")), "") for number, raw in near.items()
-            if number not in marked]
-    for place, words in told:
-        raw = lines[place["script_line"]]
-        text = marked_text(raw, place) if place["length"] else quoted(raw.decode(errors="replace"))
-        row = (place["script_line"], ' class="marked"' if place["length"] else "", text, words)
-        if row not in rows:
-            rows.append(row)
-    cells, last = [], None
-    for line, kind, text, words in sorted(rows, key=lambda row: row[0]):
+def source_table(lines, places):
+    """The lines of places of a file, each once with all that is said of it, those of the calls of helpers round them
+    among them, with the lines round these where they are known."""
+    rows, last, cells = dict.fromkeys(lines_round(lines, [place for place, _ in places]), ()), None, []
+    for place, words in places:
+        row = rows.get(place["script_line"], ())
+        rows[place["script_line"]] = row if (place, words) in row else (*row, (place, words))
+    for line, found in sorted(rows.items()):
         if last is not None and line > last + 1:
             cells.append('<tr><td></td><td class="dim">..</td><td></td></tr>')
-        cells.append(f'<tr{kind}><td>{line}</td><td>{text}</td><td class="dim">{quoted(words)}</td></tr>')
+        marks = [place for place, _ in found if place["length"]]
+        is_one = len({place["column"] for place in marks}) < 2
+        told = [words if is_one or not place["length"] else f"{words} at column {place['column']}"
+                for place, words in found]
+        kind = ' class="marked"' if marks else ""
+        cells.append(f'<tr{kind}><td>{line}</td><td>{marked_text(lines[line], marks)}</td>'
+                     f'<td class="dim">{quoted("; ".join(dict.fromkeys(told)))}</td></tr>')
         last = line
     return "<table>" + "".join(cells) + "</table>"
 

@@ -3,7 +3,8 @@
 
 Reads the files that are named, or standard input, with an explanation a line, and writes one run with a result each.
 A line may also be the word `clean`, `no` or `ok`, which has no result, or one of examples/ci.sh: `FILE:LINE: REPLY` of
-a command that was refused or had a fault, and `FILE:LINE: bad line`. The status is 0, or 2 where the input is bad."""
+a command that was refused or had a fault, `FILE:LINE: bad line`, and `FILE:LINE:COLUMN: error: TEXT` of a source that
+clang doesn't build. The status is 0, or 2 where the input is bad."""
 
 import json
 import re
@@ -72,6 +73,7 @@ ALL = {**RULES, **REFUSALS, **COMMANDS}
 # such a line of examples/ci.sh: file, line, reply and the name of its rule
 COMMAND = re.compile(
     r"(.+):([1-9][0-9]*): ((?:refused|fault) [0-9]+ ([A-Za-z_]+)[^{}]*|bad line(?:, without its line feed)?)")
+ERROR = re.compile(r"(.+):([1-9][0-9]*):([1-9][0-9]*): (?:fatal )?(error: .*)")
 LONGEST = 200  # of the text of such a line, which can have a megabyte of data
 
 
@@ -135,6 +137,10 @@ def refusal_result(whole):
 
 def command_of(line):
     """What a line of examples/ci.sh tells, None of another line."""
+    error = ERROR.fullmatch(line)
+    if error:
+        return {"kind": "command", "script": error[1], "script_line": int(error[2]),
+                "reply": f"{error[4]} (column {error[3]})", "name": "BuildFailed"}
     found = COMMAND.fullmatch(line)
     if not found:
         return None
