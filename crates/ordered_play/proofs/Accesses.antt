@@ -1,10 +1,10 @@
 -- An item's access: whether it can be made, and what it leads to.
-use Rattle.std.proofs.Common.{◌≡◌, ℕ, zero, suc, ◌+◌, ◌*◌, ◌<◌, ◌^◌, ℤ, Bool, true, false, if◌then◌else◌, Option, None, Some, List, [], ◌∷◌, refl, sym, ap, ◌∙◌, subst, arith}
+use Rattle.std.proofs.Common.{◌≡◌, ℕ, zero, suc, ◌+◌, ◌*◌, ◌<◌, ◌^◌, ℤ, Bool, true, false, if◌then◌else◌, Option, None, Some, List, ◌∷◌, refl, sym, ap, ◌∙◌, subst}
 use Rattle.std.proofs.lemmas.Bool.{false≢true}
-use Rattle.clmodel.specs.Cells.{Cells, byte_count, found, joined, lowest_unset, number, reads, size_of, unset_or, width_of}
+use Rattle.clmodel.specs.Cells.{Cells, byte_count, found, joined, lowest_unset, number, reads, size_of, unset_or}
 use Rattle.clmodel.specs.Launch.{Launch, group_of, kind_of, location_of, region_of}
 use Rattle.clmodel.specs.Run.{State, access_of, byte_at, next_action, step, stop_of}
-use Rattle.clmodel.specs.Law.{Makes, Reports, Shows, access_turn, fault_of, item_turn, unset_turn}
+use Rattle.clmodel.specs.Law.{Shows, access_turn, fault_of, item_turn, unset_turn}
 use Rattle.clmodel.specs.declared.access.Access.{Access}
 use Rattle.clmodel.specs.declared.access.Object.{Object}
 use Rattle.clmodel.specs.declared.access.Operation.{Operation}

@@ -5,8 +5,7 @@ use Rattle.std.proofs.lemmas.Bool.{false≢true}
 use Rattle.std.proofs.lemmas.List.{length-append}
 use Rattle.clmodel.specs.Launch.{Launch, group_of}
 use Rattle.clmodel.specs.Run.{State, Events, Memory, start, step, next_action, released, same_stop, stop_of, both_stop, contents, left}
-use Rattle.clmodel.specs.Law.{Makes, Reports, Finishes, IsBounded, Reaches, answers_left, has_ended, conflict_turn}
-use Rattle.clmodel.specs.declared.access.Conflict as conflict_type
+use Rattle.clmodel.specs.Law.{Makes, Reports, IsBounded, Reaches, answers_left, has_ended, conflict_turn}
 use Rattle.clmodel.specs.declared.access.Region.TheVariants as region
 use Rattle.clmodel.specs.declared.action.Action.{Action}
 use Rattle.clmodel.specs.declared.action.Action.TheVariants as action
@@ -33,7 +32,7 @@ use Rattle.ordered_runs.specs.Laws.{OrderedReportIsReached}
 use Rattle.ordered_runs.specs.Ordered.{OrderedTo, RunsOrdered, OrderedIntoFault, newest_race, ordered_turn, is_order}
 use Rattle.ordered_runs.proofs.Turns.{ordered_parts}
 use Rattle.ordered_runs.proofs.Unlogged.{quiet_turn}
-use Rattle.ordered_play.specs.Groups.{AreOver, Reached, Gathers, GathersOrReports, Reported, ReachedOrReports, is_barrier}
+use Rattle.ordered_play.specs.Groups.{Reached, Gathers, GathersOrReports, Reported, ReachedOrReports, is_barrier}
 use Rattle.ordered_play.specs.Stepping.{CannotGo, IsJudged, IsStepped, MakesAccess}
 use Rattle.ordered_play.specs.declared.stepping.Stepped.{Stepped}
 use Rattle.ordered_play.specs.declared.stepping.Stepped.TheVariants as stepped

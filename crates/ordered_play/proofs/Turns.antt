@@ -1,11 +1,10 @@
 -- The turn of the ordered run, by that of the group that runs.
-use Rattle.std.proofs.Common.{◌≡◌, ℕ, ◌+◌, ◌*◌, ◌/◌, ◌<◌, ◌≤◌, ◌⊎◌, Bool, true, false, if◌then◌else◌, Option, None, Some, refl, sym, ap, ◌∙◌, subst, inl, inr, arith}
+use Rattle.std.proofs.Common.{◌≡◌, ℕ, ◌+◌, ◌*◌, ◌<◌, ◌≤◌, ◌⊎◌, true, false, if◌then◌else◌, Option, None, Some, refl, sym, ap, ◌∙◌, subst, inl, inr, arith}
 use Rattle.std.proofs.lemmas.Bool.{cases_lt}
 use Rattle.std.proofs.lemmas.Nat.{div_below}
 use Rattle.clmodel.specs.Launch.{Launch, group_of}
-use Rattle.clmodel.specs.Run.{State, next_action, stop_of, both_stop, same_stop, straggler}
+use Rattle.clmodel.specs.Run.{State, next_action, stop_of, both_stop, same_stop}
 use Rattle.clmodel.specs.Law.{Turn, Makes, Reports, Finishes, conflict_turn, has_ended, item_turn}
-use Rattle.clmodel.specs.declared.action.Action.{Action}
 use Rattle.clmodel.specs.declared.action.Action.TheVariants as action
 use Rattle.clmodel.specs.declared.action.Fences.{Fences}
 use Rattle.clmodel.specs.declared.action.Instance.{Instance}
@@ -16,7 +15,7 @@ use Rattle.clmodel.proofs.Turns.{makes_finishes, reports_finishes}
 use Rattle.joining.specs.Group.{Plan, IsGroup, going, plan_of, turn_of}
 use Rattle.joining.proofs.GroupTurns.{Same, turn_over, finish_parts, all_finish}
 use Rattle.group_run.specs.Loops.{AtOneStop}
-use Rattle.group_run.proofs.Turns.{straggler_at, no_straggler, differs, first_stop, stop_at}
+use Rattle.group_run.proofs.Turns.{straggler_at, no_straggler, differs, first_stop}
 use Rattle.ordered_runs.specs.Ordered.{newest_race, ordered_turn}
 use Rattle.ordered_runs.proofs.Turns.{ordered_parts}
 use Rattle.ordered_runs.proofs.Unlogged.{unlogged, quiet_turn, turn_unlogged, item_same}

@@ -1,5 +1,5 @@
 -- What comes of one item's turn (own, on OpenCL 1.2, 3.2).
-use Rattle.std.specs.Prelude.{◌≡◌, ℕ, false, Option, None, Some}
+use Rattle.std.specs.Prelude.{◌≡◌, ℕ, false, None, Some}
 use Rattle.clmodel.specs.Launch.{Launch}
 use Rattle.clmodel.specs.Run.{State, next_action, step, stop_of}
 use Rattle.clmodel.specs.Law.{Makes, Reports, Shows, conflict_fault, item_turn}

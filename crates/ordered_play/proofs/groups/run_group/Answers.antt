@@ -1,4 +1,4 @@
-use Rattle.std.proofs.Common.{◌≡◌, ◌*◌, ◌+◌, ◌≤◌, ◌<◌, length, None, Some, true, false, sym, ap, ◌∙◌, subst, arith}
+use Rattle.std.proofs.Common.{◌*◌, ◌<◌, ap, subst, arith}
 use Rattle.replay.specs.States.{IsAt}
 use Rattle.ordered_play.specs.Groups.{Gathers, GathersOrReports}
 use Rattle.ordered_play.proofs.Going.{release_held, release_room, release_step, over_step, pushed_longer}

@@ -1,7 +1,7 @@
-use Rattle.std.proofs.Common.{◌≡◌, ◌+◌, ◌*◌, ◌≤◌, ◌<◌, None, Some, sym, ap, ◌∙◌, subst, arith}
+use Rattle.std.proofs.Common.{◌+◌, subst, arith}
 use Rattle.ordered_play.proofs.Going.{there_is}
 use Rattle.replay.specs.States.{IsAt}
-use Rattle.ordered_play.specs.Groups.{Reached, ReachedOrReports}
+use Rattle.ordered_play.specs.Groups.{ReachedOrReports}
 use Rattle.ordered_play.proofs.groups.run_groups.Goals as goal
 
 pub run_group-requires-clause-there : goal.run_group-requires-clause-there

@@ -1,4 +1,4 @@
-use Rattle.std.proofs.Common.{◌≡◌, ◌+◌, ◌≤◌, ◌<◌, length, None, Some, sym, ap, ◌∙◌, subst, arith}
+use Rattle.std.proofs.Common.{◌≡◌, ◌+◌, subst, arith}
 use Rattle.replay.specs.States.{IsAt}
 use Rattle.ordered_play.specs.Groups.{Gathers, GathersOrReports}
 use Rattle.ordered_play.proofs.Going.{begins_group}

@@ -1,6 +1,5 @@
-use Rattle.std.proofs.Common.{◌≡◌, ◌*◌, ◌+◌, ◌≤◌, ◌<◌, length, ap, ◌∙◌, arith}
+use Rattle.std.proofs.Common.{◌*◌, ◌+◌, ap, arith}
 use Rattle.replay.specs.States.{IsAt}
-use Rattle.joining.specs.Group.{plan_of}
 use Rattle.ordered_play.proofs.Going.{whole_is, made_room, made_step, raced_room, raced_step, failed_step, stopped_step, pushed_longer}
 use Rattle.ordered_play.proofs.groups.run_item.Goals as goal
 

@@ -1,4 +1,4 @@
-use Rattle.std.proofs.Common.{◌≡◌, ◌-◌, ◌≤◌, ◌^◌, length}
+use Rattle.std.proofs.Common.{◌-◌, ◌≤◌, ◌^◌, length}
 use Rattle.replay.specs.States.{IsAt}
 use Rattle.ordered_play.specs.Groups.{Gathers}
 use Rattle.ordered_play.proofs.groups.run_item.Given as goal

@@ -1,4 +1,4 @@
-use Rattle.std.proofs.Common.{◌≡◌, ap, sym, ◌∙◌, subst, arith}
+use Rattle.std.proofs.Common.{ap, sym, ◌∙◌, subst, arith}
 use Rattle.replay.specs.States.{ActsNext}
 use Rattle.ordered_play.specs.Groups.{is_barrier}
 use Rattle.ordered_play.proofs.groups.waits.Goals as goal

@@ -1,6 +1,5 @@
-use Rattle.std.proofs.Common.{rules, to_z, of_z, w64, ◌≡◌, ◌/◌, ◌+◌, ◌<◌, ◌^◌, ◌∙◌, ap, sym, subst, None, Some, arith}
+use Rattle.std.proofs.Common.{rules, to_z, of_z, w64, ◌≡◌, ◌/◌, ◌∙◌, ap, sym, subst, None, Some}
 use Rattle.std.proofs.lemmas.Result.{IfOk-weaker}
-use Rattle.clmodel.specs.Cells.{size_of}
 use Rattle.clmodel.specs.Launch.{location_of, region_of, kind_of}
 use Rattle.clmodel.specs.Run.{byte_at}
 use Rattle.clmodel.specs.declared.fault.Fault.TheVariants as fault

@@ -1,4 +1,4 @@
-use Rattle.std.proofs.Common.{◌≡◌, ap, sym, ◌∙◌, None}
+use Rattle.std.proofs.Common.{sym, ◌∙◌, None}
 use Rattle.clmodel.specs.Cells.{lowest_unset, size_of}
 use Rattle.clmodel.specs.Launch.{group_of, region_of}
 use Rattle.clmodel.proofs.Steps.{if_true, if_false}
