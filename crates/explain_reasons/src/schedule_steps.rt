@@ -1,7 +1,7 @@
 //! The steps of a schedule.
 #![tactic(auto)]
 
-ghost use Rattle.std.specs.Prelude.{◌≡◌, ◌+◌, ◌-◌, ◌^◌, ◌<◌, Some, cond, take, string_bytes, IfOk, OnOk, option_copied};
+ghost use Rattle.std.specs.Prelude.{◌≡◌, ◌+◌, ◌-◌, ◌^◌, ◌<◌, ◌++◌, Some, codes, cond, decimal, take, string_bytes, IfOk, OnOk, option_copied};
 ghost use Rattle.explain_reasons.specs.Steps.{AddsStep, AreSteps, IsStep, left_of, memory_words, value_of};
 ghost use Rattle.fault_play.specs.PlayedOut.{is_access};
 
@@ -16,6 +16,13 @@ use std::alloc::{AllocError, Global};
 /// How many steps are told.
 pub const MOST_STEPS: usize = 1000;
 
+/// The name of local memory, as a reply has it.
+fn local_text(alloc: Global, group: u32, name: &str) -> Result<String, AllocError>
+    ensures { IfOk result (λ text. string_bytes text ≡ codes "local " ++ decimal group ++ codes " " ++ name.now) }
+{
+    format!(in alloc; "local {group} {name}")
+}
+
 /// The name of a location, as a reply has it.
 fn location_text(alloc: Global, location: &Location) -> Result<String, AllocError>
     ensures { IfOk result (λ text. string_bytes text ≡ memory_words location.now) }
@@ -28,8 +35,7 @@ fn location_text(alloc: Global, location: &Location) -> Result<String, AllocErro
         }
         Location::Local { group, name } => {
             let name = String::from_utf8_lossy(alloc, name.as_slice())?;
-            let name = name.as_str();
-            format!(in alloc; "local {group} {name}")
+            local_text(alloc, *group, name.as_str())
         }
     }
 }
