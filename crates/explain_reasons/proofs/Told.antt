@@ -1,5 +1,5 @@
 -- Steps, one behind another.
-use Rattle.std.proofs.Common.{◌≡◌, ◌+◌, ℕ, Option, List, [], ◌∷◌, ◌++◌, cond, count_by, slice_get, refl, sym, ap, ◌∙◌, subst, append_assoc, arith}
+use Rattle.std.proofs.Common.{◌≡◌, ◌+◌, ◌≤◌, ℕ, Option, List, [], ◌∷◌, ◌++◌, cond, count_by, length, length-take, take, slice_get, refl, sym, ap, ◌∙◌, subst, append_assoc, arith}
 use Rattle.std.specs.List.{AllZip}
 use Rattle.std.proofs.lemmas.List.{append-nil}
 use Rattle.explanation.specs.declared.steps.ToldEvent.{ToldEvent}
@@ -45,3 +45,7 @@ step_more xs x touches count touch old new counted at told added =
 pub count_more : (xs : List Mark) (x : Mark) → count_by (λ mark. is_access mark.event) (xs ++ x ∷ []) ≡ count_by (λ mark. is_access mark.event) xs + cond (is_access x.event) 1 0
 count_more [] x = omega arith
 count_more (y ∷ ys) x = omega (arith, count_more ys x)
+
+-- of a list the first 1,000 are no more
+pub at_most : (xs ys : List Mark) → xs ≡ take 1000 ys → length xs ≤ 1000
+at_most xs ys e = omega (arith, ap length e, length-take 1000 ys)
