@@ -2,6 +2,7 @@
 use Rattle.std.proofs.Common.{◌≡◌, ◌+◌, ◌≤◌, ℕ, Option, List, [], ◌∷◌, ◌++◌, cond, count_by, length, length-take, take, slice_get, refl, sym, ap, ◌∙◌, subst, append_assoc, arith}
 use Rattle.std.specs.List.{AllZip}
 use Rattle.std.proofs.lemmas.List.{append-nil}
+use Rattle.std.proofs.lemmas.List.Sums.{sum_by-cons}
 use Rattle.explanation.specs.declared.steps.ToldEvent.{ToldEvent}
 use Rattle.fault_play.specs.PlayedOut.{is_access}
 use Rattle.fault_play.specs.declared.marks.Mark.{Mark}
@@ -21,10 +22,11 @@ events_more :
 events_more n [] x touches = let same : n ≡ n + 0 = omega arith in append-nil _ ∙ ap (λ k. told_as x.event x (slice_get touches k)) same
 events_more n (y ∷ ys) x touches =
     let more = cond (is_access y.event) 1 0 in
-    let counted : (n + more) + count_by (λ mark. is_access mark.event) ys ≡ n + (more + count_by (λ mark. is_access mark.event) ys) = omega arith in
+    let cons : count_by (λ mark. is_access mark.event) (y ∷ ys) ≡ more + count_by (λ mark. is_access mark.event) ys = sum_by-cons (λ mark. cond (is_access mark.event) 1 0) y ys in
+    let counted : (n + more) + count_by (λ mark. is_access mark.event) ys ≡ n + count_by (λ mark. is_access mark.event) (y ∷ ys) = omega (arith, cons) in
     ap (λ z. told_as y.event y (slice_get touches n) ++ z)
     (events_more (n + more) ys x touches ∙ ap (λ k. events_told (n + more) ys touches ++ told_as x.event x (slice_get touches k)) counted)
-    ∙ sym (append_assoc (told_as y.event y (slice_get touches n)) (events_told (n + more) ys touches) (told_as x.event x (slice_get touches (n + (more + count_by (λ mark. is_access mark.event) ys)))))
+    ∙ sym (append_assoc (told_as y.event y (slice_get touches n)) (events_told (n + more) ys touches) (told_as x.event x (slice_get touches (n + count_by (λ mark. is_access mark.event) (y ∷ ys)))))
 
 -- one step more
 pub step_more :
@@ -44,7 +46,11 @@ step_more xs x touches count touch old new counted at told added =
 -- the count with one more
 pub count_more : (xs : List Mark) (x : Mark) → count_by (λ mark. is_access mark.event) (xs ++ x ∷ []) ≡ count_by (λ mark. is_access mark.event) xs + cond (is_access x.event) 1 0
 count_more [] x = omega arith
-count_more (y ∷ ys) x = omega (arith, count_more ys x)
+count_more (y ∷ ys) x =
+    let f : Mark → ℕ = λ mark. cond (is_access mark.event) 1 0 in
+    let whole : count_by (λ mark. is_access mark.event) (y ∷ (ys ++ x ∷ [])) ≡ cond (is_access y.event) 1 0 + count_by (λ mark. is_access mark.event) (ys ++ x ∷ []) = sum_by-cons f y (ys ++ x ∷ []) in
+    let old : count_by (λ mark. is_access mark.event) (y ∷ ys) ≡ cond (is_access y.event) 1 0 + count_by (λ mark. is_access mark.event) ys = sum_by-cons f y ys in
+    let more = count_more ys x in whole ∙ omega (arith, old, more)
 
 -- of a list the first 1,000 are no more
 pub at_most : (xs ys : List Mark) → xs ≡ take 1000 ys → length xs ≤ 1000
