@@ -92,8 +92,8 @@ fn nearest_store(touches: &[Touch], location: &Location, side: Side, byte: u64) 
     ensures { IsNearestOf touches.now location.now side byte (length touches.now) result }
 {
     let mut near = None;
-    for (number, touch) in touches.iter().enumerate() {
-        near = nearer(near, number, distance_of(touch, location, side, byte));
+    for number in 0..touches.len() {
+        near = nearer(near, number, distance_of(&touches[number], location, side, byte));
     }
     near
 }
