@@ -1,0 +1,5 @@
+pub mod Runs
+mod Steps
+mod Texts
+mod Turning
+mod Paths
