@@ -1,6 +1,5 @@
 -- From the run of a launch to what the machine says of it.
-use Rattle.std.proofs.Common.{◌≡◌, ℕ, ◌*◌, ◌%◌, ◌<◌, ◌≤◌, ◌^◌, List, map, Some, Option, refl, sym, subst, arith}
-use Rattle.std.proofs.Math.Nat.{mul-le-mul_left, mul-le-mul_right}
+use Rattle.std.proofs.Common.{◌≡◌, ℕ, ◌%◌, ◌<◌, ◌≤◌, ◌^◌, List, map, Some, Option, refl, sym, subst, arith}
 use Rattle.clmodel.specs.Launch.{Launch}
 use Rattle.clmodel.specs.Run.{State, Events, left}
 use Rattle.clmodel.specs.Law.{Determinacy, CleanIsComplete, ReportIsShown, CleanWith, Reaches, RunsClean}
@@ -22,17 +21,14 @@ has_groups configuration setup other size same grouped few whole few_items limit
     (record {
       whole = subst (λ n. item_count other.range % n ≡ 0) grouped whole;
       numbered = few_numbers (item_count other.range) configuration.limits.items few_items configuration.limits.few_items;
-      short = subst (λ n. n * other.budget < 2 ^ 32) grouped (short size other.budget configuration.limits.group_items configuration.limits.ticks few configuration.limits.small_groups (subst (λ n. n ≤ configuration.limits.ticks) (sym limited) configuration.limited) configuration.limits.few_ticks);
+      short = short other.budget configuration.limits.ticks (subst (λ n. n ≤ configuration.limits.ticks) (sym limited) configuration.limited) configuration.limits.few_ticks;
     })
   where
     few_numbers : (n m : ℕ) → n ≤ m → m ≤ 2 ^ 26 → n < 2 ^ 32
     few_numbers n m few limited = omega (arith, few, limited)
 
-    short : (n b m k : ℕ) → n ≤ m → m ≤ 1024 → b ≤ k → k ≤ 4194303 → n * b < 2 ^ 32
-    short n b m k few small limited brief =
-        let group : n ≤ 1024 = omega (arith, few, small) in
-        let budget : b ≤ 4194303 = omega (arith, limited, brief) in
-        omega (arith, mul-le-mul_right b group, mul-le-mul_left 1024 budget)
+    short : (b k : ℕ) → b ≤ k → k ≤ 4194303 → b < 2 ^ 32
+    short b k limited brief = omega (arith, limited, brief)
 
 clean_with : Determinacy → CleanIsComplete → (launch : Launch) (events : Events) (end : State) → RunsClean launch events end → CleanWith launch (left launch end)
 clean_with determined complete launch events end run =

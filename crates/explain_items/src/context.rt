@@ -10,14 +10,13 @@ ghost use Rattle.explain_items.specs.Marked.{CodeIsMarked, CodeIsMarked-prop};
 ghost use Rattle.explain_items.specs.Spotted.{BeginsAt, HasNoSpot, HasSpot, StandsInside, IsSpotted, IsTellable};
 
 use clmodel::text::Name;
-use clmodel::tree::{Expression, Statement, Target};
 use explanation::{Code, NodeKind, Spot};
 use fault_play::Stand;
 use host_commands::command::Command;
 use item_step::Launch;
 use launch_facts::ProgramSource;
 use origins::{Node, Origin, origin_of};
-use source_spots::{Source, code_of, spot_of};
+use source_spots::{Source, code_of, expression_kind, spot_of, statement_kind, target_kind};
 use std::alloc::{AllocError, Global};
 
 /// A launch with its source, and what led to it. The code that it runs is that of the tree whose nodes are told.
@@ -30,42 +29,6 @@ pub struct Context<'a> {
     pub done: &'a [bool],
     pub kernel: &'a Name,
     pub ghost marked: { CodeIsMarked launch.now } by { CodeIsMarked-prop launch.now },
-}
-
-/// What kind of node an expression is.
-fn expression_kind(expression: &Expression) -> NodeKind {
-    match expression {
-        Expression::Number { .. } | Expression::Variable { .. } => NodeKind::Operand,
-        Expression::Element { .. } => NodeKind::Element,
-        Expression::Dereference { .. } | Expression::ElementAddress { .. } => NodeKind::Dereference,
-        Expression::Call { .. } => NodeKind::Call,
-        Expression::Unary { .. }
-        | Expression::Cast { .. }
-        | Expression::Binary { .. }
-        | Expression::Choice { .. } => NodeKind::Operation,
-    }
-}
-
-/// What kind of node a target is.
-fn target_kind(target: &Target) -> NodeKind {
-    match target {
-        Target::Variable { .. } => NodeKind::Operand,
-        Target::Element { .. } => NodeKind::Element,
-        Target::Dereference { .. } => NodeKind::Dereference,
-    }
-}
-
-/// What kind of node a statement is.
-fn statement_kind(statement: &Statement) -> NodeKind {
-    match statement {
-        Statement::Declare { .. } | Statement::DeclareArray { .. } => NodeKind::Declaration,
-        Statement::Assign { .. } | Statement::Step { .. } => NodeKind::Assignment,
-        Statement::Call { .. } => NodeKind::Call,
-        Statement::While { .. } | Statement::DoWhile { .. } | Statement::For { .. } => {
-            NodeKind::Loop
-        }
-        _ => NodeKind::Statement,
-    }
 }
 
 /// What stands at a node.

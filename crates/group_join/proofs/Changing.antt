@@ -122,7 +122,7 @@ changed_written old n first count value row there long is =
     record { many = length-set old n row; sized = λ m. sized m (eqb_tells m n); bytes = λ m b. bytes m b (eqb_tells m n) }
   where
     f : ℕ → ℕ
-    f byte = byte_of (byte - first) value
+    f = λ byte. byte_of (byte - first) value
 
     sized : (m : ℕ) → (((m == n) ≡ true) × (m ≡ n)) ⊎ (((m == n) ≡ false) × (m ≡ n → ⊥)) → length (buffer_at (set old n row) m) ≡ length (buffer_at old m)
     sized m (inl h) = subst (λ i. length (buffer_at (set old n row) i) ≡ length (buffer_at old i)) (sym h.1) (ap length (row_set old n row there) ∙ long)

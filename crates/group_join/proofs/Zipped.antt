@@ -1,5 +1,5 @@
 -- Buffers with changes, the first with the first.
-use Rattle.std.proofs.Common.{◌≡◌, ℕ, zero, suc, ◌+◌, ◌-◌, ◌<◌, ◌≤◌, ◌⊎◌, List, [], ◌∷◌, ◌++◌, Some, false, leb, length, map, set, take, get_or, refl, sym, ap, ap₂, ◌∙◌, subst, inl, inr, arith}
+use Rattle.std.proofs.Common.{◌≡◌, ℕ, zero, suc, ◌+◌, ◌-◌, ◌<◌, ◌≤◌, ◌⊎◌, Bor, List, [], ◌∷◌, ◌++◌, Some, false, leb, length, map, set, take, get_or, refl, sym, ap, ap₂, ◌∙◌, subst, inl, inr, arith}
 use Rattle.std.specs.Prelude.{All, Result, Ok, Err, OnOk, slice_get}
 use Rattle.std.specs.List.{AllByRecursion}
 use Rattle.std.proofs.lemmas.List.Elements.{recursion_from_All}
@@ -11,17 +11,21 @@ use Rattle.group_join.specs.declared.changes.Change.{Change}
 use Rattle.group_join.proofs.Changing.{changed_written, changed_nothing}
 use Rattle.group_join.proofs.Numbers.{number_past, or_0, past_0}
 
--- changes that change nothing
-abbrev pub IsNone : Changed → Type 0
-IsNone one = (bytes : List ℕ) → with_changes bytes one ≡ bytes
+-- what code reads of a row that isn't there
+abbrev pub no_row : Bor (List ℕ)
+no_row = record { ref_ptr = (0, 0); now = [] }
 
-none_zipped : (rows : List (List ℕ)) (changes : List Changed) → length rows ≡ length changes → AllByRecursion IsNone changes → all_with_changes rows changes ≡ rows
+-- changes that change nothing
+abbrev pub ChangesNothing : Changed → Type 0
+ChangesNothing one = (bytes : List ℕ) → with_changes bytes one ≡ bytes
+
+none_zipped : (rows : List (List ℕ)) (changes : List Changed) → length rows ≡ length changes → AllByRecursion ChangesNothing changes → all_with_changes rows changes ≡ rows
 none_zipped [] changes e h = refl
 none_zipped (row ∷ rows) [] e h = absurd (omega (arith, e))
 none_zipped (row ∷ rows) (one ∷ changes) e h = ap₂ (λ x xs. x ∷ xs) (h.0 row) (none_zipped rows changes (omega (arith, e)) h.1)
 
-pub nothing_changed : (rows : List (List ℕ)) (changes : List Changed) → length rows ≡ length changes → All IsNone changes → all_with_changes rows changes ≡ rows
-nothing_changed rows changes e h = none_zipped rows changes e (recursion_from_All IsNone changes h)
+pub nothing_changed : (rows : List (List ℕ)) (changes : List Changed) → length rows ≡ length changes → All ChangesNothing changes → all_with_changes rows changes ≡ rows
+nothing_changed rows changes e h = none_zipped rows changes e (recursion_from_All ChangesNothing changes h)
 
 -- one buffer of them
 pub zipped_at : (rows : List (List ℕ)) (changes : List Changed) (n : ℕ) (row : List ℕ) (one : Changed) → n < length rows → n < length changes

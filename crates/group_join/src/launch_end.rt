@@ -1,6 +1,6 @@
 //! How a launch ends.
 
-ghost use Rattle.std.specs.Prelude.{◌≡◌, List, IfOk, map};
+ghost use Rattle.std.specs.Prelude.{◌≡◌, IfOk, map};
 ghost use Rattle.clmodel.specs.Next.{launch_of};
 ghost use Rattle.clmodel.specs.Outcome.{Concludes};
 ghost use Rattle.item_step.specs.Launches.{setup_of};

@@ -95,12 +95,9 @@ sum_const b (suc n) = one_more (sum_below (λ k. b - 0) n) (n * b) (suc n * b) b
     one_more : (s t u b : ℕ) → s ≤ t → u ≡ t + b → s + (b - 0) ≤ u
     one_more s t u b h e = omega (arith, h, e)
 
-small : (b c d : ℕ) → b ≤ c → c ≡ d → d < 2 ^ 32 → b ≤ 4294967295
-small b c d h e q = omega (arith, h, e, q)
-
-product_fits : (items size bound : ℕ) → items < 2 ^ 32 → 0 < size → size * bound < 2 ^ 32 → items * bound < 2 ^ 64
-product_fits items size bound few some brief =
-    let b : bound ≤ 4294967295 = small bound (bound * size) (size * bound) (le-mul_of_pos_right bound some) (mul_comm bound size) brief in
+product_fits : (items bound : ℕ) → items < 2 ^ 32 → bound < 2 ^ 32 → items * bound < 2 ^ 64
+product_fits items bound few brief =
+    let b : bound ≤ 4294967295 = omega (arith, brief) in
     let c : items ≤ 4294967295 = omega (arith, few) in
     last (items * bound) (items * 4294967295) (mul-le-mul_left items b) (mul-le-mul_right 4294967295 c)
   where
@@ -110,7 +107,7 @@ product_fits items size bound few some brief =
 pub brief_is : (l : Launch) (group : ℕ) → IsRunnable l → IsBrief (plan_of l group) (start l)
 brief_is l group ready =
     let bound = ready.bounded.0 in
-    (bound, ready.bounded.2, under _ (l.items * bound) (2 ^ 64) (sum_const bound l.items) (product_fits l.items l.group_size bound ready.numbered ready.grouped ready.bounded.1))
+    (bound, ready.bounded.2, under _ (l.items * bound) (2 ^ 64) (sum_const bound l.items) (product_fits l.items bound ready.numbered ready.bounded.1))
 
 -- ---- the start
 
@@ -126,16 +123,12 @@ waiting_start l first count items is =
       each = λ k i e answers. ap (λ z. acts_of l (first + k) z answers) (waiting_at count k i (subst (λ z. slice_get z k ≡ Some i) is e));
     }
 
-from_none : (a b : ℕ) → a ≤ b → 0 + a ≤ b
-from_none a b h = omega (arith, h)
-
 pub start_fits :
     {I G : Type 0} (acts : ℕ → I → List Answer → Action) (bytes : G → List (Option ℕ)) (ro : Bool) (l : Launch) (group : ℕ) (items : List I) (globals : List G) (locals : List (List (Option ℕ))) (log : Log)
     → IsRunnable l → group * l.group_size < l.items → ro ≡ false → map bytes globals ≡ filled l → locals ≡ map (λ size. replicate size None) l.local_sizes
     → log ≡ fresh_log l.uniform → AreStarted acts l (group * l.group_size) l.group_size items
     → Fits acts bytes ro (plan_of l group) items 0 globals locals log [] (start l)
 start_fits acts bytes ro l group items globals locals log ready there writable full unset fresh started =
-    let bound = ready.bounded.0 in
     subst (λ z. Fits acts bytes ro (plan_of l group) items 0 globals locals z [] (start l)) (sym fresh)
     (subst (λ z. Fits acts bytes ro (plan_of l group) items 0 globals z (fresh_log l.uniform) [] (start l)) (sym unset)
     (record {
@@ -144,13 +137,7 @@ start_fits acts bytes ro l group items globals locals log ready there writable f
       acting = started.each;
       holds = (buffers_hold bytes l globals full, locals_hold l group);
       logged = record { keeps = refl; noted = refl; mine = tt; local_interval = refl; global_interval = refl; uniform = refl };
-      counts = record {
-        counted = refl;
-        bound = bound;
-        brief = ready.bounded.1;
-        bounded = ready.bounded.2;
-        left = from_none _ (l.group_size * bound) (sum_const bound l.group_size);
-      };
+      counted = refl;
       few = (omega arith, omega arith);
     }))
 
@@ -202,7 +189,8 @@ cells_are : (ys : List (Option ℕ)) → cells_from (cells_of ys) 0 (length ys) 
 cells_are [] = refl
 cells_are (y ∷ ys) = ap (λ z. y ∷ z) (shifted y ys 0 (length ys) ∙ cells_are ys)
 
-contents_are :
+-- what spaces of these sizes and cells hold is what a memory leaves in its buffers from `k` on
+pub contents_are :
     {G : Type 0} (bytes : G → List (Option ℕ)) (m : Memory) (k : ℕ) (bs : List (List ℕ)) (xs : List G) → length xs ≡ length bs
     → ((n : ℕ) (x : G) → slice_get xs n ≡ Some x → (length (bytes x) ≡ length (slice_index_or bs n [])) × (cells_of (bytes x) ≡ m (region.Buffer (k + n))))
     → contents m k bs ≡ map bytes xs

@@ -10,7 +10,7 @@ use Rattle.std.proofs.lemmas.Option.{slice_get_within}
 use Rattle.clmodel.specs.Cells.{size_of, reads, found, answer_to, effect, lowest_unset}
 use Rattle.clmodel.specs.Launch.{Launch, within_group, access_in, region_of, location_of, kind_of, group_of, bytes_of, first_byte}
 use Rattle.clmodel.specs.Run.{State, Events, Memory, step, next_action, straggler, byte_at, by_region, access_of, with_cells, released, changed}
-use Rattle.clmodel.specs.Law.{Makes, Reports, newest_conflict, conflict_fault, unset_turn, access_turn, item_turn, is_over, sum_below}
+use Rattle.clmodel.specs.Law.{Makes, Reports, newest_conflict, conflict_fault, unset_turn, access_turn, item_turn, is_over}
 use Rattle.clmodel.specs.declared.access.Access.{Access}
 use Rattle.clmodel.specs.declared.access.Object.{Object}
 use Rattle.clmodel.specs.declared.access.Operation.{Operation}
@@ -26,7 +26,7 @@ use Rattle.clmodel.specs.declared.fault.Fault.TheVariants as fault
 use Rattle.clmodel.specs.declared.schedule.Event.{Event}
 use Rattle.clmodel.specs.declared.schedule.Event.TheVariants.{Item, Release}
 use Rattle.clmodel.proofs.CellLaws.{found_unset}
-use Rattle.clmodel.proofs.Ending.{sum_below_less, not_over, one_more, less_left}
+use Rattle.clmodel.proofs.Ending.{one_more}
 use Rattle.clmodel.proofs.Steps.{none_some, if_true, if_false, made, region_for, item_at, release_at, map_some, map_none}
 use Rattle.item_step.specs.BriefActions.{action_from}
 use Rattle.item_step.specs.declared.brief_action.BriefAction.{BriefAction}
@@ -34,7 +34,7 @@ use Rattle.access_list.specs.Log.{Log, stamped, entry_of, hit, IsKept, IsNoted}
 use Rattle.access_list.specs.declared.log.Entry.{Entry}
 use Rattle.access_list.specs.declared.log.Hit.{Hit}
 use Rattle.launches.specs.Objects.{ObjectsHold, IsMoved, space_of}
-use Rattle.group_run.specs.Fits.{Fits, Counts, AreAnswered, group_left}
+use Rattle.group_run.specs.Fits.{Fits, AreAnswered}
 use Rattle.joining.specs.Group.{Plan, IsGroup}
 use Rattle.group_run.specs.Logs.{conflict_of, numbered, Notes, IsLogged, IsJudged, after_fences}
 use Rattle.group_run.specs.Loops.{Steps, IsMade, judged_as}
@@ -81,39 +81,6 @@ unset_item_turn l s leader item o element op first byte acts placed r h =
     ∙ ap (access_turn l s item o element op) placed
     ∙ ap (λ b. unset_turn l item (kind_of op) (region_for l item o) (if b then lowest_unset (s.memory (region_for l item o)) first (size_of op) else None)) r
     ∙ ap (unset_turn l item (kind_of op) (region_for l item o)) h
-
--- ---- the count of events
-
-no_fewer : (bound n m : ℕ) → n ≤ m → bound - m ≤ bound - n
-no_fewer bound n m h = omega (arith, h)
-
--- there is room for one event more where an item of the group isn't over
-pub roomy :
-    (p : Plan) (number : ℕ) (events : Events) (s : State) (k : ℕ) → IsGroup p → Counts p number events s → k < p.count → is_over (next_action p.launch s (p.first + k)) ≡ false
-    → number + 1 < 2 ^ 32
-roomy p number events s k whole c b n =
-    let less : length (s.answers (p.first + k)) < c.bound = not_over p.launch c.bound s (p.first + k) c.bounded (whole.inside k b) n in
-    let some : sum_below (λ j. 0) p.count < group_left p c.bound s = sum_below_less (λ j. 0) (λ j. c.bound - length (s.answers (p.first + j))) p.count k b (λ j q. omega arith) (omega (arith, less)) in
-    omega (arith, c.counted, c.brief, c.left, some)
-
-counts_more :
-    (p : Plan) (number : ℕ) (events : Events) (s n : State) (k : ℕ) (e : Event) → IsGroup p → Counts p number events s → k < p.count → is_over (next_action p.launch s (p.first + k)) ≡ false
-    → ((j : ℕ) → j < p.count → length (s.answers (p.first + j)) ≤ length (n.answers (p.first + j))) → length (n.answers (p.first + k)) ≡ length (s.answers (p.first + k)) + 1
-    → Counts p (number + 1) (events ++ e ∷ []) n
-counts_more p number events s n k e whole c b active each here =
-    let more : length (events ++ e ∷ []) ≡ length events + 1 = length-append events (e ∷ []) in
-    let less : length (s.answers (p.first + k)) < c.bound = not_over p.launch c.bound s (p.first + k) c.bounded (whole.inside k b) active in
-    let left : group_left p c.bound n < group_left p c.bound s
-    = sum_below_less (λ j. c.bound - length (n.answers (p.first + j))) (λ j. c.bound - length (s.answers (p.first + j))) p.count k b
-    (λ j q. no_fewer c.bound (length (s.answers (p.first + j))) (length (n.answers (p.first + j))) (each j q))
-    (less_left c.bound (length (s.answers (p.first + k))) (length (n.answers (p.first + k))) less here) in
-    record {
-      counted = omega (arith, c.counted, more);
-      bound = c.bound;
-      brief = c.brief;
-      bounded = c.bounded;
-      left = omega (arith, c.left, more, left);
-    }
 
 -- ---- an access that is done
 
@@ -195,16 +162,6 @@ acting_more acts l s base k items i j at op first x answer e held answered is q 
     held q z c.1 answers
     ∙ ap (λ a. l.next (base + q) (a ++ answers)) (sym (answered_there s l (base + k) at op first x (base + q) (λ h. c.0 (omega (arith, h)))))
 
-no_less :
-    (l : Launch) (s : State) (item : ℕ) (at : Region) (op : Operation) (first x other : ℕ) → (other ≡ item) ⊎ (other ≡ item → ⊥)
-    → length (s.answers other) ≤ length ((made l s item at first op x).answers other)
-no_less l s item at op first x other (inl e) =
-    subst (λ z. length (s.answers z) ≤ length ((made l s item at first op x).answers z)) (sym e)
-    (let h : length ((made l s item at first op x).answers item) ≡ length (s.answers item) + 1
-    = ap length (answered_here s l item at op first x) ∙ one_more (s.answers item) (answer_to op x) in omega (arith, h))
-no_less l s item at op first x other (inr ne) =
-    let h : length ((made l s item at first op x).answers other) ≡ length (s.answers other) = ap length (answered_there s l item at op first x other ne) in omega (arith, h)
-
 pub accessed_fits :
     {I G : Type 0} (acts : ℕ → I → List Answer → Action) (bytes : G → List (Option ℕ)) (ro : Bool) (p : Plan) (items : List I) (number : ℕ) (globals globals2 : List G)
     (locals locals2 : List (List (Option ℕ))) (log log2 : Log) (events : Events) (s : State) (k : ℕ) (i j : I) (o : Object) (element : ℤ) (op : Operation) (first : ℕ)
@@ -237,11 +194,8 @@ accessed_fits acts bytes ro p items number globals globals2 locals locals2 log l
             writable = f.writable;
             acting = λ q z h. acting_more acts l s p.first k items i j at op first m.value answer e f.acting answered m.answers q z (get_set items k j q z h);
             holds = m.holds;
-            logged = logged_more p log log2 events s item at first op m.value number seen f.counts.counted mine f.logged kept;
-            counts =
-                counts_more p number events s (made l s item at first op m.value) k (Item item) f.whole f.counts b (ap is_over acting)
-                (λ q c. no_less l s item at op first m.value (p.first + q) (cases_eq (p.first + q) item))
-                (ap length (answered_here s l item at op first m.value) ∙ one_more (s.answers item) (answer_to op m.value));
+            logged = logged_more p log log2 events s item at first op m.value number seen f.counted mine f.logged kept;
+            counted = omega (arith, f.counted, longer);
             few = (omega (arith, kept.2, f.few.0, longer), omega (arith, kept.3, f.few.1, longer));
           };
       conflict =
@@ -281,10 +235,7 @@ released_fits acts bytes ro p items items2 number globals locals log log2 events
     let next = released l s p.group fences in
     let here : (q : ℕ) → q < p.count → next.answers (p.first + q) ≡ s.answers (p.first + q) ++ Done ∷ []
     = λ q c. released_here l s p.group fences (p.first + q) (f.whole.mine q c) in
-    let grown : (q : ℕ) → q < p.count → length (next.answers (p.first + q)) ≡ length (s.answers (p.first + q)) + 1
-    = λ q c. ap length (here q c) ∙ one_more (s.answers (p.first + q)) Done in
     let longer : length (events ++ Release p.group ∷ []) ≡ length events + 1 = length-append events (Release p.group ∷ []) in
-    let first_is : p.first ≡ p.first + 0 = omega arith in
     record {
       next = next;
       steps = release_at l s p.group p.first instance fences f.whole.leads gathered waiting;
@@ -309,10 +260,7 @@ released_fits acts bytes ro p items items2 number globals locals log log2 events
                   global_interval = raised_here fences.global log.global_interval p.group s.global_interval f.logged.global_interval;
                   uniform = f.logged.uniform;
                 };
-            counts =
-                counts_more p number events s next 0 (Release p.group) f.whole f.counts f.whole.some
-                (ap (λ z. is_over (next_action l s z)) (sym first_is) ∙ ap is_over waiting)
-                (λ q c. let h : length (next.answers (p.first + q)) ≡ length (s.answers (p.first + q)) + 1 = grown q c in omega (arith, h)) (grown 0 f.whole.some);
+            counted = omega (arith, f.counted, longer);
             few = (
               subst (λ z. (if fences.local then log.local_interval + 1 else log.local_interval) ≤ z) (sym longer) (few_more fences.local log.local_interval (length events) f.few.0),
               subst (λ z. (if fences.global then log.global_interval + 1 else log.global_interval) ≤ z) (sym longer) (few_more fences.global log.global_interval (length events) f.few.1),
@@ -347,10 +295,6 @@ module _
       ∙ ap (λ n. first_byte n element (size_of op)) (sym (space_sized bytes p.launch p.group globals locals s.memory o f.holds))
       ∙ sym e
 
-  -- room for one event more
-  pub access_room : (events : Events) (s : State) → before events s → next_action p.launch s (p.first + k) ≡ action.Access o element op → number + 1 < 2 ^ 32
-  access_room events s f asked = roomy p number events s k f.whole f.counts inside (ap is_over asked)
-
   -- the element is out of range
   pub bounds_made :
       (told : Box Fault Global) → None ≡ first_byte (length (space_of bytes globals locals o)) element (size_of op)
@@ -383,7 +327,7 @@ module _
           acting = f.acting;
           holds = w.2;
           logged = f.logged;
-          counts = f.counts;
+          counted = f.counted;
           few = f.few;
         },
       )
@@ -395,7 +339,7 @@ module _
       {outcome : Result Answer SpaceFault} (done : outcome ≡ Ok answer)
       (moved : IsMoved (ObjectsHold bytes p.launch p.group globals locals) (ObjectsHold bytes p.launch p.group globals2 locals2) (region_of p.group o) first op outcome)
       (answered : (answers : List Answer) → acts k j answers ≡ acts k i (answer ∷ answers))
-      (judged : IsJudged p.launch log (entry_of (p.first + k) (region_of p.group o) first op number) log2 (option_map box_value told)) where
+      (judged : IsJudged p.launch log (entry_of (p.first + k) (region_of p.group o) first op number) log2 (option_map box_value told)) (more : ℕ) (counted : more ≡ number + 1) where
     after :
         (events : Events) (s : State) → before events s → next_action p.launch s (p.first + k) ≡ action.Access o element op
         → Accessed acts bytes ro p (set items k j) (number + 1) globals2 locals2 log2 events s (p.first + k) judged.0
@@ -431,26 +375,23 @@ module _
 
     pub access_made :
         (became : Made) → became ≡ judged_as told
-        → IsMade p before (Fits acts bytes ro r (set items k j) (number + 1) globals2 locals2 log2) (p.first + k) (action.Access o element op) became
+        → IsMade p before (Fits acts bytes ro r (set items k j) more globals2 locals2 log2) (p.first + k) (action.Access o element op) became
     access_made became is =
-        subst (λ z. IsMade p before (Fits acts bytes ro r (set items k j) (number + 1) globals2 locals2 log2) (p.first + k) (action.Access o element op) z) (sym is) (by_report told refl)
+        subst (λ n. IsMade p before (Fits acts bytes ro r (set items k j) n globals2 locals2 log2) (p.first + k) (action.Access o element op) became) (sym counted)
+        (subst (λ z. IsMade p before (Fits acts bytes ro r (set items k j) (number + 1) globals2 locals2 log2) (p.first + k) (action.Access o element op) z) (sym is) (by_report told refl))
 
--- room for a release
-pub record Room (number : ℕ) (log : Log) : Type 0 where
-  pub events : number + 1 < 2 ^ 32
+-- room for the next intervals of a release, where there is a number for one event more
+pub record Room (log : Log) : Type 0 where
   pub local : log.local_interval < 2 ^ 32 - 1
   pub global : log.global_interval < 2 ^ 32 - 1
 
 pub release_room :
     {I G : Type 0} (acts : ℕ → I → List Answer → Action) (bytes : G → List (Option ℕ)) (ro : Bool) (q : Plan) (items : List I) (number : ℕ) (globals : List G)
-    (locals : List (List (Option ℕ))) (log : Log) (fences : Fences) → IsWaiting q (Fits acts bytes ro q items number globals locals log) fences → Room number log
-release_room acts bytes ro q items number globals locals log fences (events, s, instance, f, gathered, waiting) =
-    let first_is : q.first ≡ q.first + 0 = omega arith in
-    let room : number + 1 < 2 ^ 32 = roomy q number events s 0 f.whole f.counts f.whole.some (ap (λ z. is_over (next_action q.launch s z)) (sym first_is) ∙ ap is_over waiting) in
+    (locals : List (List (Option ℕ))) (log : Log) (fences : Fences) → IsWaiting q (Fits acts bytes ro q items number globals locals log) fences → number + 1 < 2 ^ 32 → Room log
+release_room acts bytes ro q items number globals locals log fences (events, s, instance, f, gathered, waiting) room =
     record {
-      events = room;
-      local = omega (arith, room, f.counts.counted, f.few.0);
-      global = omega (arith, room, f.counts.counted, f.few.1);
+      local = omega (arith, room, f.counted, f.few.0);
+      global = omega (arith, room, f.counted, f.few.1);
     }
 
 pub release_made :
@@ -458,11 +399,13 @@ pub release_made :
     (locals : List (List (Option ℕ))) (log log2 : Log) (events : Events) (s : State) (instance : Instance) (fences : Fences) → r ≡ p
     → Fits acts bytes ro p items number globals locals log events s → p.count ≡ length items → straggler p.launch s p.group p.first ≡ None
     → next_action p.launch s p.first ≡ action.Barrier instance fences → AreAnswered acts Done items items2 → log2 ≡ after_fences log fences
-    → (n : State) × (step p.launch s (Release p.group) ≡ Some n) × Fits acts bytes ro r items2 (number + 1) globals locals log2 (events ++ Release p.group ∷ []) n
-release_made acts bytes ro p r items items2 number globals locals log log2 events s instance fences last f many gathered waiting answered passes =
+    → (more : ℕ) → more ≡ number + 1
+    → (n : State) × (step p.launch s (Release p.group) ≡ Some n) × Fits acts bytes ro r items2 more globals locals log2 (events ++ Release p.group ∷ []) n
+release_made acts bytes ro p r items items2 number globals locals log log2 events s instance fences last f many gathered waiting answered passes more counted =
     let a = released_fits acts bytes ro p items items2 number globals locals log log2 events s instance fences f many gathered waiting answered passes in
-    subst (λ z. (n : State) × (step p.launch s (Release p.group) ≡ Some n) × Fits acts bytes ro z items2 (number + 1) globals locals log2 (events ++ Release p.group ∷ []) n) (sym last)
-    (a.next, a.steps, a.fits)
+    subst (λ m. (n : State) × (step p.launch s (Release p.group) ≡ Some n) × Fits acts bytes ro r items2 m globals locals log2 (events ++ Release p.group ∷ []) n) (sym counted)
+    (subst (λ z. (n : State) × (step p.launch s (Release p.group) ≡ Some n) × Fits acts bytes ro z items2 (number + 1) globals locals log2 (events ++ Release p.group ∷ []) n) (sym last)
+    (a.next, a.steps, a.fits))
 
 -- ---- an item's next action
 
@@ -486,7 +429,7 @@ next_fits {I} acts bytes ro p r items number globals locals log k i j last there
       acting = λ q z h. go q z (get_set items k j q z h);
       holds = f.holds;
       logged = f.logged;
-      counts = f.counts;
+      counted = f.counted;
       few = f.few;
     })
   where

@@ -1,7 +1,6 @@
 -- How what a program holds of a group fits a state of its launch (own).
 use Rattle.std.specs.Prelude.{◌≡◌, ℕ, ◌+◌, ◌-◌, ◌*◌, ◌<◌, ◌≤◌, ◌^◌, false, Bool, Option, Some, List, ◌∷◌, ◌++◌, length, slice_get}
 use Rattle.clmodel.specs.Launch.{Launch}
-use Rattle.clmodel.specs.Law.{IsBounded, sum_below}
 use Rattle.clmodel.specs.Run.{State, Events}
 use Rattle.clmodel.specs.declared.action.Action.{Action}
 use Rattle.clmodel.specs.declared.action.Answer.{Answer}
@@ -16,18 +15,6 @@ pub record AreAnswered {I : Type 0} (acts : ℕ → I → List Answer → Action
   pub each : (k : ℕ) (y : I) → slice_get new k ≡ Some y
       → (x : I) × (slice_get old k ≡ Some x) × ((answers : List Answer) → acts k y answers ≡ acts k x (answer ∷ answers))
 
--- how many answers the group's items can still be given, where none is given more than `bound`
-abbrev pub group_left : Plan → ℕ → State → ℕ
-group_left plan bound state = sum_below (λ k. bound - length (state.answers (plan.first + k))) plan.count
-
--- n events were made, and there is room for the number of one more where an item can still be answered
-pub record Counts (plan : Plan) (made : ℕ) (events : Events) (state : State) : Type 0 where
-  pub counted : made ≡ length events
-  pub bound : ℕ
-  pub brief : plan.count * bound < 2 ^ 32
-  pub bounded : IsBounded plan.launch bound
-  pub left : length events + group_left plan bound state ≤ plan.count * bound
-
 -- The program's items, number of events made, spaces and log fit a state after these events: each item acts as the
 -- launch says after the answers of the state, the spaces, which can be written, hold its memory, and the log keeps its
 -- log.
@@ -40,5 +27,5 @@ pub record Fits
       → (answers : List Answer) → acts k i answers ≡ plan.launch.next (plan.first + k) (state.answers (plan.first + k) ++ answers)
   pub holds : ObjectsHold bytes plan.launch plan.group globals locals state.memory
   pub logged : IsLogged plan log events state
-  pub counts : Counts plan made events state
+  pub counted : made ≡ length events
   pub few : (log.local_interval ≤ length events) × (log.global_interval ≤ length events)

@@ -168,6 +168,16 @@ fn answer_all<'a, D: Runnable>(
     Ok(())
 }
 
+/// The number of events with one more. An error is that it has no 32 bits, so that no log could tell it: a group then ends
+/// as one that is out of memory.
+#[inline(always)]
+fn next_number(made: u32) -> Result<u32, AllocError>
+    ensures value { IfOk result (λ next. next ≡ made + 1) }
+    ensures fits { IfOk result (λ next. made + 1 < 2 ^ 32) }
+{
+    made.checked_add(1).ok_or(AllocError)
+}
+
 impl<'a, D: Runnable, G: Space, L: AccessLog> Machine for Group<'a, D, G, L> {
     ghost use Rattle.std.specs.Prelude.{◌-◌, ◌^◌, length, slice_get};
     ghost use Rattle.group_run.specs.Fits.{Fits};
@@ -214,6 +224,7 @@ impl<'a, D: Runnable, G: Space, L: AccessLog> Machine for Group<'a, D, G, L> {
         element: i64,
         operation: Operation,
     ) -> Result<Made, AllocError> {
+        let made = next_number(self.made)?;
         let item = self.first + k;
         let Some(first) = place(
             self.buffers.as_slice(),
@@ -269,14 +280,15 @@ impl<'a, D: Runnable, G: Space, L: AccessLog> Machine for Group<'a, D, G, L> {
             item,
             answer,
         )?;
-        self.made += 1;
+        self.made = made;
         Ok(Made::judged(report))
     }
 
     fn release(&mut self, fences: Fences) -> Result<(), AllocError> {
+        let made = next_number(self.made)?;
         pass(&mut self.log, fences);
         answer_all(&mut self.items, self.alloc, self.launch, self.first)?;
-        self.made += 1;
+        self.made = made;
         Ok(())
     }
 

@@ -89,7 +89,8 @@ pub trait Machine {
         requires { k < (plan self.now).count }
         ensures { IfOk result (λ copied. copied ≡ stop_from stop (turns_at self.now k)) };
 
-    /// Does this access, which is what an item does next. An error is out of memory.
+    /// Does this access, which is what an item does next. An error is out of memory, as is an event whose number has no
+    /// 32 bits.
     fn access(
         &mut self,
         k: u32,
@@ -104,7 +105,8 @@ pub trait Machine {
         ensures ticks_less { IfOk result (λ made. made ≡ Made.Done → ticks self.new k < ticks self.old k) }
         ensures made { IfOk result (IsMade (plan self.old) (fits self.old) (fits self.new) ((plan self.old).first + k) (Access object element operation)) };
 
-    /// Releases all items from their barrier, which has these fences. An error is out of memory.
+    /// Releases all items from their barrier, which has these fences. An error is out of memory, as is an event whose
+    /// number has no 32 bits.
     fn release(&mut self, fences: Fences) -> Result<(), AllocError>
         requires { (events : Events) × (s : State) × (instance : Instance) × (fits self.old events s) × (straggler (plan self.old).launch s (plan self.old).group (plan self.old).first ≡ None)
             × (next_action (plan self.old).launch s (plan self.old).first ≡ Barrier instance fences) }

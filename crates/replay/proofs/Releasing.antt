@@ -313,8 +313,8 @@ released_tells l r items news bs groups log s g x fences some t there h =
 
 -- ---- the numbers of intervals
 
-small : (b c d : ℕ) → b ≤ c → c ≡ d → d < 2 ^ 32 → b ≤ 4294967295
-small b c d h e q = omega (arith, h, e, q)
+small : (b : ℕ) → b < 2 ^ 32 → b ≤ 4294967295
+small b h = omega (arith, h)
 
 fits : (i n b : ℕ) → i ≤ n → n < b → b ≤ 4294967295 → i < 2 ^ 32 - 1
 fits i n b h e q = omega (arith, h, e, q)
@@ -325,7 +325,7 @@ pub room :
     → next_action l s (g * l.group_size) ≡ action.Barrier x fences → (s.local_interval g < 2 ^ 32 - 1) × (s.global_interval g < 2 ^ 32 - 1)
 room l s g x fences ready paced there acts =
     let bound = ready.bounded.0 in
-    let b : bound ≤ 4294967295 = small bound (bound * l.group_size) (l.group_size * bound) (le-mul_of_pos_right bound ready.grouped) (mul_comm bound l.group_size) ready.bounded.1 in
+    let b : bound ≤ 4294967295 = small bound ready.bounded.1 in
     let n : length (s.answers (g * l.group_size)) < bound = fewer (cases_lt (length (s.answers (g * l.group_size))) bound) in
     (fits _ _ bound (paced g).0 n b, fits _ _ bound (paced g).1 n b)
   where

@@ -1,14 +1,16 @@
 //! A launch as it is played, one event after another.
 
-ghost use Rattle.std.specs.Prelude.{◌≡◌, ◌+◌, ◌<◌, ◌≤◌, ℕ, ◌*◌, true, IfOk, IfSome, OnErr, reverse};
+ghost use Rattle.std.specs.Prelude.{◌≡◌, ◌+◌, ◌<◌, ◌≤◌, ◌^◌, ℕ, ◌*◌, true, IfOk, IfSome, OnErr, length, reverse};
 ghost use Rattle.clmodel.specs.Cells.{lowest_unset, number, size_of};
 ghost use Rattle.clmodel.specs.Launch.{Launch, bytes_of, group_of, region_of};
 ghost use Rattle.clmodel.specs.Run.{State, byte_at, next_action, released, start};
+ghost use Rattle.clmodel.specs.declared.access.Region.TheVariants as region;
 ghost use Rattle.clmodel.specs.declared.action.Action.TheVariants as action;
 ghost use Rattle.clmodel.specs.declared.action.Instance.{Instance};
 ghost use Rattle.clmodel.specs.declared.schedule.Event.TheVariants as event;
 ghost use Rattle.item_step.specs.Running.{Running};
 ghost use Rattle.launches.specs.Groups.{IsRunnable, filled};
+ghost use Rattle.launches.specs.Objects.{SpacesHold};
 ghost use Rattle.replay.specs.Items.{AreAsked, IsAskedAt, StandsAt, dividend_in, stand_in};
 ghost use Rattle.replay.specs.States.{ActsNext, Gathers, IsAt, IsPlayed};
 
@@ -160,6 +162,7 @@ impl<'a, D: Runnable> Player<'a, D> {
     /// (C99 6.5.2.1, 6.5.6).
     pub fn first_byte(&self, object: Object, element: i64, operation: Operation) -> Option<u64>
         ensures value { (launch : Launch) (started : ℕ → Running) (state : State) → IsAt D.launch D.started launch started self.now state → (item : ℕ) → result ≡ byte_at launch item object element operation }
+        ensures small { IfSome result (λ first. first + size_of operation < 2 ^ 64) }
         ensures inside { IfSome result (λ first. (launch : Launch) (started : ℕ → Running) (state : State) → IsAt D.launch D.started launch started self.now state
             → (item : ℕ) → first + size_of operation ≤ bytes_of launch (region_of (group_of launch item) object)) }
     {
@@ -299,5 +302,12 @@ impl<'a, D: Runnable> Player<'a, D> {
             Event::Item(item) => self.play_item(item),
             Event::Release(group) => self.play_release(group),
         }
+    }
+
+    /// What its buffers hold now, in the order of their numbers (OpenCL 1.2, section 3.3).
+    pub fn into_buffers(self) -> Vec<Plain>
+        ensures { (launch : Launch) (started : ℕ → Running) (state : State) → IsAt D.launch D.started launch started self.entry state → SpacesHold (λ b. b) launch (length launch.buffers) region.Buffer result.items state.memory }
+    {
+        self.buffers
     }
 }

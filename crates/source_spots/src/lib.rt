@@ -4,10 +4,12 @@
 //! and which loops are told are only tested.
 #![tactic(auto)]
 
+mod kinds;
 mod loops;
 mod places;
 mod spots;
 
+pub use kinds::{expression_kind, statement_kind, target_kind};
 pub use loops::{DEPTH, function_at, inside, last_begun, statement_at};
 pub use places::Source;
 pub use spots::{code_of, spot_of};

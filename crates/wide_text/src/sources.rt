@@ -4,7 +4,7 @@
 ghost use Rattle.std.specs.Prelude.{◌<◌, vec_len, OnOk};
 
 use clmodel::text::Name;
-use clmodel::tree::{Expression, Statement, Target};
+use clmodel::tree::{Expression, Statement};
 use cltypes::Checked;
 use device::{Command, Limits};
 use explanation::{Code, NodeKind};
@@ -12,7 +12,7 @@ use host_commands::build::{NotBuilt, build};
 use host_commands::kernel::parameters_of;
 use origins::{Node, origin_of};
 use simfile::script::CommandPlace;
-use source_spots::{Source, code_of};
+use source_spots::{Source, code_of, expression_kind, statement_kind, target_kind};
 use spaces::Table;
 use std::alloc::{AllocError, Global};
 use wide_scripts::Why;
@@ -71,42 +71,6 @@ fn make_room(trees: &mut Vec<Option<Checked>>, program: usize) -> Result<(), All
         trees.push(None)?;
     }
     Ok(())
-}
-
-/// What kind of node an expression is.
-fn expression_kind(expression: &Expression) -> NodeKind {
-    match expression {
-        Expression::Number { .. } | Expression::Variable { .. } => NodeKind::Operand,
-        Expression::Element { .. } => NodeKind::Element,
-        Expression::Dereference { .. } | Expression::ElementAddress { .. } => NodeKind::Dereference,
-        Expression::Call { .. } => NodeKind::Call,
-        Expression::Unary { .. }
-        | Expression::Cast { .. }
-        | Expression::Binary { .. }
-        | Expression::Choice { .. } => NodeKind::Operation,
-    }
-}
-
-/// What kind of node a target is.
-fn target_kind(target: &Target) -> NodeKind {
-    match target {
-        Target::Variable { .. } => NodeKind::Operand,
-        Target::Element { .. } => NodeKind::Element,
-        Target::Dereference { .. } => NodeKind::Dereference,
-    }
-}
-
-/// What kind of node a statement is.
-fn statement_kind(statement: &Statement) -> NodeKind {
-    match statement {
-        Statement::Declare { .. } | Statement::DeclareArray { .. } => NodeKind::Declaration,
-        Statement::Assign { .. } | Statement::Step { .. } => NodeKind::Assignment,
-        Statement::Call { .. } => NodeKind::Call,
-        Statement::While { .. } | Statement::DoWhile { .. } | Statement::For { .. } => {
-            NodeKind::Loop
-        }
-        _ => NodeKind::Statement,
-    }
 }
 
 /// What stands at a node.

@@ -1,7 +1,7 @@
 use Rattle.std.proofs.Common.{◌≡◌, length}
 use Rattle.std.specs.Prelude.{All}
-use Rattle.group_join.proofs.Zipped.{IsNone}
+use Rattle.group_join.proofs.Zipped.{ChangesNothing}
 use Rattle.group_join.proofs.joined_groups.no_changes_of.Given as goal
 
 abbrev pub invariant-loop : goal.invariant-loop
-invariant-loop l = record { many : length l.changes.items ≡ l.counter; none : All IsNone l.changes.items }
+invariant-loop l = record { many : length l.changes.items ≡ l.counter; none : All ChangesNothing l.changes.items }

@@ -1,4 +1,4 @@
-use Rattle.std.proofs.Common.{Some, map, sym, ap, ap₂, ◌∙◌, subst}
+use Rattle.std.proofs.Common.{ℕ, List, Some, map, sym, ap, ap₂, ◌∙◌, subst}
 use Rattle.clmodel.specs.Next.{launch_of}
 use Rattle.item_step.specs.Launches.{setup_of}
 use Rattle.spaces.specs.Buffers.{bytes_in}
@@ -13,8 +13,8 @@ returns-in_ok-copies-in-Clean c =
       h.0,
       h.1,
       h.2,
-      h.3 ∙ ap (map (λ bytes. map Some bytes))
-          (sym (c.in_ok-copies-in-Clean.ensures ∙ ap₂ (λ names. all_with_changes (map (bytes_in c.args.buffers.now) names)) c.buffer_names-names.ensures c.as_slice.ensures.value)),
+      h.3 ∙ ap (map (λ (bytes : List ℕ). map Some bytes))
+          (sym (c.in_ok-copies-in-Clean.ensures ∙ ap₂ (λ (names : List (List ℕ)). all_with_changes (map (bytes_in c.args.buffers.now) names)) c.buffer_names-names.ensures c.as_slice.ensures.value)),
     )
 
 pub returns-in-Faulted : goal.returns-in-Faulted

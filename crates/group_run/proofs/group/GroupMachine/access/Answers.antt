@@ -1,4 +1,3 @@
-use Rattle.std.proofs.Math.Facts.{Fits-of_lt}
 use Rattle.std.proofs.Common.{rules, to_z, of_z, w64, ◌≡◌, ◌+◌, length, set, refl, ap, ◌∙◌, subst}
 use Rattle.std.specs.Prelude.{Err, option_map}
 use Rattle.std.specs.Box.{box_value}
@@ -10,15 +9,9 @@ use Rattle.launches.specs.Objects.{ObjectsHold, IsMoved}
 use Rattle.joining.specs.Group.{Plan}
 use Rattle.access_list.specs.Log.{entry_of}
 use Rattle.group_run.specs.Logs.{IsJudged}
-use Rattle.group_run.proofs.Stepping.{access_made, unset_made, access_room, place_read}
+use Rattle.group_run.proofs.Stepping.{access_made, unset_made, place_read}
 use Rattle.group_run.specs.Items.{acts_at}
 use Rattle.group_run.proofs.group.GroupMachine.access.Goals as goal
-
-pub overflow_add-self : goal.overflow_add-self
-overflow_add-self g c =
-    let t = c.args.self.now in
-    let p : Plan = record { launch = g.D.Described.launch t.launch.now; group = t.number; first = t.first; count = length t.items.items } in
-    Fits-of_lt (access_room (acts_at (g.D.Described.launch t.launch.now) t.first) g.G.Space.bytes g.G.Space.read_only p t.items.items t.made t.buffers.items t.locals.items (g.L.Logged.log t.log) c.args.k c.args.object c.args.element c.args.operation c.requires.inside c.requires.next.0 c.requires.next.1 c.requires.next.2 c.requires.next.3)
 
 pub unreachable-requires : goal.unreachable-requires
 unreachable-requires g c = subst (IsMoved (ObjectsHold g.G.Space.bytes (g.D.Described.launch c.args.self.now.launch.now) 0 c.args.self.now.buffers.items c.args.self.now.locals.items) (ObjectsHold g.G.Space.bytes (g.D.Described.launch c.args.self.now.launch.now) 0 c.perform_on.new.buffers.items c.perform_on.new.locals.items) (region_of 0 c.args.object) c.in-Some.first c.args.operation) (c.in-Err-Bounds.is ∙ ap Err c.in-Err-Bounds.field-0-is) (c.perform_on.ensures (g.D.Described.launch c.args.self.now.launch.now) 0)
@@ -54,4 +47,4 @@ returns-clause-made g c =
     let there = slice_get_read t.items.items (length t.items.items) c.args.k i refl c.requires.inside c.index_mut.ensures.value in
     access_made (acts_at (g.D.Described.launch t.launch.now) t.first) g.G.Space.bytes g.G.Space.read_only p t.items.items t.made t.buffers.items t.locals.items (g.L.Logged.log t.log) c.args.k c.args.object c.args.element c.args.operation c.requires.inside
     r c.perform_on.new.buffers.items c.perform_on.new.locals.items log2 i j c.in-Some.first c.in-Ok.answer c.in_ok-report.report last there place
-    c.in-Ok.is (c.perform_on.ensures p.launch p.group) c.in_ok-answer_item.ensures judged c.judged.result c.judged.ensures
+    c.in-Ok.is (c.perform_on.ensures p.launch p.group) c.in_ok-answer_item.ensures judged c.in_ok-made.made c.in_ok-made.ensures.value c.judged.result c.judged.ensures
