@@ -1,5 +1,5 @@
 pub mod Runs
 mod Steps
-mod Texts
-mod Turning
-mod Paths
+mod TextLaws
+mod LineSteps
+mod PathSteps

@@ -48,26 +48,26 @@ same_told : (files : List NamedFile) (number : ℕ) (line : List ℕ) (behind : 
 same_told files number line behind a b n m h k =
     pair_parts (a, n) (b, m) (sym (tells_read files number line behind a n h) ∙ tells_read files number line behind b m k)
 
-same_step : (files : List NamedFile) (last : ℕ) (lines : List (List ℕ)) (a b : Told) (as bs : List Told) (rest more : List (List ℕ)) → BeginsWritten files last lines (a ∷ as) rest → (k : BeginsWritten files last lines (b ∷ bs) more)
-    → (a ≡ b) × BeginsWritten files last (drop k.2 k.1) as rest
-same_step files last lines a b as bs rest more h k =
+same_step : (files : List NamedFile) (last : ℕ) (lines : List (List ℕ)) (a b : Told) (xs ys : List Told) (rest more : List (List ℕ)) → BeginsWritten files last lines (a ∷ xs) rest → (k : BeginsWritten files last lines (b ∷ ys) more)
+    → (a ≡ b) × BeginsWritten files last (drop k.2 k.1) xs rest
+same_step files last lines a b xs ys rest more h k =
     let same : h.0 ∷ h.1 ≡ k.0 ∷ k.1 = sym h.3 ∙ k.3 in
     let line : h.0 ≡ k.0 = cc in
     let behind : h.1 ≡ k.1 = cc in
     let P : List (List ℕ) → Type 0 = λ l. Tells files (last - length l) h.0 l a h.2 in
     let Q : List ℕ → Type 0 = λ l. Tells files (last - length k.1) l k.1 a h.2 in
     let one = same_told files (last - length k.1) k.0 k.1 a b h.2 k.2 (subst Q line (subst P behind h.4)) k.4 in
-    let R : List (List ℕ) → Type 0 = λ l. BeginsWritten files last (drop h.2 l) as rest in
-    let S : ℕ → Type 0 = λ n. BeginsWritten files last (drop n k.1) as rest in
+    let R : List (List ℕ) → Type 0 = λ l. BeginsWritten files last (drop h.2 l) xs rest in
+    let S : ℕ → Type 0 = λ n. BeginsWritten files last (drop n k.1) xs rest in
     (one.0, subst S one.1 (subst R behind h.5))
 
-pub begins_same : (files : List NamedFile) (last : ℕ) (lines : List (List ℕ)) (as bs : List Told) → BeginsWritten files last lines as [] → BeginsWritten files last lines bs [] → as ≡ bs
+pub begins_same : (files : List NamedFile) (last : ℕ) (lines : List (List ℕ)) (xs ys : List Told) → BeginsWritten files last lines xs [] → BeginsWritten files last lines ys [] → xs ≡ ys
 begins_same files last lines [] [] h k = refl
-begins_same files last lines [] (b ∷ bs) h k = let bad : [] ≡ k.0 ∷ k.1 = sym h ∙ k.3 in absurd (cc)
-begins_same files last lines (a ∷ as) [] h k = let bad : [] ≡ h.0 ∷ h.1 = sym k ∙ h.3 in absurd (cc)
-begins_same files last lines (a ∷ as) (b ∷ bs) h k =
-    let s = same_step files last lines a b as bs [] [] h k in
-    ap (λ x. x ∷ as) s.0 ∙ ap (λ l. b ∷ l) (begins_same files last (drop k.2 k.1) as bs s.1 k.5)
+begins_same files last lines [] (b ∷ ys) h k = let bad : [] ≡ k.0 ∷ k.1 = sym h ∙ k.3 in absurd (cc)
+begins_same files last lines (a ∷ xs) [] h k = let bad : [] ≡ h.0 ∷ h.1 = sym k ∙ h.3 in absurd (cc)
+begins_same files last lines (a ∷ xs) (b ∷ ys) h k =
+    let s = same_step files last lines a b xs ys [] [] h k in
+    ap (λ x. x ∷ xs) s.0 ∙ ap (λ l. b ∷ l) (begins_same files last (drop k.2 k.1) xs ys s.1 k.5)
 
 begins_within : (files : List NamedFile) (last : ℕ) (lines : List (List ℕ)) (ts : List Told) (rest : List (List ℕ)) → BeginsWritten files last lines ts rest → length rest ≤ length lines
 begins_within files last lines [] rest h = omega (arith, ap length h)
@@ -80,31 +80,31 @@ count_told None ts = omega arith
 count_told (Some told) ts = omega arith
 
 -- of the same lines no reading goes on where another one stops
-pub stops_last : (files : List NamedFile) (last : ℕ) (lines : List (List ℕ)) (as bs : List Told) (more rest : List (List ℕ)) (n : ℕ) → BeginsWritten files last lines as more → BeginsWritten files last lines bs rest
-    → ((line : List ℕ) (behind : List (List ℕ)) → rest ≡ line ∷ behind → IsStop files (last - length behind) line behind (n + length (commands_of bs))) → n + length (commands_of as) ≤ 4096 → length rest ≤ length more
-stops_last files last lines [] bs more rest n h k stop few =
-    let within = begins_within files last lines bs rest k in
+pub stops_last : (files : List NamedFile) (last : ℕ) (lines : List (List ℕ)) (xs ys : List Told) (more rest : List (List ℕ)) (n : ℕ) → BeginsWritten files last lines xs more → BeginsWritten files last lines ys rest
+    → ((line : List ℕ) (behind : List (List ℕ)) → rest ≡ line ∷ behind → IsStop files (last - length behind) line behind (n + length (commands_of ys))) → n + length (commands_of xs) ≤ 4096 → length rest ≤ length more
+stops_last files last lines [] ys more rest n h k stop few =
+    let within = begins_within files last lines ys rest k in
     omega (arith, within, ap length h)
-stops_last files last lines (a ∷ as) [] more rest n h k stop few =
+stops_last files last lines (a ∷ xs) [] more rest n h k stop few =
     let over : 4096 < n + 0 + length (commands_of (a ∷ [])) = stop h.0 h.1 (sym k ∙ h.3) a h.2 h.4 in
-    absurd (omega (arith, over, few, count_told a as))
-stops_last files last lines (a ∷ as) (b ∷ bs) more rest n h k stop few =
-    let s = same_step files last lines a b as bs more rest h k in
+    absurd (omega (arith, over, few, count_told a xs))
+stops_last files last lines (a ∷ xs) (b ∷ ys) more rest n h k stop few =
+    let s = same_step files last lines a b xs ys more rest h k in
     let one : length (commands_of (a ∷ [])) ≡ length (commands_of (b ∷ [])) = ap (λ t. length (commands_of (t ∷ []))) s.0 in
-    let further : n + length (commands_of (b ∷ bs)) ≡ (n + length (commands_of (b ∷ []))) + length (commands_of bs) = omega (arith, count_told b bs) in
-    stops_last files last (drop k.2 k.1) as bs more rest (n + length (commands_of (b ∷ []))) s.1 k.5
+    let further : n + length (commands_of (b ∷ ys)) ≡ (n + length (commands_of (b ∷ []))) + length (commands_of ys) = omega (arith, count_told b ys) in
+    stops_last files last (drop k.2 k.1) xs ys more rest (n + length (commands_of (b ∷ []))) s.1 k.5
     (λ line behind e. let P : ℕ → Type 0 = λ m. IsStop files (last - length behind) line behind m in subst P further (stop line behind e))
-    (omega (arith, few, one, count_told a as))
+    (omega (arith, few, one, count_told a xs))
 
 -- lines that tell commands tell one list of them, and have no bad one
 
 same_commands : (files : List NamedFile) (lines : List (List ℕ)) (cs ds : List Command) (ps qs : List WrittenPlace) → AreTold files lines cs ps → AreTold files lines ds qs → cs ≡ ds
 same_commands files lines cs ds ps qs h k =
-    h.commands ∙ (ap commands_of (begins_same files (length lines + 1) lines h.tolds k.tolds h.begins k.begins) ∙ sym k.commands)
+    h.are ∙ (ap commands_of (begins_same files (length lines + 1) lines h.tolds k.tolds h.begins k.begins) ∙ sym k.are)
 
 not_both : (files : List NamedFile) (lines : List (List ℕ)) (cs : List Command) (ps : List WrittenPlace) (n : ℕ) → AreTold files lines cs ps → IsBadAmong files lines n → ⊥
 not_both files lines cs ps n h bad =
-    let all : length bad.rest ≤ 0 = bad.longest h.tolds [] h.begins (subst (λ (l : List Command). length l ≤ 4096) h.commands h.few) in
+    let all : length bad.rest ≤ 0 = bad.longest h.tolds [] h.begins (subst (λ (l : List Command). length l ≤ 4096) h.are h.few) in
     omega (arith, all, bad.some)
 
 same_lines : (script : List ℕ) (lines others : List (List ℕ)) → IsThird script lines → IsThird script others → lines ≡ others

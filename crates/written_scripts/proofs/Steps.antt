@@ -1,17 +1,19 @@
 -- Steps of the loops over files, lines and paths.
-use Rattle.std.proofs.Common.{◌≡◌, ℕ, ◌+◌, ◌-◌, ◌<◌, ◌≤◌, zero, suc, Bool, true, false, if◌then◌else◌, List, [], ◌∷◌, ◌++◌, map, length, take, drop, get_or, Option, None, Some, refl, ap, sym, ◌∙◌, subst, arith, append_assoc, IfSome, drop-cons}
+use Rattle.std.proofs.Common.{◌≡◌, ℕ, ◌+◌, ◌-◌, ◌<◌, ◌≤◌, zero, suc, Bool, true, false, if◌then◌else◌, List, [], ◌∷◌, ◌++◌, map, length, take, drop, get_or, Option, None, Some, Result, Ok, Err, IfOk, refl, ap, sym, ◌∙◌, subst, arith, append_assoc, IfSome, drop-cons}
 use Rattle.std.proofs.lemmas.Grind.{flat_map-append}
-use Rattle.std.proofs.lemmas.List.{append-nil, length-map, get_or-map, take_more}
+use Rattle.std.proofs.lemmas.List.{append-nil, length-map, get_or-map, take_more, take_rest, drop-map}
+use Rattle.std.specs.Option.{MatchOption}
 use Rattle.std.specs.Prelude.{option_map}
 use Rattle.clmodel.specs.Setup.{same_text}
 use Rattle.script_lines.specs.Plain.{spaced, plain}
 use Rattle.script_lines.specs.Reading.{says_at}
 use Rattle.script_lines.specs.Says.{Says}
 use Rattle.script_lines.specs.declared.says.LineSays.{LineSays}
+use Rattle.script_lines.specs.declared.says.LineSays.TheVariants as says
 use Rattle.script_lines.proofs.Grammar.{says_takes, says_again}
 use Rattle.simfile.specs.Script.{line_feed}
 use Rattle.written_scripts.specs.Lines.{first_end, lines_text}
-use Rattle.written_scripts.specs.Telling.{text_at}
+use Rattle.written_scripts.specs.Telling.{Fits, text_at}
 use Rattle.written_scripts.specs.declared.files.NamedFile.{NamedFile}
 
 -- the element of a list that stands next
@@ -88,3 +90,38 @@ said_is line None found only = by_read (says_at (plain line)) refl where
   by_read : (o : Option LineSays) → says_at (plain line) ≡ o → says_at (plain line) ≡ None
   by_read None is = is
   by_read (Some said) is = let bad : ◌≡◌ {A = Option LineSays} None (Some said) = only said (says_takes (plain line) said is) in absurd (cc)
+
+pub said_both : {E : Type 0} (line : List ℕ) (r : Result (Option LineSays) E) → IfOk r (λ told. IfSome told (λ said. Says line said)) → ((said : LineSays) → Says line said → IfOk r (λ told. told ≡ Some said)) → IfOk r (λ told. told ≡ says_at (plain line))
+said_both line (Err e) found only = tt
+said_both line (Ok told) found only = sym (said_is line told found only)
+
+says_fits : (line : List ℕ) (said : LineSays) → Says line said → Fits said
+says_fits line says.Nothing h = tt
+says_fits line (says.Command told) h = tt
+says_fits line (says.ReadNumbers buffer offset kind count) h = h.2
+says_fits line (says.SourceLines name count) h = tt
+says_fits line (says.SourceUntil name word) h = tt
+says_fits line (says.SourceFile name path) h = tt
+
+some_fits : (line : List ℕ) (told : Option LineSays) → IfSome told (λ said. Says line said) → IfSome told Fits
+some_fits line None h = tt
+some_fits line (Some said) h = says_fits line said h
+
+pub said_fits : {E : Type 0} (line : List ℕ) (r : Result (Option LineSays) E) → IfOk r (λ told. IfSome told (λ said. Says line said)) → IfOk r (λ told. IfSome told Fits)
+said_fits line (Err e) found = tt
+said_fits line (Ok told) found = some_fits line told found
+
+-- slices of what references show
+
+pub behind_is : {A B : Type 0} (f : A → B) (xs : List A) (i : ℕ) → map f (take (length xs - i) (drop i xs)) ≡ drop i (map f xs)
+behind_is f xs i = ap (map f) (take_rest xs i) ∙ sym (drop-map f i xs)
+
+pub next_shown : {A : Type 0} (f : A → List ℕ) (xs : List A) (i : ℕ) (d : A) → i < length xs → drop i (map f xs) ≡ f (get_or xs i d) ∷ drop (i + 1) (map f xs)
+next_shown f xs i d h = next_is (map f xs) i [] (within_map f xs i h) ∙ ap (λ l. l ∷ drop (i + 1) (map f xs)) (shown_at f xs i d [] h)
+
+pub none_of : {A : Type 0} (P : Type 0) (Q : A → Type 0) (o : Option A) → o ≡ None → MatchOption o P Q → P
+none_of P Q None e h = h
+none_of {A} P Q (Some x) e h = let bad : ◌≡◌ {A = Option A} (Some x) None = e in absurd (cc)
+
+pub some_of : {A : Type 0} (P : Type 0) (Q : A → Type 0) (o : Option A) (x : A) → o ≡ Some x → MatchOption o P Q → Q x
+some_of P Q o x e h = subst (λ u. MatchOption u P Q) e h

@@ -51,8 +51,8 @@ pub record IsThird (script : List ℕ) (lines : List (List ℕ)) : Type 0 where
 pub record AreTold (files : List NamedFile) (lines : List (List ℕ)) (commands : List Command) (places : List WrittenPlace) : Type 0 where
   pub tolds : List (Option (Command × WrittenPlace))
   pub begins : BeginsWritten files (length lines + 1) lines tolds []
-  pub commands : commands ≡ commands_of tolds
-  pub places : places ≡ places_of tolds
+  pub are : commands ≡ commands_of tolds
+  pub at : places ≡ places_of tolds
   pub few : length commands ≤ 4096
 
 -- the line of this number is the lowest bad one of these, which stand behind the first one: what stands before it tells

@@ -5,8 +5,9 @@ ghost use Rattle.std.specs.Prelude.{◌≡◌, ◌≤◌, ◌++◌, map, length,
 ghost use Rattle.written_scripts.specs.Paths.{listed, names_at, path_of, paths_from, paths_of, taken_by};
 
 use crate::lines::{first_end, lines_of};
+use crate::telling::said_of;
 use clmodel::text::Bytes;
-use script_lines::{LineSays, is_version_line, line_says};
+use script_lines::{LineSays, is_version_line};
 use std::alloc::{AllocError, Global};
 
 /// How many of the lines behind it a line takes that says this, where they are there.
@@ -49,7 +50,7 @@ fn names_at(
     ensures value { IfOk result (λ named. named ≡ names_at line.now (map (λ l. l.now) behind.now)) }
     ensures within { IfOk result (λ named. IfSome named (λ n. n.1 ≤ length behind.now)) }
 {
-    let Some(said) = line_says(alloc, line)? else {
+    let Some(said) = said_of(alloc, line)? else {
         return Ok(None);
     };
     let Some(taken) = taken_by(alloc, &said, behind)? else {

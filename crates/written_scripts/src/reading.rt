@@ -7,10 +7,9 @@ ghost use Rattle.written_scripts.specs.Reading.{Adds, IsStop, told_at};
 
 use crate::files::NamedFile;
 use crate::places::{PlainScript, WrittenPlace};
-use crate::telling::{place_of, told_by};
+use crate::telling::{place_of, said_of, told_by};
 use crate::texts::command_text;
 use host_commands::command::Command;
-use script_lines::line_says;
 use std::alloc::{AllocError, Global};
 
 /// The most commands of a script.
@@ -27,7 +26,7 @@ fn told_at(
 ) -> Result<Option<(Option<(Command, WrittenPlace)>, usize)>, AllocError>
     ensures { IfOk result (λ told. told ≡ told_at files.now number line.now (map (λ l. l.now) behind.now)) }
 {
-    let Some(said) = line_says(alloc, line)? else {
+    let Some(said) = said_of(alloc, line)? else {
         return Ok(None);
     };
     let place = place_of(alloc, number, line, &said)?;

@@ -1,8 +1,10 @@
 //! The command that a line makes with the lines behind it.
 #![tactic(auto)]
 
-ghost use Rattle.std.specs.Prelude.{◌≡◌, ◌*◌, ◌+◌, ◌<◌, ◌≤◌, ◌^◌, map, length, IfOk};
+ghost use Rattle.std.specs.Prelude.{◌≡◌, ◌*◌, ◌+◌, ◌<◌, ◌≤◌, ◌^◌, map, length, IfOk, IfSome};
 ghost use Rattle.script_lines.specs.Numbers.{size_of};
+ghost use Rattle.script_lines.specs.Plain.{plain};
+ghost use Rattle.script_lines.specs.Reading.{says_at};
 ghost use Rattle.written_scripts.specs.Telling.{Fits, of_file, of_lines, of_lines_until, place_of, program_of, told_by, kind_of};
 
 use crate::files::{NamedFile, text_at};
@@ -11,9 +13,17 @@ use crate::places::WrittenPlace;
 use clmodel::text::{Bytes, Name};
 use clnum::IntType;
 use host_commands::command::Command;
-use script_lines::{LineSays, comment_of};
+use script_lines::{LineSays, comment_of, line_says};
 use std::alloc::{AllocError, Global};
 use text_lines::line_feeds;
+
+/// What a line says, as it is read of its plain text.
+pub(crate) fn said_of(alloc: Global, line: &[u8]) -> Result<Option<LineSays>, AllocError>
+    ensures value { IfOk result (λ said. said ≡ says_at (plain line.now)) }
+    ensures fits { IfOk result (λ said. IfSome said Fits) }
+{
+    line_says(alloc, line)
+}
 
 /// The most lines of a source.
 const MAX_SOURCE_LINES: usize = 65_536;

@@ -1,12 +1,12 @@
 //! The text of a command in version 2.
 #![tactic(auto)]
 
-ghost use Rattle.std.specs.Prelude.{◌≡◌, ◌<◌, ◌≤◌, ◌^◌, ◌×◌, ℕ, [], ◌++◌, length, IsTrue, IfOk, OnOk};
+ghost use Rattle.std.specs.Prelude.{◌≡◌, ◌<◌, ◌≤◌, ℕ, [], ◌∷◌, length, codes, decimal, IsTrue, IfOk};
 ghost use Rattle.std.specs.List.{flat_map};
-ghost use Rattle.byte_io.specs.Pieces.{piece_text};
+ghost use Rattle.byte_io.specs.Pieces.{joined, piece_text};
 ghost use Rattle.host_commands.specs.declared.command.Command.TheVariants as command;
 ghost use Rattle.simfile.specs.Fields.{hex, is_name};
-ghost use Rattle.simfile.specs.Script.{AreLines, IsText};
+ghost use Rattle.simfile.specs.Script.{AreLines, IsText, line_feed, space};
 ghost use Rattle.simfile.specs.declared.lines.Version.TheVariants as version;
 ghost use Rattle.written_scripts.specs.Texts.{HasText};
 
@@ -76,6 +76,29 @@ fn text_of(alloc: Global, pieces: &[Piece<'_>]) -> Result<Vec<u8>, AllocError>
     }
 }
 
+/// The line of a `write`, with its bytes as digits.
+fn write_line<'a>(
+    alloc: Global,
+    buffer: &'a [u8],
+    offset: u64,
+    digits: &'a [u8],
+) -> Result<Vec<u8>, AllocError>
+    ensures { IfOk result (λ text. text.items ≡ joined (codes "write " ∷ buffer.now ∷ space ∷ decimal offset ∷ space ∷ digits.now ∷ line_feed ∷ [])) }
+{
+    text_of(
+        alloc,
+        &[
+            Piece::Text("write "),
+            Piece::Bytes(buffer),
+            Piece::Text(" "),
+            Piece::Number(offset),
+            Piece::Text(" "),
+            Piece::Bytes(digits),
+            Piece::Text("\n"),
+        ],
+    )
+}
+
 /// The text of a `write`.
 fn write_text(
     alloc: Global,
@@ -89,15 +112,30 @@ fn write_text(
     ensures { IfOk result (λ text. IsText version.Two text.items (command.Write buffer.now offset bytes.now)) }
 {
     let digits = hex_of(alloc, bytes)?;
+    write_line(alloc, buffer, offset, digits.as_slice())
+}
+
+/// The line of a `fill`, with its pattern as digits.
+fn fill_line<'a>(
+    alloc: Global,
+    buffer: &'a [u8],
+    offset: u64,
+    count: u64,
+    digits: &'a [u8],
+) -> Result<Vec<u8>, AllocError>
+    ensures { IfOk result (λ text. text.items ≡ joined (codes "fill " ∷ buffer.now ∷ space ∷ decimal offset ∷ space ∷ decimal count ∷ space ∷ digits.now ∷ line_feed ∷ [])) }
+{
     text_of(
         alloc,
         &[
-            Piece::Text("write "),
+            Piece::Text("fill "),
             Piece::Bytes(buffer),
             Piece::Text(" "),
             Piece::Number(offset),
             Piece::Text(" "),
-            Piece::Bytes(digits.as_slice()),
+            Piece::Number(count),
+            Piece::Text(" "),
+            Piece::Bytes(digits),
             Piece::Text("\n"),
         ],
     )
@@ -117,20 +155,7 @@ fn fill_text(
     ensures { IfOk result (λ text. IsText version.Two text.items (command.Fill buffer.now offset count pattern.now)) }
 {
     let digits = hex_of(alloc, pattern)?;
-    text_of(
-        alloc,
-        &[
-            Piece::Text("fill "),
-            Piece::Bytes(buffer),
-            Piece::Text(" "),
-            Piece::Number(offset),
-            Piece::Text(" "),
-            Piece::Number(count),
-            Piece::Text(" "),
-            Piece::Bytes(digits.as_slice()),
-            Piece::Text("\n"),
-        ],
-    )
+    fill_line(alloc, buffer, offset, count, digits.as_slice())
 }
 
 /// The text of a `read`.
@@ -153,7 +178,11 @@ fn read_text(alloc: Global, buffer: &[u8], offset: u64, count: u64) -> Result<Ve
 }
 
 /// The text of a `program`, with its source.
-fn program_text(alloc: Global, name: &[u8], source: &[u8]) -> Result<Vec<u8>, AllocError>
+fn program_text<'a>(
+    alloc: Global,
+    name: &'a [u8],
+    source: &'a [u8],
+) -> Result<Vec<u8>, AllocError>
     requires named { IsTrue (is_name name.now) }
     requires lines { (n : ℕ) × (n ≤ 65536) × AreLines source.now n }
     ensures { IfOk result (λ text. IsText version.Two text.items (command.Program name.now source.now)) }

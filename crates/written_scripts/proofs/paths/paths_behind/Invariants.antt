@@ -1,5 +1,5 @@
 use Rattle.std.proofs.Common.{◌-◌, length, map}
-use Rattle.written_scripts.proofs.Paths.{IsNamed}
+use Rattle.written_scripts.proofs.PathSteps.{IsNamed}
 use Rattle.written_scripts.proofs.paths.paths_behind.Given as goal
 
 abbrev pub invariant-loop-at : goal.invariant-loop-at

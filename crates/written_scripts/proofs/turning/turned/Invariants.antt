@@ -1,5 +1,5 @@
 use Rattle.std.proofs.Common.{◌-◌, length, map}
-use Rattle.written_scripts.proofs.Turning.{IsAt}
+use Rattle.written_scripts.proofs.LineSteps.{IsAt}
 use Rattle.written_scripts.proofs.turning.turned.Given as goal
 
 abbrev pub invariant-loop-at : goal.invariant-loop-at

@@ -1,8 +1,9 @@
 -- The text of a command that a line tells.
-use Rattle.std.proofs.Common.{◌≡◌, ℕ, ◌+◌, ◌*◌, ◌<◌, ◌≤◌, ◌^◌, zero, suc, Bool, true, false, nat_lt, nat_le, IsTrue, ◌&&◌, not, ℤ, List, [], ◌∷◌, ◌++◌, length, take, get_or, if◌then◌else◌, Option, None, Some, inl, inr, refl, ap, sym, ◌∙◌, subst, arith, append_assoc, length-append}
+use Rattle.std.proofs.Common.{◌≡◌, ℕ, ◌+◌, ◌*◌, ◌<◌, ◌≤◌, ◌^◌, zero, suc, Bool, true, false, nat_lt, nat_le, IsTrue, ◌&&◌, not, ℤ, List, [], ◌∷◌, ◌++◌, length, take, get_or, if◌then◌else◌, Option, None, Some, inl, inr, codes, decimal, refl, ap, sym, ◌∙◌, subst, arith, append_assoc, length-append}
 use Rattle.std.proofs.lemmas.Bool.Decides.{nat_tests}
 use Rattle.std.proofs.lemmas.List.{append-nil}
 use Rattle.std.specs.List.{list_all, flat_map}
+use Rattle.byte_io.specs.Pieces.{joined}
 use Rattle.clnum.specs.declared.int_type.IntType.{IntType}
 use Rattle.clnum.specs.declared.int_type.IntType.TheVariants.{Char, Uchar, Short, Ushort, Int, Uint, Long, Ulong}
 use Rattle.host_commands.specs.declared.command.Command.{Command}
@@ -14,7 +15,7 @@ use Rattle.script_lines.specs.declared.says.LineSays.{LineSays}
 use Rattle.script_lines.specs.declared.says.LineSays.TheVariants as says
 use Rattle.simfile.proofs.LineLaws.{feeds_append}
 use Rattle.simfile.specs.Fields.{is_name, AreBytes}
-use Rattle.simfile.specs.Script.{IsText, AreLines, line_feeds, line_feed}
+use Rattle.simfile.specs.Script.{IsText, AreLines, line_feeds, line_feed, space}
 use Rattle.simfile.specs.declared.lines.Version.TheVariants as version
 use Rattle.text_lines.proofs.FieldLaws.{bind_some, if_some, and_true}
 use Rattle.written_scripts.specs.Lines.{lines_text, ended, before_end, first_end}
@@ -145,3 +146,10 @@ has_text files line (says.ReadNumbers buffer offset kind count) behind made told
 has_text files line (says.SourceLines name count) behind made told (n, some, most, is) e c = lines_told line name count behind made told n e c
 has_text files line (says.SourceUntil name word) behind made told (n, w, is) e c = until_told line name word behind made told n e c
 has_text files line (says.SourceFile name path) behind made told (n, f, is) e c = file_told files line name path made told n e c
+
+-- the text of a program, by how many lines its source has
+pub program_is : (name source text : List ℕ) (lines : ℕ) → IsTrue (is_name name) → (n : ℕ) × (n ≤ 65536) × AreLines source n → lines ≡ line_feeds source → text ≡ joined (codes "program " ∷ name ∷ space ∷ decimal lines ∷ line_feed ∷ source ∷ []) → IsText version.Two text (command.Program name source)
+program_is name source text lines named h count is =
+    let a = h.2 in
+    let fed : line_feeds source ≡ h.0 = ap line_feeds a.ends ∙ (feeds_append a.front (10 ∷ []) ∙ a.count) in
+    (named, (h.0, h.1, a, is ∙ ap (λ n. joined (codes "program " ∷ name ∷ space ∷ decimal n ∷ line_feed ∷ source ∷ [])) (count ∙ fed)))

@@ -1,8 +1,9 @@
 -- The loop over the lines of a script for the paths that they name.
-use Rattle.std.proofs.Common.{◌≡◌, ℕ, ◌+◌, ◌-◌, ◌<◌, ◌≤◌, zero, suc, List, [], ◌∷◌, ◌++◌, length, drop, Option, None, Some, refl, ap, sym, ◌∙◌, subst, arith, append_assoc, length-append, length-drop}
-use Rattle.std.proofs.lemmas.List.{append-nil}
+use Rattle.std.proofs.Common.{◌≡◌, ℕ, ◌+◌, ◌-◌, ◌<◌, ◌≤◌, zero, suc, List, [], ◌∷◌, ◌++◌, map, length, take, drop, get_or, Option, None, Some, refl, ap, sym, ◌∙◌, subst, arith, append_assoc, length-append, length-drop}
+use Rattle.std.proofs.lemmas.List.{append-nil, length-map}
 use Rattle.text_lines.specs.Fronts.{or_else}
-use Rattle.written_scripts.proofs.Turning.{drop_more}
+use Rattle.written_scripts.proofs.LineSteps.{drop_more}
+use Rattle.written_scripts.proofs.Steps.{behind_is, next_shown, within_map}
 use Rattle.written_scripts.specs.Paths.{names_at, listed, paths_from}
 
 -- how far the lines are gone through: these paths are named, and those of the lines from `at` on follow
@@ -59,3 +60,17 @@ names_end lines at paths past here =
   nothing : (l : List (List ℕ)) → length l ≡ 0 → l ≡ []
   nothing [] e = refl
   nothing (x ∷ l) e = absurd (omega (arith, e))
+
+-- the same, of lines that references show
+
+pub stop_shown : {A : Type 0} (f : A → List ℕ) (xs : List A) (at : ℕ) (d : A) (paths : List (List ℕ)) → at < length xs → IsNamed (map f xs) at paths → names_at (f (get_or xs at d)) (map f (take (length xs - (at + 1)) (drop (at + 1) xs))) ≡ None
+    → paths ≡ paths_from (length (map f xs)) (map f xs)
+stop_shown f xs at d paths h here none =
+    names_stop (map f xs) at (f (get_or xs at d)) paths (next_shown f xs at d h) here (ap (names_at (f (get_or xs at d))) (sym (behind_is f xs (at + 1))) ∙ none)
+
+pub more_shown : {A : Type 0} (f : A → List ℕ) (xs : List A) (at : ℕ) (d : A) (old new : List (List ℕ)) (path : Option (List ℕ)) (taken : ℕ) → at < length xs → IsNamed (map f xs) at old
+    → names_at (f (get_or xs at d)) (map f (take (length xs - (at + 1)) (drop (at + 1) xs))) ≡ Some (path, taken) → taken ≤ length (take (length xs - (at + 1)) (drop (at + 1) xs)) → new ≡ old ++ listed path → IsNamed (map f xs) (at + (1 + taken)) new
+more_shown f xs at d old new path taken h here some within is =
+    let behind = ap length (behind_is f xs (at + 1)) in
+    names_more (map f xs) at (f (get_or xs at d)) old new path taken (within_map f xs at h) (next_shown f xs at d h) here (ap (names_at (f (get_or xs at d))) (sym (behind_is f xs (at + 1))) ∙ some)
+    (omega (arith, within, behind, length-map (take (length xs - (at + 1)) (drop (at + 1) xs)) f)) is

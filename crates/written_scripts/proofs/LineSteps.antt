@@ -1,11 +1,24 @@
 -- The loop over the lines of a script: how far it has come, and where it ends.
-use Rattle.std.proofs.Common.{◌≡◌, ℕ, ◌+◌, ◌-◌, ◌<◌, ◌≤◌, zero, suc, List, [], ◌∷◌, ◌++◌, length, drop, Option, None, Some, refl, ap, sym, ◌∙◌, subst, arith, append_assoc, length-append, length-drop}
-use Rattle.std.proofs.lemmas.List.{append-nil}
+use Rattle.std.proofs.Common.{◌≡◌, ℕ, ◌+◌, ◌-◌, ◌<◌, ◌≤◌, zero, suc, List, [], ◌∷◌, ◌++◌, map, length, take, drop, get_or, Bool, true, false, if◌then◌else◌, nat_lt, nat_le, ◌&&◌, Option, None, Some, refl, ap, sym, ◌∙◌, subst, arith, append_assoc, length-append, length-drop}
+use Rattle.std.proofs.lemmas.Bool.Decides.{nat_tests}
+use Rattle.std.proofs.lemmas.List.{append-nil, length-map}
+use Rattle.std.specs.Prelude.{option_map}
+use Rattle.clmodel.specs.Setup.{same_text}
+use Rattle.script_lines.specs.Plain.{spaced}
+use Rattle.script_lines.specs.declared.says.LineSays.{LineSays}
+use Rattle.script_lines.specs.declared.says.LineSays.TheVariants as says
+use Rattle.text_lines.proofs.FieldLaws.{bind_some, if_some}
 use Rattle.host_commands.specs.declared.command.Command.{Command}
-use Rattle.simfile.specs.Script.{Begins, IsText, head}
+use Rattle.host_commands.specs.declared.command.Command.TheVariants as command
+use Rattle.simfile.specs.Script.{Begins, IsText, head, line_feeds}
 use Rattle.simfile.specs.declared.lines.Version.{Version}
 use Rattle.simfile.specs.declared.lines.Version.TheVariants as version
 use Rattle.written_scripts.proofs.Runs.{Told, count_told, stops_last, read_tells, tells_read}
+use Rattle.written_scripts.proofs.Steps.{behind_is, next_shown, within_map}
+use Rattle.written_scripts.proofs.TextLaws.{has_text}
+use Rattle.written_scripts.specs.Lines.{first_end, lines_text, ended}
+use Rattle.written_scripts.specs.Telling.{program_of, of_lines, of_lines_until, of_file, told_by, text_at, place_of}
+use Rattle.written_scripts.specs.Texts.{HasText}
 use Rattle.written_scripts.specs.Reading.{Adds, Grows, IsStop, IsPlainAmong, told_at}
 use Rattle.written_scripts.specs.Written.{Tells, BeginsWritten, commands_of, places_of, AreTold, IsBadAmong}
 use Rattle.written_scripts.specs.declared.files.NamedFile.{NamedFile}
@@ -131,7 +144,7 @@ whole files lines at plain past here =
     record {
       commands = commands_of here.tolds;
       text = (version.Two, here.front, here.text, here.texts, many);
-      told = record { tolds = here.tolds; begins = subst P none here.begins; commands = refl; places = here.places; few = many };
+      told = record { tolds = here.tolds; begins = subst P none here.begins; are = refl; at = here.places; few = many };
     } where
   nothing : (l : List (List ℕ)) → length l ≡ 0 → l ≡ []
   nothing [] e = refl
@@ -180,3 +193,107 @@ stops_full files number line behind count n c some full told taken h =
     subst (λ (t : Told). 4096 < count + length (commands_of (t ∷ []))) is (omega (arith, full)) where
   first_of : (a : Told) (n : ℕ) (b : Told) (m : ℕ) → ◌≡◌ {A = Option (Told × ℕ)} (Some (a, n)) (Some (b, m)) → a ≡ b
   first_of a n b m e = let pair : ◌≡◌ {A = Told × ℕ} (a, n) (b, m) = cc in ap (λ p. p.0) pair
+
+-- lines are taken that are there
+
+taken_is : (name source : List ℕ) (n : ℕ) (made : Option Command × ℕ) → program_of name source n ≡ Some made → made.1 ≡ n
+unfolding program_of
+taken_is name source n made e = let s = if_some (nat_lt 0 (line_feeds source) && nat_le (line_feeds source) 65536) (Some (command.Program name source), n) made e in sym (ap (λ p. p.1) s.1)
+
+first_rest : (lines n : ℕ) (o : Option ℕ) → ((m : ℕ) → o ≡ Some m → m < lines) → option_map (λ m. suc m) o ≡ Some n → n < suc lines
+first_rest lines n None h e = absurd (cc)
+first_rest lines n (Some m) h e = let z : suc m ≡ n = cc in let more = h m refl in omega (arith, z, more)
+
+first_by : (lines n : ℕ) (v : Bool) (o : Option ℕ) → ((m : ℕ) → o ≡ Some m → m < lines) → (if v then Some 0 else option_map (λ m. suc m) o) ≡ Some n → n < suc lines
+first_by lines n true o h e = let z : 0 ≡ n = cc in omega (arith, z)
+first_by lines n false o h e = first_rest lines n o h e
+
+first_within : (word : List ℕ) (lines : List (List ℕ)) (n : ℕ) → first_end word lines ≡ Some n → n < length lines
+first_within word [] n e = absurd (cc)
+first_within word (line ∷ lines) n e =
+    let less = first_by (length lines) n (same_text (spaced line) word) (first_end word lines) (λ m is. first_within word lines m is) e in
+    omega (arith, less)
+
+none_taken : (a : Option Command) (made : Option Command × ℕ) → Some (a, 0) ≡ Some made → made.1 ≡ 0
+none_taken a made e = let same : (a, 0) ≡ made = cc in sym (ap (λ p. p.1) same)
+
+le_is : (n m : ℕ) → nat_le n m ≡ true → n ≤ m
+le_is n m h = grind (arith, nat_tests)
+
+lines_within : (name : List ℕ) (count : ℕ) (behind : List (List ℕ)) (made : Option Command × ℕ) → of_lines name count behind ≡ Some made → made.1 ≤ length behind
+unfolding of_lines
+lines_within name count behind made e = by_test (nat_le count (length behind)) refl e where
+  by_test : (v : Bool) → nat_le count (length behind) ≡ v → (if v then program_of name (lines_text (take count behind)) count else None) ≡ Some made → made.1 ≤ length behind
+  by_test true is f = let t = taken_is name (lines_text (take count behind)) count made f in omega (arith, t, le_is count (length behind) is)
+  by_test false is f = absurd (cc)
+
+until_within : (name word : List ℕ) (behind : List (List ℕ)) (made : Option Command × ℕ) → of_lines_until name word behind ≡ Some made → made.1 ≤ length behind
+unfolding of_lines_until
+until_within name word behind made e =
+    let s = bind_some (first_end word behind) _ made e in
+    let t = taken_is name (lines_text (take s.0 behind)) (s.0 + 1) made s.2 in
+    let w = first_within word behind s.0 s.1 in
+    omega (arith, t, w)
+
+file_within : (files : List NamedFile) (name path : List ℕ) (behind : List (List ℕ)) (made : Option Command × ℕ) → of_file files name path ≡ Some made → made.1 ≤ length behind
+unfolding of_file
+file_within files name path behind made e =
+    let s = bind_some (text_at files path) _ made e in
+    let t = taken_is name (ended s.0) 0 made s.2 in
+    omega (arith, t)
+
+told_within : (files : List NamedFile) (said : LineSays) (behind : List (List ℕ)) (made : Option Command × ℕ) → told_by files said behind ≡ Some made → made.1 ≤ length behind
+told_within files says.Nothing behind made e = let t = none_taken None made e in omega (arith, t)
+told_within files (says.Command c) behind made e = let t = none_taken (Some c) made e in omega (arith, t)
+told_within files (says.ReadNumbers buffer offset kind count) behind made e = let t = none_taken _ made e in omega (arith, t)
+told_within files (says.SourceLines name count) behind made e = lines_within name count behind made e
+told_within files (says.SourceUntil name word) behind made e = until_within name word behind made e
+told_within files (says.SourceFile name path) behind made e = file_within files name path behind made e
+
+-- a line that tells no command adds nothing
+pub adds_none : (files : List NamedFile) (number : ℕ) (line : List ℕ) (behind : List (List ℕ)) (plain : PlainScript) (taken : ℕ) → told_at files number line behind ≡ Some (None, taken) → length plain.places.items ≤ 4096 → Adds files number line behind plain plain taken
+adds_none files number line behind plain taken read few =
+    let t = read_tells files number line behind None taken read in
+    record { told = None; tells = t; within = told_within files t.said behind (t.command, taken) t.makes; grows = (refl, refl); few = few }
+
+-- one that tells a command adds its text and its place
+pub adds_some : (files : List NamedFile) (number : ℕ) (line : List ℕ) (behind : List (List ℕ)) (old new : PlainScript) (taken : ℕ) (c : Command) (place : WrittenPlace) (text : List ℕ) → told_at files number line behind ≡ Some (Some (c, place), taken) → length old.places.items < 4096
+    → IsText version.Two text c → new.text.items ≡ old.text.items ++ text → new.places.items ≡ old.places.items ++ place ∷ [] → Adds files number line behind old new taken
+adds_some files number line behind old new taken c place text read room is texts places =
+    let t = read_tells files number line behind (Some (c, place)) taken read in
+    record {
+      told = Some (c, place);
+      tells = t;
+      within = told_within files t.said behind (t.command, taken) t.makes;
+      grows = ((text, is, texts), places);
+      few = omega (arith, ap length places, length-append old.places.items (place ∷ []), room);
+    }
+
+command_is : (number : ℕ) (line : List ℕ) (said : LineSays) (c : Command) (place : WrittenPlace) (o : Option Command) → ◌≡◌ {A = Told} (Some (c, place)) (option_map (λ d. (d, place_of number line said)) o) → o ≡ Some c
+command_is number line said c place None e = absurd (cc)
+command_is number line said c place (Some d) e =
+    let same : ◌≡◌ {A = Command × WrittenPlace} (c, place) (d, place_of number line said) = cc in
+    ap Some (sym (ap (λ p. p.0) same))
+
+-- and it has a text
+pub text_of_told : (files : List NamedFile) (number : ℕ) (line : List ℕ) (behind : List (List ℕ)) (taken : ℕ) (c : Command) (place : WrittenPlace) → told_at files number line behind ≡ Some (Some (c, place), taken) → HasText line c
+text_of_told files number line behind taken c place read =
+    let t = read_tells files number line behind (Some (c, place)) taken read in
+    has_text files line t.said behind (t.command, taken) c t.says t.makes (command_is number line t.said c place t.command t.placed)
+
+-- the steps of the loop, of lines that references show
+
+pub bad_shown : {A : Type 0} (f : A → List ℕ) (files : List NamedFile) (xs : List A) (at : ℕ) (d : A) (plain : PlainScript) → at < length xs → IsAt files (map f xs) at plain
+    → IsStop files (at + 2) (f (get_or xs at d)) (map f (take (length xs - (at + 1)) (drop (at + 1) xs))) (length plain.places.items) → IsBadAmong files (map f xs) (at + 2)
+bad_shown f files xs at d plain h here stop =
+    let P : List (List ℕ) → Type 0 = λ l. IsStop files (at + 2) (f (get_or xs at d)) l (length plain.places.items) in
+    bad_line files (map f xs) at (f (get_or xs at d)) plain (within_map f xs at h) (next_shown f xs at d h) here (subst P (behind_is f xs (at + 1)) stop)
+
+pub more_shown : {A : Type 0} (f : A → List ℕ) (files : List NamedFile) (xs : List A) (at : ℕ) (d : A) (old new : PlainScript) (taken : ℕ) → at < length xs → IsAt files (map f xs) at old
+    → Adds files (at + 2) (f (get_or xs at d)) (map f (take (length xs - (at + 1)) (drop (at + 1) xs))) old new taken → IsAt files (map f xs) (at + (1 + taken)) new
+more_shown f files xs at d old new taken h here adds =
+    let P : List (List ℕ) → Type 0 = λ l. Adds files (at + 2) (f (get_or xs at d)) l old new taken in
+    one_more files (map f xs) at (f (get_or xs at d)) old new taken (within_map f xs at h) (next_shown f xs at d h) here (subst P (behind_is f xs (at + 1)) adds)
+
+pub whole_shown : {A : Type 0} (f : A → List ℕ) (files : List NamedFile) (xs : List A) (at : ℕ) (plain : PlainScript) → length xs ≤ at → IsAt files (map f xs) at plain → IsPlainAmong files (map f xs) plain
+whole_shown f files xs at plain past here = whole files (map f xs) at plain (omega (arith, past, length-map xs f)) here
