@@ -146,9 +146,9 @@ whole files lines at plain past here =
       text = (version.Two, here.front, here.text, here.texts, many);
       told = record { tolds = here.tolds; begins = subst P none here.begins; are = refl; at = here.places; few = many };
     } where
-  nothing : (l : List (List ℕ)) → length l ≡ 0 → l ≡ []
-  nothing [] e = refl
-  nothing (x ∷ l) e = absurd (omega (arith, e))
+      nothing : (l : List (List ℕ)) → length l ≡ 0 → l ≡ []
+      nothing [] e = refl
+      nothing (x ∷ l) e = absurd (omega (arith, e))
 
 -- no line more is read
 pub bad_line : (files : List NamedFile) (lines : List (List ℕ)) (at : ℕ) (line : List ℕ) (plain : PlainScript) → at < length lines → drop at lines ≡ line ∷ drop (at + 1) lines → IsAt files lines at plain → IsStop files (at + 2) line (drop (at + 1) lines) (length plain.places.items)
@@ -191,8 +191,8 @@ stops_full files number line behind count n c some full told taken h =
     let same : ◌≡◌ {A = Option (Told × ℕ)} (Some (Some c, n)) (Some (told, taken)) = sym some ∙ tells_read files number line behind told taken h in
     let is : Some c ≡ told = first_of (Some c) n told taken same in
     subst (λ (t : Told). 4096 < count + length (commands_of (t ∷ []))) is (omega (arith, full)) where
-  first_of : (a : Told) (n : ℕ) (b : Told) (m : ℕ) → ◌≡◌ {A = Option (Told × ℕ)} (Some (a, n)) (Some (b, m)) → a ≡ b
-  first_of a n b m e = let pair : ◌≡◌ {A = Told × ℕ} (a, n) (b, m) = cc in ap (λ p. p.0) pair
+      first_of : (a : Told) (n : ℕ) (b : Told) (m : ℕ) → ◌≡◌ {A = Option (Told × ℕ)} (Some (a, n)) (Some (b, m)) → a ≡ b
+      first_of a n b m e = let pair : ◌≡◌ {A = Told × ℕ} (a, n) (b, m) = cc in ap (λ p. p.0) pair
 
 -- lines are taken that are there
 

@@ -57,9 +57,9 @@ names_end lines at paths past here =
     let none : drop at lines ≡ [] = nothing (drop at lines) (omega (arith, past, length-drop at lines)) in
     let read : paths_from here.room (drop at lines) ≡ [] = ap (paths_from here.room) none ∙ paths_nothing here.room in
     sym (append-nil paths) ∙ (ap (λ l. paths ++ l) (sym read) ∙ here.so_far) where
-  nothing : (l : List (List ℕ)) → length l ≡ 0 → l ≡ []
-  nothing [] e = refl
-  nothing (x ∷ l) e = absurd (omega (arith, e))
+      nothing : (l : List (List ℕ)) → length l ≡ 0 → l ≡ []
+      nothing [] e = refl
+      nothing (x ∷ l) e = absurd (omega (arith, e))
 
 -- the same, of lines that references show
 

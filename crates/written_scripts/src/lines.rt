@@ -27,7 +27,11 @@ pub(crate) fn lines_of(alloc: Global, text: &[u8]) -> Result<Vec<&[u8]>, AllocEr
 }
 
 /// The text of the first so many lines, each with its line feed.
-pub(crate) fn lines_text(alloc: Global, lines: &[&[u8]], count: usize) -> Result<Vec<u8>, AllocError>
+pub(crate) fn lines_text(
+    alloc: Global,
+    lines: &[&[u8]],
+    count: usize,
+) -> Result<Vec<u8>, AllocError>
     requires { count ≤ length lines.now }
     ensures { IfOk result (λ text. text.items ≡ lines_text (take count (map (λ line. line.now) lines.now))) }
 {

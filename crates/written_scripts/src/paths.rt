@@ -11,16 +11,14 @@ use script_lines::{LineSays, is_version_line};
 use std::alloc::{AllocError, Global};
 
 /// How many of the lines behind it a line takes that says this, where they are there.
-fn taken_by(
-    alloc: Global,
-    said: &LineSays,
-    behind: &[&[u8]],
-) -> Result<Option<usize>, AllocError>
+fn taken_by(alloc: Global, said: &LineSays, behind: &[&[u8]]) -> Result<Option<usize>, AllocError>
     ensures value { IfOk result (λ taken. taken ≡ taken_by said.now (map (λ line. line.now) behind.now)) }
     ensures within { IfOk result (λ taken. IfSome taken (λ n. n ≤ length behind.now)) }
 {
     match said {
-        LineSays::SourceLines { count, .. } if *count <= behind.len() as u64 => Ok(Some(*count as usize)),
+        LineSays::SourceLines { count, .. } if *count <= behind.len() as u64 => Ok(Some(
+            *count as usize,
+        )),
         LineSays::SourceLines { .. } => Ok(None),
         LineSays::SourceUntil { word, .. } => match first_end(alloc, word.as_slice(), behind)? {
             Some(count) => Ok(Some(count + 1)),

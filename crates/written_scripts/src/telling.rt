@@ -125,7 +125,12 @@ pub(crate) fn told_by(
             count,
         } => Ok(Some((Some(read_of(buffer, offset, kind, count)), 0))),
         LineSays::SourceLines { name, count } => of_lines(alloc, name, count, behind),
-        LineSays::SourceUntil { name, word } => of_lines_until(alloc, name, word.as_slice(), behind),
+        LineSays::SourceUntil { name, word } => of_lines_until(
+            alloc,
+            name,
+            word.as_slice(),
+            behind,
+        ),
         LineSays::SourceFile { name, path } => of_file(alloc, files, name, path.as_slice()),
     }
 }

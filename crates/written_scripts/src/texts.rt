@@ -178,11 +178,7 @@ fn read_text(alloc: Global, buffer: &[u8], offset: u64, count: u64) -> Result<Ve
 }
 
 /// The text of a `program`, with its source.
-fn program_text<'a>(
-    alloc: Global,
-    name: &'a [u8],
-    source: &'a [u8],
-) -> Result<Vec<u8>, AllocError>
+fn program_text<'a>(alloc: Global, name: &'a [u8], source: &'a [u8]) -> Result<Vec<u8>, AllocError>
     requires named { IsTrue (is_name name.now) }
     requires lines { (n : ℕ) × (n ≤ 65536) × AreLines source.now n }
     ensures { IfOk result (λ text. IsText version.Two text.items (command.Program name.now source.now)) }
@@ -233,7 +229,11 @@ pub(crate) fn command_text(
             offset,
             count,
         } => read_text(alloc, buffer.as_slice(), *offset, *count),
-        Command::Program { name, source } => program_text(alloc, name.as_slice(), source.as_slice()),
+        Command::Program { name, source } => program_text(
+            alloc,
+            name.as_slice(),
+            source.as_slice(),
+        ),
         _ => plain_text(alloc, line),
     }
 }

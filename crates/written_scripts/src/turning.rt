@@ -36,7 +36,14 @@ fn turned(alloc: Global, files: &[NamedFile], lines: &[&[u8]]) -> Result<Turned,
     let mut plain = no_commands(alloc)?;
     let mut at = 0;
     while at < lines.len() {
-        let Some(taken) = add_line(alloc, files, at + 2, lines[at], &lines[at + 1..], &mut plain)?
+        let Some(taken) = add_line(
+            alloc,
+            files,
+            at + 2,
+            lines[at],
+            &lines[at + 1..],
+            &mut plain,
+        )?
         else {
             return Ok(Turned::BadLine(at + 2));
         };
@@ -49,11 +56,7 @@ fn turned(alloc: Global, files: &[NamedFile], lines: &[&[u8]]) -> Result<Turned,
 /// bad line where one says nothing that version 3 has, lacks lines of its source, names a file that isn't among those
 /// given, has a source of more than 65,536 lines or of none, or is that of the 4,097th command. The last line may lack
 /// its line feed, and so may that of a file.
-pub fn plain_script(
-    alloc: Global,
-    script: &[u8],
-    files: &[NamedFile],
-) -> Result<Turned, AllocError>
+pub fn plain_script(alloc: Global, script: &[u8], files: &[NamedFile]) -> Result<Turned, AllocError>
     ensures turned { IfOk result (Turns files.now script.now) }
     ensures only { (commands : List Command) → IsWritten files.now script.now commands → IfOk result (IsTextOf commands) }
 {
