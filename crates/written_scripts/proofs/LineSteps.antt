@@ -13,14 +13,14 @@ use Rattle.host_commands.specs.declared.command.Command.TheVariants as command
 use Rattle.simfile.specs.Script.{Begins, IsText, head, line_feeds}
 use Rattle.simfile.specs.declared.lines.Version.{Version}
 use Rattle.simfile.specs.declared.lines.Version.TheVariants as version
-use Rattle.written_scripts.proofs.Runs.{Told, count_told, stops_last, read_tells, tells_read}
+use Rattle.written_scripts.proofs.Runs.{Told, stops_last, read_tells, tells_read}
 use Rattle.written_scripts.proofs.Steps.{behind_is, next_shown, within_map}
 use Rattle.written_scripts.proofs.TextLaws.{has_text}
 use Rattle.written_scripts.specs.Lines.{first_end, lines_text, ended}
 use Rattle.written_scripts.specs.Telling.{program_of, of_lines, of_lines_until, of_file, told_by, text_at, place_of}
 use Rattle.written_scripts.specs.Texts.{HasText}
 use Rattle.written_scripts.specs.Reading.{Adds, Grows, IsStop, IsPlainAmong, told_at}
-use Rattle.written_scripts.specs.Written.{Tells, BeginsWritten, commands_of, places_of, AreTold, IsBadAmong}
+use Rattle.written_scripts.specs.Written.{Tells, BeginsWritten, commands_of, places_of, IsBadAmong}
 use Rattle.written_scripts.specs.declared.files.NamedFile.{NamedFile}
 use Rattle.written_scripts.specs.declared.places.PlainScript.{PlainScript}
 use Rattle.written_scripts.specs.declared.places.WrittenPlace.{WrittenPlace}

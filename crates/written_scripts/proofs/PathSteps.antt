@@ -1,7 +1,6 @@
 -- The loop over the lines of a script for the paths that they name.
-use Rattle.std.proofs.Common.{◌≡◌, ℕ, ◌+◌, ◌-◌, ◌<◌, ◌≤◌, zero, suc, List, [], ◌∷◌, ◌++◌, map, length, take, drop, get_or, Option, None, Some, refl, ap, sym, ◌∙◌, subst, arith, append_assoc, length-append, length-drop}
+use Rattle.std.proofs.Common.{◌≡◌, ℕ, ◌+◌, ◌-◌, ◌<◌, ◌≤◌, zero, suc, List, [], ◌∷◌, ◌++◌, map, length, take, drop, get_or, Option, None, Some, refl, ap, sym, ◌∙◌, subst, arith, append_assoc, length-drop}
 use Rattle.std.proofs.lemmas.List.{append-nil, length-map}
-use Rattle.text_lines.specs.Fronts.{or_else}
 use Rattle.written_scripts.proofs.LineSteps.{drop_more}
 use Rattle.written_scripts.proofs.Steps.{behind_is, next_shown, within_map}
 use Rattle.written_scripts.specs.Paths.{names_at, listed, paths_from}

@@ -1,5 +1,5 @@
 -- What lines of version 3 tell is told in one way, and no more of them tells commands where reading stops.
-use Rattle.std.proofs.Common.{◌≡◌, ℕ, ◌+◌, ◌-◌, ◌<◌, ◌≤◌, zero, suc, List, [], ◌∷◌, ◌++◌, length, drop, Option, None, Some, refl, ap, sym, ◌∙◌, subst, arith, length-drop}
+use Rattle.std.proofs.Common.{◌≡◌, ℕ, ◌+◌, ◌-◌, ◌<◌, ◌≤◌, List, [], ◌∷◌, length, drop, Option, None, Some, refl, ap, sym, ◌∙◌, subst, arith, length-drop}
 use Rattle.std.specs.Prelude.{option_map}
 use Rattle.host_commands.specs.declared.command.Command.{Command}
 use Rattle.script_lines.proofs.Grammar.{says_takes, says_again}
@@ -7,10 +7,9 @@ use Rattle.script_lines.specs.Plain.{plain}
 use Rattle.script_lines.specs.Reading.{says_at}
 use Rattle.simfile.specs.Script.{IsScript}
 use Rattle.text_lines.proofs.FieldLaws.{bind_some}
-use Rattle.written_scripts.specs.Lines.{lines_of}
 use Rattle.written_scripts.specs.Reading.{told_at, IsStop}
 use Rattle.written_scripts.specs.Telling.{told_by, place_of}
-use Rattle.written_scripts.specs.Written.{Tells, BeginsWritten, commands_of, places_of, IsThird, AreTold, IsBadAmong, AreWrittenAt, IsWritten, Turns, IsTextOf}
+use Rattle.written_scripts.specs.Written.{Tells, BeginsWritten, commands_of, IsThird, AreTold, IsBadAmong, IsWritten, Turns, IsTextOf}
 use Rattle.written_scripts.specs.declared.files.NamedFile.{NamedFile}
 use Rattle.written_scripts.specs.declared.places.Turned.{Turned}
 use Rattle.written_scripts.specs.declared.places.Turned.TheVariants as turned

@@ -1,5 +1,5 @@
 -- The text of a command that a line tells.
-use Rattle.std.proofs.Common.{◌≡◌, ℕ, ◌+◌, ◌*◌, ◌<◌, ◌≤◌, ◌^◌, zero, suc, Bool, true, false, nat_lt, nat_le, IsTrue, ◌&&◌, not, ℤ, List, [], ◌∷◌, ◌++◌, length, take, get_or, if◌then◌else◌, Option, None, Some, inl, inr, codes, decimal, refl, ap, sym, ◌∙◌, subst, arith, append_assoc, length-append}
+use Rattle.std.proofs.Common.{◌≡◌, ℕ, ◌+◌, ◌*◌, ◌<◌, ◌≤◌, suc, Bool, true, false, nat_lt, nat_le, IsTrue, ◌&&◌, not, ℤ, List, [], ◌∷◌, ◌++◌, length, take, get_or, if◌then◌else◌, Option, None, Some, inl, inr, codes, decimal, refl, ap, sym, ◌∙◌, subst, arith, append_assoc, length-append}
 use Rattle.std.proofs.lemmas.Bool.Decides.{nat_tests}
 use Rattle.std.proofs.lemmas.List.{append-nil}
 use Rattle.std.specs.List.{list_all, flat_map}
@@ -10,16 +10,16 @@ use Rattle.host_commands.specs.declared.command.Command.{Command}
 use Rattle.host_commands.specs.declared.command.Command.TheVariants as command
 use Rattle.script_lines.specs.Numbers.{bytes_of, size_of, AreNumbers}
 use Rattle.script_lines.specs.Plain.{plain}
-use Rattle.script_lines.specs.Says.{is_program, Says, IsSaid, IsNumbersText}
+use Rattle.script_lines.specs.Says.{is_program, Says, IsNumbersText}
 use Rattle.script_lines.specs.declared.says.LineSays.{LineSays}
 use Rattle.script_lines.specs.declared.says.LineSays.TheVariants as says
 use Rattle.simfile.proofs.LineLaws.{feeds_append}
-use Rattle.simfile.specs.Fields.{is_name, AreBytes}
+use Rattle.simfile.specs.Fields.{is_name}
 use Rattle.simfile.specs.Script.{IsText, AreLines, line_feeds, line_feed, space}
 use Rattle.simfile.specs.declared.lines.Version.TheVariants as version
-use Rattle.text_lines.proofs.FieldLaws.{bind_some, if_some, and_true}
+use Rattle.text_lines.proofs.FieldLaws.{bind_some, if_some}
 use Rattle.written_scripts.specs.Lines.{lines_text, ended, before_end, first_end}
-use Rattle.written_scripts.specs.Telling.{Fits, program_of, of_lines, of_lines_until, of_file, told_by, text_at}
+use Rattle.written_scripts.specs.Telling.{program_of, of_lines, of_lines_until, of_file, told_by, text_at}
 use Rattle.written_scripts.specs.Texts.{HasText}
 use Rattle.written_scripts.specs.declared.files.NamedFile.{NamedFile}
 

@@ -1,5 +1,5 @@
 -- Which files a script of version 3 names, before any is read (own).
-use Rattle.std.specs.Prelude.{ℕ, ◌+◌, suc, zero, nat_le, Option, None, Some, option_map, List, [], ◌∷◌, ◌++◌, length, drop, cond, if◌then◌else◌}
+use Rattle.std.specs.Prelude.{ℕ, ◌+◌, suc, zero, nat_le, Option, None, Some, option_map, List, [], ◌∷◌, ◌++◌, length, drop, if◌then◌else◌}
 use Rattle.clmodel.specs.Setup.{same_text}
 use Rattle.script_lines.specs.Plain.{plain, first_line}
 use Rattle.script_lines.specs.Reading.{says_at}

@@ -1,5 +1,5 @@
 -- A script of version 3: what its lines tell, one after another, and which line is bad (own).
-use Rattle.std.specs.Prelude.{◌≡◌, ℕ, ◌+◌, ◌-◌, ◌<◌, ◌≤◌, IsTrue, false, Option, None, Some, option_map, List, [], ◌∷◌, length, drop}
+use Rattle.std.specs.Prelude.{◌≡◌, ℕ, ◌+◌, ◌-◌, ◌<◌, ◌≤◌, IsTrue, Option, None, Some, option_map, List, [], ◌∷◌, length, drop}
 use Rattle.clmodel.specs.Setup.{same_text}
 use Rattle.host_commands.specs.declared.command.Command.{Command}
 use Rattle.script_lines.specs.Plain.{plain, first_line}

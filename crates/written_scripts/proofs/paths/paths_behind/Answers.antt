@@ -1,4 +1,4 @@
-use Rattle.std.proofs.Common.{rules, ◌≡◌, List, ℕ, Bor, map, length, None, Some, ap, sym, ◌∙◌, arith}
+use Rattle.std.proofs.Common.{rules, ◌≡◌, List, ℕ, Bor, map, None, Some, ap, sym, ◌∙◌}
 use Rattle.std.proofs.lemmas.List.{length-map}
 use Rattle.written_scripts.specs.Paths.{paths_from}
 use Rattle.written_scripts.proofs.PathSteps.{stop_shown, more_shown}
