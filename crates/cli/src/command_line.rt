@@ -3,7 +3,7 @@
 
 ghost use Rattle.std.specs.Prelude.{◌≡◌, ◌≤◌, List, [], ◌∷◌, ◌++◌, codes, map, Ok, IfOk, IfErr, IfSome};
 ghost use Rattle.clap.specs.Words.{Rule, Shape, Text, kind_of, found_of, rows_of, subcommand_rows_of};
-ghost use Rattle.cli.specs.CommandLine.{AreForms, IsArgument, IsForm, all_forms, form_of, needed, option, number, limits, some_schedule, format, as_given, configured, working, explained, run_arguments, check_arguments, dump_arguments, replay_arguments, serve_arguments, explain_arguments, version_arguments, widen_arguments, plain_arguments, GivesWorkers, GivesLimits, GivesBudget, GivesConfiguration, GivesFormat, AsksBy, Reads, Holds, AsksFor, IsRefused};
+ghost use Rattle.cli.specs.CommandLine.{AreForms, IsArgument, IsForm, all_forms, form_of, needed, option, number, limits, some_schedule, format, as_given, configured, working, explained, run_arguments, check_arguments, dump_arguments, replay_arguments, serve_arguments, explain_arguments, version_arguments, widen_arguments, GivesWorkers, GivesLimits, GivesBudget, GivesConfiguration, GivesFormat, AsksBy, Reads, Holds, AsksFor, IsRefused};
 
 use crate::session::Options;
 use crate::wish::ExplainWish;
@@ -57,10 +57,6 @@ pub enum Invocation<'a> {
         script: &'a str,
         json: bool,
         limits: Limits,
-    },
-    /// Writes the script of a file as one of version 2
-    Plain {
-        script: &'a str,
     },
 }
 
@@ -337,19 +333,6 @@ fn widen_form<'a>(alloc: Global) -> Result<Command<'a>, AllocError>
     )
 }
 
-/// The form `plain SCRIPT`.
-fn plain_form<'a>(alloc: Global) -> Result<Command<'a>, AllocError>
-    ensures { IfOk result (IsForm (codes "plain") plain_arguments) }
-{
-    form_on(
-        alloc,
-        "plain",
-        "Prints a script of version 3 as one of version 2, with its files in it",
-        "SCRIPT",
-        "The script",
-    )
-}
-
 /// The limits of a device, the profile's where the option isn't there, and `None` where it names none.
 fn limits_of(matches: &ArgMatches<'_>) -> Option<Limits>
     ensures { Reads (GivesLimits (rows_of (found_of matches.now))) result }
@@ -526,14 +509,6 @@ fn widen_of<'a>(widen: &ArgMatches<'a>) -> Option<Invocation<'a>>
     })
 }
 
-/// What the matches of `plain` ask for.
-fn plain_of<'a>(plain: &ArgMatches<'a>) -> Option<Invocation<'a>>
-    ensures { Reads (AsksBy (codes "plain") (rows_of (found_of plain.now))) result }
-{
-    let script = plain.get_str("SCRIPT")?;
-    Some(Invocation::Plain { script })
-}
-
 /// What the matches of a command line ask for, by the form that they hold.
 fn asked<'a>(matches: &ArgMatches<'a>) -> Option<Invocation<'a>>
     ensures { Reads (Holds (subcommand_rows_of matches.now)) result }
@@ -559,10 +534,7 @@ fn asked<'a>(matches: &ArgMatches<'a>) -> Option<Invocation<'a>>
     if let Some(version) = matches.subcommand_matches("version") {
         return version_of(version);
     }
-    if let Some(widen) = matches.subcommand_matches("widen") {
-        return widen_of(widen);
-    }
-    plain_of(matches.subcommand_matches("plain")?)
+    widen_of(matches.subcommand_matches("widen")?)
 }
 
 /// The forms of the command line, without any of them yet. That there is a version gives them `--version`; what the
@@ -599,8 +571,7 @@ fn forms<'a>(alloc: Global) -> Result<Command<'a>, AllocError>
     let with_serving = with_form(with_replays, serve_form(alloc));
     let with_explaining = with_form(with_serving, explain_form(alloc));
     let with_version = with_form(with_explaining, version_form(alloc));
-    let with_widening = with_form(with_version, widen_form(alloc));
-    with_form(with_widening, plain_form(alloc))
+    with_form(with_version, widen_form(alloc))
 }
 
 /// A form whose usage is shown by this name.
@@ -630,9 +601,6 @@ fn form_of<'a>(alloc: Global, name: &str) -> Result<Command<'a>, AllocError> {
     }
     if name == "widen" {
         return shown(widen_form(alloc), "clsim widen");
-    }
-    if name == "plain" {
-        return shown(plain_form(alloc), "clsim plain");
     }
     shown(version_form(alloc), "clsim version")
 }
@@ -680,7 +648,6 @@ fn command_by<'a>(
 /// - `clsim explain SCRIPT [SCHEDULE] [--format text|json] [--budget N] [--limits LIMITS] [--as-given]`
 /// - `clsim version [--format text|json]`
 /// - `clsim widen SCRIPT [--format text|json] [--limits LIMITS]`
-/// - `clsim plain SCRIPT`
 ///
 /// The errors of the words `--help`, `help` with a form or without, and `--version` have the kinds `DisplayHelp` and
 /// `DisplayVersion`.

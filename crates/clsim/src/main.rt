@@ -18,7 +18,6 @@ mod named_file;
 mod piped;
 mod telling;
 mod version;
-mod written_file;
 
 use crate::explain_files::{explain_schedule, explain_script};
 use crate::looks::Looks;
@@ -26,8 +25,7 @@ use crate::named_file::{NamedFile, STANDARD_INPUT};
 use crate::piped::Piped;
 use crate::telling::{Told, tell, tell_place, tell_script, told_of};
 use crate::version::print_version;
-use crate::written_file::WrittenFile;
-use byte_io::{Output, StreamPeer, Write};
+use byte_io::{Output, StreamPeer};
 use clap::Error;
 use clap::error::ErrorKind;
 use cli::checking::{check_file, source_status};
@@ -65,7 +63,7 @@ fn output_of<'a, R: Print + AllocGlobal>(
 /// Runs a script, with the replies on standard output, and notes whether its reader is gone.
 fn run_script<R: Files + io::Input + Print + AllocGlobal + Threads + Wait + Sync>(
     rt: &R,
-    script: &mut WrittenFile<'_, R>,
+    script: &mut NamedFile<'_, R>,
     options: Options,
     gone: &mut bool,
 ) -> Result<RunEnd, RunFault> {
@@ -125,7 +123,7 @@ fn dump_kernel<R: Files + io::Input + Print + AllocGlobal>(
 /// was read and found good.
 fn replay_schedule<R: Files + io::Input + Print + AllocGlobal>(
     rt: &R,
-    script: &mut WrittenFile<'_, R>,
+    script: &mut NamedFile<'_, R>,
     schedule: &str,
     configuration: Configuration,
     gone: &mut bool,
@@ -199,25 +197,6 @@ fn widen_script<R: Files + io::Input + Print + AllocGlobal>(
     outcome
 }
 
-/// Writes a text, and holds none of it back.
-fn put_all<W: Write>(text: &[u8], writer: &mut W) -> Result<(), RunFault> {
-    writer.write(text)?;
-    Ok(writer.flush()?)
-}
-
-/// Writes a script on standard output, as a plain text.
-fn write_plain<R: Files + io::Input + Print + AllocGlobal>(
-    rt: &R,
-    script: &mut WrittenFile<'_, R>,
-    gone: &mut bool,
-) -> Result<(), RunFault> {
-    let mut writer = output_of(rt)?;
-    let text = bytes_of(rt.alloc(), script, Reader::First)?;
-    let outcome = put_all(text.as_slice(), &mut writer);
-    *gone = writer.into_inner().is_gone();
-    outcome
-}
-
 /// The status of a run. A fault is told.
 fn end_run<R: Files + Eprint>(rt: &R, outcome: Result<RunEnd, RunFault>, told: Told<'_>) -> u8
     ensures { result ≡ status_of outcome }
@@ -281,10 +260,10 @@ fn do_run<R: Files + io::Input + Print + Eprint + AllocGlobal + Threads + Wait +
 ) -> u8
     ensures { result ≤ 2 }
 {
-    let mut script = WrittenFile::new(rt, file);
+    let mut script = NamedFile::new(rt, file);
     let mut gone = false;
     let outcome = run_script(rt, &mut script, options, &mut gone);
-    end_run(rt, outcome, script.told(gone))
+    end_run(rt, outcome, told_of(&script, gone))
 }
 
 /// Serves standard input, and gives the status.
@@ -299,7 +278,6 @@ fn do_serve<R: Files + io::Input + Print + Eprint + AllocGlobal + Threads + Wait
         file: STANDARD_INPUT,
         looks: Looks::Unknown,
         gone: false,
-        bad: None,
     };
     end_run(rt, outcome, told)
 }
@@ -349,10 +327,10 @@ fn do_replay<R: Files + io::Input + Print + Eprint + AllocGlobal>(
 ) -> u8
     ensures { result ≤ 2 }
 {
-    let mut script = WrittenFile::new(rt, file);
+    let mut script = NamedFile::new(rt, file);
     let mut gone = false;
     let outcome = replay_schedule(rt, &mut script, schedule, configuration, &mut gone);
-    end_replay(rt, outcome, schedule, script.told(gone))
+    end_replay(rt, outcome, schedule, told_of(&script, gone))
 }
 
 /// Explains a fault of the script of a file, and gives the status.
@@ -389,21 +367,6 @@ fn do_widen<R: Files + io::Input + Print + Eprint + AllocGlobal>(
     let mut gone = false;
     let outcome = widen_script(rt, &mut script, json, limits, &mut gone);
     end_widen(rt, outcome, told_of(&script, gone))
-}
-
-/// Writes the script of a file as a plain text, and gives the status.
-fn do_plain<R: Files + io::Input + Print + Eprint + AllocGlobal>(rt: &R, file: &str) -> u8
-    ensures { result ≤ 2 }
-{
-    let mut script = WrittenFile::new(rt, file);
-    let mut gone = false;
-    match write_plain(rt, &mut script, &mut gone) {
-        Ok(()) => 0,
-        Err(fault) => {
-            tell(rt, fault, script.told(gone));
-            2
-        }
-    }
 }
 
 /// The status of what was printed on standard output. That it can't be written is told, but where its reader is gone.
@@ -484,7 +447,6 @@ fn perform<R: Files + io::Input + Print + Eprint + AllocGlobal + Threads + Wait 
                 limits,
             },
         ) => do_widen(rt, script, json, limits),
-        Ok(Invocation::Plain { script }) => do_plain(rt, script),
         Err(error) => answer_words(rt, words, &error),
     }
 }
