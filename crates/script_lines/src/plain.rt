@@ -85,7 +85,7 @@ fn after_mark(line: &[u8]) -> &[u8]
 }
 
 /// The plain text of a line: the words in front of its comment with a space between each two, and a line feed.
-pub(crate) fn plain(alloc: Global, line: &[u8]) -> Result<Vec<u8>, AllocError>
+pub fn plain_text(alloc: Global, line: &[u8]) -> Result<Vec<u8>, AllocError>
     ensures { IfOk result (λ text. text.items ≡ plain line.now) }
 {
     let mut text = spaced(alloc, before_comment(line))?;
@@ -105,7 +105,7 @@ pub fn comment_of(alloc: Global, line: &[u8]) -> Result<Vec<u8>, AllocError>
 pub fn is_version_line(alloc: Global, line: &[u8]) -> Result<bool, AllocError>
     ensures { IfOk result (λ is. is ≡ same_text (plain line.now) first_line) }
 {
-    let text = plain(alloc, line)?;
+    let text = plain_text(alloc, line)?;
     Ok(text.as_slice() == VERSION_THREE)
 }
 

@@ -7,7 +7,7 @@ ghost use Rattle.script_lines.specs.Says.{is_program, Says};
 ghost use Rattle.script_lines.specs.declared.says.LineSays.{LineSays};
 
 use crate::forms::{fill_numbers, program, read_numbers, write_numbers};
-use crate::plain::plain;
+use crate::plain::plain_text;
 use crate::says::LineSays;
 use host_commands::command::Command;
 use simfile::lines::Version;
@@ -78,6 +78,6 @@ pub fn line_says(alloc: Global, line: &[u8]) -> Result<Option<LineSays>, AllocEr
     ensures found { IfOk result (λ told. IfSome told (λ says. Says line.now says)) }
     ensures only { (says : LineSays) → Says line.now says → IfOk result (λ told. told ≡ Some says) }
 {
-    let text = plain(alloc, line)?;
+    let text = plain_text(alloc, line)?;
     text_says(alloc, text.as_slice())
 }

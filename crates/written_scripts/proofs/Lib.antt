@@ -1,0 +1,5 @@
+pub mod Runs
+mod Steps
+mod TextLaws
+mod LineSteps
+mod PathSteps

@@ -1,0 +1,6 @@
+pub mod Lines
+pub mod Telling
+pub mod Written
+pub mod Texts
+pub mod Reading
+pub mod Paths
