@@ -143,8 +143,8 @@ left_same marks pair a b left other is_a is_b some_a some_b all_a all_b =
     let second : Leaves marks pair.second other = subst (λ (o : Option ℕ). IfSome o (Leaves marks pair.second)) is_b some_b in (
       λ e. (left, first, subst (λ (x : ℕ). Leaves marks pair.second x) (sym (eqb-true left other e)) second),
       λ h.
-      let one : left ≡ h.0 = some_same left h.0 (sym is_a ∙ all_a h.0 h.1) in
-      let two : other ≡ h.0 = some_same other h.0 (sym is_b ∙ all_b h.0 h.2) in eq-eqb left other (one ∙ sym two),
+          let one : left ≡ h.0 = some_same left h.0 (sym is_a ∙ all_a h.0 h.1) in
+          let two : other ≡ h.0 = some_same other h.0 (sym is_b ∙ all_b h.0 h.2) in eq-eqb left other (one ∙ sym two),
     )
 
 pub left_not : (marks : List Mark) (pair : Pair) → (LeaveOne marks pair → ⊥) → Decides false (LeaveOne marks pair)

@@ -60,14 +60,22 @@ fn release_between(marks: &[Mark], group: u32, from: usize, to: usize) -> Option
 fn earlier(pair: Pair) -> usize
     ensures { result ≡ min pair.first pair.second }
 {
-    if pair.first < pair.second { pair.first } else { pair.second }
+    if pair.first < pair.second {
+        pair.first
+    } else {
+        pair.second
+    }
 }
 
 /// The later access of a pair.
 fn later(pair: Pair) -> usize
     ensures { result ≡ max pair.first pair.second }
 {
-    if pair.first < pair.second { pair.second } else { pair.first }
+    if pair.first < pair.second {
+        pair.second
+    } else {
+        pair.first
+    }
 }
 
 /// The number of the last release of a group between the accesses of a pair, if there is one.

@@ -93,7 +93,11 @@ fn nearest_store(touches: &[Touch], location: &Location, side: Side, byte: u64) 
 {
     let mut near = None;
     for number in 0..touches.len() {
-        near = nearer(near, number, distance_of(&touches[number], location, side, byte));
+        near = nearer(
+            near,
+            number,
+            distance_of(&touches[number], location, side, byte),
+        );
     }
     near
 }
