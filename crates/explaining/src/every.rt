@@ -1,7 +1,7 @@
 //! Every fault and every refusal of a script, told one behind another.
 #![tactic(auto)]
 
-ghost use Rattle.std.specs.Prelude.{◌≡◌, ◌+◌, ◌<◌, ◌++◌, Some, true, false, codes, length, IfOk, IfErr, OnOk, slice_get, string_bytes};
+ghost use Rattle.std.specs.Prelude.{◌≡◌, ◌+◌, ◌<◌, ◌++◌, Some, true, false, codes, decimal, length, IfOk, IfErr, OnOk, slice_get, string_bytes};
 ghost use Rattle.device.specs.Machine.{machine_of};
 ghost use Rattle.simfile.specs.Faults.{NoScript};
 ghost use Rattle.simfile.specs.Places.{AreAt};
@@ -32,6 +32,16 @@ pub(crate) struct ReadScript<'a> {
     pub places: &'a [CommandPlace],
 }
 
+/// Adds a line with the number of a command and its line in the script.
+fn push_command(ticket: usize, line: usize, out: &mut String) -> Result<(), AllocError>
+    ensures { OnOk result (string_bytes out.new ≡ string_bytes out.old ++ (codes "---- command " ++ decimal ticket ++ codes ", line " ++ decimal line ++ codes " of the script ----\n")) }
+{
+    write!(
+        out,
+        "---- command {ticket}, line {line} of the script ----\n"
+    )
+}
+
 /// Adds the line in front of what is told of the command of a number, which stands in this line of the script. Lines of
 /// JSON have none.
 fn push_heading(
@@ -43,10 +53,7 @@ fn push_heading(
     ensures { OnOk result (string_bytes out.new ≡ string_bytes out.old ++ heading format ticket line) }
 {
     match format {
-        Format::Text => write!(
-            out,
-            "---- command {ticket}, line {line} of the script ----\n"
-        ),
+        Format::Text => push_command(ticket, line, out),
         Format::Json => Ok(()),
     }
 }
