@@ -65,7 +65,7 @@ def main():
     parser.add_argument("log")
     parser.add_argument("--every", type=int, default=1)
     parser.add_argument("folders", nargs="*")
-    words = parser.parse_args()
+    words = parser.parse_intermixed_args()
     log, lines = words.log, []
     if os.path.exists(log):
         with open(log, encoding="utf-8") as file:
