@@ -51,7 +51,7 @@ def reduction():
 
 def inclusive_scan():
     x = on_device(data())
-    InclusiveScanKernel(context, np.int32, "a+b")(x)
+    InclusiveScanKernel(context, np.int32, "a+b", "0")(x)
     return x.get(), np.cumsum(data(), dtype=np.int32)
 
 
@@ -108,7 +108,6 @@ TESTS = {
     "fill": lambda: (ca.zeros(queue, N, np.uint16).fill(9).get(), np.full(N, 9, np.uint16)),
     "arange": lambda: (ca.arange(queue, 3, 90, 2, dtype=np.int32).get(), np.arange(3, 90, 2, dtype=np.int32)),
     "astype": lambda: (on_device(data()).astype(np.int8).get(), data().astype(np.int8)),
-    "reverse": lambda: (on_device(data())[::-1].copy().get(), data()[::-1]),
     "store": lambda: (stored(on_device(data())).get(), stored(data())),
     "take": lambda: (ca.take(on_device(data()), on_device(np.arange(N - 1, -1, -1, dtype=np.int32))).get(),
                      data()[::-1]),
@@ -137,7 +136,7 @@ def main():
         try:
             got, wanted = TESTS[name]()
             told = "right" if np.array_equal(np.asarray(got), np.asarray(wanted)) else "WRONG"
-        except (cl.Error, TypeError, NotImplementedError) as error:
+        except Exception as error:  # whatever a library makes of a refusal
             told = str(error).replace("\n", " | ")[:300]
         right += told == "right"
         print(f"{name}: {told} ({time.monotonic() - begin:.0f} s)", flush=True)

@@ -1,5 +1,6 @@
-// clFFT on the driver: complex transforms of one dimension on floats, against sums of the host, and back. By hand:
-//     cc -o fft fft.c -lclFFT -lOpenCL -lm && OCL_ICD_VENDORS=../../vendors ./fft 16 60 ..
+// clFFT on the driver: complex transforms of one dimension on floats, against sums of the host, and back; each of so
+// many numbers, several at once. By hand:
+//     cc -o fft fft.c -lclFFT -lOpenCL -lm && OCL_ICD_VENDORS=../../vendors ./fft 16x16 1024x1 ..
 #include "../host.h"
 #include <clFFT.h>
 #include <math.h>
@@ -7,12 +8,13 @@
 
 static host h;
 
-static clfftPlanHandle plan_of(size_t n, cl_int *status) {
+static clfftPlanHandle plan_of(size_t n, size_t batch, cl_int *status) {
     clfftPlanHandle plan = 0;
     *status = (cl_int)clfftCreateDefaultPlan(&plan, h.context, CLFFT_1D, &n);
     if (!*status) *status = (cl_int)clfftSetPlanPrecision(plan, CLFFT_SINGLE);
     if (!*status) *status = (cl_int)clfftSetLayout(plan, CLFFT_COMPLEX_INTERLEAVED, CLFFT_COMPLEX_INTERLEAVED);
     if (!*status) *status = (cl_int)clfftSetResultLocation(plan, CLFFT_INPLACE);
+    if (!*status) *status = (cl_int)clfftSetPlanBatchSize(plan, batch);
     if (!*status) *status = (cl_int)clfftBakePlan(plan, 1, &h.queue, NULL, NULL);
     return plan;
 }
@@ -39,24 +41,25 @@ static double apart(size_t n, const float *from, const float *got) {
     return worst;
 }
 
-static bool is_right(size_t n) {
-    float *from = malloc(2 * n * sizeof *from), *got = malloc(2 * n * sizeof *got);
+static bool is_right(size_t n, size_t batch) {
+    size_t all = n * batch;
+    float *from = malloc(2 * all * sizeof *from), *got = malloc(2 * all * sizeof *got);
     cl_int fault, there, back = 0;
     double worst = 0, worst_back = 0;
-    for (size_t i = 0; i < n; i++) {
+    for (size_t i = 0; i < all; i++) {
         from[2 * i] = (float)(i * 7 % 13) - 6;
         from[2 * i + 1] = (float)(i * 3 % 5) - 2;
     }
-    cl_mem m = clCreateBuffer(h.context, CL_MEM_COPY_HOST_PTR, 2 * n * sizeof *from, from, &fault);
+    cl_mem m = clCreateBuffer(h.context, CL_MEM_COPY_HOST_PTR, 2 * all * sizeof *from, from, &fault);
     OK(fault);
-    clfftPlanHandle plan = plan_of(n, &there);
-    if (!there) there = transformed(plan, CLFFT_FORWARD, m, n, got);
-    if (!there) worst = apart(n, from, got);
-    if (!there) back = transformed(plan, CLFFT_BACKWARD, m, n, got);
-    for (size_t i = 0; i < 2 * n; i++) worst_back = fmax(worst_back, fabs((double)got[i] - from[i]));
+    clfftPlanHandle plan = plan_of(n, batch, &there);
+    if (!there) there = transformed(plan, CLFFT_FORWARD, m, all, got);
+    for (size_t at = 0; !there && at < 2 * all; at += 2 * n) worst = fmax(worst, apart(n, from + at, got + at));
+    if (!there) back = transformed(plan, CLFFT_BACKWARD, m, all, got);
+    for (size_t i = 0; i < 2 * all; i++) worst_back = fmax(worst_back, fabs((double)got[i] - from[i]));
     bool right = !there && !back && worst < 1e-4 * (double)n && worst_back < 1e-4;
-    printf("%zu: %s (status %d and %d, at most %g and %g apart)\n", n, right ? "right" : "WRONG", there, back, worst,
-           worst_back);
+    printf("%zux%zu: %s (status %d and %d, at most %g and %g apart)\n", n, batch, right ? "right" : "WRONG", there,
+           back, worst, worst_back);
     clfftDestroyPlan(&plan);
     OK(clReleaseMemObject(m));
     free(from);
@@ -70,7 +73,10 @@ int main(int count, char **words) {
     setvbuf(stdout, NULL, _IOLBF, 0);
     h = open_host();
     clfftSetup(&setup);
-    for (int i = 1; i < count; i++) right += is_right(strtoul(words[i], NULL, 10));
+    for (int i = 1; i < count; i++) {
+        const char *times = strchr(words[i], 'x');
+        right += is_right(strtoul(words[i], NULL, 10), times ? strtoul(times + 1, NULL, 10) : 1);
+    }
     clfftTeardown();
     printf("%d of %d are right\n", right, count - 1);
     return right < count - 1;

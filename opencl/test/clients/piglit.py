@@ -1,31 +1,31 @@
 """Piglit's OpenCL programs (Debian: piglit) on the driver, each with what becomes of its tests. By hand:
 
-    OCL_ICD_VENDORS=../../vendors python3 piglit.py LOG [FOLDER]..
+    OCL_ICD_VENDORS=../../vendors python3 piglit.py LOG [--every N] [FOLDER]..
 
-FOLDER is one of Piglit's, as tests/cl/program/execute; without one all that have OpenCL programs are taken. A line for
-each program goes to the end of LOG: `pass`, `fail` or `skip` as Piglit tells it, how many of its tests pass, and of
-those that don't what the driver says: `race`, `bounds` .., `refused` for a source that isn't built, else `wrong`.
-Programs that LOG has are left out, so that a run may go on. The last lines count.
+FOLDER is one of Piglit's, as tests/cl/program/execute; without one all that have OpenCL programs are taken, but for
+those with images. Of each folder's programs every N-th is run. A line for each goes to the end of LOG: `pass`, `fail`
+or `skip` as Piglit tells it, how many of its tests pass, and of those that don't what the driver says: `race`,
+`bounds` .., `refused` for a source that isn't built, else `wrong`. Programs that LOG has are left out, so that a run
+may go on. The last lines count.
 """
+import argparse
 import collections
 import glob
 import os
 import re
 import subprocess
-import sys
 
 PIGLIT = next(iter(glob.glob("/usr/lib/*/piglit")), "/usr/lib/piglit")
 LIMIT = 600
 
 
-def programs(folders):
-    """Sources that aren't told to need images, and descriptions of tests, by their paths below Piglit's folder."""
-    for folder in folders:
-        for path in sorted(glob.glob(os.path.join(PIGLIT, folder, "*"))):
-            if path.endswith((".cl", ".program_test")) and os.path.isfile(path):
-                with open(path, encoding="utf-8", errors="replace") as file:
-                    if not re.search(r"image[123]d|sampler_t|read_image|write_image", file.read()):
-                        yield os.path.relpath(path, PIGLIT)
+def programs(folder):
+    """Sources without images, and descriptions of tests, by their paths below Piglit's folder."""
+    for path in sorted(glob.glob(os.path.join(PIGLIT, folder, "*"))):
+        if path.endswith((".cl", ".program_test")) and os.path.isfile(path):
+            with open(path, encoding="utf-8", errors="replace") as file:
+                if not re.search(r"image[123]d|sampler_t|read_image|write_image", file.read()):
+                    yield os.path.relpath(path, PIGLIT)
 
 
 def all_folders():
@@ -34,13 +34,11 @@ def all_folders():
 
 
 def kinds_of_failures(told):
-    """What the driver says in front of each test that fails."""
-    kinds = collections.Counter()
-    for part in re.split(r"^> Running kernel test", told, flags=re.M):
-        if not re.search(r'"subtest".*"fail"', part):
-            continue
-        fault = re.search(r"clsim: *reply: fault \d+ (\w+)", part)
-        kinds[fault.group(1) if fault else "wrong"] += 1
+    """What the driver says of the tests that fail: a launch with a fault is a test."""
+    kinds = collections.Counter(re.findall(r"^clsim: *reply: fault \d+ (\w+)", told, re.M))
+    wrong = len(re.findall(r'"subtest".*"fail"', told)) - sum(kinds.values())
+    if wrong > 0:
+        kinds["wrong"] = wrong
     if not kinds and re.search(r"error: |Could not build", told):
         kinds["refused"] += 1
     return kinds
@@ -61,13 +59,17 @@ def tried(program):
 
 
 def main():
-    log, folders = sys.argv[1], sys.argv[2:] or all_folders()
-    lines = []
+    parser = argparse.ArgumentParser()
+    parser.add_argument("log")
+    parser.add_argument("--every", type=int, default=1)
+    parser.add_argument("folders", nargs="*")
+    words = parser.parse_intermixed_args()
+    log, lines = words.log, []
     if os.path.exists(log):
         with open(log, encoding="utf-8") as file:
             lines = file.read().splitlines()
     known = {line.split()[0] for line in lines}
-    for program in programs(folders):
+    for program in [p for folder in words.folders or all_folders() for p in list(programs(folder))[::words.every]]:
         if program not in known:
             lines.append(tried(program))
             with open(log, "a", encoding="utf-8") as file:
