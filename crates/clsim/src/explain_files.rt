@@ -1,7 +1,7 @@
 //! Files explained: a script is read, with a schedule file where one is named, and the explanation is written.
 //!
-//! What is explained, which answer is given, and what is written, `explaining` defines. A reader's failure is told apart
-//! from its faults.
+//! What is explained, which answer is given, and what is written, `explaining` defines. A reader's failure is told
+//! apart from its faults.
 #![tactic(auto)]
 
 ghost use Rattle.std.specs.Prelude.{◌≡◌, IfOk, IfErr};
@@ -59,9 +59,9 @@ fn explain_texts<W: Write>(
     explain(alloc, texts.given(), options, writer)
 }
 
-/// Reads a script and explains its first fault, or its first command that is refused, or all of them; a source, which is
-/// a file whose name ends in `.cl`, is built alone. Writes the explanation and answers true, or the word `clean` or `ok`
-/// and answers false.
+/// Reads a script and explains its first fault, or its first command that is refused, or all of them; a source, which
+/// is a file whose name ends in `.cl`, is built alone. Writes the explanation and answers true, or the word `clean` or
+/// `ok` and answers false.
 ///
 /// Faults are `Read(First)`, `BadLine`, `OutOfMemory`, and `Write`, after which a beginning of the text was written;
 /// after the others nothing was.

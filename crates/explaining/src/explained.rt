@@ -206,8 +206,8 @@ fn answer_to(alloc: Global, given: Given<'_>, options: ExplainOptions) -> Result
 /// Explains a fault. With a schedule file: that of its line, for which its schedule is replayed. Without one: the first
 /// fault of the script, or its first command that is refused, whichever comes first; or each fault and each such
 /// command, one behind another. A source, which is a file whose name ends in `.cl`, is built alone. Writes what it
-/// explains and answers true; or writes `no` where the schedule doesn't lead to the fault, `clean` where no launch has a
-/// fault and no command is refused, and `ok` where a source builds, and answers false.
+/// explains and answers true; or writes `no` where the schedule doesn't lead to the fault, `clean` where no launch has
+/// a fault and no command is refused, and `ok` where a source builds, and answers false.
 ///
 /// After `Write` a beginning of the text was written, after every other error nothing. No memory may be left at any
 /// step.
