@@ -16,7 +16,7 @@ use Rattle.simfile.specs.Script.{IsScript}
 use Rattle.explaining.proofs.Performing.{cleanly_more, first_behind, get_behind}
 use Rattle.explaining.specs.Every.{IsEndAdded, TellsCommand}
 use Rattle.explaining.specs.Explaining.{Found}
-use Rattle.explaining.specs.Leading.{EndsAt, HadMemory, HasEnd, IsFirst, IsMet, LeadsCleanly, RepliesAt, StandsBehind, goes_on}
+use Rattle.explaining.specs.Leading.{EndsAt, HadMemory, IsFirst, IsMet, RepliesAt, StandsBehind, goes_on}
 use Rattle.explaining.specs.Whole.{IsHeaded, SaysAll, TellsAny, TellsEach, TellsEnd, TellsReply, heading}
 use Rattle.explaining.specs.declared.facts.ExplainOptions.{ExplainOptions}
 use Rattle.explaining.specs.declared.walks.Walked.{Walked}
@@ -178,15 +178,15 @@ found configuration script commands m true is h =
 pub found_all :
     (configuration : Configuration) (script : List ℕ) (commands same : List Command) (first m : Machine) (met answer : Bool) → IsScript script commands → same ≡ commands
     → first ≡ opening configuration → IsMet first same same m met → answer ≡ met → Found configuration script answer
-found_all configuration script commands same first m met answer is equal opened h yes =
-    subst (Found configuration script) (sym yes)
+found_all configuration script commands same first m met answer is equal opened h answered =
+    subst (Found configuration script) (sym answered)
     (found configuration script commands m met is (subst (λ (s : Machine). IsMet s commands commands m met) opened (subst (λ (l : List Command). IsMet first l l m met) equal h)))
 
 pub says_all :
     (options : ExplainOptions) (script : List ℕ) (commands same : List Command) (first m : Machine) (met answer : Bool) (told text : List ℕ) → IsScript script commands → same ≡ commands
     → first ≡ opening options.configuration → TellsEach options script commands 0 first same m told → answer ≡ met → (met ≡ true → text ≡ told) → (met ≡ false → text ≡ codes "clean\n")
     → SaysAll options script answer text
-says_all options script commands same first m met answer told text is equal opened each yes some none = subst (λ y. SaysAll options script y text) (sym yes) (go met some none)
+says_all options script commands same first m met answer told text is equal opened each answered some none = subst (λ y. SaysAll options script y text) (sym answered) (go met some none)
   where
     here : TellsEach options script commands 0 (opening options.configuration) commands m told
     here =

@@ -1,5 +1,5 @@
 -- Where a launch and the source of its program stand in the script.
-use Rattle.std.proofs.Common.{◌≡◌, ◌≤◌, ◌+◌, ◌++◌, ℕ, Bool, Some, List, ap, arith, inr, length, length-append}
+use Rattle.std.proofs.Common.{◌≡◌, ◌≤◌, ◌++◌, ℕ, Bool, Some, List, ap, arith, inr, length, length-append}
 use Rattle.std.specs.Prelude.{slice_get}
 use Rattle.host_commands.specs.declared.command.Command.{Command}
 use Rattle.launch_facts.specs.Commands.{IsSource}

@@ -1,5 +1,5 @@
 -- Commands that were refused, told.
-use Rattle.std.proofs.Common.{◌≡◌, ℕ, Option, None, Some, List, string_bytes, sym, subst}
+use Rattle.std.proofs.Common.{◌≡◌, ℕ, Option, None, Some, List, sym, subst}
 use Rattle.std.specs.Prelude.{slice_get}
 use Rattle.std.specs.Option.{IfSome}
 use Rattle.explain_refusals.specs.Reasons.{Holds}

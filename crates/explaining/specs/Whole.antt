@@ -1,7 +1,6 @@
 -- What an explanation tells of a launch and its fault, and the text that is written of it (own).
 use Rattle.std.specs.Prelude.{◌≡◌, ◌⊎◌, ℕ, suc, Bool, true, false, ⊤, Option, None, Some, List, [], ◌∷◌, ◌++◌, codes, decimal, string_bytes, take, slice_get, MatchBool, MatchOption}
 use Rattle.std.specs.Str.Lossy.{utf8_lossy}
-use Rattle.serde_json.specs.Read.{read}
 use Rattle.clmodel.specs.Launch.{Launch}
 use Rattle.clmodel.specs.Next.{launch_of}
 use Rattle.clmodel.specs.Outcome.{events_of}

@@ -1,4 +1,4 @@
-use Rattle.std.proofs.Common.{◌++◌, ◌∙◌, List, ap, arith, string_bytes}
+use Rattle.std.proofs.Common.{◌++◌, ◌∙◌, ap, arith, string_bytes}
 use Rattle.explaining.specs.Whole.{heading}
 use Rattle.explaining.proofs.every.push_end.Goals as goal
 

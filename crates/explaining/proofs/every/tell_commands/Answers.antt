@@ -22,13 +22,13 @@ pub loop-command-preserved : goal.loop-command-preserved
 loop-command-preserved c =
     let split = c.loop-command.invariant.split ∙ ap (λ l. c.loop-command.yielded ++ l) c.in-Some.ensures.steps.0 in record {
       split = split ∙ sym (append_assoc c.loop-command.yielded (c.in-Some.command ∷ []) (into_iter_items c.next.new.self));
-      counted = c.in_ok-tell_command.ensures.counted ∙ ap (λ n. n + 1) c.loop-command.invariant.counted ∙ sym (length_push c.loop-command.yielded c.in-Some.command);
+      counted = c.in_ok-met.ensures.counted ∙ ap (λ n. n + 1) c.loop-command.invariant.counted ∙ sym (length_push c.loop-command.yielded c.in-Some.command);
       each =
           command_more c.args.script.now.options c.args.script.now.given.script.now c.args.script.now.commands.now _ _ _ c.loop-command.yielded c.in-Some.command (length c.loop-command.done.items)
-          (string_bytes c.loop-command.text) _ c.loop-command.met _ c.loop-command.invariant.each c.loop-command.invariant.counted c.in_ok-tell_command.ensures.told;
+          (string_bytes c.loop-command.text) _ c.loop-command.met _ c.loop-command.invariant.each c.loop-command.invariant.counted c.in_ok-met.ensures.told;
       met =
           met_more c.args.script.now.options c.args.script.now.given.script.now c.args.script.now.commands.now _ _ _ c.args.same.items c.loop-command.yielded (into_iter_items c.next.new.self)
-          c.in-Some.command (length c.loop-command.done.items) (string_bytes c.loop-command.text) _ c.loop-command.met _ split c.loop-command.invariant.met c.in_ok-tell_command.ensures.told;
+          c.in-Some.command (length c.loop-command.done.items) (string_bytes c.loop-command.text) _ c.loop-command.met _ split c.loop-command.invariant.met c.in_ok-met.ensures.told;
     }
 
 pub returns-clause-each : goal.returns-clause-each
