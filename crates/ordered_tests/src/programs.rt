@@ -3,7 +3,7 @@
 
 use crate::launched::{Case, End, ends_as_told};
 
-const CASES: [Case; 9] = [
+const CASES: [Case; 10] = [
     // A lock by tickets: an item takes a ticket, sees that it is its turn, works, and lets the next one in.
     Case {
         source: "__kernel void k(__global uint *a) { uint ticket = atomic_inc(a); \
@@ -98,6 +98,19 @@ const CASES: [Case; 9] = [
         group: 1,
         end: End::Ended(&[0, 0, 0, 0]),
         events: 11,
+    },
+    // It stores in place of a compare-exchange: two looks and a store of the first item, and a look of the second one
+    // at what was stored.
+    Case {
+        source: "__kernel void k(__global uint *a) { uint r = get_global_id(0); uint s = r + 1; \
+                uint p = atomic_add(a + r, 0); while (p != r) { r = p; p = atomic_add(a + r, 0); } \
+                p = atomic_add(a + s, 0); while (p != s) { s = p; p = atomic_add(a + s, 0); } \
+                if (r != s) a[max(r, s)] = min(r, s); }",
+        words: &[0, 1, 2, 3],
+        items: 3,
+        group: 1,
+        end: End::Race(0, 1, 4),
+        events: 4,
     },
 ];
 
