@@ -77,6 +77,7 @@ fn quote_text(alloc: Global, refusal: &Refusal) -> Result<String, AllocError> {
     let to = from.saturating_add(refusal.length);
     let mut out = String::new(alloc);
     write_quote(
+        alloc,
         refusal.script_line,
         refusal.text.as_str(),
         from,

@@ -10,7 +10,7 @@ use Rattle.fault_play.specs.PlayedOut.{IsLastEvent}
 none_some : {A : Type 0} (x : A) → None ≡ Some x → ⊥
 none_some x e = cc
 
-some_below : {A : Type 0} (xs : List A) (m : ℕ) (x : A) → slice_get xs m ≡ Some x → m < length xs
+pub some_below : {A : Type 0} (xs : List A) (m : ℕ) (x : A) → slice_get xs m ≡ Some x → m < length xs
 some_below {A = A} xs m x e = go ((slice_get_cases xs m).1)
   where
     go : ((y : A) × (m < length xs) × (slice_get xs m ≡ Some y) × (get_or xs m y ≡ y)) ⊎ ((length xs ≤ m) × (slice_get xs m ≡ None)) → m < length xs

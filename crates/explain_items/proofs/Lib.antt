@@ -1,3 +1,4 @@
-mod Counting
+pub mod Counting
+mod Numbering
 pub mod Renaming
 pub mod Spotting

@@ -1,8 +1,9 @@
 //! The items that a fault names.
 #![tactic(auto)]
 
-ghost use Rattle.std.specs.Prelude.{◌≡◌, [], ◌∷◌, None, Some, IfOk, option_copied};
+ghost use Rattle.std.specs.Prelude.{◌≡◌, ◌<◌, ◌+◌, [], ◌∷◌, None, Some, length, map, IfNone, IfOk, IfSome, option_copied};
 ghost use Rattle.std.specs.Option.{option_map_or};
+ghost use Rattle.explain_items.specs.Deeds.{Accesses, HaveEvents, IsEventAt, deed_of, stop_deed, told_deeds};
 ghost use Rattle.explain_items.specs.Ids.{AreIds};
 ghost use Rattle.item_step.specs.Launches.{setup_of};
 ghost use Rattle.explain_items.specs.Named.{AreToldInside, AtAccess, AtEnd, AtStand, IsToldInside, in_order, site_of, told_items};
@@ -14,7 +15,7 @@ use clmodel::access::AccessKind;
 use clmodel::action::Stop;
 use clmodel::fault::Fault;
 use explanation::{Does, Ids, NamedItem};
-use fault_play::{Pair, Played, Stand, Standing, event_of, last_of};
+use fault_play::{Mark, Pair, Played, Stand, Standing, event_of, last_of};
 use item_value::position::{ItemPosition, group_counts};
 use std::alloc::{AllocError, Global};
 
@@ -42,7 +43,9 @@ fn named(
     event: Option<usize>,
     stand: Option<&Stand>,
 ) -> Result<NamedItem, AllocError>
-    ensures { IfOk result (IsNamedInside context.now.launch.now context.now.program.text.now context.now.program.first_line (λ s. option_copied stand.entry ≡ Some s) (λ _. ⊥) item) }
+    ensures told { IfOk result (IsNamedInside context.now.launch.now context.now.program.text.now context.now.program.first_line (λ s. option_copied stand.entry ≡ Some s) (λ _. ⊥) item) }
+    ensures deed { IfOk result (λ named. named.does ≡ does) }
+    ensures event { IfOk result (λ named. named.event ≡ event) }
 {
     let ids = ids_of(context, item)?;
     Ok(NamedItem {
@@ -55,10 +58,19 @@ fn named(
     })
 }
 
-/// The number of an event from 1.
-fn from_one(event: Option<usize>) -> Option<usize> {
+/// The number of an event from 1, of a number from 0 of one of these.
+fn from_one(marks: &[Mark], event: Option<usize>) -> Option<usize>
+    ensures some { IfSome event (λ number. number < length marks.now → result ≡ Some (number + 1)) }
+    ensures none { IfNone event (result ≡ None) }
+{
     match event {
-        Some(number) => Some(number.saturating_add(1)),
+        Some(number) => {
+            if number < marks.len() {
+                Some(number + 1)
+            } else {
+                None
+            }
+        }
         None => None,
     }
 }
@@ -71,24 +83,31 @@ fn accessing(
     kind: AccessKind,
     access: usize,
 ) -> Result<NamedItem, AllocError>
-    ensures { IfOk result (IsToldInside context.now played.now.marks.items (item, AtAccess access)) }
+    ensures told { IfOk result (IsToldInside context.now played.now.marks.items (item, AtAccess access)) }
+    ensures deed { IfOk result (λ named. deed_of named.does ≡ Accesses kind) }
+    ensures event { IfOk result (λ named. IsEventAt played.now.marks.items (AtAccess access) named.event) }
 {
     let marks = played.marks.as_slice();
     let event = event_of(marks, access);
     let stand = stand_at(marks, event);
-    named(context, item, Does::Access(kind), from_one(event), stand)
+    let number = from_one(marks, event);
+    named(context, item, Does::Access(kind), number, stand)
 }
 
 /// An item where it stands.
 fn standing(context: &Context<'_>, standing: &Standing, does: Does) -> Result<NamedItem, AllocError>
-    ensures { IfOk result (IsNamedInside context.now.launch.now context.now.program.text.now context.now.program.first_line (λ s. standing.now.stand ≡ Some s) (λ _. ⊥) standing.now.item) }
+    ensures told { IfOk result (IsNamedInside context.now.launch.now context.now.program.text.now context.now.program.first_line (λ s. standing.now.stand ≡ Some s) (λ _. ⊥) standing.now.item) }
+    ensures deed { IfOk result (λ named. named.does ≡ does) }
+    ensures event { IfOk result (λ named. named.event ≡ None) }
 {
     named(context, standing.item, does, None, standing.stand.as_ref())
 }
 
 /// An item that has ended, with its last access.
 fn ended(context: &Context<'_>, played: &Played, item: u32) -> Result<NamedItem, AllocError>
-    ensures { IfOk result (IsToldInside context.now played.now.marks.items (item, AtEnd)) }
+    ensures told { IfOk result (IsToldInside context.now played.now.marks.items (item, AtEnd)) }
+    ensures deed { IfOk result (λ named. named.does ≡ Does.Ended) }
+    ensures event { IfOk result (λ named. named.event ≡ None) }
 {
     let marks = played.marks.as_slice();
     let stand = stand_at(marks, last_of(marks, item));
@@ -110,7 +129,9 @@ fn stopped(
     at: &Standing,
     stop: &Stop,
 ) -> Result<NamedItem, AllocError>
-    ensures { IfOk result (IsToldInside context.now played.now.marks.items (at.now.item, site_of stop.now at.now.stand)) }
+    ensures told { IfOk result (IsToldInside context.now played.now.marks.items (at.now.item, site_of stop.now at.now.stand)) }
+    ensures deed { IfOk result (λ named. deed_of named.does ≡ stop_deed stop.now) }
+    ensures event { IfOk result (λ named. named.event ≡ None) }
 {
     match stop {
         Stop::Ended => ended(context, played, at.item),
@@ -165,7 +186,9 @@ fn conflicting(
     first: (u32, AccessKind),
     second: (u32, AccessKind),
 ) -> Result<Vec<NamedItem>, AllocError>
-    ensures { IfOk result (λ items. AreToldInside context.now played.now.marks.items (in_order pair (first.0, AtAccess pair.first) (second.0, AtAccess pair.second)) items.items) }
+    ensures told { IfOk result (λ items. AreToldInside context.now played.now.marks.items (in_order pair (first.0, AtAccess pair.first) (second.0, AtAccess pair.second)) items.items) }
+    ensures deeds { IfOk result (λ items. map (λ named. deed_of named.does) items.items ≡ in_order pair (Accesses first.1) (Accesses second.1)) }
+    ensures events { IfOk result (λ items. HaveEvents played.now.marks.items (in_order pair (first.0, AtAccess pair.first) (second.0, AtAccess pair.second)) items.items) }
 {
     let item = accessing(context, played, first.0, first.1, pair.first)?;
     let other = accessing(context, played, second.0, second.1, pair.second)?;
@@ -174,7 +197,9 @@ fn conflicting(
 
 /// An item of a conflict whose accesses weren't found: no place is told of it.
 fn placeless(context: &Context<'_>, item: u32, kind: AccessKind) -> Result<NamedItem, AllocError>
-    ensures { IfOk result (IsNamedInside context.now.launch.now context.now.program.text.now context.now.program.first_line (λ s. None ≡ Some s) (λ _. ⊥) item) }
+    ensures told { IfOk result (IsNamedInside context.now.launch.now context.now.program.text.now context.now.program.first_line (λ s. None ≡ Some s) (λ _. ⊥) item) }
+    ensures deed { IfOk result (λ named. deed_of named.does ≡ Accesses kind) }
+    ensures event { IfOk result (λ named. named.event ≡ None) }
 {
     named(context, item, Does::Access(kind), None, None)
 }
@@ -186,7 +211,11 @@ fn clashing(
     first: (u32, AccessKind),
     second: (u32, AccessKind),
 ) -> Result<Vec<NamedItem>, AllocError>
-    ensures { IfOk result (λ items. AreToldInside context.now played.now.marks.items (option_map_or (λ pair. in_order pair (first.0, AtAccess pair.first) (second.0, AtAccess pair.second)) played.now.pair
+    ensures told { IfOk result (λ items. AreToldInside context.now played.now.marks.items (option_map_or (λ pair. in_order pair (first.0, AtAccess pair.first) (second.0, AtAccess pair.second)) played.now.pair
+        ((first.0, AtStand None) ∷ (second.0, AtStand None) ∷ [])) items.items) }
+    ensures deeds { IfOk result (λ items. map (λ named. deed_of named.does) items.items ≡ option_map_or (λ pair. in_order pair (Accesses first.1) (Accesses second.1)) played.now.pair
+        (Accesses first.1 ∷ Accesses second.1 ∷ [])) }
+    ensures events { IfOk result (λ items. HaveEvents played.now.marks.items (option_map_or (λ pair. in_order pair (first.0, AtAccess pair.first) (second.0, AtAccess pair.second)) played.now.pair
         ((first.0, AtStand None) ∷ (second.0, AtStand None) ∷ [])) items.items) }
 {
     match played.pair {
@@ -206,7 +235,9 @@ fn diverging(
     stop: &Stop,
     other_stop: &Stop,
 ) -> Result<Vec<NamedItem>, AllocError>
-    ensures { IfOk result (λ items. AreToldInside context.now played.now.marks.items ((played.now.first.item, site_of stop.now played.now.first.stand) ∷ (played.now.second.item, site_of other_stop.now played.now.second.stand) ∷ []) items.items) }
+    ensures told { IfOk result (λ items. AreToldInside context.now played.now.marks.items ((played.now.first.item, site_of stop.now played.now.first.stand) ∷ (played.now.second.item, site_of other_stop.now played.now.second.stand) ∷ []) items.items) }
+    ensures deeds { IfOk result (λ items. map (λ named. deed_of named.does) items.items ≡ stop_deed stop.now ∷ stop_deed other_stop.now ∷ []) }
+    ensures events { IfOk result (λ items. HaveEvents played.now.marks.items ((played.now.first.item, site_of stop.now played.now.first.stand) ∷ (played.now.second.item, site_of other_stop.now played.now.second.stand) ∷ []) items.items) }
 {
     let item = stopped(context, played, &played.first, stop)?;
     let other = stopped(context, played, &played.second, other_stop)?;
@@ -223,7 +254,9 @@ fn deed_of(fault: &Fault) -> Does {
 
 /// The one item of a fault.
 fn alone(context: &Context<'_>, played: &Played, does: Does) -> Result<Vec<NamedItem>, AllocError>
-    ensures { IfOk result (λ items. AreToldInside context.now played.now.marks.items ((played.now.first.item, AtStand played.now.first.stand) ∷ []) items.items) }
+    ensures told { IfOk result (λ items. AreToldInside context.now played.now.marks.items ((played.now.first.item, AtStand played.now.first.stand) ∷ []) items.items) }
+    ensures deeds { IfOk result (λ items. map (λ named. deed_of named.does) items.items ≡ deed_of does ∷ []) }
+    ensures events { IfOk result (λ items. HaveEvents played.now.marks.items ((played.now.first.item, AtStand played.now.first.stand) ∷ []) items.items) }
 {
     let item = standing(context, &played.first, does)?;
     one(context.alloc, item)
@@ -235,7 +268,9 @@ pub fn named_items(
     played: &Played,
     fault: &Fault,
 ) -> Result<Vec<NamedItem>, AllocError>
-    ensures { IfOk result (λ items. AreToldInside context.now played.now.marks.items (told_items fault.now played.now) items.items) }
+    ensures told { IfOk result (λ items. AreToldInside context.now played.now.marks.items (told_items fault.now played.now) items.items) }
+    ensures deeds { IfOk result (λ items. map (λ named. deed_of named.does) items.items ≡ told_deeds fault.now played.now) }
+    ensures events { IfOk result (λ items. HaveEvents played.now.marks.items (told_items fault.now played.now) items.items) }
 {
     match fault {
         Fault::Conflict {

@@ -1,6 +1,13 @@
 //! What a used-up budget went to.
 #![tactic(auto)]
 
+ghost use Rattle.std.specs.Prelude.{◌≡◌, ◌/◌, count_by, IfOk};
+ghost use Rattle.explain_items.specs.Deeds.{is_release_of};
+ghost use Rattle.explain_reasons.specs.Counted.{IsUse};
+ghost use Rattle.fault_play.specs.PlayedOut.{is_event_of};
+ghost use Rattle.clmodel.specs.Setup.{group_items};
+ghost use Rattle.item_step.specs.Launches.{setup_of};
+
 use crate::turns::{SeenTurns, TurnedLoop, turns_seen};
 use explain_items::{Context, is_access, is_release};
 use explanation::{BudgetUse, CountedTurns, LoopTurns, OtherLoops};
@@ -11,22 +18,26 @@ use std::alloc::{AllocError, Global};
 const MOST_LOOPS: usize = 4;
 
 /// How many accesses an item made.
-fn accesses_of(marks: &[Mark], item: u32) -> u64 {
+fn accesses_of(marks: &[Mark], item: u32) -> u64
+    ensures { result ≡ count_by (λ mark. is_event_of item mark.event) marks.now }
+{
     let mut count = 0u64;
     for mark in marks {
         if is_access(mark.event, item) {
-            count = count.saturating_add(1);
+            count += 1;
         }
     }
     count
 }
 
 /// How many barriers a group passed.
-fn barriers_of(marks: &[Mark], group: u32) -> u64 {
+fn barriers_of(marks: &[Mark], group: u32) -> u64
+    ensures { result ≡ count_by (λ mark. is_release_of group mark.event) marks.now }
+{
     let mut count = 0u64;
     for mark in marks {
         if is_release(mark.event, group) {
-            count = count.saturating_add(1);
+            count += 1;
         }
     }
     count
@@ -112,7 +123,9 @@ pub(crate) fn budget_use(
     context: &Context<'_>,
     played: &Played,
     budget: u32,
-) -> Result<BudgetUse, AllocError> {
+) -> Result<BudgetUse, AllocError>
+    ensures { IfOk result (IsUse played.now.marks.items played.now.first.item (played.now.first.item / group_items (setup_of context.now.launch.now).range) budget) }
+{
     let alloc = context.alloc;
     let item = played.first.item;
     let marks = played.marks.as_slice();

@@ -1,39 +1,90 @@
 //! Why a fault comes about.
 #![tactic(auto)]
 
+ghost use Rattle.std.specs.Prelude.{◌≡◌, ◌/◌, ℕ, [], ◌∷◌, Some, length, string_bytes, IfOk, IfNone, IfSome, if◌then◌else◌};
+ghost use Rattle.std.specs.Bool.{Decides};
+ghost use Rattle.std.specs.Option.{option_map};
+ghost use Rattle.clmodel.specs.Setup.{group_items};
+ghost use Rattle.item_step.specs.Launches.{setup_of};
+ghost use Rattle.fault_play.specs.PlayedOut.{IsLastEvent};
+ghost use Rattle.explain_reasons.specs.Between.{IsBetween, IsLastBetween, LeaveOne, LeaveTheSame, Leaves, PassesBetween, PassesLast, TouchTheSame, passes_at, releases_at};
+ghost use Rattle.explain_reasons.specs.Reasons.{AreBounds, AreClashing, AreElements, AreReasons, AreUpdates, IsAlone, IsPrivate, IsSpent, IsUnordered, IsUnset, Matters, WithStore, memory_of, size_of};
+
 use crate::arrays::array_of;
 use crate::budget::budget_use;
 use crate::unset::unset_reason;
 use clmodel::access::{AccessKind, Clash};
 use clmodel::fault::{Fault, Location};
 use clmodel::text::Name;
-use explain_items::{Context, is_release};
+use explain_items::{Context, is_release, stand_at};
 use explanation::{FencedMemory, Memory, Reason};
-use fault_play::{Mark, Played, event_of};
+use fault_play::{Mark, Pair, Played, Touch, event_of};
 use std::alloc::{AllocError, Global};
 
-/// The last release of a group between two events, if there is one.
-fn release_between(marks: &[Mark], group: u32, from: usize, to: usize) -> Option<&Mark> {
-    let mut found = None;
-    for (number, mark) in marks.iter().enumerate() {
-        if number > from && number < to && is_release(mark.event, group) {
-            found = Some(mark);
-        }
+/// Whether the event of a number is the release of a group.
+fn releases_at(marks: &[Mark], group: u32, number: usize) -> bool
+    ensures { result ≡ releases_at marks.now group number }
+{
+    match marks.get(number) {
+        Some(mark) => is_release(mark.event, group),
+        None => false,
     }
-    found
 }
 
-/// The last release of a group between the two accesses of a conflict, if there is one.
-fn barrier_between(played: &Played, group: u32) -> Option<&Mark> {
-    let pair = played.pair?;
-    let marks = played.marks.as_slice();
-    let from = event_of(marks, pair.first.min(pair.second))?;
-    let to = event_of(marks, pair.first.max(pair.second))?;
+/// Whether the event of a number is the release of a group between two events.
+fn passes_at(marks: &[Mark], group: u32, from: usize, to: usize, number: usize) -> bool
+    ensures { result ≡ passes_at marks.now group from to number }
+{
+    from < number && number < to && releases_at(marks, group, number)
+}
+
+/// This number, if it is such a one, else the earlier one.
+fn this_or_earlier(is_such: bool, number: usize, earlier: Option<usize>) -> Option<usize>
+    ensures { result ≡ (if is_such then Some number else earlier) }
+{
+    if is_such { Some(number) } else { earlier }
+}
+
+/// The number of the last release of a group between two events, if there is one.
+fn release_between(marks: &[Mark], group: u32, from: usize, to: usize) -> Option<usize>
+    ensures { IsLastEvent (passes_at marks.now group from to) (length marks.now) result }
+{
+    let mut last = None;
+    for number in 0..marks.len() {
+        last = this_or_earlier(passes_at(marks, group, from, to, number), number, last);
+    }
+    last
+}
+
+/// The number of the last release of a group between the accesses of a pair, if there is one.
+fn barrier_of(marks: &[Mark], pair: Pair, group: u32) -> Option<usize>
+    ensures some { IfSome result (IsLastBetween marks.now pair group) }
+    ensures none { IfNone result ((number : ℕ) → IsBetween marks.now pair group number → ⊥) }
+{
+    let (Some(from), Some(to)) = (
+        event_of(marks, pair.first.min(pair.second)),
+        event_of(marks, pair.first.max(pair.second)),
+    ) else {
+        return None;
+    };
     release_between(marks, group, from, to)
 }
 
+/// The number of the last release of a group between the two accesses of a conflict, if there is one.
+fn barrier_between(played: &Played, group: u32) -> Option<usize>
+    ensures some { IfSome result (PassesLast played.now group) }
+    ensures none { IfNone result ((number : ℕ) → PassesBetween played.now group number → ⊥) }
+{
+    match played.pair {
+        Some(pair) => barrier_of(played.marks.as_slice(), pair, group),
+        None => None,
+    }
+}
+
 /// What a barrier has to fence to order accesses at a location (OpenCL 1.2, section 6.12.8).
-fn memory_of(location: &Location) -> FencedMemory {
+fn memory_of(location: &Location) -> FencedMemory
+    ensures { result ≡ memory_of location.now }
+{
     match location {
         Location::Buffer(_) => FencedMemory::Global,
         Location::Local { .. } => FencedMemory::Local,
@@ -47,12 +98,14 @@ fn unordered_reason(
     played: &Played,
     group: u32,
     location: &Location,
-) -> Result<Reason, AllocError> {
+) -> Result<Reason, AllocError>
+    ensures { IfOk result (IsUnordered played.now group group location.now) }
+{
     match barrier_between(played, group) {
-        Some(barrier) => Ok(Reason::UnfencedBarrier {
+        Some(number) => Ok(Reason::UnfencedBarrier {
             group,
             memory: memory_of(location),
-            barrier: context.code(barrier.stand.as_ref())?,
+            barrier: context.code(stand_at(played.marks.as_slice(), Some(number)))?,
         }),
         None => Ok(Reason::NoBarrier { group }),
     }
@@ -63,7 +116,10 @@ fn order_reason(
     context: &Context<'_>,
     played: &Played,
     location: &Location,
-) -> Result<Reason, AllocError> {
+) -> Result<Reason, AllocError>
+    ensures { IfOk result (IsUnordered played.now (played.now.first.item / group_items (setup_of context.now.launch.now).range)
+        (played.now.second.item / group_items (setup_of context.now.launch.now).range) location.now) }
+{
     let size = context.launch.group_size();
     let (group, other) = (played.first.item / size, played.second.item / size);
     if group == other {
@@ -73,31 +129,56 @@ fn order_reason(
 }
 
 /// The number that an access of a log leaves, where it is known.
-fn left_by(marks: &[Mark], access: usize) -> Option<u64> {
-    match marks.get(event_of(marks, access)?) {
-        Some(mark) => mark.left,
+fn left_by(marks: &[Mark], access: usize) -> Option<u64>
+    ensures some { IfSome result (Leaves marks.now access) }
+    ensures all { (x : ℕ) → Leaves marks.now access x → result ≡ Some x }
+{
+    match event_of(marks, access) {
+        Some(number) => match marks.get(number) {
+            Some(mark) => mark.left,
+            None => None,
+        },
         None => None,
     }
 }
 
-/// Whether the two accesses of a conflict, which are stores, are known to leave the same.
-fn store_the_same(played: &Played) -> bool {
-    let Some(pair) = played.pair else {
-        return false;
-    };
-    let (marks, touches) = (played.marks.as_slice(), played.touches.as_slice());
+/// Whether two accesses touch the same bytes.
+fn touch_the_same(touches: &[Touch], pair: Pair) -> bool
+    ensures { Decides result (TouchTheSame touches.now pair) }
+{
     match (touches.get(pair.first), touches.get(pair.second)) {
-        (Some(one), Some(other)) => {
-            let left = left_by(marks, pair.first);
-            let same = left.is_some() && left == left_by(marks, pair.second);
-            same && one.byte == other.byte && one.bytes == other.bytes
-        }
+        (Some(one), Some(other)) => one.byte == other.byte && one.bytes == other.bytes,
         _ => false,
     }
 }
 
+/// Whether two accesses are known to leave the same number.
+fn same_left(marks: &[Mark], pair: Pair) -> bool
+    ensures { Decides result (LeaveOne marks.now pair) }
+{
+    match (left_by(marks, pair.first), left_by(marks, pair.second)) {
+        (Some(left), Some(other)) => left == other,
+        _ => false,
+    }
+}
+
+/// Whether the two accesses of a conflict, which are stores, are known to leave the same.
+fn store_the_same(played: &Played) -> bool
+    ensures { Decides result (LeaveTheSame played.now) }
+{
+    match played.pair {
+        Some(pair) => {
+            touch_the_same(played.touches.as_slice(), pair)
+                && same_left(played.marks.as_slice(), pair)
+        }
+        None => false,
+    }
+}
+
 /// Why the order of two stores matters.
-fn stores_reason(played: &Played) -> Reason {
+fn stores_reason(played: &Played) -> Reason
+    ensures { Matters played.now Clash.Race (AccessKind.Store, AccessKind.Store) result }
+{
     if store_the_same(played) {
         Reason::SameStores
     } else {
@@ -106,7 +187,9 @@ fn stores_reason(played: &Played) -> Reason {
 }
 
 /// Why the order of two accesses matters of which one stores, by the kind of the other one.
-fn store_reason(played: &Played, other: AccessKind) -> Reason {
+fn store_reason(played: &Played, other: AccessKind) -> Reason
+    ensures { WithStore played.now other result }
+{
     match other {
         AccessKind::Load => Reason::StoreAndLoad,
         AccessKind::Store => stores_reason(played),
@@ -117,26 +200,33 @@ fn store_reason(played: &Played, other: AccessKind) -> Reason {
 
 /// Why the order of two accesses matters that are a race: at least one isn't by an atomic function, and at least one
 /// isn't a load.
-fn race_reason(played: &Played, kinds: (AccessKind, AccessKind)) -> Reason {
-    match kinds {
-        (AccessKind::Store, other) | (other, AccessKind::Store) => store_reason(played, other),
+fn race_reason(played: &Played, kind: AccessKind, other: AccessKind) -> Reason
+    ensures { (AreUpdates (kind, other) → ⊥) → Matters played.now Clash.Race (kind, other) result }
+{
+    match (kind, other) {
+        (AccessKind::Store, other) => store_reason(played, other),
+        (kind, AccessKind::Store) => store_reason(played, kind),
         _ => Reason::AtomicAndLoad,
     }
 }
 
 /// Why the order of two accesses matters.
-fn clash_reason(played: &Played, clash: Clash, kinds: (AccessKind, AccessKind)) -> Reason {
-    if let (AccessKind::Update(class), AccessKind::Update(other)) = kinds {
-        return Reason::Classes { class, other };
-    }
-    match clash {
-        Clash::Order => Reason::OrderShown,
-        Clash::Race => race_reason(played, kinds),
+fn clash_reason(played: &Played, clash: Clash, kind: AccessKind, other: AccessKind) -> Reason
+    ensures { Matters played.now clash (kind, other) result }
+{
+    match (kind, other) {
+        (AccessKind::Update(class), AccessKind::Update(other)) => Reason::Classes { class, other },
+        _ => match clash {
+            Clash::Order => Reason::OrderShown,
+            Clash::Race => race_reason(played, kind, other),
+        },
     }
 }
 
 /// How many elements of a width an object has.
-fn elements_of(name: String, bytes: u64, width: u64) -> Reason {
+fn elements_of(name: String, bytes: u64, width: u64) -> Reason
+    ensures { AreElements (string_bytes name) bytes width result }
+{
     Reason::Elements {
         name,
         bytes,
@@ -145,30 +235,10 @@ fn elements_of(name: String, bytes: u64, width: u64) -> Reason {
     }
 }
 
-/// Why an element is out of bounds, where the size of the object and of the element are known.
-fn bounds_reason(
-    alloc: Global,
-    played: &Played,
-    memory: &Option<Memory>,
-) -> Result<Option<Reason>, AllocError> {
-    let (Some(memory), Some(width)) = (memory, played.first.width) else {
-        return Ok(None);
-    };
-    match memory.size {
-        Some(size) => {
-            let name = String::from_str(alloc, memory.name.as_str())?;
-            Ok(Some(elements_of(name, size, width)))
-        }
-        None => Ok(None),
-    }
-}
-
 /// Why an element is outside of a private array.
-fn private_reason(
-    context: &Context<'_>,
-    played: &Played,
-    name: &Name,
-) -> Result<Reason, AllocError> {
+fn private_reason(context: &Context<'_>, played: &Played, name: &Name) -> Result<Reason, AllocError>
+    ensures { IfOk result (IsPrivate name.now) }
+{
     match array_of(context, played.first.stand.as_ref(), name)? {
         Some(array) => {
             let name = String::from_utf8_lossy(context.alloc, name.as_slice())?;
@@ -179,7 +249,9 @@ fn private_reason(
 }
 
 /// Why a division by zero fails, with the left operand, where it is known.
-fn division_reason(played: &Played) -> Reason {
+fn division_reason(played: &Played) -> Reason
+    ensures { result ≡ Reason.ZeroDivisor (option_map (λ value. value.number) played.now.first.dividend) }
+{
     Reason::ZeroDivisor {
         left: match played.first.dividend {
             Some(value) => Some(value.number()),
@@ -189,9 +261,21 @@ fn division_reason(played: &Played) -> Reason {
 }
 
 /// A list of one reason.
-fn one(alloc: Global, reason: Reason) -> Result<Vec<Reason>, AllocError> {
+fn one(alloc: Global, reason: Reason) -> Result<Vec<Reason>, AllocError>
+    ensures { IfOk result (λ why. why.items ≡ reason ∷ []) }
+{
     let mut reasons = Vec::new(alloc);
     reasons.push(reason)?;
+    Ok(reasons)
+}
+
+/// A list of two reasons.
+fn two(alloc: Global, first: Reason, second: Reason) -> Result<Vec<Reason>, AllocError>
+    ensures { IfOk result (λ why. why.items ≡ first ∷ second ∷ []) }
+{
+    let mut reasons = Vec::new(alloc);
+    reasons.push(first)?;
+    reasons.push(second)?;
     Ok(reasons)
 }
 
@@ -200,13 +284,28 @@ fn conflict_reasons(
     context: &Context<'_>,
     played: &Played,
     clash: Clash,
-    kinds: (AccessKind, AccessKind),
+    kind: AccessKind,
+    other: AccessKind,
     location: &Location,
-) -> Result<Vec<Reason>, AllocError> {
+) -> Result<Vec<Reason>, AllocError>
+    ensures { IfOk result (λ why. AreClashing (group_items (setup_of context.now.launch.now).range) played.now clash (kind, other) location.now why.items) }
+{
     let order = order_reason(context, played, location)?;
-    let mut reasons = one(context.alloc, order)?;
-    reasons.push(clash_reason(played, clash, kinds))?;
-    Ok(reasons)
+    let matter = clash_reason(played, clash, kind, other);
+    two(context.alloc, order, matter)
+}
+
+/// Why an element is out of bounds: how many elements an object of this size has.
+fn sized_reasons(
+    alloc: Global,
+    memory: &Memory,
+    size: u64,
+    width: u64,
+) -> Result<Vec<Reason>, AllocError>
+    ensures { IfOk result (λ why. AreBounds (Some memory.now) (Some size) (Some width) why.items) }
+{
+    let name = String::from_str(alloc, memory.name.as_str())?;
+    one(alloc, elements_of(name, size, width))
 }
 
 /// Why an element is out of bounds, if more is known than that it is.
@@ -214,11 +313,53 @@ fn bounds_reasons(
     alloc: Global,
     played: &Played,
     memory: &Option<Memory>,
-) -> Result<Vec<Reason>, AllocError> {
-    match bounds_reason(alloc, played, memory)? {
-        Some(reason) => one(alloc, reason),
+) -> Result<Vec<Reason>, AllocError>
+    ensures { IfOk result (λ why. AreBounds memory.now (size_of memory.now) played.now.first.width why.items) }
+{
+    match memory {
+        Some(memory) => match (memory.size, played.first.width) {
+            (Some(size), Some(width)) => sized_reasons(alloc, memory, size, width),
+            _ => Ok(Vec::new(alloc)),
+        },
         None => Ok(Vec::new(alloc)),
     }
+}
+
+/// Why a budget was used up.
+fn budget_reasons(
+    context: &Context<'_>,
+    played: &Played,
+    budget: u32,
+) -> Result<Vec<Reason>, AllocError>
+    ensures { IfOk result (λ why. IsAlone (IsSpent played.now (group_items (setup_of context.now.launch.now).range) budget) why.items) }
+{
+    let used = budget_use(context, played, budget)?;
+    one(context.alloc, Reason::Budget(used))
+}
+
+/// Why a byte is unset.
+fn unset_reasons(
+    context: &Context<'_>,
+    played: &Played,
+    location: &Location,
+    byte: u64,
+) -> Result<Vec<Reason>, AllocError>
+    ensures { IfOk result (λ why. IsAlone (IsUnset played.now location.now byte) why.items) }
+{
+    let reason = unset_reason(context, played, location, byte)?;
+    one(context.alloc, reason)
+}
+
+/// Why an element is outside of a private array, as the one reason.
+fn private_reasons(
+    context: &Context<'_>,
+    played: &Played,
+    array: &Name,
+) -> Result<Vec<Reason>, AllocError>
+    ensures { IfOk result (λ why. IsAlone (IsPrivate array.now) why.items) }
+{
+    let reason = private_reason(context, played, array)?;
+    one(context.alloc, reason)
 }
 
 /// Why a fault comes about. An error is out of memory.
@@ -228,7 +369,9 @@ pub fn reasons_of(
     fault: &Fault,
     memory: &Option<Memory>,
     budget: u32,
-) -> Result<Vec<Reason>, AllocError> {
+) -> Result<Vec<Reason>, AllocError>
+    ensures { IfOk result (λ why. AreReasons (group_items (setup_of context.now.launch.now).range) played.now fault.now memory.now budget why.items) }
+{
     let alloc = context.alloc;
     match fault {
         Fault::Conflict {
@@ -237,20 +380,15 @@ pub fn reasons_of(
             other_kind,
             location,
             ..
-        } => conflict_reasons(context, played, *clash, (*kind, *other_kind), location),
+        } => conflict_reasons(context, played, *clash, *kind, *other_kind, location),
         Fault::Divergence { .. } => one(alloc, Reason::NeverTogether),
         Fault::Bounds { .. } => bounds_reasons(alloc, played, memory),
-        Fault::PrivateBounds { array, .. } => one(alloc, private_reason(context, played, array)?),
-        Fault::Unset { location, byte, .. } => {
-            one(alloc, unset_reason(context, played, location, *byte)?)
-        }
+        Fault::PrivateBounds { array, .. } => private_reasons(context, played, array),
+        Fault::Unset { location, byte, .. } => unset_reasons(context, played, location, *byte),
         Fault::UnsetVariable { .. } => one(alloc, Reason::VariableWithoutValue),
         Fault::UnsetElement { .. } => one(alloc, Reason::ElementWithoutValue),
         Fault::DivideByZero { .. } => one(alloc, division_reason(played)),
         Fault::DivideOverflow { .. } => one(alloc, Reason::QuotientTooLarge),
-        Fault::Budget { .. } => {
-            let budget = budget_use(context, played, budget)?;
-            one(alloc, Reason::Budget(budget))
-        }
+        Fault::Budget { .. } => budget_reasons(context, played, budget),
     }
 }

@@ -1,6 +1,10 @@
 //! The steps of a schedule.
 #![tactic(auto)]
 
+ghost use Rattle.std.specs.Prelude.{◌≡◌, ◌+◌, ◌-◌, ◌^◌, ◌<◌, Some, cond, take, string_bytes, IfOk, OnOk, option_copied};
+ghost use Rattle.explain_reasons.specs.Steps.{AddsStep, AreSteps, IsStep, left_of, memory_words, value_of};
+ghost use Rattle.fault_play.specs.PlayedOut.{is_access};
+
 use clmodel::access::AccessKind;
 use clmodel::fault::Location;
 use clmodel::schedule::Event;
@@ -13,7 +17,9 @@ use std::alloc::{AllocError, Global};
 pub const MOST_STEPS: usize = 1000;
 
 /// The name of a location, as a reply has it.
-fn location_text(alloc: Global, location: &Location) -> Result<String, AllocError> {
+fn location_text(alloc: Global, location: &Location) -> Result<String, AllocError>
+    ensures { IfOk result (λ text. string_bytes text ≡ memory_words location.now) }
+{
     match location {
         Location::Buffer(name) => {
             let name = String::from_utf8_lossy(alloc, name.as_slice())?;
@@ -29,7 +35,10 @@ fn location_text(alloc: Global, location: &Location) -> Result<String, AllocErro
 }
 
 /// The numbers of an access: what a load gives, what a store leaves, and what an atomic function finds and leaves.
-fn values_of(kind: AccessKind, mark: &Mark) -> (Option<u64>, Option<u64>) {
+fn values_of(kind: AccessKind, mark: &Mark) -> (Option<u64>, Option<u64>)
+    ensures value { result.0 ≡ value_of kind mark.now }
+    ensures left { result.1 ≡ left_of kind mark.now }
+{
     match kind {
         AccessKind::Load => (mark.found, None),
         AccessKind::Store => (mark.left, None),
@@ -38,7 +47,9 @@ fn values_of(kind: AccessKind, mark: &Mark) -> (Option<u64>, Option<u64>) {
 }
 
 /// The step of an access.
-fn access_step(context: &Context<'_>, touch: &Touch, mark: &Mark) -> Result<ToldEvent, AllocError> {
+fn access_step(context: &Context<'_>, touch: &Touch, mark: &Mark) -> Result<ToldEvent, AllocError>
+    ensures { IfOk result (IsStep (mark.now, Some touch.now)) }
+{
     let code = context.code(mark.stand.as_ref())?;
     let (value, left) = values_of(touch.kind, mark);
     Ok(ToldEvent::Item {
@@ -53,42 +64,63 @@ fn access_step(context: &Context<'_>, touch: &Touch, mark: &Mark) -> Result<Told
     })
 }
 
-/// The step of an event, where the next access is this one; none of an item's event of which no access is known.
-fn step_of(
+/// Adds the step of an event, where the next access is this one; none of an item's event of which no access is known.
+fn push_step(
     context: &Context<'_>,
     mark: &Mark,
     touch: Option<&Touch>,
-) -> Result<Option<ToldEvent>, AllocError> {
+    steps: &mut Vec<ToldEvent>,
+) -> Result<(), AllocError>
+    ensures { OnOk result (AddsStep mark.now (option_copied touch.entry) steps.old.items steps.new.items) }
+{
     match mark.event {
         Event::Release(group) => {
             let code = context.code(mark.stand.as_ref())?;
-            Ok(Some(ToldEvent::Release { group, code }))
+            steps.push(ToldEvent::Release { group, code })?;
+            Ok(())
         }
         Event::Item(_) => match touch {
-            Some(touch) => Ok(Some(access_step(context, touch, mark)?)),
-            None => Ok(None),
+            Some(touch) => {
+                let step = access_step(context, touch, mark)?;
+                steps.push(step)?;
+                Ok(())
+            }
+            None => Ok(()),
         },
     }
 }
 
 /// How many accesses there are up to an event, where so many are before it.
-fn with_event(accesses: usize, event: Event) -> usize {
+fn with_event(accesses: usize, event: Event) -> usize
+    ensures { accesses < 2 ^ 64 - 1 → result ≡ accesses + cond (is_access event) 1 0 }
+{
     match event {
         Event::Item(_) => accesses.saturating_add(1),
         Event::Release(_) => accesses,
     }
 }
 
+/// The first marks.
+fn first_of(marks: &[Mark], most: usize) -> &[Mark]
+    ensures { result.now ≡ take most marks.now }
+{
+    if most < marks.len() {
+        &marks[..most]
+    } else {
+        marks
+    }
+}
+
 /// The first steps of what was played. An error is out of memory.
-pub fn steps_of(context: &Context<'_>, played: &Played) -> Result<Vec<ToldEvent>, AllocError> {
+pub fn steps_of(context: &Context<'_>, played: &Played) -> Result<Vec<ToldEvent>, AllocError>
+    ensures { IfOk result (λ steps. AreSteps played.now steps.items) }
+{
     let mut steps = Vec::new(context.alloc);
     let mut accesses = 0usize;
-    let marks = played.marks.as_slice();
-    for mark in &marks[..marks.len().min(MOST_STEPS)] {
-        let touch = played.touches.get(accesses);
-        if let Some(step) = step_of(context, mark, touch)? {
-            steps.push(step)?;
-        }
+    let touches = played.touches.as_slice();
+    let first = first_of(played.marks.as_slice(), MOST_STEPS);
+    for mark in first {
+        push_step(context, mark, touches.get(accesses), &mut steps)?;
         accesses = with_event(accesses, mark.event);
     }
     Ok(steps)

@@ -1,12 +1,24 @@
 //! What was set beside an unset byte.
 #![tactic(auto)]
 
+ghost use Rattle.std.specs.Prelude.{◌≡◌, length, IfOk};
+ghost use Rattle.std.specs.Bool.{Decides};
+ghost use Rattle.explain_reasons.specs.Reasons.{IsUnset};
+ghost use Rattle.explain_reasons.specs.Stored.{IsDistance, IsNearestOf, IsOnSide, Stores, Tells, away, nearer};
+
 use clmodel::access::AccessKind;
 use clmodel::fault::Location;
 use explain_items::{Context, stand_at};
 use explanation::{Reason, StoredBytes};
 use fault_play::{Played, Touch, event_of, same_location};
 use std::alloc::AllocError;
+
+/// A side of a byte: below it, or from it on.
+#[derive(Clone, Copy)]
+enum Side {
+    Below,
+    Above,
+}
 
 /// A store, by its number, with its distance from a byte.
 #[derive(Clone, Copy)]
@@ -15,76 +27,117 @@ struct Near {
     number: usize,
 }
 
+/// How far a store that begins at this byte lies from a byte, if it lies on this side of it.
+fn away(side: Side, byte: u64, first: u64) -> Option<u64>
+    ensures { result ≡ away side byte first }
+{
+    match side {
+        Side::Below => {
+            if first < byte {
+                Some(byte - first)
+            } else {
+                None
+            }
+        }
+        Side::Above => {
+            if first < byte {
+                None
+            } else {
+                Some(first - byte)
+            }
+        }
+    }
+}
+
+/// Whether an access is a store into an object.
+fn is_store(touch: &Touch, location: &Location) -> bool
+    ensures { Decides result (Stores location.now touch.now) }
+{
+    match touch.kind {
+        AccessKind::Store => same_location(&touch.location, location),
+        AccessKind::Load | AccessKind::Update(_) | AccessKind::Fetch => false,
+    }
+}
+
+/// The distance of an access from a byte, if it is a store into its object on this side of it.
+fn distance_of(touch: &Touch, location: &Location, side: Side, byte: u64) -> Option<u64>
+    ensures { IsDistance location.now side byte touch.now result }
+{
+    if is_store(touch, location) {
+        away(side, byte, touch.byte)
+    } else {
+        None
+    }
+}
+
 /// The nearer of two stores; of two that are equally near, the earlier one.
-fn nearer(known: Option<Near>, found: Near) -> Near {
-    match known {
-        Some(near) if near.distance <= found.distance => near,
-        _ => found,
-    }
-}
-
-/// The stores that are nearest to an unset byte: the one below it, and the one above it.
-#[derive(Clone, Copy)]
-struct Nearest {
-    below: Option<Near>,
-    above: Option<Near>,
-}
-
-impl Nearest {
-    /// With a store more, by its number and its first byte.
-    fn with(self, byte: u64, first: u64, number: usize) -> Self {
-        let found = Near {
-            distance: byte.max(first) - byte.min(first),
-            number,
-        };
-        if first < byte {
-            Nearest {
-                below: Some(nearer(self.below, found)),
-                above: self.above,
-            }
-        } else {
-            Nearest {
-                below: self.below,
-                above: Some(nearer(self.above, found)),
+fn nearer(known: Option<Near>, number: usize, distance: Option<u64>) -> Option<Near>
+    ensures { result ≡ nearer known number distance }
+{
+    match (known, distance) {
+        (_, None) => known,
+        (None, Some(distance)) => Some(Near { distance, number }),
+        (Some(near), Some(distance)) => {
+            if distance < near.distance {
+                Some(Near { distance, number })
+            } else {
+                Some(near)
             }
         }
     }
 }
 
-/// The stores that are nearest to a byte of a location.
-fn nearest_stores(touches: &[Touch], location: &Location, byte: u64) -> Nearest {
-    let mut nearest = Nearest {
-        below: None,
-        above: None,
-    };
+/// The store into an object that is nearest to a byte on this side of it.
+fn nearest_store(touches: &[Touch], location: &Location, side: Side, byte: u64) -> Option<Near>
+    ensures { IsNearestOf touches.now location.now side byte (length touches.now) result }
+{
+    let mut near = None;
     for (number, touch) in touches.iter().enumerate() {
-        if touch.kind == AccessKind::Store && same_location(&touch.location, location) {
-            nearest = nearest.with(byte, touch.byte, number);
-        }
+        near = nearer(near, number, distance_of(touch, location, side, byte));
     }
-    nearest
+    near
 }
 
 /// The bytes of a store, by which item, and where.
-fn stored_bytes(
+fn bytes_of(
     context: &Context<'_>,
     played: &Played,
-    near: Option<Near>,
-) -> Result<Option<StoredBytes>, AllocError> {
-    let Some(near) = near else {
-        return Ok(None);
-    };
-    let Some(touch) = played.touches.get(near.number) else {
-        return Ok(None);
-    };
+    touch: &Touch,
+    number: usize,
+) -> Result<StoredBytes, AllocError>
+    ensures { IfOk result (Tells touch.now) }
+{
     let marks = played.marks.as_slice();
-    let stand = stand_at(marks, event_of(marks, near.number));
-    Ok(Some(StoredBytes {
+    let stand = stand_at(marks, event_of(marks, number));
+    Ok(StoredBytes {
         byte: touch.byte,
         bytes: touch.bytes,
         item: touch.item,
         code: context.code(stand)?,
-    }))
+    })
+}
+
+/// The bytes of the store that is nearest to a byte on this side of it.
+fn stored_bytes(
+    context: &Context<'_>,
+    played: &Played,
+    location: &Location,
+    side: Side,
+    byte: u64,
+) -> Result<Option<StoredBytes>, AllocError>
+    ensures { IfOk result (IsOnSide side played.now.touches.items location.now byte) }
+{
+    let touches = played.touches.as_slice();
+    let Some(near) = nearest_store(touches, location, side, byte) else {
+        return Ok(None);
+    };
+    match touches.get(near.number) {
+        Some(touch) => {
+            let stored = bytes_of(context, played, touch, near.number)?;
+            Ok(Some(stored))
+        }
+        None => Ok(None),
+    }
 }
 
 /// Which bytes beside an unset one were set, and where: those of the nearest stores, on both sides of it. An error is
@@ -94,12 +147,13 @@ pub(crate) fn unset_reason(
     played: &Played,
     location: &Location,
     byte: u64,
-) -> Result<Reason, AllocError> {
-    let nearest = nearest_stores(played.touches.as_slice(), location, byte);
-    let below = stored_bytes(context, played, nearest.below)?;
-    let above = stored_bytes(context, played, nearest.above)?;
-    if below.is_none() && above.is_none() {
-        return Ok(Reason::NothingStored);
+) -> Result<Reason, AllocError>
+    ensures { IfOk result (IsUnset played.now location.now byte) }
+{
+    let below = stored_bytes(context, played, location, Side::Below, byte)?;
+    let above = stored_bytes(context, played, location, Side::Above, byte)?;
+    match (below, above) {
+        (None, None) => Ok(Reason::NothingStored),
+        (below, above) => Ok(Reason::NearestStores { below, above }),
     }
-    Ok(Reason::NearestStores { below, above })
 }

@@ -1,2 +1,3 @@
+mod Added
 mod OneLine
 mod Rendering

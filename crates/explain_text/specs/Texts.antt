@@ -1,12 +1,30 @@
--- The text of an explanation (own): its ids, places, sentences and schedule as they are told. The wording of the rest,
--- the lines of source and the steps are any text.
-use Rattle.std.specs.Prelude.{◌≡◌, ◌≢◌, ℕ, ◌==◌, All, Option, None, Some, List, [], ◌∷◌, ◌++◌, length, codes, decimal, string_bytes, if◌then◌else◌}
+-- The text of an explanation (own): its ids, places, sentences and schedule as they are told, and the numbers of its
+-- steps. The rest is worded in any way, in lines that have no line feed of their own.
+use Rattle.std.specs.Prelude.{◌≡◌, ◌≢◌, ◌⊎◌, ℕ, ◌==◌, ◌+◌, ◌-◌, ◌^◌, All, false, Option, None, Some, List, [], ◌∷◌, ◌++◌, length, codes, decimal, string_bytes, if◌then◌else◌}
+use Rattle.std.specs.Fmt.{format_spec, padded_integral}
 use Rattle.std.specs.List.{AllZip, flat_map}
 use Rattle.explanation.specs.declared.places.Spot.{Spot}
 use Rattle.explanation.specs.declared.reasons.Reason.{Reason}
 use Rattle.explanation.specs.declared.told.Explanation.{Explanation}
 use Rattle.explanation.specs.declared.told.Ids.{Ids}
+use Rattle.explanation.specs.declared.told.Memory.{Memory}
 use Rattle.explanation.specs.declared.told.NamedItem.{NamedItem}
+use Rattle.explanation.specs.declared.told.ParameterFacts.{ParameterFacts}
+
+-- a text without a line feed
+abbrev pub IsOneLine : List ℕ → Type 0
+IsOneLine text = All (λ b. b ≢ 10) text
+
+-- so many lines, none of which has a line feed but at its end
+pub record AreLines (count : ℕ) (text : List ℕ) : Type 0 where
+  pub lines : List (List ℕ)
+  pub many : length lines ≡ count
+  pub in_line : All (λ line. IsOneLine line) lines
+  pub whole : text ≡ flat_map (λ line. line ++ codes "\n") lines
+
+-- so many lines are added to a text
+abbrev pub AddsLines : ℕ → List ℕ → List ℕ → Type 0
+AddsLines count old new = (text : List ℕ) × AreLines count text × (new ≡ old ++ text)
 
 abbrev pub rest_text : List ℕ → List ℕ
 rest_text numbers = flat_map (λ number. codes ", " ++ decimal number) numbers
@@ -31,9 +49,14 @@ ids_text item ids = flat_map (λ part. part) (ids_parts item ids)
 abbrev pub place_text : List ℕ → ℕ → ℕ → List ℕ
 place_text script line column = (script ++ (codes ":" ++ decimal line)) ++ (codes ":" ++ decimal column)
 
--- a place in a line of its own, and lines below
+-- how many lines quote a place: its line with carets, the calls of helpers and the loops round it
+abbrev pub quote_lines : Spot → ℕ
+quote_lines spot = 2 + length spot.calls.items + length spot.loops.items
+
+-- a place in a line of its own, and lines below that quote it
 abbrev pub IsPlaceText : List ℕ → Spot → List ℕ → Type 0
-IsPlaceText script spot text = (below : List ℕ) × (text ≡ codes "      " ++ place_text script spot.script_line spot.column ++ codes "\n" ++ below)
+IsPlaceText script spot text =
+    (below : List ℕ) × AreLines (quote_lines spot) below × (text ≡ codes "      " ++ place_text script spot.script_line spot.column ++ codes "\n" ++ below)
 
 -- the place of a last access, behind words that say so
 abbrev pub IsLastPlace : List ℕ → Spot → List ℕ → Type 0
@@ -48,12 +71,18 @@ abbrev pub IsLastText : List ℕ → Option Spot → List ℕ → Type 0
 IsLastText script None text = text ≡ []
 IsLastText script (Some spot) text = IsLastPlace script spot text
 
+-- which of two accesses comes first
+abbrev pub IsWord : List ℕ → Type 0
+IsWord word = (word ≡ codes "first: ") ⊎ (word ≡ codes "then: ") ⊎ (word ≡ [])
+
 -- an item with its ids, what it does, and its places
 pub record IsItemText (script : List ℕ) (item : NamedItem) (text : List ℕ) : Type 0 where
   pub word : List ℕ
   pub deed : List ℕ
   pub spot : List ℕ
   pub last : List ℕ
+  pub is_word : IsWord word
+  pub in_line : IsOneLine deed
   pub at_spot : IsSpotText script item.spot spot
   pub at_last : IsLastText script item.last last
   pub whole : text ≡ (codes "  " ++ word ++ ids_text item.item item.ids ++ codes " " ++ deed ++ codes "\n") ++ (spot ++ last)
@@ -63,10 +92,6 @@ pub record AreItems (script : List ℕ) (items : List NamedItem) (text : List �
   pub parts : List (List ℕ)
   pub each : AllZip (IsItemText script) items parts
   pub whole : text ≡ flat_map (λ part. part) parts
-
--- a text without a line feed
-abbrev pub IsOneLine : List ℕ → Type 0
-IsOneLine text = All (λ b. b ≢ 10) text
 
 -- the sentence of a reason, in one line; its wording is any
 abbrev pub IsWorded : Reason → List ℕ → Type 0
@@ -78,13 +103,62 @@ pub record AreSentences (why : List Reason) (text : List ℕ) : Type 0 where
   pub each : AllZip IsWorded why sentences
   pub whole : text ≡ flat_map (λ sentence. codes "  why: " ++ sentence ++ codes "\n") sentences
 
--- a text of an explanation
+-- a line of words behind a number of a step, which counts from 1
+abbrev pub numbered_line : ℕ → List ℕ → List ℕ
+numbered_line number words = codes "  " ++ padded_integral (format_spec 32 3 0 6 (2 ^ 64 - 1)) false [] (decimal number) ++ codes "  " ++ words ++ codes "\n"
+
+-- a line that says how many more steps there are
+abbrev pub more_line : ℕ → List ℕ
+more_line count = codes "      ..  " ++ decimal count ++ codes " more\n"
+
+-- a step that is told in words behind its number, or steps that are only counted
+pub data Shown : Type 0 where
+  Step : ℕ → List ℕ → Shown
+  More : ℕ → Shown
+
+abbrev pub shown_line : Shown → List ℕ
+shown_line (Step number words) = numbered_line number words
+shown_line (More count) = more_line count
+
+-- the steps behind the first `from` ones up to the one of number `to`, in their order, each told or counted
+abbrev pub Covers : ℕ → List Shown → ℕ → Type 0
+Covers from [] to = from ≡ to
+Covers from (Step number words ∷ shown) to = (number ≡ from + 1) × IsOneLine words × Covers (from + 1) shown to
+Covers from (More count ∷ shown) to = Covers (from + count) shown to
+
+pub record AreShown (from to : ℕ) (text : List ℕ) : Type 0 where
+  pub shown : List Shown
+  pub covers : Covers from shown to
+  pub whole : text ≡ flat_map shown_line shown
+
+abbrev pub AddsShown : ℕ → ℕ → List ℕ → List ℕ → Type 0
+AddsShown from to old new = (text : List ℕ) × AreShown from to text × (new ≡ old ++ text)
+
+-- the steps of an explanation: a line about them, then each by its number from 1, or counted
+pub record AreSteps (e : Explanation) (text : List ℕ) : Type 0 where
+  pub head : List ℕ
+  pub steps : List ℕ
+  pub heads : AreLines 1 head
+  pub are_shown : AreShown 0 (length e.steps.items + e.steps_left) steps
+  pub whole : text ≡ head ++ steps
+
+-- the parameters whose argument the memory of a fault is
+abbrev pub parameters_of : Option Memory → List ParameterFacts
+parameters_of None = []
+parameters_of (Some memory) = memory.parameters.items
+
+-- a text of an explanation: the fault, its launch and its parameters in a line each, the items, the reasons, the steps
+-- and the schedule
 pub record IsText (e : Explanation) (text : List ℕ) : Type 0 where
   pub title : List ℕ
+  pub launch : List ℕ
   pub items : List ℕ
   pub why : List ℕ
   pub steps : List ℕ
+  pub in_line : IsOneLine title
+  pub launched : AreLines (1 + length (parameters_of e.memory)) launch
   pub are_items : AreItems (string_bytes e.script) e.items.items items
   pub are_sentences : AreSentences e.why.items why
-  pub whole : text ≡ (codes "fault " ++ decimal e.fault.number ++ codes " " ++ title ++ codes "\n") ++ (items ++ codes "\n") ++ (why ++ steps)
+  pub are_steps : AreSteps e steps
+  pub whole : text ≡ (codes "fault " ++ decimal e.fault.number ++ codes " " ++ title ++ codes "\n") ++ (launch ++ codes "\n") ++ (items ++ codes "\n") ++ (why ++ steps)
       ++ (codes "  schedule " ++ string_bytes e.schedule.short ++ codes " (replayed: yes)\n")

@@ -2,9 +2,9 @@
 #![tactic(auto)]
 
 ghost use Rattle.std.specs.Prelude.{◌≡◌, ◌++◌, List, ℕ, codes, string_bytes, IfOk, OnOk};
-ghost use Rattle.explain_text.specs.Texts.{AreItems, IsItemText, IsLastPlace, IsLastText, IsSpotText};
+ghost use Rattle.explain_text.specs.Texts.{AreItems, IsItemText, IsLastPlace, IsLastText, IsOneLine, IsSpotText, IsWord};
 
-use crate::lines::{ids_text, push_both};
+use crate::lines::{ids_text, one_line, push_both};
 use crate::quotes::place_and_quote;
 use clmodel::access::AccessKind;
 use explanation::{Does, Explanation, MemoryKind, NamedItem, Spot};
@@ -95,14 +95,16 @@ fn push_deed(whole: &Explanation, item: &NamedItem, out: &mut String) -> Result<
     }
 }
 
-/// What an item does, with the number of the event where it is one.
-fn deed_text(alloc: Global, whole: &Explanation, item: &NamedItem) -> Result<String, AllocError> {
+/// What an item does, with the number of the event where it is one, in one line.
+fn deed_text(alloc: Global, whole: &Explanation, item: &NamedItem) -> Result<String, AllocError>
+    ensures { IfOk result (λ text. IsOneLine (string_bytes text)) }
+{
     let mut out = String::new(alloc);
     push_deed(whole, item, &mut out)?;
     if let Some(event) = item.event {
         write!(out, ", event {event}")?;
     }
-    Ok(out)
+    one_line(alloc, out.as_str())
 }
 
 /// The place of an item; nothing, where none is known.
@@ -142,11 +144,22 @@ fn push_first_line(word: &str, ids: &str, deed: &str, out: &mut String) -> Resul
     write!(out, "  {word}{ids} {deed}\n")
 }
 
+/// The word in front of an item, by its place among the items: which of two accesses comes first.
+fn word_of(number: u32, place: usize) -> &'static str
+    ensures { IsWord result.now }
+{
+    match (number, place) {
+        (1 | 2, 0) => "first: ",
+        (1 | 2, _) => "then: ",
+        _ => "",
+    }
+}
+
 /// Adds an item behind a word that says which of two it is.
 fn push_item(
     alloc: Global,
     whole: &Explanation,
-    word: &str,
+    place: usize,
     item: &NamedItem,
     out: &mut String,
 ) -> Result<(), AllocError>
@@ -157,18 +170,10 @@ fn push_item(
     let deed = deed_text(alloc, whole, item)?;
     let spot = spot_text(alloc, script, &item.spot)?;
     let last = last_text(alloc, script, &item.last)?;
+    let word = word_of(whole.fault.number, place);
     push_first_line(word, ids.as_str(), deed.as_str(), out)?;
     push_both(spot.as_str(), last.as_str(), out)?;
     Ok(())
-}
-
-/// The word in front of an item: which of two accesses comes first.
-fn word_of(number: u32, place: usize) -> &'static str {
-    match (number, place) {
-        (1 | 2, 0) => "first: ",
-        (1 | 2, _) => "then: ",
-        _ => "",
-    }
 }
 
 /// The items.
@@ -177,13 +182,7 @@ pub(crate) fn items_text(alloc: Global, whole: &Explanation) -> Result<String, A
 {
     let mut out = String::new(alloc);
     for (place, item) in whole.items.as_slice().iter().enumerate() {
-        push_item(
-            alloc,
-            whole,
-            word_of(whole.fault.number, place),
-            item,
-            &mut out,
-        )?;
+        push_item(alloc, whole, place, item, &mut out)?;
     }
     Ok(out)
 }

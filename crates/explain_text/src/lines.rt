@@ -2,7 +2,7 @@
 #![tactic(auto)]
 
 ghost use Rattle.std.specs.Prelude.{◌≡◌, ◌≢◌, ◌++◌, [], ◌∷◌, length, codes, decimal, string_bytes, IfOk, OnOk};
-ghost use Rattle.explain_text.specs.Texts.{IsOneLine, numbers_text, rest_text, list_text, ids_text, place_text};
+ghost use Rattle.explain_text.specs.Texts.{AddsLines, IsOneLine, numbers_text, rest_text, list_text, ids_text, place_text};
 
 use explanation::Ids;
 use std::alloc::{AllocError, Global};
@@ -65,6 +65,15 @@ pub(crate) fn push_both(word: &str, text: &str, out: &mut String) -> Result<(), 
 {
     out.push_str(word)?;
     out.push_str(text)
+}
+
+/// Adds a text as a line of its own, with a blank in place of each line feed in it.
+pub(crate) fn push_line(alloc: Global, words: &str, out: &mut String) -> Result<(), AllocError>
+    ensures { OnOk result (AddsLines 1 (string_bytes out.old) (string_bytes out.new)) }
+{
+    let line = one_line(alloc, words)?;
+    push_both(line.as_str(), "\n", out)?;
+    Ok(())
 }
 
 /// Adds a work-item.

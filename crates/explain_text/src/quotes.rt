@@ -1,10 +1,10 @@
 //! A line of source with carets under a place in it.
 #![tactic(auto)]
 
-ghost use Rattle.std.specs.Prelude.{◌≡◌, IfOk, string_bytes};
-ghost use Rattle.explain_text.specs.Texts.{IsPlaceText};
+ghost use Rattle.std.specs.Prelude.{◌≡◌, length, string_bytes, IfOk, OnOk};
+ghost use Rattle.explain_text.specs.Texts.{AddsLines, AreLines, IsPlaceText, quote_lines};
 
-use crate::lines::{place_line, place_text};
+use crate::lines::{place_line, place_text, push_line};
 use explanation::{CallSite, LoopSite, Spot};
 use std::alloc::{AllocError, Global};
 use std::fmt::Write;
@@ -99,46 +99,72 @@ fn push_window(text: &str, window: Columns, out: &mut String) -> Result<(), Allo
     Ok(())
 }
 
-/// Adds a line of source with its number, and under it the carets of its bytes from one number up to another: at least
-/// one.
-pub fn write_quote(
-    number: usize,
-    text: &str,
-    from: usize,
-    to: usize,
-    out: &mut String,
-) -> Result<(), AllocError> {
-    let carets = carets_of(text, from, to);
-    let cut = carets.before.saturating_sub(LEAD);
-    write!(out, "{number:>8} | ")?;
+/// A line of source behind its number, from a column on.
+fn source_line(alloc: Global, number: usize, text: &str, cut: usize) -> Result<String, AllocError> {
+    let mut line = String::new(alloc);
+    write!(line, "{number:>8} | ")?;
     if cut > 0 {
-        out.push_str("..")?;
+        line.push_str("..")?;
     }
     let window = Columns {
         from: cut,
         to: cut.saturating_add(WIDTH),
     };
-    push_window(text, window, out)?;
-    out.push_str("\n         | ")?;
+    push_window(text, window, &mut line)?;
+    Ok(line)
+}
+
+/// The carets under a line of source that is told from a column on: at least one.
+fn caret_line(alloc: Global, carets: Carets, cut: usize) -> Result<String, AllocError> {
+    let mut line = String::from_str(alloc, "         | ")?;
     if cut > 0 {
-        out.push_str("  ")?;
+        line.push_str("  ")?;
     }
     let lead = carets.before.saturating_sub(cut);
-    push_many(' ', lead, out)?;
+    push_many(' ', lead, &mut line)?;
     push_many(
         '^',
         carets.count.max(1).min(WIDTH.saturating_sub(lead)),
-        out,
+        &mut line,
     )?;
-    out.push('\n')
+    Ok(line)
+}
+
+/// Adds a line of source with its number, and under it the carets of its bytes from one number up to another. An error
+/// is out of memory.
+pub fn write_quote(
+    alloc: Global,
+    number: usize,
+    text: &str,
+    from: usize,
+    to: usize,
+    out: &mut String,
+) -> Result<(), AllocError>
+    ensures { OnOk result (AddsLines 2 (string_bytes out.old) (string_bytes out.new)) }
+{
+    let carets = carets_of(text, from, to);
+    let cut = carets.before.saturating_sub(LEAD);
+    let source = source_line(alloc, number, text, cut)?;
+    let under = caret_line(alloc, carets, cut)?;
+    push_line(alloc, source.as_str(), out)?;
+    push_line(alloc, under.as_str(), out)?;
+    Ok(())
+}
+
+/// The line of the call of a helper.
+fn call_line(alloc: Global, call: &CallSite) -> Result<String, AllocError> {
+    let (line, column) = (call.script_line, call.column);
+    let text = call.text.as_str().trim();
+    format!(in alloc; "           called at {line}:{column}: {text}")
 }
 
 /// Adds the calls of helpers round a place, the innermost first.
-fn push_calls(calls: &[CallSite], out: &mut String) -> Result<(), AllocError> {
-    for call in calls.iter().rev() {
-        let (line, column) = (call.script_line, call.column);
-        let text = call.text.as_str().trim();
-        writeln!(out, "           called at {line}:{column}: {text}")?;
+fn push_calls(alloc: Global, calls: &[CallSite], out: &mut String) -> Result<(), AllocError>
+    ensures { OnOk result (AddsLines (length calls.now) (string_bytes out.old) (string_bytes out.new)) }
+{
+    for number in 0..calls.len() {
+        let line = call_line(alloc, &calls[calls.len() - 1 - number])?;
+        push_line(alloc, line.as_str(), out)?;
     }
     Ok(())
 }
@@ -152,25 +178,43 @@ fn push_turn(turn: Option<u32>, out: &mut String) -> Result<(), AllocError> {
     }
 }
 
+/// The line of a loop.
+fn loop_line(alloc: Global, site: &LoopSite) -> Result<String, AllocError> {
+    let (line, column) = (site.script_line, site.column);
+    let mut out = String::from_str(alloc, "           ")?;
+    push_turn(site.turn, &mut out)?;
+    write!(out, " the loop at {line}:{column}")?;
+    Ok(out)
+}
+
 /// Adds the loops round a place, the innermost first.
-fn push_loops(loops: &[LoopSite], out: &mut String) -> Result<(), AllocError> {
-    for site in loops.iter().rev() {
-        let (line, column) = (site.script_line, site.column);
-        out.push_str("           ")?;
-        push_turn(site.turn, out)?;
-        writeln!(out, " the loop at {line}:{column}")?;
+fn push_loops(alloc: Global, loops: &[LoopSite], out: &mut String) -> Result<(), AllocError>
+    ensures { OnOk result (AddsLines (length loops.now) (string_bytes out.old) (string_bytes out.new)) }
+{
+    for number in 0..loops.len() {
+        let line = loop_line(alloc, &loops[loops.len() - 1 - number])?;
+        push_line(alloc, line.as_str(), out)?;
     }
     Ok(())
 }
 
 /// The line of a place, with the calls of helpers and the loops round it.
-fn quote_of(alloc: Global, spot: &Spot) -> Result<String, AllocError> {
+fn quote_of(alloc: Global, spot: &Spot) -> Result<String, AllocError>
+    ensures { IfOk result (λ text. AreLines (quote_lines spot.now) (string_bytes text)) }
+{
     let mut out = String::new(alloc);
     let from = spot.column.saturating_sub(1);
     let to = from.saturating_add(spot.length);
-    write_quote(spot.script_line, spot.text.as_str(), from, to, &mut out)?;
-    push_calls(spot.calls.as_slice(), &mut out)?;
-    push_loops(spot.loops.as_slice(), &mut out)?;
+    write_quote(
+        alloc,
+        spot.script_line,
+        spot.text.as_str(),
+        from,
+        to,
+        &mut out,
+    )?;
+    push_calls(alloc, spot.calls.as_slice(), &mut out)?;
+    push_loops(alloc, spot.loops.as_slice(), &mut out)?;
     Ok(out)
 }
 

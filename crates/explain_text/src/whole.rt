@@ -1,15 +1,17 @@
 //! An explanation as a whole.
 #![tactic(auto)]
 
-ghost use Rattle.std.specs.Prelude.{◌≡◌, ◌++◌, List, ℕ, codes, decimal, string_bytes, IfOk, OnOk};
-ghost use Rattle.explain_text.specs.Texts.{AreSentences, IsText, IsWorded};
+ghost use Rattle.std.specs.Prelude.{◌≡◌, ◌+◌, ◌++◌, List, ℕ, codes, decimal, length, string_bytes, IfOk, OnOk};
+ghost use Rattle.explain_text.specs.Texts.{AddsLines, AreLines, AreSentences, IsOneLine, IsText, IsWorded, parameters_of};
 
 use crate::items::items_text;
-use crate::lines::push_both;
+use crate::lines::{one_line, push_both, push_line};
 use crate::reasons::reason_text;
 use crate::steps::{plural, steps_text};
 use clmodel::access::AccessKind;
-use explanation::{Does, Explanation, Memory, MemoryKind, NamedItem, Reason};
+use explanation::{
+    Does, Explanation, LaunchFacts, Memory, MemoryKind, NamedItem, ParameterFacts, Reason,
+};
 use std::alloc::{AllocError, Global};
 use std::fmt::Write;
 
@@ -73,37 +75,85 @@ fn push_memory(memory: &Memory, out: &mut String) -> Result<(), AllocError> {
     Ok(())
 }
 
-/// Adds the parameters whose argument the memory is, each with the element in which the byte lies.
-fn push_parameters(memory: &Memory, out: &mut String) -> Result<(), AllocError> {
-    for parameter in memory.parameters.as_slice() {
-        let (index, name) = (parameter.index, parameter.name.as_str());
-        let type_name = parameter.type_name.as_str();
-        write!(out, "  argument {index} of the kernel: {type_name} {name}")?;
-        if let (Some(byte), Some(element)) = (memory.byte, parameter.element) {
-            write!(out, ": byte {byte} lies in element {element}")?;
-        }
-        out.push_str("\n")?;
-    }
-    Ok(())
-}
-
-/// What a fault is called, its memory and its launch.
-fn title_text(alloc: Global, whole: &Explanation) -> Result<String, AllocError> {
+/// What a fault is called, and the place in memory that it is about, in one line.
+fn title_text(alloc: Global, whole: &Explanation) -> Result<String, AllocError>
+    ensures { IfOk result (λ text. IsOneLine (string_bytes text)) }
+{
     let mut out = String::new(alloc);
     out.push_str(title_of(whole.fault.number, whole.items.as_slice()))?;
     if let Some(memory) = &whole.memory {
         push_memory(memory, &mut out)?;
     }
-    let launch = &whole.launch;
+    one_line(alloc, out.as_str())
+}
+
+/// The line of a launch.
+fn launch_line(alloc: Global, launch: &LaunchFacts) -> Result<String, AllocError> {
     let (function, kernel) = (launch.function.as_str(), launch.kernel.as_str());
     let (line, text) = (launch.script_line, launch.text.as_str());
-    writeln!(
-        out,
-        "\n  in kernel {function} ({kernel}), line {line} of the script: {text}"
-    )?;
-    if let Some(memory) = &whole.memory {
-        push_parameters(memory, &mut out)?;
+    format!(in alloc; "  in kernel {function} ({kernel}), line {line} of the script: {text}")
+}
+
+/// The line of a parameter, with the element in which a byte lies.
+fn parameter_line(
+    alloc: Global,
+    byte: Option<u64>,
+    parameter: &ParameterFacts,
+) -> Result<String, AllocError> {
+    let (index, name) = (parameter.index, parameter.name.as_str());
+    let type_name = parameter.type_name.as_str();
+    let mut out = String::new(alloc);
+    write!(out, "  argument {index} of the kernel: {type_name} {name}")?;
+    if let (Some(byte), Some(element)) = (byte, parameter.element) {
+        write!(out, ": byte {byte} lies in element {element}")?;
     }
+    Ok(out)
+}
+
+/// Adds the parameters whose argument memory is, each with the element in which a byte lies.
+fn push_parameters(
+    alloc: Global,
+    byte: Option<u64>,
+    parameters: &[ParameterFacts],
+    out: &mut String,
+) -> Result<(), AllocError>
+    ensures { OnOk result (AddsLines (length parameters.now) (string_bytes out.old) (string_bytes out.new)) }
+{
+    for parameter in parameters {
+        let line = parameter_line(alloc, byte, parameter)?;
+        push_line(alloc, line.as_str(), out)?;
+    }
+    Ok(())
+}
+
+/// The parameters whose argument the memory is, if there is any.
+fn parameters_of(memory: &Option<Memory>) -> &[ParameterFacts]
+    ensures { result.now ≡ parameters_of memory.now }
+{
+    match memory {
+        Some(memory) => memory.parameters.as_slice(),
+        None => &[],
+    }
+}
+
+/// The byte of memory that a fault is about, if it is about one.
+fn byte_of(memory: &Option<Memory>) -> Option<u64> {
+    match memory {
+        Some(memory) => memory.byte,
+        None => None,
+    }
+}
+
+/// The lines below the title: the launch, and the parameters whose argument the memory is.
+fn launch_text(alloc: Global, whole: &Explanation) -> Result<String, AllocError>
+    ensures { IfOk result (λ text. AreLines (1 + length (parameters_of whole.now.memory)) (string_bytes text)) }
+{
+    let line = launch_line(alloc, &whole.launch)?;
+    let byte = byte_of(&whole.memory);
+    let parameters = parameters_of(&whole.memory);
+    let mut out = String::new(alloc);
+    push_line(alloc, line.as_str(), &mut out)?;
+    push_parameters(alloc, byte, parameters, &mut out)?;
     Ok(out)
 }
 
@@ -152,11 +202,13 @@ pub fn text_of(alloc: Global, whole: &Explanation) -> Result<String, AllocError>
     ensures { IfOk result (λ text. IsText whole.now (string_bytes text)) }
 {
     let title = title_text(alloc, whole)?;
+    let launch = launch_text(alloc, whole)?;
     let items = items_text(alloc, whole)?;
     let why = reasons_text(alloc, whole.why.as_slice())?;
     let steps = steps_text(alloc, whole)?;
     let mut out = String::new(alloc);
     push_heading(whole.fault.number, title.as_str(), &mut out)?;
+    push_both(launch.as_str(), "\n", &mut out)?;
     push_both(items.as_str(), "\n", &mut out)?;
     push_both(why.as_str(), steps.as_str(), &mut out)?;
     push_schedule(whole.schedule.short.as_str(), &mut out)?;

@@ -7,8 +7,8 @@ use Rattle.explain_items.specs.Spotted.{StandsInside}
 use Rattle.explain_items.proofs.Spotting.{item_stand, item_stand_back, none_at}
 use Rattle.explain_items.proofs.named.ended.Goals as goal
 
-pub returns : goal.returns
-returns c =
+pub returns-clause-told : goal.returns-clause-told
+returns-clause-told c =
     let same = c.as_slice-marks.ensures.value in
     let made = subst (λ xs. IfSome c.last_of.result (IsEventOf xs c.args.item)) same c.last_of.ensures.event in
     let last = subst (λ xs. IsLastEvent (acts_at xs c.args.item) (length xs) c.last_of.result) same c.last_of.ensures.last in

@@ -1,0 +1,3 @@
+mod Passing
+mod Nearest
+mod Told

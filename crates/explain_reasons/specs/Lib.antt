@@ -1,0 +1,5 @@
+pub mod Steps
+pub mod Between
+pub mod Stored
+pub mod Counted
+pub mod Reasons
