@@ -37,7 +37,7 @@ use Rattle.explaining.proofs.Inside.{each_inside, told_inside}
 use Rattle.explaining.specs.Explaining.{IsShort, Tells}
 use Rattle.explaining.specs.Leading.{Leads, RepliesAt, WalkedTo, is_end}
 use Rattle.explaining.specs.Refusing.{TellsRefusal}
-use Rattle.explaining.specs.Whole.{AnswersTo, AreNamed, HasWhole, IsAsWanted, IsExplained, IsSourceOf, IsToldOf, IsToldThere, SaysOf, SaysOne, TellsEnd, TellsFault, TellsFaulted, TellsLaunch, schedule_words}
+use Rattle.explaining.specs.Whole.{AnswersTo, AreNamed, HasWhole, IsAsWanted, IsExplained, IsSourceOf, IsToldOf, IsToldThere, SaysOf, SaysOne, TellsEnd, TellsFault, TellsFaulted, TellsLaunch, TellsPlayed, schedule_words}
 use Rattle.explaining.specs.declared.answers.Answer.{Answer}
 use Rattle.explaining.specs.declared.facts.ExplainOptions.{ExplainOptions}
 use Rattle.explaining.specs.declared.facts.Format.{Format}
@@ -54,10 +54,10 @@ use Rattle.limits.specs.declared.Configuration.{Configuration}
 pub explained :
     (e : Explanation) (launch : Launch) (context : Context) (ticket : ℕ) (place : CommandPlace) (range : Range) (f : Fault) (runs : List EventRun) (facts : ScheduleFacts) (first second most : ℕ) (played : Played)
     → TellsLaunch ticket place range e.launch → TellsFault f e.fault → e.schedule ≡ facts → AreToldInside context played.marks.items (told_items f played) e.items.items
-    → string_bytes facts.short ≡ schedule_words runs → AreNamed f first second
+    → TellsPlayed (group_items (launches.setup_of context.launch.now).range) f played e → string_bytes facts.short ≡ schedule_words runs → AreNamed f first second
     → IsPlayedOut launch (launches.started context.launch.now) (group_items (launches.setup_of context.launch.now).range) (events_of runs) f first second most played
     → Reaches launch (events_of runs) f → IsExplained launch context ticket place range f runs e
-explained e launch context ticket place range f runs facts first second most played launched faulted same items words named plays leads = record {
+explained e launch context ticket place range f runs facts first second most played launched faulted same items tells words named plays leads = record {
   launched = launched;
   faulted = faulted;
   schedule = ap (λ z. string_bytes z.short) same ∙ words;
@@ -69,6 +69,7 @@ explained e launch context ticket place range f runs facts first second most pla
     played = played;
     plays = plays;
     told = told_inside context played.marks.items (told_items f played) e.items.items (each_inside context.launch.now launch (events_of runs) f first second most played named plays leads) items;
+    tells = tells;
   };
 }
 

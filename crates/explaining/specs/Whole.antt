@@ -1,5 +1,5 @@
 -- What an explanation tells of a launch and its fault, and the text that is written of it (own).
-use Rattle.std.specs.Prelude.{◌≡◌, ◌⊎◌, ℕ, suc, Bool, true, false, ⊤, Option, None, Some, List, [], ◌∷◌, ◌++◌, codes, decimal, string_bytes, take, slice_get, MatchBool, MatchOption}
+use Rattle.std.specs.Prelude.{◌≡◌, ◌⊎◌, ℕ, suc, Bool, true, false, ⊤, Option, None, Some, List, [], ◌∷◌, ◌++◌, codes, decimal, map, string_bytes, take, slice_get, MatchBool, MatchOption}
 use Rattle.std.specs.Str.Lossy.{utf8_lossy}
 use Rattle.serde_json.specs.Read.{read}
 use Rattle.clmodel.specs.Launch.{Launch}
@@ -14,7 +14,10 @@ use Rattle.device.specs.Machine.{Machine, Step, opening, kernel_of, program_of, 
 use Rattle.explain_json.specs.Lines.{IsExplanationLine}
 use Rattle.fault_play.specs.PlayedOut.{IsPlayedOut}
 use Rattle.fault_play.specs.declared.played.Played.{Played}
+use Rattle.explain_items.specs.Deeds.{HaveEvents, deed_of, told_deeds}
 use Rattle.explain_items.specs.Named.{AreTold, told_items}
+use Rattle.explain_reasons.specs.Reasons.{AreReasons}
+use Rattle.explain_reasons.specs.Steps.{AreSteps}
 use Rattle.explain_items.specs.declared.context.Context.{Context}
 use Rattle.explain_text.specs.Texts.{IsText}
 use Rattle.explanation.specs.declared.told.Explanation.{Explanation}
@@ -70,6 +73,14 @@ pub record TellsFault (f : Fault) (facts : FaultFacts) : Type 0 where
 abbrev pub AreNamed : Fault → ℕ → ℕ → Type 0
 AreNamed f first second = ((named_items f ≡ first ∷ []) × (second ≡ first)) ⊎ (named_items f ≡ first ∷ second ∷ [])
 
+-- what the items of an explanation do and by which events, its steps, and its reasons, each of which holds, by what was
+-- played in a launch with groups of this size
+pub record TellsPlayed (size : ℕ) (f : Fault) (played : Played) (e : Explanation) : Type 0 where
+  pub deeds : map (λ named. deed_of named.does) e.items.items ≡ told_deeds f played
+  pub events : HaveEvents played.marks.items (told_items f played) e.items.items
+  pub steps : AreSteps played e.steps.items
+  pub why : AreReasons size played f e.memory e.launch.budget e.why.items
+
 -- The items of an explanation: those that the fault names, each where it stands behind the events of a schedule that
 -- were played.
 pub record TellsItems (launch : Launch) (context : Context) (f : Fault) (runs : List EventRun) (e : Explanation) : Type 0 where
@@ -80,6 +91,7 @@ pub record TellsItems (launch : Launch) (context : Context) (f : Fault) (runs : 
   pub played : Played
   pub plays : IsPlayedOut launch (launches.started context.launch.now) (group_items (launches.setup_of context.launch.now).range) (events_of runs) f first second most played
   pub told : AreTold context played.marks.items (told_items f played) e.items.items
+  pub tells : TellsPlayed (group_items (launches.setup_of context.launch.now).range) f played e
 
 -- an explanation of a launch and its fault by a schedule
 pub record IsExplained (launch : Launch) (context : Context) (ticket : ℕ) (place : CommandPlace) (range : Range) (f : Fault) (runs : List EventRun) (e : Explanation) : Type 0 where

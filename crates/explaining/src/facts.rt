@@ -1,9 +1,13 @@
 //! What an explanation tells of its launch, its fault, its memory and its schedule.
 #![tactic(auto)]
 
-ghost use Rattle.std.specs.Prelude.{◌≡◌, IfOk, string_bytes};
+ghost use Rattle.std.specs.Prelude.{◌≡◌, IfOk, map, string_bytes};
+ghost use Rattle.clmodel.specs.Setup.{group_items};
+ghost use Rattle.explain_items.specs.Deeds.{HaveEvents, deed_of, told_deeds};
 ghost use Rattle.explain_items.specs.Named.{AreToldInside, told_items};
-ghost use Rattle.explaining.specs.Whole.{AreNamed, TellsFault, TellsLaunch, schedule_words};
+ghost use Rattle.explain_reasons.specs.Reasons.{AreReasons};
+ghost use Rattle.item_step.specs.Launches.{setup_of};
+ghost use Rattle.explaining.specs.Whole.{AreNamed, TellsFault, TellsLaunch, TellsPlayed, schedule_words};
 
 use clmodel::fault::{Fault, Location};
 use clmodel::setup::Range;
@@ -252,7 +256,8 @@ fn sizes_of(alloc: Global, range: &Range) -> Result<Sizes, AllocError>
 
 /// What is told of a launch: its line in the script, its names and its sizes. An error is out of memory.
 fn launch_facts(context: &Context<'_>, place: &LaunchTexts<'_>) -> Result<LaunchFacts, AllocError>
-    ensures { IfOk result (TellsLaunch place.now.ticket place.now.place place.now.range.now) }
+    ensures launch { IfOk result (TellsLaunch place.now.ticket place.now.place place.now.range.now) }
+    ensures budget { IfOk result (λ facts. facts.budget ≡ place.now.budget) }
 {
     let alloc = context.alloc;
     let text = text(alloc, place.line)?;
@@ -320,6 +325,7 @@ fn head_of(
     fault: &Fault,
 ) -> Result<Head, AllocError>
     ensures launch { IfOk result (λ head. TellsLaunch place.now.ticket place.now.place place.now.range.now head.launch) }
+    ensures budget { IfOk result (λ head. head.launch.budget ≡ place.now.budget) }
     ensures fault { IfOk result (λ head. TellsFault fault.now head.fault) }
 {
     Ok(Head {
@@ -345,7 +351,10 @@ fn body_of(
     fault: &Fault,
     played: &Played,
 ) -> Result<Body, AllocError>
-    ensures { IfOk result (λ body. AreToldInside context.now played.now.marks.items (told_items fault.now played.now) body.items.items) }
+    ensures items { IfOk result (λ body. AreToldInside context.now played.now.marks.items (told_items fault.now played.now) body.items.items) }
+    ensures deeds { IfOk result (λ body. map (λ named. deed_of named.does) body.items.items ≡ told_deeds fault.now played.now) }
+    ensures events { IfOk result (λ body. HaveEvents played.now.marks.items (told_items fault.now played.now) body.items.items) }
+    ensures why { IfOk result (λ body. AreReasons (group_items (setup_of context.now.launch.now).range) played.now fault.now body.memory budget body.why.items) }
 {
     let memory = whole_memory(context, buffers, fault, played)?;
     let why = reasons_of(context, played, fault, &memory, budget)?;
@@ -366,6 +375,7 @@ pub(crate) fn explanation_of(
     ensures fault { IfOk result (λ whole. TellsFault fault.now whole.fault) }
     ensures schedule { IfOk result (λ whole. whole.schedule ≡ schedule) }
     ensures items { IfOk result (λ whole. AreToldInside context.now played.now.marks.items (told_items fault.now played.now) whole.items.items) }
+    ensures played { IfOk result (TellsPlayed (group_items (setup_of context.now.launch.now).range) fault.now played.now) }
 {
     let head = head_of(context, place, fault)?;
     let body = body_of(context, buffers, place.budget, fault, played)?;
