@@ -42,6 +42,12 @@ abbrev pub stop_deed : Stop → Deed
 stop_deed (stop.At instance) = WaitsAt instance.site instance.turns
 stop_deed stop.Ended = HasEnded
 
+-- what the one item does that a fault names: the access of its line, or it can't go on
+abbrev pub lone_deed : Fault → Deed
+lone_deed (fault.Bounds item kind location element) = Accesses kind
+lone_deed (fault.Unset item kind location byte) = Accesses kind
+lone_deed _ = Fails
+
 -- what the items do that are told: the accesses of the fault's line, the stops of a divergence; else one can't go on
 abbrev pub told_deeds : Fault → Played → List Deed
 told_deeds (fault.Conflict clash item kind other_item other_kind location byte) played =

@@ -3,7 +3,7 @@
 
 ghost use Rattle.std.specs.Prelude.{◌≡◌, ◌<◌, ◌+◌, [], ◌∷◌, None, Some, length, map, IfNone, IfOk, IfSome, option_copied};
 ghost use Rattle.std.specs.Option.{option_map_or};
-ghost use Rattle.explain_items.specs.Deeds.{Accesses, HaveEvents, IsEventAt, deed_of, stop_deed, told_deeds};
+ghost use Rattle.explain_items.specs.Deeds.{Accesses, HaveEvents, IsEventAt, deed_of, lone_deed, stop_deed, told_deeds};
 ghost use Rattle.explain_items.specs.Ids.{AreIds};
 ghost use Rattle.item_step.specs.Launches.{setup_of};
 ghost use Rattle.explain_items.specs.Named.{AreToldInside, AtAccess, AtEnd, AtStand, IsToldInside, in_order, site_of, told_items};
@@ -245,7 +245,9 @@ fn diverging(
 }
 
 /// What the one item of a fault does, where it names one.
-fn deed_of(fault: &Fault) -> Does {
+fn lone_deed(fault: &Fault) -> Does
+    ensures { deed_of result ≡ lone_deed fault.now }
+{
     match fault {
         Fault::Bounds { kind, .. } | Fault::Unset { kind, .. } => Does::Access(*kind),
         _ => Does::Fails,
@@ -292,6 +294,6 @@ pub fn named_items(
         | Fault::UnsetElement { .. }
         | Fault::DivideByZero { .. }
         | Fault::DivideOverflow { .. }
-        | Fault::Budget { .. } => alone(context, played, deed_of(fault)),
+        | Fault::Budget { .. } => alone(context, played, lone_deed(fault)),
     }
 }

@@ -1,3 +1,4 @@
-mod Passing
+mod Mattering
 mod Nearest
+mod Passing
 mod Told

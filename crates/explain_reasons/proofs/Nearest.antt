@@ -1,7 +1,7 @@
 -- The nearest of stores, one more at a time.
 use Rattle.std.proofs.Common.{◌≡◌, ◌+◌, ◌<◌, ◌≤◌, ◌⊎◌, ℕ, nat_lt, Bool, true, false, Option, None, Some, List, slice_get, if◌then◌else◌, inl, inr, refl, sym, ap, ◌∙◌, subst, arith}
 use Rattle.std.specs.Option.{IfSome}
-use Rattle.std.proofs.lemmas.Bool.{lt-ltb, ltb-true, false≢true}
+use Rattle.std.proofs.lemmas.Bool.{cases_lt, lt-ltb, ltb-true, false≢true}
 use Rattle.clmodel.specs.declared.fault.Location.{Location}
 use Rattle.explanation.specs.declared.reasons.StoredBytes.{StoredBytes}
 use Rattle.fault_play.specs.declared.played.Touch.{Touch}
@@ -17,7 +17,18 @@ same_number d e h = cc
 
 -- a store of a number is the one that is next, or an earlier one
 either : (k count : ℕ) → k < count + 1 → (k ≡ count) ⊎ (k < count)
-either k count h = omega (arith, h)
+either k count h = go (cases_lt k count)
+  where
+    go : (k < count) ⊎ (count ≤ k) → (k ≡ count) ⊎ (k < count)
+    go (inl before) = inr before
+    go (inr past) = inl (omega (arith, h, past))
+
+not_less : (m n : ℕ) → nat_lt m n ≡ false → n ≤ m
+not_less m n f = go (cases_lt m n)
+  where
+    go : (m < n) ⊎ (n ≤ m) → n ≤ m
+    go (inl less) = absurd (false≢true (sym f ∙ lt-ltb m n less))
+    go (inr past) = past
 
 -- the next access isn't such a store
 not_next : (touches : List Touch) (place : Location) (on : Side) (byte count : ℕ) (touch : Touch) → slice_get touches count ≡ Some touch → IsDistance place on byte touch None
@@ -102,9 +113,6 @@ nearest_more touches place on byte count (Some near) next (Some d) touch at is e
     go true t = nearer_one touches place on byte count d near touch at is (ltb-true d near.distance t) old
     go false f = no_nearer touches place on byte count d near touch at is (not_less d near.distance f) old
 
-    not_less : (m n : ℕ) → nat_lt m n ≡ false → n ≤ m
-    not_less m n f = grind (arith, lt-ltb m n, f)
-
 -- the nearest of all, as it is told
 pub told_side :
     (touches : List Touch) (place : Location) (on : Side) (byte count : ℕ) (near : Near) (touch : Touch) (stored : StoredBytes) → ((k : ℕ) (other : Touch) → slice_get touches k ≡ Some other → k < count)
@@ -123,3 +131,14 @@ pub no_side :
     (touches : List Touch) (place : Location) (on : Side) (byte count : ℕ) → ((k : ℕ) (other : Touch) → slice_get touches k ≡ Some other → k < count)
     → IsNearestOf touches place on byte count None → IsOnSide on touches place byte None
 no_side touches place on byte count within none = λ k distance other h. none k distance other (within k other h.at) h
+
+-- a store's distance, and that of another access
+pub distance_yes : (place : Location) (on : Side) (byte : ℕ) (touch : Touch) (found : Option ℕ) → Stores place touch → found ≡ away on byte touch.byte → IsDistance place on byte touch found
+distance_yes place on byte touch None s e = λ _ distance far. let g : None ≡ Some distance = e ∙ far in absurd (not_some distance g)
+  where
+    not_some : (d : ℕ) → None ≡ Some d → ⊥
+    not_some d h = cc
+distance_yes place on byte touch (Some d) s e = (s, sym e)
+
+pub distance_no : (place : Location) (on : Side) (byte : ℕ) (touch : Touch) → (Stores place touch → ⊥) → IsDistance place on byte touch None
+distance_no place on byte touch not = λ s distance far. not s

@@ -1,5 +1,6 @@
 -- Barriers between two accesses, and what accesses leave.
-use Rattle.std.proofs.Common.{◌≡◌, ◌<◌, ◌≤◌, ◌&&◌, ◌+◌, ℕ, if◌then◌else◌, below_more, min, max, nat_lt, Bool, true, false, Option, None, Some, List, count_by, length, slice_get, refl, sym, ap, ◌∙◌, subst, eqb-true, eq-eqb, arith}
+use Rattle.std.proofs.Common.{◌≡◌, ◌<◌, ◌≤◌, ◌&&◌, ◌+◌, ℕ, if◌then◌else◌, below_more, min, max, nat_eq, nat_lt, Bool, true, false, Option, None, Some, List, count_by, length, slice_get, refl, sym, ap, ◌∙◌, subst, eqb-true, eq-eqb, arith}
+use Rattle.std.specs.Bool.{Decides}
 use Rattle.std.specs.Option.{IfNone, IfSome, option_map_or}
 use Rattle.std.proofs.lemmas.Bool.{and_from, and_parts, false≢true, lt-ltb, ltb-true}
 use Rattle.std.proofs.lemmas.Option.{slice_get_within}
@@ -9,8 +10,9 @@ use Rattle.explain_items.specs.Deeds.{is_release_of}
 use Rattle.explain_items.proofs.Counting.{passes_once, passes_within}
 use Rattle.fault_play.specs.PlayedOut.{IsLastEvent, MadeAccess, is_access}
 use Rattle.fault_play.specs.declared.marks.Mark.{Mark}
+use Rattle.fault_play.specs.declared.played.Played.{Played}
 use Rattle.replay.specs.declared.conflicts.Pair.{Pair}
-use Rattle.explain_reasons.specs.Between.{IsBetween, IsLastBetween, IsRelease, Leaves, passes_at, releases_at}
+use Rattle.explain_reasons.specs.Between.{IsBetween, IsLastBetween, IsRelease, LeaveOne, Leaves, PassesBetween, passes_at, releases_at}
 
 none_some : {A : Type 0} (x : A) → None ≡ Some x → ⊥
 none_some x e = cc
@@ -121,3 +123,42 @@ left_of_it marks access number x mark made at leaves =
 
 pub leaves_not : (marks : List Mark) (access x : ℕ) → count_by (λ mark. is_access mark.event) marks ≤ access → Leaves marks access x → ⊥
 leaves_not marks access x few h = made_within marks access h.number h.made few
+
+pub left_some : (marks : List Mark) (access number : ℕ) (mark : Mark) → MadeAccess marks access number → slice_get marks number ≡ Some mark → IfSome mark.left (Leaves marks access)
+left_some marks access number mark made at = go mark.left refl
+  where
+    go : (o : Option ℕ) → mark.left ≡ o → IfSome o (Leaves marks access)
+    go None e = tt
+    go (Some x) e = left_of_it marks access number x mark made at e
+
+pub left_never : (marks : List Mark) (access number x : ℕ) → MadeAccess marks access number → slice_get marks number ≡ None → ⊥
+left_never marks access number x made gone = none_some made.mark (sym gone ∙ made.at)
+
+-- two numbers that are left are one, or two
+pub left_same :
+    (marks : List Mark) (pair : Pair) (a b : Option ℕ) (left other : ℕ) → a ≡ Some left → b ≡ Some other → IfSome a (Leaves marks pair.first) → IfSome b (Leaves marks pair.second)
+    → ((x : ℕ) → Leaves marks pair.first x → a ≡ Some x) → ((x : ℕ) → Leaves marks pair.second x → b ≡ Some x) → Decides (nat_eq left other) (LeaveOne marks pair)
+left_same marks pair a b left other is_a is_b some_a some_b all_a all_b =
+    let first : Leaves marks pair.first left = subst (λ (o : Option ℕ). IfSome o (Leaves marks pair.first)) is_a some_a in
+    let second : Leaves marks pair.second other = subst (λ (o : Option ℕ). IfSome o (Leaves marks pair.second)) is_b some_b in (
+      λ e. (left, first, subst (λ (x : ℕ). Leaves marks pair.second x) (sym (eqb-true left other e)) second),
+      λ h.
+          let one : left ≡ h.0 = some_same left h.0 (sym is_a ∙ all_a h.0 h.1) in
+          let two : other ≡ h.0 = some_same other h.0 (sym is_b ∙ all_b h.0 h.2) in eq-eqb left other (one ∙ sym two),
+    )
+
+pub left_not : (marks : List Mark) (pair : Pair) → (LeaveOne marks pair → ⊥) → Decides false (LeaveOne marks pair)
+left_not marks pair never = (λ e. absurd (false≢true e), λ h. absurd (never h))
+
+pub not_known : (marks : List Mark) (access : ℕ) (a : Option ℕ) → a ≡ None → ((x : ℕ) → Leaves marks access x → a ≡ Some x) → (x : ℕ) → Leaves marks access x → ⊥
+not_known marks access a is all x h = none_some x (sym is ∙ all x h)
+
+-- what is between the two accesses of a pair is between those that conflict
+pub none_passes :
+    (played : Played) (pair : Pair) (group : ℕ) (marks : List Mark) (o : Option ℕ) → played.pair ≡ Some pair → marks ≡ played.marks.items
+    → IfNone o ((number : ℕ) → IsBetween marks pair group number → ⊥) → IfNone o ((number : ℕ) → PassesBetween played group number → ⊥)
+none_passes played pair group marks None known same none =
+    λ number p.
+    let is : p.pair ≡ pair = some_same p.pair pair (sym p.known ∙ known) in
+    none number (subst (λ (m : List Mark). IsBetween m pair group number) (sym same) (subst (λ (q : Pair). IsBetween played.marks.items q group number) is p.between))
+none_passes played pair group marks (Some n) known same none = tt

@@ -1,6 +1,6 @@
 -- Why a fault comes about: a reason is told only where it holds, and none that stands behind another that holds (own;
 -- what orders accesses is that of OpenCL 1.2, sections 3.3.1 and 6.12.8).
-use Rattle.std.specs.Prelude.{◌≡◌, ◌≢◌, ◌⊎◌, ◌==◌, ◌/◌, ℕ, ℤ, Option, None, Some, List, [], ◌∷◌, string_bytes, if◌then◌else◌}
+use Rattle.std.specs.Prelude.{◌≡◌, ◌≢◌, ◌⊎◌, ◌==◌, ◌/◌, ℕ, Option, None, Some, List, [], ◌∷◌, string_bytes, if◌then◌else◌}
 use Rattle.std.specs.Option.{option_map}
 use Rattle.std.specs.Str.Lossy.{utf8_lossy}
 use Rattle.clmodel.specs.declared.access.AccessKind.{AccessKind}
@@ -16,12 +16,13 @@ use Rattle.explanation.specs.declared.reasons.FencedMemory.{FencedMemory}
 use Rattle.explanation.specs.declared.reasons.FencedMemory.TheVariants as fenced
 use Rattle.explanation.specs.declared.reasons.Reason.{Reason}
 use Rattle.explanation.specs.declared.reasons.Reason.TheVariants as reason
+use Rattle.explanation.specs.declared.reasons.StoredBytes.{StoredBytes}
 use Rattle.explanation.specs.declared.told.Memory.{Memory}
 use Rattle.fault_play.specs.declared.played.Played.{Played}
 use Rattle.explain_reasons.specs.Between.{LeaveTheSame, PassesBetween, PassesLast}
 use Rattle.explain_reasons.specs.Counted.{IsUse}
 use Rattle.explain_reasons.specs.Stored.{IsOnSide}
-use Rattle.explain_reasons.specs.declared.unset.Side.TheVariants.{Above, Below}
+use Rattle.explain_reasons.specs.declared.unset.Side.TheVariants as side
 
 -- what a barrier has to fence to order accesses at a location (6.12.8)
 abbrev pub memory_of : Location → FencedMemory
@@ -80,16 +81,19 @@ size_of (Some memory) = memory.size
 
 -- a private array of a name, with as many elements as its bytes are; or that it is shorter
 abbrev pub IsPrivate : List ℕ → Reason → Type 0
-IsPrivate name (reason.Elements told bytes elements width) = AreElements (utf8_lossy name) bytes width (reason.Elements told bytes elements width)
-IsPrivate name reason.ShorterArray = ⊤
-IsPrivate name _ = ⊥
+IsPrivate name r = ((bytes : ℕ) × (width : ℕ) × AreElements (utf8_lossy name) bytes width r) ⊎ (r ≡ reason.ShorterArray)
+
+-- the stores on both sides of an unset byte as a reason
+abbrev pub IsReasonOf : Option StoredBytes → Option StoredBytes → Reason → Type 0
+IsReasonOf None None r = r ≡ reason.NothingStored
+IsReasonOf None (Some above) r = r ≡ reason.NearestStores None (Some above)
+IsReasonOf (Some below) above r = r ≡ reason.NearestStores (Some below) above
 
 -- nothing was stored in an object of which a byte is unset; or else the nearest stores on both sides
 abbrev pub IsUnset : Played → Location → ℕ → Reason → Type 0
-IsUnset played place byte reason.NothingStored = IsOnSide Below played.touches.items place byte None × IsOnSide Above played.touches.items place byte None
-IsUnset played place byte (reason.NearestStores below above) =
-    (below ≡ None → above ≡ None → ⊥) × IsOnSide Below played.touches.items place byte below × IsOnSide Above played.touches.items place byte above
-IsUnset played place byte _ = ⊥
+IsUnset played place byte r =
+    (below : Option StoredBytes) × (above : Option StoredBytes) × IsOnSide side.Below played.touches.items place byte below
+    × IsOnSide side.Above played.touches.items place byte above × IsReasonOf below above r
 
 -- what a budget went to
 abbrev pub IsSpent : Played → ℕ → ℕ → Reason → Type 0

@@ -1,7 +1,7 @@
 //! Why a fault comes about.
 #![tactic(auto)]
 
-ghost use Rattle.std.specs.Prelude.{◌≡◌, ◌/◌, ℕ, [], ◌∷◌, Some, length, string_bytes, IfOk, IfNone, IfSome, if◌then◌else◌};
+ghost use Rattle.std.specs.Prelude.{◌≡◌, ◌/◌, ℕ, [], ◌∷◌, Some, length, max, min, string_bytes, IfOk, IfNone, IfSome, if◌then◌else◌};
 ghost use Rattle.std.specs.Bool.{Decides};
 ghost use Rattle.std.specs.Option.{option_map};
 ghost use Rattle.clmodel.specs.Setup.{group_items};
@@ -56,15 +56,37 @@ fn release_between(marks: &[Mark], group: u32, from: usize, to: usize) -> Option
     last
 }
 
+/// The earlier access of a pair.
+fn earlier(pair: Pair) -> usize
+    ensures { result ≡ min pair.first pair.second }
+{
+    if pair.first < pair.second {
+        pair.first
+    } else {
+        pair.second
+    }
+}
+
+/// The later access of a pair.
+fn later(pair: Pair) -> usize
+    ensures { result ≡ max pair.first pair.second }
+{
+    if pair.first < pair.second {
+        pair.second
+    } else {
+        pair.first
+    }
+}
+
 /// The number of the last release of a group between the accesses of a pair, if there is one.
 fn barrier_of(marks: &[Mark], pair: Pair, group: u32) -> Option<usize>
     ensures some { IfSome result (IsLastBetween marks.now pair group) }
     ensures none { IfNone result ((number : ℕ) → IsBetween marks.now pair group number → ⊥) }
 {
-    let (Some(from), Some(to)) = (
-        event_of(marks, pair.first.min(pair.second)),
-        event_of(marks, pair.first.max(pair.second)),
-    ) else {
+    let Some(from) = event_of(marks, earlier(pair)) else {
+        return None;
+    };
+    let Some(to) = event_of(marks, later(pair)) else {
         return None;
     };
     release_between(marks, group, from, to)
@@ -316,13 +338,16 @@ fn bounds_reasons(
 ) -> Result<Vec<Reason>, AllocError>
     ensures { IfOk result (λ why. AreBounds memory.now (size_of memory.now) played.now.first.width why.items) }
 {
-    match memory {
-        Some(memory) => match (memory.size, played.first.width) {
-            (Some(size), Some(width)) => sized_reasons(alloc, memory, size, width),
-            _ => Ok(Vec::new(alloc)),
-        },
-        None => Ok(Vec::new(alloc)),
-    }
+    let Some(memory) = memory else {
+        return Ok(Vec::new(alloc));
+    };
+    let Some(size) = memory.size else {
+        return Ok(Vec::new(alloc));
+    };
+    let Some(width) = played.first.width else {
+        return Ok(Vec::new(alloc));
+    };
+    sized_reasons(alloc, memory, size, width)
 }
 
 /// Why a budget was used up.

@@ -1,7 +1,7 @@
 //! The steps of a schedule.
 #![tactic(auto)]
 
-ghost use Rattle.std.specs.Prelude.{◌≡◌, ◌+◌, ◌-◌, ◌^◌, ◌<◌, Some, cond, take, string_bytes, IfOk, OnOk, option_copied};
+ghost use Rattle.std.specs.Prelude.{◌≡◌, ◌+◌, ◌-◌, ◌^◌, ◌<◌, ◌++◌, Some, codes, cond, decimal, take, slice_get, string_bytes, IfOk, OnOk, option_copied};
 ghost use Rattle.explain_reasons.specs.Steps.{AddsStep, AreSteps, IsStep, left_of, memory_words, value_of};
 ghost use Rattle.fault_play.specs.PlayedOut.{is_access};
 
@@ -12,9 +12,26 @@ use explain_items::Context;
 use explanation::ToldEvent;
 use fault_play::{Mark, Played, Touch};
 use std::alloc::{AllocError, Global};
+use std::fmt::Write;
 
 /// How many steps are told.
 pub const MOST_STEPS: usize = 1000;
+
+/// Adds the name of local memory, as a reply has it.
+fn push_local(group: u32, name: &str, out: &mut String) -> Result<(), AllocError>
+    ensures { OnOk result (string_bytes out.new ≡ string_bytes out.old ++ (codes "local " ++ decimal group ++ codes " " ++ name.now)) }
+{
+    write!(out, "local {group} {name}")
+}
+
+/// The name of local memory, as a reply has it.
+fn local_text(alloc: Global, group: u32, name: &str) -> Result<String, AllocError>
+    ensures { IfOk result (λ text. string_bytes text ≡ codes "local " ++ decimal group ++ codes " " ++ name.now) }
+{
+    let mut out = String::new(alloc);
+    push_local(group, name, &mut out)?;
+    Ok(out)
+}
 
 /// The name of a location, as a reply has it.
 fn location_text(alloc: Global, location: &Location) -> Result<String, AllocError>
@@ -28,8 +45,7 @@ fn location_text(alloc: Global, location: &Location) -> Result<String, AllocErro
         }
         Location::Local { group, name } => {
             let name = String::from_utf8_lossy(alloc, name.as_slice())?;
-            let name = name.as_str();
-            format!(in alloc; "local {group} {name}")
+            local_text(alloc, *group, name.as_str())
         }
     }
 }
@@ -100,6 +116,16 @@ fn with_event(accesses: usize, event: Event) -> usize
     }
 }
 
+/// The access of a number, if there is one.
+fn touch_at(touches: &[Touch], number: usize) -> Option<&Touch>
+    ensures { option_copied result ≡ slice_get touches.now number }
+{
+    match touches.get(number) {
+        Some(touch) => Some(touch),
+        None => None,
+    }
+}
+
 /// The first marks.
 fn first_of(marks: &[Mark], most: usize) -> &[Mark]
     ensures { result.now ≡ take most marks.now }
@@ -120,7 +146,7 @@ pub fn steps_of(context: &Context<'_>, played: &Played) -> Result<Vec<ToldEvent>
     let touches = played.touches.as_slice();
     let first = first_of(played.marks.as_slice(), MOST_STEPS);
     for mark in first {
-        push_step(context, mark, touches.get(accesses), &mut steps)?;
+        push_step(context, mark, touch_at(touches, accesses), &mut steps)?;
         accesses = with_event(accesses, mark.event);
     }
     Ok(steps)

@@ -3,7 +3,7 @@
 
 ghost use Rattle.std.specs.Prelude.{◌≡◌, length, IfOk};
 ghost use Rattle.std.specs.Bool.{Decides};
-ghost use Rattle.explain_reasons.specs.Reasons.{IsUnset};
+ghost use Rattle.explain_reasons.specs.Reasons.{IsReasonOf, IsUnset};
 ghost use Rattle.explain_reasons.specs.Stored.{IsDistance, IsNearestOf, IsOnSide, Stores, Tells, away, nearer};
 
 use clmodel::access::AccessKind;
@@ -92,8 +92,12 @@ fn nearest_store(touches: &[Touch], location: &Location, side: Side, byte: u64) 
     ensures { IsNearestOf touches.now location.now side byte (length touches.now) result }
 {
     let mut near = None;
-    for (number, touch) in touches.iter().enumerate() {
-        near = nearer(near, number, distance_of(touch, location, side, byte));
+    for number in 0..touches.len() {
+        near = nearer(
+            near,
+            number,
+            distance_of(&touches[number], location, side, byte),
+        );
     }
     near
 }
@@ -140,6 +144,25 @@ fn stored_bytes(
     }
 }
 
+/// The stores on both sides of an unset byte, if there is any.
+fn stores_reason(below: Option<StoredBytes>, above: Option<StoredBytes>) -> Reason
+    ensures { IsReasonOf below above result }
+{
+    match below {
+        Some(below) => Reason::NearestStores {
+            below: Some(below),
+            above,
+        },
+        None => match above {
+            Some(above) => Reason::NearestStores {
+                below: None,
+                above: Some(above),
+            },
+            None => Reason::NothingStored,
+        },
+    }
+}
+
 /// Which bytes beside an unset one were set, and where: those of the nearest stores, on both sides of it. An error is
 /// out of memory.
 pub(crate) fn unset_reason(
@@ -152,8 +175,5 @@ pub(crate) fn unset_reason(
 {
     let below = stored_bytes(context, played, location, Side::Below, byte)?;
     let above = stored_bytes(context, played, location, Side::Above, byte)?;
-    match (below, above) {
-        (None, None) => Ok(Reason::NothingStored),
-        (below, above) => Ok(Reason::NearestStores { below, above }),
-    }
+    Ok(stores_reason(below, above))
 }

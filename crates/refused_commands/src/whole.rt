@@ -48,14 +48,7 @@ fn quote_of(alloc: Global, spot: &WordSpot) -> Result<String, AllocError> {
     let from = spot.column.saturating_sub(1);
     let to = from.saturating_add(spot.length);
     let mut out = String::new(alloc);
-    write_quote(
-        alloc,
-        spot.line,
-        spot.text.as_str(),
-        from,
-        to,
-        &mut out,
-    )?;
+    write_quote(alloc, spot.line, spot.text.as_str(), from, to, &mut out)?;
     Ok(out)
 }
 
