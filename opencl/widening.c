@@ -141,12 +141,6 @@ static void tell_launch(const noted_launch *l, json launch) {
         if (!strcmp(source, "buffer")) tell_buffer(l, json_member(d, "name"), "not for", behind);
         else tell_argument(l, json_member(d, "index"), "not for", behind);
     }
-    bool is_empty = !json_first(buffers).at && !json_first(arguments).at && !json_first(deciding).at;
-    for (unsigned i = 0; is_empty && i < l->form->count; i++) {
-        if (!l->buffers[i]) continue;
-        tell("  nothing was found of buffers and arguments: the kernel is too large for clsim widen");
-        break;
-    }
 }
 
 static void tell_script(json script) {
