@@ -111,7 +111,7 @@ not_read absent most G None e few none reads only n is =
 not_read absent most G (Some t) e few none reads only n is = only t (Err e) (reads t refl) (is.0, omega (arith, is.1, is.3, few))
 
 -- the ticks that limits allow have 32 bits
-pub few_ticks : (ticks : ℕ) → ticks ≤ 4194303 → ticks < 2 ^ 32
+pub few_ticks : (ticks : ℕ) → ticks ≤ 1000000000 → ticks < 2 ^ 32
 few_ticks ticks few = omega (arith, few)
 
 -- nor is a number that was read and is out of range

@@ -58,7 +58,8 @@ abbrev pub next_at : ℕ → List Token → ℕ
 next_at length [] = length
 next_at length (t ∷ ts) = t.at
 
--- The tokens before the offset begin a program within the device's limit; with the next one none begins, or they end too early.
+-- The tokens before the offset begin a program within the device's limit; with the next one none begins, or they end
+-- too early.
 pub record IsUnexpected (limits : Limits) (length : ℕ) (ts : List Token) (at : ℕ) : Type 0 where
   pub placed : List Placed
   pub rest : List Token
@@ -68,8 +69,8 @@ pub record IsUnexpected (limits : Limits) (length : ℕ) (ts : List Token) (at :
   pub within : IsWithin limits placed
   pub ends : Ends (tokens placed) rest
 
--- The tokens before the offset begin a program within the device's limit; so they do with the next one, which is nested too
--- deep.
+-- The tokens before the offset begin a program within the device's limit; so they do with the next one, which is nested
+-- too deep.
 pub record IsTooDeep (limits : Limits) (ts : List Token) (at : ℕ) : Type 0 where
   pub placed : List Placed
   pub deep : Placed

@@ -1,8 +1,8 @@
 //! The type checker: which programs are typed, and the fault of one that isn't (OpenCL 1.2, sections 6.1 to 6.12).
 //!
 //! `check` succeeds only on programs that are typed within the limits of the device, and then hands back the same tree
-//! inside `Checked`. It answers a fault only where that is the least fault of the program within them. On a program that
-//! is typed within them its only error is out of memory.
+//! inside `Checked`. It answers a fault only where that is the least fault of the program within them. On a program
+//! that is typed within them its only error is out of memory.
 //!
 //! What the bodies of functions hold, with the bodies of the functions that they call in place of the calls, is counted
 //! up to one above the greatest limits that a device may have (this project's own): the depth of loops, the bytes of

@@ -11,7 +11,7 @@ use clnum::{IntType, Value};
 use std::cmp::max;
 
 /// How deep the loops of a kernel may be nested at most, whatever the device.
-const LOOP_LIMIT: u32 = 8;
+const LOOP_LIMIT: u32 = 32;
 
 /// How many bytes the private arrays of a kernel may have at most, whatever the device (OpenCL 1.2, section 6.5.4; the
 /// limit is this project's own).

@@ -30,9 +30,9 @@ fn last_holder(scopes: &[Scope], name: u32) -> Option<&Scope>
     scopes.iter().rev().find(|scope| scope.contains_key(&name))
 }
 
-/// What is known at a place of a program: the limits of the device, the names of all its functions, the functions before
-/// this one, this function, whether the place is in a loop, and the variables of each scope around it. Names are their
-/// places in a tree's table of names.
+/// What is known at a place of a program: the limits of the device, the names of all its functions, the functions
+/// before this one, this function, whether the place is in a loop, and the variables of each scope around it. Names are
+/// their places in a tree's table of names.
 #[derive(Drop)]
 pub struct Context {
     alloc: Global,

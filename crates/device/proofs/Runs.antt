@@ -27,7 +27,7 @@ has_groups configuration setup other size same grouped few whole few_items limit
     few_numbers : (n m : ℕ) → n ≤ m → m ≤ 2 ^ 26 → n < 2 ^ 32
     few_numbers n m few limited = omega (arith, few, limited)
 
-    short : (b k : ℕ) → b ≤ k → k ≤ 4194303 → b < 2 ^ 32
+    short : (b k : ℕ) → b ≤ k → k ≤ 1000000000 → b < 2 ^ 32
     short b k limited brief = omega (arith, limited, brief)
 
 clean_with : Determinacy → CleanIsComplete → (launch : Launch) (events : Events) (end : State) → RunsClean launch events end → CleanWith launch (left launch end)

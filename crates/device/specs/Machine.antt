@@ -30,8 +30,8 @@ use Rattle.host_commands.specs.declared.command.Reply.TheVariants as reply
 use Rattle.limits.specs.declared.Configuration.{Configuration}
 use Rattle.device.specs.declared.Device.{Device}
 
--- what is known between two commands: what the device was made with, its limits (table 4.3) and the ticks that an item of
--- a launch may make, and the buffers with their bytes, the programs and the kernels by their names
+-- what is known between two commands: what the device was made with, its limits (table 4.3) and the ticks that an item
+-- of a launch may make, and the buffers with their bytes, the programs and the kernels by their names
 pub record Machine : Type 0 where
   pub configuration : Configuration
   pub buffers : Table (List ℕ)

@@ -3,11 +3,11 @@
 //! `one_group` runs one work-group on overlays of the launch's buffers. Its result is that of `run_group` on their
 //! bytes. The buffers don't change, so each group begins with the same bytes, in whatever order the groups run.
 //!
-//! `run_launch` answers how the launch's canonical run on one memory ends: with what a clean run changes in the buffers,
-//! or with a report and its schedule. `merge` answers the same from the results of all groups, or of the first ones up
-//! to one that stopped. `join_round` joins results whose logs are short lists, each of which represents a whole log.
-//! Each of them asks that the launch has whole groups, and items and answers below 2^32. No buffer is copied whole, and
-//! none is changed; `LaunchEnd::outcome` makes copies, for those who ask for them.
+//! `run_launch` answers how the launch's canonical run on one memory ends: with what a clean run changes in the
+//! buffers, or with a report and its schedule. `merge` answers the same from the results of all groups, or of the first
+//! ones up to one that stopped. `join_round` joins results whose logs are short lists, each of which represents a whole
+//! log. Each of them asks that the launch has whole groups, and items and budgets below 2^32. No buffer is copied
+//! whole, and none is changed; `LaunchEnd::outcome` makes copies, for those who ask for them.
 #![tactic(auto)]
 
 mod changes;

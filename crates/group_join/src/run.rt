@@ -52,8 +52,8 @@ fn stands(came: &GroupResult<Overlay<'_>, HeapLog>)
 }
 
 /// The canonical run of a launch of any number of work-groups (OpenCL 1.2, sections 3.2 and 5.8): each group runs on
-/// the buffers as they are, and the groups are joined in their order. It ends clean, with what the groups changed in the
-/// launch's buffers, or with its report and its schedule. The buffers stay as they are. An error is out of memory.
+/// the buffers as they are, and the groups are joined in their order. It ends clean, with what the groups changed in
+/// the launch's buffers, or with its report and its schedule. The buffers stay as they are. An error is out of memory.
 pub fn run_launch(
     alloc: Global,
     launch: &Launch<'_>,

@@ -168,8 +168,8 @@ fn answer_all<'a, D: Runnable>(
     Ok(())
 }
 
-/// The number of events with one more. An error is that it has no 32 bits, so that no log could tell it: a group then ends
-/// as one that is out of memory.
+/// The number of events with one more. An error is that it has no 32 bits, so that no log could tell it: a group then
+/// ends as one that is out of memory.
 #[inline(always)]
 fn next_number(made: u32) -> Result<u32, AllocError>
     ensures value { IfOk result (λ next. next ≡ made + 1) }

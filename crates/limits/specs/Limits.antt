@@ -33,20 +33,20 @@ profile = record {
   few_local_bytes = lit≤ tt;
 }
 
--- 2^26 items a launch, 1,024 a group, 4,096 buffers of 1 GiB, 1,000,000 ticks an item, also where none are asked for;
--- sources of 4 MiB, nested 256 deep; kernels of 1,000,000 nodes, 8 loops inside one another, 65,536 bytes of private
--- arrays, 65,536 elements an array, 65,536 bytes of local objects
+-- 2^26 items a launch, 1,024 a group, 4,096 buffers of 1 GiB, up to 1,000,000,000 ticks an item and 10,000,000 where
+-- none are asked for; sources of 4 MiB, nested 256 deep; kernels of 1,000,000 nodes, 32 loops inside one another,
+-- 65,536 bytes of private arrays, 65,536 elements an array, 65,536 bytes of local objects
 abbrev pub large : Limits
 large = record {
   items = 67108864;
   group_items = 1024;
   buffers = 4096;
   buffer_bytes = 1073741824;
-  ticks = 1000000;
-  default_ticks = 1000000;
+  ticks = 1000000000;
+  default_ticks = 10000000;
   source_bytes = 4194304;
   nesting = 256;
-  loops = 8;
+  loops = 32;
   nodes = 1000000;
   private_bytes = 65536;
   elements = 65536;

@@ -3,9 +3,8 @@
 //! `Limits` are what refusals compare with, and `Configuration` is what a device is made with: its limits, and the
 //! ticks of a work-item. There are two values of `Limits` with a name, `profile` and `large`; what is proved of a
 //! device holds for all that `Limits` can be. No sum of a launch passes its type within them: the number of an item has
-//! 32 bits, as has the number of an answer to a group's items, of which there are at most as many as the group has
-//! items times ticks. So have the places of a source, and those of the code of a kernel, which has some instructions a
-//! node.
+//! 32 bits, and so have its ticks. So have the places of a source, and those of the code of a kernel, which has some
+//! instructions a node. A group whose items are answered more than 2^32 times is out of memory.
 #![tactic(auto)]
 
 ghost use Rattle.std.specs.Prelude.{◌≡◌, ◌≤◌, ◌^◌};
@@ -21,7 +20,7 @@ pub struct Limits {
     pub buffers: usize,
     /// The most bytes of a buffer (`CL_DEVICE_MAX_MEM_ALLOC_SIZE`)
     pub buffer_bytes: u64,
-    /// The most ticks that a device may give a work-item, up to 4,194,303
+    /// The most ticks that a device may give a work-item, up to 1,000,000,000
     pub ticks: u32,
     /// The ticks of a work-item where none are asked for
     pub default_ticks: u32,
@@ -29,7 +28,7 @@ pub struct Limits {
     pub source_bytes: usize,
     /// How deep blocks, brackets and operators of a source may be nested, up to 256
     pub nesting: u32,
-    /// How deep the loops of a kernel may be nested, up to 8
+    /// How deep the loops of a kernel may be nested, up to 32
     pub loops: u32,
     /// The most nodes of the body of a kernel, with the bodies of its helpers in place of their calls, up to 1,000,000
     pub nodes: u32,
@@ -41,11 +40,11 @@ pub struct Limits {
     pub local_bytes: u64,
     pub ghost few_items: { items ≤ 2 ^ 26 },
     pub ghost small_groups: { group_items ≤ 1024 },
-    pub ghost few_ticks: { ticks ≤ 4194303 },
+    pub ghost few_ticks: { ticks ≤ 1000000000 },
     pub ghost enough_ticks: { default_ticks ≤ ticks },
     pub ghost short_sources: { source_bytes ≤ 4194304 },
     pub ghost flat: { nesting ≤ 256 },
-    pub ghost few_loops: { loops ≤ 8 },
+    pub ghost few_loops: { loops ≤ 32 },
     pub ghost few_nodes: { nodes ≤ 1000000 },
     pub ghost few_private_bytes: { private_bytes ≤ 65536 },
     pub ghost few_elements: { elements ≤ 65536 },
@@ -85,11 +84,11 @@ impl Limits {
             group_items: 1024,
             buffers: 4096,
             buffer_bytes: 1_073_741_824,
-            ticks: 1_000_000,
-            default_ticks: 1_000_000,
+            ticks: 1_000_000_000,
+            default_ticks: 10_000_000,
             source_bytes: 4_194_304,
             nesting: 256,
-            loops: 8,
+            loops: 32,
             nodes: 1_000_000,
             private_bytes: 65_536,
             elements: 65_536,

@@ -40,8 +40,8 @@ TypedKernelsFewRegisters =
     (program : Program) (name : ℕ) (f : Func) → IsTypedProgram program → kernel_in program.functions name ≡ Some f →
     register_count (kernel_code (functions_before program.functions name) f) ≤ 16 * (length f.parameters + node_limit + 1)
 
--- So, with the limit of parameters, its code has at most 7,013,002 instructions and 16,208,016 registers: each length of a
--- jump and each register has a number of 32 bits.
+-- So, with the limit of parameters, its code has at most 7,013,002 instructions and 16,208,016 registers: each length
+-- of a jump and each register has a number of 32 bits.
 unfoldable pub TypedKernelsFit : Type 0
 TypedKernelsFit =
     (program : Program) (name : ℕ) (f : Func) → IsTypedProgram program → kernel_in program.functions name ≡ Some f →

@@ -4,7 +4,7 @@
 ghost use Rattle.lower.specs.Accepted.{ExpressionsSuit, TargetsSuit, ExpressionsFlat, ExpressionsSound, StatementsSound, KernelsGo, KernelsVerified, SuitFits, TypedKernelsVerified};
 ghost use Rattle.lower.specs.Bounds.{TypedKernelsShort, TypedKernelsFewBarriers, TypedKernelsFewRegisters, TypedKernelsFit};
 
-/// A kernel's code is verified with the tables that are made from it, if its loops are nested at most eight deep,
+/// A kernel's code is verified with the tables that are made from it, if its loops are nested at most 32 deep,
 /// no two functions before it have one name, and its instructions suit the types of its parameters. Those of typed
 /// expressions, and of targets, do. The jumps and loops of expressions, statements and kernels are sound whether they
 /// are typed or not.

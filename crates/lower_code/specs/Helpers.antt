@@ -56,8 +56,8 @@ WidthsCounted functions =
     (count i : ℕ) (f : Function) → i < count → count ≤ length functions → f ≡ get_or functions i f
     → width_of (functions_of (take i functions)) (func f) ≤ width_in (take count functions) f.name
 
--- With the parameters of the helpers that it calls a function has at most twice as many nodes: as where each call has an
--- argument for each parameter.
+-- With the parameters of the helpers that it calls a function has at most twice as many nodes: as where each call has
+-- an argument for each parameter.
 abbrev pub AreNarrow : List Function → Type 0
 AreNarrow functions =
     (i : ℕ) (f : Function) → i < length functions → f ≡ get_or functions i f

@@ -3,7 +3,7 @@
 //!
 //! `run_ordered` makes exactly the events of the ordered run, group after group, and answers them as a schedule: with
 //! what the run leaves in the buffers, or with its report, which the schedule leads to (out of memory aside). It asks
-//! for whole groups with items and answers below 2^32, and leaves the buffers that it is given. `step_item` is one
+//! for whole groups with items and budgets below 2^32, and leaves the buffers that it is given. `step_item` is one
 //! item's turn in whatever order: it makes its next access, and tells a race of that access, or where it waits, or the
 //! fault that keeps it. `newest_race` is the race of a log's last access, exactly as defined, by a search among all
 //! earlier ones.

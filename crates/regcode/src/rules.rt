@@ -250,7 +250,7 @@ impl Judged<'_> {
             Instruction::Barrier { depth, .. } => *depth as usize <= loops
                 && self.leads(place + 1, loops),
             Instruction::Enter { depth } => *depth as usize <= loops
-                && *depth < 8
+                && *depth < 32
                 && self.leads(place + 1, *depth as usize + 1),
             Instruction::Turn { depth } => (*depth as usize) < loops
                 && self.leads(place + 1, *depth as usize + 1),
@@ -272,6 +272,6 @@ impl Judged<'_> {
         requires { place < length self.now.instructions.now }
         ensures { IsTrue result ↔ spec.IsFine (listing self.now.instructions.now self.now.tables.now) place instruction.now }
     {
-        self.fits(instruction) && self.leads_inside(place, instruction) && self.loops(place) <= 8
+        self.fits(instruction) && self.leads_inside(place, instruction) && self.loops(place) <= 32
     }
 }

@@ -3,7 +3,7 @@ use Rattle.std.proofs.Common.{◌≡◌, ℕ, zero, suc, ◌+◌, ◌-◌, ◌*�
 use Rattle.std.specs.Prelude.{slice_index, slice_get}
 use Rattle.std.specs.List.{range_with_len}
 use Rattle.std.proofs.lemmas.Bool.{cases_lt, cases_eq}
-use Rattle.std.proofs.lemmas.List.{get_or-take, get_or-drop, get_or_append_left, get_or-append_right, length-take, length-drop, drop_more, drop_all}
+use Rattle.std.proofs.lemmas.List.{get_or-take, get_or-drop, get_or_append_left, get_or-append_right, length-take, length-drop, drop_all}
 use Rattle.clmodel.specs.Cells.{Cells, cells_of, written}
 use Rattle.clmodel.proofs.CellLaws.{cells_some}
 use Rattle.spaces.specs.Changes.{Changed, with_changes, table_with_changes}
@@ -207,13 +207,6 @@ all_written base counts numbers cells written now numbered all h = told now (ove
         let of = numbered (k / 256) copied in h.done k (counts (k / 256) - 1) b (omega (arith, of.0, copied, all)) of.1 copied
 
 -- ---- buffers by their names
-
-pub changes_more :
-    (table : Table (List ℕ)) (names : List (List ℕ)) (changes : List Changed) (place : ℕ) (name : List ℕ) (one : Changed) → place < length names → place < length changes → name ≡ get_or names place name
-    → one ≡ get_or changes place one
-    → table_with_changes table (drop place names) (drop place changes) ≡ table_with_changes table (name ∷ drop (place + 1) names) (one ∷ drop (place + 1) changes)
-changes_more table names changes place name one b c e f =
-    ap₂ (table_with_changes table) (drop_more names place name b ∙ ap (λ z. z ∷ drop (place + 1) names) (sym e)) (drop_more changes place one c ∙ ap (λ z. z ∷ drop (place + 1) changes) (sym f))
 
 no_changes_left : (table : Table (List ℕ)) (names : List (List ℕ)) → table_with_changes table names [] ≡ table
 no_changes_left table [] = refl

@@ -65,8 +65,8 @@ fn run_rounds<G: Gate, R: Threads + Wait + Sync>(
 /// runs them on the buffers as they are, between two calls of the gate with the group's number; a thread that can't be
 /// started is done without. Several workers run the groups in rounds, and the calling thread joins each round before it
 /// runs groups of the next. One worker is the calling thread: it runs and joins group after group, as `run_launch`
-/// does. The launch ends as `run_launch` answers, however many workers there are and whatever the gate does. The buffers
-/// stay as they are. An error is out of memory.
+/// does. The launch ends as `run_launch` answers, however many workers there are and whatever the gate does. The
+/// buffers stay as they are. An error is out of memory.
 pub fn run_parallel<G: Gate, R: Threads + Wait + Sync>(
     rt: &R,
     alloc: Global,

@@ -115,7 +115,7 @@ sizes_of (ThenFunc fs f) = sizes_of fs ++ (f.name, row_size (sizes_of fs) f.body
 
 -- how deep the loops of a kernel may be nested
 abbrev pub loop_limit : ℕ
-loop_limit = 8
+loop_limit = 32
 
 -- how many bytes the private arrays of a kernel may have
 abbrev pub byte_limit : ℕ
