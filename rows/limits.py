@@ -225,7 +225,7 @@ def deep_loops():
     heads = [f"for (int i{depth} = 0; i{depth} < 2; i{depth}++) " for depth in range(2)]
     heads += [f"for (int i{depth} = 0; i{depth} < 1; i{depth}++) " for depth in range(2, 32)]
     add = "__kernel void f(__global int *a) { int n = get_global_id(0); " + "".join(heads) + \
-          "{ a[n]++; barrier(CLK_GLOBAL_MEM_FENCE); n = 1 - n; } }"
+          "{ a[n] = a[n] + 1; barrier(CLK_GLOBAL_MEM_FENCE); n = 1 - n; } }"
     script = ["buffer a 8", "program p 1", add, "kernel k p f", "arg k 0 buffer a", "launch k 2 2", "read a 0 8"]
     yield ran("two items that take turns over a barrier in 32 loops", script,
               ["ok"] * 4 + ["clean", "data 0400000004000000"])
