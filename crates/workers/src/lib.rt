@@ -7,11 +7,11 @@
 
 mod overlap;
 mod round;
-mod round_gate;
 mod round_size;
 mod run;
 mod shares;
 mod spare;
+mod units;
 
 pub use run::run_parallel;
 pub use workers_draw::gate::{Gate, OpenGate};

@@ -16,6 +16,7 @@ use regcode::Code;
 use spaces::Buffers;
 use std::marker::Sync;
 use steps::Step;
+use workers_draw::gate::Gate;
 
 /// The type's values may be shared.
 fn is_shared<T: Sync>()
@@ -61,10 +62,11 @@ fn spares_are_shared()
 }
 
 /// Groups of launches may be shared.
-pub(crate) fn rounds_are_shared()
-    ensures { (ℓ ℓs : NamedLft) → IsSync (RoundType.the_row ℓ ℓs) }
+pub(crate) fn rounds_are_shared<G: Gate>()
+    ensures { (ℓ ℓs ℓg : NamedLft) → IsSync (RoundType.the_row ℓ ℓs ℓg G.row) }
 {
     launches_are_shared();
     is_shared::<Buffers>();
     spares_are_shared();
+    is_shared::<G>();
 }
