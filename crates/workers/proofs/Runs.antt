@@ -18,7 +18,6 @@ use Rattle.shadow.specs.Lasting.{StandsWith}
 use Rattle.shadow.specs.declared.group_accesses.AccessSummary.{AccessSummary}
 use Rattle.group_join.specs.declared.heap_log.HeapLog.{HeapLog}
 use Rattle.group_join.specs.Launches.{heap_log, is_stop, is_stopped}
-use Rattle.group_join.proofs.Listed.{back_uniform}
 use Rattle.spaces.specs.Overlay.{Overlaid}
 use Rattle.workers.specs.Results.{IsListed, IsOfGroup, IsStopping}
 
@@ -60,9 +59,13 @@ pub result_listed : (launch : Launch) (group : ℕ) (came : GroupResult Overlaid
     → IsResult bytes_of heap_log launch group came → IsListed launch group (record { group = came.group; log = list; runs = came.runs; end = came.end })
 result_listed launch group came list stand is = (heap_log came.log, stand, is)
 
+flag_of_end : (launch : Launch) (group : ℕ) (log : Log) (events : Events) (end : GroupEnd Overlaid) → IsGroupEnd bytes_of launch group log events end → log.uniform ≡ launch.uniform
+flag_of_end launch group log events (Done spaces) run = run.0.holds.logged.uniform
+flag_of_end launch group log events (Stopped fault) run = run.holds.uniform
+
 -- the log of a group that has run has the launch's flag
 pub flag_of_log : (launch : Launch) (group : ℕ) (came : GroupResult Overlaid HeapLog) → IsResult bytes_of heap_log launch group came → (heap_log came.log).uniform ≡ launch.uniform
-flag_of_log launch group came is = back_uniform bytes_of heap_log launch group came came.log is refl
+flag_of_log launch group came is = flag_of_end launch group (heap_log came.log) (events_of came.runs) came.end is.2
 
 -- what a group's run comes to, where memory isn't refused, is of that group
 pub listed_of_group : {T : Type 0} (came : T → Came) (launch : Launch) (group : ℕ) (r : Result T AllocError) → HasGroup launch group → IfOk r (λ t. IsListed launch group (came t)) → IfOk r (λ t. IsOfGroup launch group (came t))

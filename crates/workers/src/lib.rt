@@ -5,6 +5,7 @@
 //! that workers overlap.
 #![tactic(auto)]
 
+mod group_calls;
 mod overlap;
 mod round;
 mod round_size;

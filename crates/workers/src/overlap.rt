@@ -10,6 +10,7 @@ ghost use Rattle.group_join.specs.Rounds.{CameOfRound};
 ghost use Rattle.spaces.specs.Buffers.{bytes_in};
 ghost use Rattle.workers.specs.Results.{AreOfRound};
 
+use crate::group_calls::GateCalls;
 use crate::round::Round;
 use crate::shares::rounds_are_shared;
 use crate::spare::SpareLogs;
@@ -54,7 +55,8 @@ pub(crate) fn run_round<'a, G: Gate, R: Threads + Wait + Sync>(
     ensures { IfOk result (λ v. AreOfRound (launch_of (setup_of launch.now) (bytes_in buffers.now)) last first v.items) }
 {
     rounds_are_shared::<G>();
-    let round = Round::new(launch, buffers, spares, gate, first, last, 1);
+    let calls = GateCalls { gate };
+    let round = Round::new(launch, buffers, spares, &calls, first, last, 1);
     let workers = busy_workers(workers, last - first);
     let units = run_groups(rt, alloc, &round, workers, &OpenGate);
     round.results_of(alloc, units)
@@ -94,7 +96,8 @@ pub(crate) fn join_and_run<'a, 'b, G: Gate, R: Threads + Wait + Sync>(
     ensures joined { IfOk result.1 (CameOfRound (launch_of (setup_of launch.now) (bytes_in buffers.now)) last) }
 {
     rounds_are_shared::<G>();
-    let round = Round::new(launch, buffers, spares, gate, last, end, each);
+    let calls = GateCalls { gate };
+    let round = Round::new(launch, buffers, spares, &calls, last, end, each);
     let workers = busy_workers(workers, round.count.saturating_add(1));
     let (units, joined) = run_groups_after(
         rt,

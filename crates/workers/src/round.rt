@@ -12,6 +12,7 @@ ghost use Rattle.spaces.specs.Buffers.{bytes_in};
 ghost use Rattle.workers_draw.specs.Groups.{AreResults};
 ghost use Rattle.workers.specs.Results.{AreOfRound, AreOfSome, IsListed, IsOfGroup, IsOfUnit, IsStoppingAmong, unit_at};
 
+use crate::group_calls::GroupCalls;
 use crate::spare::SpareLogs;
 use crate::units::{Results, ShortResult, UnitResults, one_after_another};
 use group_join::{HeapLog, has_stopped, one_group};
@@ -20,19 +21,19 @@ use item_step::Launch;
 use joining::one_part;
 use spaces::{Buffers, Overlay};
 use std::alloc::{AllocError, Global};
-use workers_draw::gate::Gate;
+use std::marker::Sync;
 use workers_draw::work::Work;
 
 /// Some work-groups of a launch on these buffers, which follow one another (OpenCL 1.2, sections 3.2 and 5.8). Workers
 /// draw them in units of several groups. A group has one run, whatever other groups do.
 #[derive(Drop)]
-pub(crate) struct Round<'a, 's, 'g, G> {
+pub(crate) struct Round<'a, 's, 'c, C> {
     launch: &'a Launch<'a>,
     buffers: &'a Buffers,
     /// Logs for the groups of this round and of further ones
     spares: &'s SpareLogs,
-    /// It is called with the number of each group that is run
-    gate: &'g G,
+    /// They are made with the number of each group that is run
+    calls: &'c C,
     /// The number of the first group
     first: u32,
     /// The number of the group behind the last
@@ -80,13 +81,13 @@ fn shortened<'a>(
     Ok((short, log))
 }
 
-impl<'a, 's, 'g, G: Gate> Round<'a, 's, 'g, G> {
+impl<'a, 's, 'c, C: GroupCalls> Round<'a, 's, 'c, C> {
     /// The groups `first..last` of a launch, in units of `each` groups.
     pub(crate) fn new(
         launch: &'a Launch<'a>,
         buffers: &'a Buffers,
         spares: &'s SpareLogs,
-        gate: &'g G,
+        calls: &'c C,
         first: u32,
         last: u32,
         each: u32,
@@ -106,7 +107,7 @@ impl<'a, 's, 'g, G: Gate> Round<'a, 's, 'g, G> {
             launch,
             buffers,
             spares,
-            gate,
+            calls,
             first,
             last,
             each,
@@ -139,8 +140,8 @@ impl<'a, 's, 'g, G: Gate> Round<'a, 's, 'g, G> {
         shortened(alloc, came)
     }
 
-    /// Runs a group as `run_one` does, between two calls of the gate.
-    fn run_at_gate(
+    /// Runs a group as `run_one` does, between the two calls.
+    fn run_between(
         &self,
         alloc: Global,
         group: u32,
@@ -151,9 +152,9 @@ impl<'a, 's, 'g, G: Gate> Round<'a, 's, 'g, G> {
         ensures came { IfOk result (λ t. IsOfGroup (launch_of (setup_of self.now.launch.now) (bytes_in self.now.buffers.now)) group t.0) }
         ensures log { IfOk result (λ t. (heap_log t.1).uniform ≡ (setup_of self.now.launch.now).range.uniform) }
     {
-        self.gate.enter(group);
+        self.calls.before(group);
         let came = self.run_one(alloc, group, log);
-        self.gate.leave(group);
+        self.calls.after(group);
         came
     }
 
@@ -173,7 +174,7 @@ impl<'a, 's, 'g, G: Gate> Round<'a, 's, 'g, G> {
         let mut log = self.spares.take(alloc, self.launch.range().uniform)?;
         let mut results = Vec::with_capacity(alloc, (last - first) as usize)?;
         for group in first..last {
-            let (came, used) = self.run_at_gate(alloc, group, log)?;
+            let (came, used) = self.run_between(alloc, group, log)?;
             log = used;
             let stopped = has_stopped(&came);
             results.push(came)?;
@@ -208,7 +209,7 @@ impl<'a, 's, 'g, G: Gate> Round<'a, 's, 'g, G> {
     }
 }
 
-impl<'a, G: Gate> Work for Round<'a, '_, '_, G> {
+impl<'a, C: GroupCalls + Sync> Work for Round<'a, '_, '_, C> {
     type Output = UnitResults<'a>;
 
     ghost count = { λ w. w.count };
@@ -235,7 +236,9 @@ impl<'a, G: Gate> Work for Round<'a, '_, '_, G> {
         came.unit
     }
 
-    fn stopped(came: &UnitResults<'a>) -> bool {
+    fn stopped(came: &UnitResults<'a>) -> bool
+        ensures { result ≡ came.now.stopped }
+    {
         came.stopped
     }
 

@@ -4,6 +4,7 @@ ghost use denote.Ref.{NamedLft};
 ghost use Rattle.clmodel.specs.contracts.tree.Function as FunctionType;
 ghost use Rattle.clmodel.specs.contracts.tree.Tree as TreeType;
 ghost use Rattle.item_step.specs.contracts.launch.Launch as LaunchType;
+ghost use Rattle.workers.specs.contracts.group_calls.GateCalls as GateCallsType;
 ghost use Rattle.workers.specs.contracts.round.Round as RoundType;
 ghost use Rattle.workers.specs.contracts.spare.SpareLogs as SpareLogsType;
 
@@ -63,7 +64,7 @@ fn spares_are_shared()
 
 /// Groups of launches may be shared.
 pub(crate) fn rounds_are_shared<G: Gate>()
-    ensures { (ℓ ℓs ℓg : NamedLft) → IsSync (RoundType.the_row ℓ ℓs ℓg G.row) }
+    ensures { (ℓ ℓs ℓc ℓg : NamedLft) → IsSync (RoundType.the_row ℓ ℓs ℓc (GateCallsType.the_row ℓg G.row)) }
 {
     launches_are_shared();
     is_shared::<Buffers>();

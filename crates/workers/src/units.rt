@@ -31,7 +31,7 @@ pub(crate) fn one_after_another<'a>(
     units: Vec<UnitResults<'a>>,
     room: usize,
 ) -> Result<Results<'a>, AllocError>
-    ensures { IfOk result (λ v. v.items ≡ all_results units.items) }
+    ensures { IfOk result (λ v. v.items ≡ all_results units.entry.items) }
 {
     let mut all = Vec::with_capacity(alloc, room)?;
     for unit in units {

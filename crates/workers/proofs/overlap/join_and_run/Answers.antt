@@ -5,7 +5,7 @@ use Rattle.clmodel.specs.Next.{launch_of}
 use Rattle.item_step.specs.Launches.{setup_of}
 use Rattle.spaces.specs.Buffers.{bytes_in}
 use Rattle.workers.proofs.Runs.{Came}
-use Rattle.workers.proofs.Units.{same_round}
+use Rattle.workers.proofs.OfUnits.{same_round}
 use Rattle.workers.proofs.overlap.join_and_run.Goals as goal
 
 pub run_groups_after-requires-sync-W : goal.run_groups_after-requires-sync-W

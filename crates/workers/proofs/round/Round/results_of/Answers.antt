@@ -9,7 +9,7 @@ use Rattle.workers_draw.specs.Groups.{AreResults}
 use Rattle.workers.specs.Results.{AreOfRound, IsOfUnit}
 use Rattle.workers.specs.declared.units.UnitResults.{UnitResults}
 use Rattle.workers.proofs.Runs.{Came}
-use Rattle.workers.proofs.Units.{units_round}
+use Rattle.workers.proofs.OfUnits.{units_round}
 use Rattle.workers.proofs.round.Round.results_of.Goals as goal
 
 pub returns : goal.returns

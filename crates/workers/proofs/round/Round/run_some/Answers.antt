@@ -7,7 +7,7 @@ use Rattle.spaces.specs.Buffers.{bytes_in}
 use Rattle.group_join.specs.Launches.{is_stopped}
 use Rattle.workers_draw.proofs.Orders.{SoFar, so_far_push}
 use Rattle.workers.specs.Results.{AreOfSome, IsOfGroup}
-use Rattle.workers.proofs.Units.{some_done, some_ended}
+use Rattle.workers.proofs.OfUnits.{some_done, some_ended}
 use Rattle.workers.proofs.round.Round.run_some.Goals as goal
 
 pub loop-group-init : goal.loop-group-init

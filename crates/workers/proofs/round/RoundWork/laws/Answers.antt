@@ -3,7 +3,7 @@ use Rattle.clmodel.specs.Launch.{Launch}
 use Rattle.clmodel.specs.Next.{launch_of}
 use Rattle.item_step.specs.Launches.{setup_of}
 use Rattle.spaces.specs.Buffers.{bytes_in}
-use Rattle.workers.proofs.Units.{some_stops, some_stopped}
+use Rattle.workers.proofs.OfUnits.{some_stops, some_stopped}
 use Rattle.workers.specs.Results.{unit_at}
 use Rattle.workers.proofs.round.RoundWork.laws.Goals as goal
 

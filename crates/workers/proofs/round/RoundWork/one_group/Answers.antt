@@ -6,7 +6,7 @@ use Rattle.item_step.specs.Launches.{setup_of}
 use Rattle.spaces.specs.Buffers.{bytes_in}
 use Rattle.workers.specs.Results.{AreOfSome, unit_at}
 use Rattle.workers.specs.declared.units.UnitResults.{UnitResults}
-use Rattle.workers.proofs.Units.{unit_order}
+use Rattle.workers.proofs.OfUnits.{unit_order}
 use Rattle.workers.proofs.round.RoundWork.one_group.Goals as goal
 
 pub run_some-requires-clause-order : goal.run_some-requires-clause-order
