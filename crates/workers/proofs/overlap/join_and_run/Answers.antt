@@ -8,8 +8,8 @@ use Rattle.workers.proofs.Runs.{Came}
 use Rattle.workers.proofs.OfUnits.{same_round}
 use Rattle.workers.proofs.overlap.join_and_run.Goals as goal
 
-pub run_groups_after-requires-sync-W : goal.run_groups_after-requires-sync-W
-run_groups_after-requires-sync-W g c κs = search (sendable, c.rounds_are_shared.ensures)
+pub run_groups_after-units-requires-sync-W : goal.run_groups_after-units-requires-sync-W
+run_groups_after-units-requires-sync-W g c κs = search (sendable, c.rounds_are_shared.ensures)
 
 pub returns-clause-next : goal.returns-clause-next
 returns-clause-next g c =

@@ -8,8 +8,8 @@ use Rattle.workers.proofs.Runs.{Came}
 use Rattle.workers.proofs.OfUnits.{same_round}
 use Rattle.workers.proofs.overlap.run_round.Goals as goal
 
-pub run_groups-requires-sync-W : goal.run_groups-requires-sync-W
-run_groups-requires-sync-W g c κs = search (sendable, c.rounds_are_shared.ensures)
+pub run_groups-units-requires-sync-W : goal.run_groups-units-requires-sync-W
+run_groups-units-requires-sync-W g c κs = search (sendable, c.rounds_are_shared.ensures)
 
 pub returns : goal.returns
 returns g c =

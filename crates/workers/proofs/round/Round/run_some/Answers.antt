@@ -1,7 +1,8 @@
-use Rattle.std.proofs.Common.{◌≡◌, [], ◌∷◌, length, true, refl, sym, ap, subst, arith}
+use Rattle.std.proofs.Common.{◌≡◌, [], ◌∷◌, length, true, refl, sym, ap, ◌∙◌, subst, arith}
 use lib.ListN.{length-append}
 use Rattle.clmodel.specs.Launch.{Launch}
 use Rattle.clmodel.specs.Next.{launch_of}
+use Rattle.clmodel.specs.declared.setup.Range.{Range}
 use Rattle.item_step.specs.Launches.{setup_of}
 use Rattle.spaces.specs.Buffers.{bytes_in}
 use Rattle.group_join.specs.Launches.{is_stopped}
@@ -17,13 +18,13 @@ loop-group-init g c =
     record {
       so_far = subst (SoFar (IsOfGroup launch) is_stopped c.args.first) (sym none) tt;
       count = (let e = ap length none in omega (arith, e));
-      flag = c.in_ok-log.ensures;
+      flag = c.in_ok-log.ensures ∙ ap (λ (range : Range). range.uniform) c.range.ensures;
     }
 
 pub returns-then-stopped : goal.returns-then-stopped
 returns-then-stopped g c =
     let launch : Launch = launch_of (setup_of c.args.self.now.launch.now) (bytes_in c.args.self.now.buffers.now) in
-    let inv = c.loop-group.invariant in let came = c.in_ok-came.field-0.0 in (
+    let inv = c.loop-group.invariant in let came = c.in_ok-came.came in (
       refl,
       subst (λ results. AreOfSome launch c.args.first c.args.last results true) (sym c.in_ok-push.ensures.items)
           (some_ended launch c.args.first c.args.last c.loop-group.group c.loop-group.results.items came inv.so_far inv.count c.loop-group-test.true c.in_ok-came.ensures.came (sym c.if-stopped.ensures)),
@@ -32,7 +33,7 @@ returns-then-stopped g c =
 pub loop-group-preserved : goal.loop-group-preserved
 loop-group-preserved g c =
     let launch : Launch = launch_of (setup_of c.args.self.now.launch.now) (bytes_in c.args.self.now.buffers.now) in
-    let inv = c.loop-group.invariant in let came = c.in_ok-came.field-0.0 in let results = c.loop-group.results.items in
+    let inv = c.loop-group.invariant in let came = c.in_ok-came.came in let results = c.loop-group.results.items in
     record {
       so_far = subst (SoFar (IsOfGroup launch) is_stopped c.args.first) (sym c.in_ok-push.ensures.items)
           (so_far_push (IsOfGroup launch) is_stopped c.args.first results came inv.so_far (subst (λ n. IsOfGroup launch n came) (sym inv.count) c.in_ok-came.ensures.came) (sym c.if-stopped.ensures));
