@@ -1,13 +1,13 @@
 -- Lines and steps, some behind others.
-use Rattle.std.proofs.Common.{◌≡◌, ℕ, ◌+◌, ◌<◌, ◌≤◌, ◌⊎◌, All, Option, None, Some, IsSome, List, [], ◌∷◌, ◌++◌, length, length-append, codes, slice_get, inl, inr, refl, sym, ap, ◌∙◌, subst, append_assoc, arith}
+use Rattle.std.proofs.Common.{◌≡◌, ℕ, ◌+◌, ◌<◌, ◌≤◌, ◌⊎◌, Option, None, Some, IsSome, List, [], ◌∷◌, ◌++◌, length, length-append, codes, slice_get, inl, inr, refl, sym, ap, ◌∙◌, subst, append_assoc, arith}
 use Rattle.std.specs.List.{flat_map}
-use Rattle.std.proofs.lemmas.Bool.{cases_lt}
+use Rattle.std.proofs.lemmas.Bool.{cases_lt, false≢true}
 use Rattle.std.proofs.lemmas.Grind.{flat_map-append}
 use Rattle.std.proofs.lemmas.List.{append-nil}
 use Rattle.std.proofs.lemmas.List.Elements.{All-append, All-cons, All-nil}
 use Rattle.explanation.specs.declared.steps.ToldEvent.{ToldEvent}
 use Rattle.explanation.specs.declared.steps.ToldEvent.TheVariants as told
-use Rattle.explain_text.specs.Texts.{AddsEvent, AddsLines, AddsShown, AreEvents, AreLines, AreShown, Covers, IsEvent, IsOneLine, LeftOut, More, Shown, Step, left_out_line, more_line, number_of, numbered_line, shown_line}
+use Rattle.explain_text.specs.Texts.{AddsEvent, AddsLines, AddsShown, AreEvents, AreLines, Covers, IsEvent, IsOneLine, LeftOut, More, Shown, Step, left_out_line, more_line, number_of, numbered_line, shown_line}
 
 append_both : (a b c d : List ℕ) → a ≡ b → c ≡ d → a ++ c ≡ b ++ d
 append_both a b c d e f = ap (λ x. x ++ c) e ∙ ap (λ x. b ++ x) f
@@ -97,7 +97,7 @@ pub events_more : (steps : List ToldEvent) (from at : ℕ) (step : ToldEvent) �
 events_more steps from at step are here is k above below = go (cases_lt k at)
   where
     numbered : (o : Option ℕ) → number_of step ≡ o → IsSome o → (number : ℕ) × (number_of step ≡ Some number)
-    numbered None e s = absurd s
+    numbered None e s = absurd (false≢true s)
     numbered (Some number) e s = (number, e)
 
     go : (k < at) ⊎ (at ≤ k) → (number : ℕ) × IsEvent steps k number
@@ -105,4 +105,4 @@ events_more steps from at step are here is k above below = go (cases_lt k at)
     go (inr past) =
         let same : at ≡ k = omega (arith, below, past) in
         let n = numbered (number_of step) refl is in
-        (n.0, step, subst (λ (i : ℕ). slice_get steps i ≡ Some step) same here, n.1)
+        (n.0, (step, subst (λ (i : ℕ). slice_get steps i ≡ Some step) same here, n.1))

@@ -106,7 +106,8 @@ fn push_event(
     ensures { OnOk result (AddsEvent event (string_bytes out.old) (string_bytes out.new)) }
 {
     let words = step_words(alloc, step)?;
-    push_numbered(event, words.as_str(), out)
+    push_numbered(event, words.as_str(), out)?;
+    Ok(())
 }
 
 /// Adds the step at a place.

@@ -1,4 +1,4 @@
-use Rattle.std.proofs.Common.{◌≡◌, ◌≤◌, length, string_bytes, arith}
+use Rattle.std.proofs.Common.{◌≡◌, length, string_bytes, arith}
 use Rattle.explain_text.proofs.Added.{no_steps, steps_more, steps_same}
 use Rattle.explain_text.proofs.steps.push_runs.Goals as goal
 
