@@ -1,4 +1,4 @@
-use Rattle.std.proofs.Common.{◌≡◌, ℕ, List, [], ◌∷◌, drop, refl, sym, ap, ◌∙◌, arith}
+use Rattle.std.proofs.Common.{◌≡◌, ℕ, ◌+◌, List, [], ◌∷◌, drop, refl, sym, ap, ◌∙◌, arith}
 use Rattle.std.proofs.lemmas.List.{at_drop_all, at_drop_more, nil_from_length}
 use Rattle.std.specs.Map.{set_value}
 use Rattle.std.specs.Vec.Iter.{into_iter_items}
@@ -17,10 +17,12 @@ loop-name-preserved c =
     let buffers = c.loop-name.buffers in
     let names = c.args.names.now in
     let place = c.loop-name.name-index in
+    let name = c.name-item.result in
     let bytes = c.in-Some.bytes in
     let rest = into_iter_items c.next.new.self in
-    ap (λ (table : Table (List ℕ)). with_values table (drop (suc place) names) rest) c.replace.ensures
-    ∙ sym (at_drop_more (λ (ns : List (List ℕ)). with_values buffers ns (bytes ∷ rest)) names place [] (omega arith))
+    ap (λ (table : Table (List ℕ)). with_values table (drop (place + 1) names) rest) c.replace.ensures
+    ∙ ap (λ (n : List ℕ). with_values buffers (n ∷ drop (place + 1) names) (bytes ∷ rest)) c.name-item.is
+    ∙ sym (at_drop_more (λ (ns : List (List ℕ)). with_values buffers ns (bytes ∷ rest)) names place name (omega arith))
     ∙ sym (ap (λ (values : List (List ℕ)). with_values buffers (drop place names) values) c.in-Some.ensures.items)
     ∙ c.loop-name.invariant
 
