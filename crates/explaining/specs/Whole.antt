@@ -1,5 +1,6 @@
 -- What an explanation tells of a launch and its fault, and the text that is written of it (own).
-use Rattle.std.specs.Prelude.{◌≡◌, ◌⊎◌, ℕ, suc, Bool, true, false, ⊤, Option, None, Some, List, [], ◌∷◌, ◌++◌, codes, decimal, string_bytes, take, slice_get, MatchBool, MatchOption}
+use Rattle.std.specs.Prelude.{◌≡◌, ◌⊎◌, ◌-◌, ◌^◌, ℕ, suc, Bool, true, false, ⊤, Option, None, Some, List, [], ◌∷◌, ◌++◌, codes, decimal, map, string_bytes, take, slice_get, MatchBool, MatchOption}
+use Rattle.std.specs.Option.{unwrap_or}
 use Rattle.std.specs.Str.Lossy.{utf8_lossy}
 use Rattle.clmodel.specs.Launch.{Launch}
 use Rattle.clmodel.specs.Next.{launch_of}
@@ -13,13 +14,16 @@ use Rattle.device.specs.Machine.{Machine, Step, opening, kernel_of, program_of, 
 use Rattle.explain_json.specs.Lines.{IsExplanationLine}
 use Rattle.fault_play.specs.PlayedOut.{IsPlayedOut}
 use Rattle.fault_play.specs.declared.played.Played.{Played}
+use Rattle.explain_items.specs.Deeds.{HaveEvents, deed_of, told_deeds}
 use Rattle.explain_items.specs.Named.{AreTold, told_items}
 use Rattle.explain_items.specs.declared.context.Context.{Context}
+use Rattle.explain_reasons.specs.Reasons.{AreReasons}
+use Rattle.explain_reasons.specs.Steps.{AreSteps}
 use Rattle.explain_text.specs.Texts.{IsText}
 use Rattle.explanation.specs.declared.told.Explanation.{Explanation}
 use Rattle.explanation.specs.declared.told.FaultFacts.{FaultFacts}
 use Rattle.explanation.specs.declared.told.LaunchFacts.{LaunchFacts}
-use Rattle.launch_facts.specs.Facts.{fault_number, named_items}
+use Rattle.launch_facts.specs.Facts.{fault_number, named_items, number_name}
 use Rattle.host_commands.specs.declared.command.BuildFault.{BuildFault}
 use Rattle.host_commands.specs.declared.command.Command.{Command}
 use Rattle.host_commands.specs.declared.command.Command.TheVariants as command
@@ -46,46 +50,67 @@ use Rattle.explaining.specs.declared.facts.Given.{Given}
 use Rattle.explaining.specs.declared.told.ExplainedCase.{ExplainedCase}
 use Rattle.explaining.specs.declared.walks.Walked.{Walked}
 use Rattle.explaining.specs.declared.walks.Walked.TheVariants as walked
-use Rattle.limits.specs.declared.Configuration.{Configuration}
 
 -- a schedule as a schedule file has it
 abbrev pub schedule_words : List EventRun → List ℕ
 schedule_words runs = utf8_lossy (schedule_text runs)
 
--- the launch of a ticket, whose command stands at this place in the script, over this index space
-pub record TellsLaunch (ticket : ℕ) (place : CommandPlace) (range : Range) (facts : LaunchFacts) : Type 0 where
+-- how many steps are told at most: the number that is asked for, or else 1,000
+abbrev pub most_steps : Option ℕ → ℕ
+most_steps asked = unwrap_or asked 1000
+
+-- the launch of a ticket, whose command stands at this place in the script, over this index space and with this budget
+pub record TellsLaunch (budget ticket : ℕ) (place : CommandPlace) (range : Range) (facts : LaunchFacts) : Type 0 where
   pub command : facts.command ≡ ticket
   pub script_line : facts.script_line ≡ place.line
   pub global_size : facts.global_size.items ≡ range.global
   pub local_size : facts.local_size.items ≡ range.local
   pub offset : facts.offset.items ≡ range.offset
+  pub uniform : facts.uniform ≡ range.uniform
+  pub budget : facts.budget ≡ budget
 
--- a fault by its number and its line
+-- the names that a launch runs by: those of its kernel, of the kernel's function and of its program
+pub record TellsNames (context : Context) (facts : LaunchFacts) : Type 0 where
+  pub kernel : string_bytes facts.kernel ≡ utf8_lossy context.kernel.now
+  pub function : string_bytes facts.function ≡ utf8_lossy context.program.function.now
+  pub program : string_bytes facts.program ≡ utf8_lossy context.program.program.now
+
+-- a fault by its number, the name of that number, and its line
 pub record TellsFault (f : Fault) (facts : FaultFacts) : Type 0 where
   pub number : facts.number ≡ fault_number f
+  pub name : string_bytes facts.name ≡ number_name (fault_number f)
   pub line : string_bytes facts.line ≡ utf8_lossy (fault_text f)
 
 -- the two items that a fault names, or the one that it names twice
 abbrev pub AreNamed : Fault → ℕ → ℕ → Type 0
 AreNamed f first second = ((named_items f ≡ first ∷ []) × (second ≡ first)) ⊎ (named_items f ≡ first ∷ second ∷ [])
 
+-- By what was played, in a launch with groups of this size: what the items of an explanation do, and by which events;
+-- its steps, by which each event is told or counted, in the order of the events; and its reasons, each of which holds.
+pub record TellsPlayed (options : ExplainOptions) (size : ℕ) (f : Fault) (played : Played) (e : Explanation) : Type 0 where
+  pub deeds : map (λ named. deed_of named.does) e.items.items ≡ told_deeds f played
+  pub events : HaveEvents played.marks.items (told_items f played) e.items.items
+  pub steps : AreSteps size played played.first.item played.second.item (most_steps options.steps) e.steps.items
+  pub why : AreReasons size played f e.memory options.configuration.budget e.why.items
+
 -- The items of an explanation: those that the fault names, each where it stands behind the events of a schedule that
--- were played.
-pub record TellsItems (launch : Launch) (context : Context) (f : Fault) (runs : List EventRun) (e : Explanation) : Type 0 where
+-- were played, with all of their accesses: as many as a number of 64 bits counts.
+pub record TellsItems (options : ExplainOptions) (launch : Launch) (context : Context) (f : Fault) (runs : List EventRun) (e : Explanation) : Type 0 where
   pub first : ℕ
   pub second : ℕ
   pub named : AreNamed f first second
-  pub most : ℕ
   pub played : Played
-  pub plays : IsPlayedOut launch (launches.started context.launch.now) (group_items (launches.setup_of context.launch.now).range) (events_of runs) f first second most played
+  pub plays : IsPlayedOut launch (launches.started context.launch.now) (group_items (launches.setup_of context.launch.now).range) (events_of runs) f first second (2 ^ 64 - 1) played
   pub told : AreTold context played.marks.items (told_items f played) e.items.items
+  pub tells : TellsPlayed options (group_items (launches.setup_of context.launch.now).range) f played e
 
 -- an explanation of a launch and its fault by a schedule
-pub record IsExplained (launch : Launch) (context : Context) (ticket : ℕ) (place : CommandPlace) (range : Range) (f : Fault) (runs : List EventRun) (e : Explanation) : Type 0 where
-  pub launched : TellsLaunch ticket place range e.launch
+pub record IsExplained (options : ExplainOptions) (launch : Launch) (context : Context) (ticket : ℕ) (place : CommandPlace) (range : Range) (f : Fault) (runs : List EventRun) (e : Explanation) : Type 0 where
+  pub launched : TellsLaunch options.configuration.budget ticket place range e.launch
+  pub names : TellsNames context e.launch
   pub faulted : TellsFault f e.fault
   pub schedule : string_bytes e.schedule.short ≡ schedule_words runs
-  pub items : TellsItems launch context f runs e
+  pub items : TellsItems options launch context f runs e
 
 -- the source of a program begins in the line of the script behind that of its command
 abbrev pub BeginsBehind : List ℕ → List Command → ProgramSource → Type 0
@@ -105,19 +130,20 @@ IsAsWanted as_given given runs = MatchBool as_given (runs ≡ given) ⊤
 -- An explanation of the launch of a ticket, whose schedule leads the launch to the fault and isn't longer than the
 -- given one, or is that very one; its places are those in the source of the kernel's program, and its line that of the
 -- launch's command. The launch runs this kernel's code.
-pub record HasWhole (m : Machine) (as_given : Bool) (script : List ℕ) (commands : List Command) (ticket : ℕ) (f : Fault) (given runs : List EventRun) (e : Explanation) : Type 0 where
+pub record HasWhole (m : Machine) (options : ExplainOptions) (script : List ℕ) (commands : List Command) (ticket : ℕ) (f : Fault) (given runs : List EventRun) (e : Explanation) : Type 0 where
   pub kernel : List ℕ
   pub range : Range
   pub at : slice_get commands ticket ≡ Some (command.Launch kernel range)
   pub is_short : IsShort (launch_of (setup_of m (kernel_of m kernel) range) (bytes_of m)) f given runs
-  pub wanted : IsAsWanted as_given given runs
+  pub wanted : IsAsWanted options.as_given given runs
   pub context : Context
   pub same : launches.setup_of context.launch.now ≡ setup_of m (kernel_of m kernel) range
   pub code : IsCodeOf (program_of m (kernel_of m kernel).program) (kernel_of m kernel).function (launches.code_of context.launch.now)
+  pub kernel_named : context.kernel.now ≡ kernel
   pub source : IsSourceOf script commands context.done.now kernel context.program
   pub place : CommandPlace
   pub stands : StandsAt script commands ticket place
-  pub explained : IsExplained (launch_of (setup_of m (kernel_of m kernel) range) (bytes_of m)) context ticket place range f runs e
+  pub explained : IsExplained options (launch_of (setup_of m (kernel_of m kernel) range) (bytes_of m)) context ticket place range f runs e
   pub schedule : string_bytes e.schedule.given ≡ schedule_words given
 
 -- the text of an explanation: one that is defined, or the line of JSON of the explanation's value
@@ -131,30 +157,30 @@ AnswersTo f word None answer = string_bytes answer.text ≡ word
 AnswersTo f word (Some told) answer = IsTextOf f told.whole (string_bytes answer.text)
 
 -- what is told of a case on a new device, to which the commands before its ticket led
-pub record IsToldThere (configuration : Configuration) (as_given : Bool) (script : List ℕ) (commands : List Command) (ticket : ℕ) (f : Fault) (given : List EventRun) (told : ExplainedCase) : Type 0 where
+pub record IsToldThere (options : ExplainOptions) (script : List ℕ) (commands : List Command) (ticket : ℕ) (f : Fault) (given : List EventRun) (told : ExplainedCase) : Type 0 where
   pub machine : Machine
-  pub led : Leads (opening configuration) (take ticket commands) machine
-  pub whole : HasWhole machine as_given script commands ticket f given told.schedule told.whole
+  pub led : Leads (opening options.configuration) (take ticket commands) machine
+  pub whole : HasWhole machine options script commands ticket f given told.schedule told.whole
 
 -- what is told of the case of a schedule file
-pub record IsToldOf (configuration : Configuration) (as_given : Bool) (script schedule : List ℕ) (told : ExplainedCase) : Type 0 where
+pub record IsToldOf (options : ExplainOptions) (script schedule : List ℕ) (told : ExplainedCase) : Type 0 where
   pub commands : List Command
   pub ticket : ℕ
   pub f : Fault
   pub runs : List EventRun
   pub is : IsScript script commands
   pub file : IsScheduleFile schedule ticket f runs
-  pub there : IsToldThere configuration as_given script commands ticket f runs told
+  pub there : IsToldThere options script commands ticket f runs told
 
 -- the text for a schedule file
-abbrev pub SaysOf : Configuration → Bool → Format → List ℕ → List ℕ → Bool → List ℕ → Type 0
-SaysOf configuration as_given f script schedule true text = (told : ExplainedCase) × IsToldOf configuration as_given script schedule told × IsTextOf f told.whole text
-SaysOf configuration as_given f script schedule false text = text ≡ codes "no\n"
+abbrev pub SaysOf : ExplainOptions → List ℕ → List ℕ → Bool → List ℕ → Type 0
+SaysOf options script schedule true text = (told : ExplainedCase) × IsToldOf options script schedule told × IsTextOf options.format told.whole text
+SaysOf options script schedule false text = text ≡ codes "no\n"
 
 -- a text of a launch's fault, behind which a machine is this one, as it was before
 pub record TellsFaulted (options : ExplainOptions) (script : List ℕ) (commands : List Command) (machine : Machine) (ticket : ℕ) (f : Fault) (runs : List EventRun) (text : List ℕ) : Type 0 where
   pub told : ExplainedCase
-  pub whole : HasWhole machine options.as_given script commands ticket f runs told.schedule told.whole
+  pub whole : HasWhole machine options script commands ticket f runs told.schedule told.whole
   pub written : IsTextOf options.format told.whole text
 
 -- a text of a refused command, behind which a machine is this one, as it was before; any text where a build was refused
@@ -241,4 +267,4 @@ SaysSource false text = text ≡ codes "ok\n"
 abbrev pub Says : ExplainOptions → Given → Bool → List ℕ → Type 0
 Says options given answer text =
     MatchBool (is_source given.name.now) (SaysSource answer text)
-    (MatchOption given.schedule (SaysScript options given.script.now answer text) (λ schedule. SaysOf options.configuration options.as_given options.format given.script.now schedule.now answer text))
+    (MatchOption given.schedule (SaysScript options given.script.now answer text) (λ schedule. SaysOf options given.script.now schedule.now answer text))

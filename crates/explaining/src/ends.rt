@@ -1,7 +1,7 @@
 //! What a walk over the commands of a script ended at, told.
 #![tactic(auto)]
 
-ghost use Rattle.std.specs.Prelude.{◌≡◌, IfOk, IfErr, string_bytes};
+ghost use Rattle.std.specs.Prelude.{IfOk, IfErr, string_bytes};
 ghost use Rattle.device.specs.Machine.{machine_of};
 ghost use Rattle.host_commands.specs.declared.command.Reply.TheVariants as reply;
 ghost use Rattle.simfile.specs.Faults.{NoScript};

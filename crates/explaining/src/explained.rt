@@ -1,7 +1,7 @@
 //! A script, or a script with a schedule, explained.
 #![tactic(auto)]
 
-ghost use Rattle.std.specs.Prelude.{◌≡◌, ◌≤◌, [], IfOk, IfErr, IfSome, OnOk, List, ℕ, true, length, is_some, string_bytes};
+ghost use Rattle.std.specs.Prelude.{◌≡◌, ◌≤◌, [], IfOk, IfErr, IfSome, OnOk, List, ℕ, length, is_some, string_bytes};
 ghost use Rattle.byte_io.specs.Sink.{Wrote};
 ghost use Rattle.device.specs.Machine.{machine_of, opening};
 ghost use Rattle.simfile.specs.Faults.{NoScript};
@@ -42,7 +42,7 @@ fn told_at(
     requires placed { AreAt given.script.now commands.now places.now }
     requires within { ticket ≤ length commands.now }
     ensures told { IfOk result (λ found. IsTold options.configuration commands.now ticket fault.now schedule (is_some found)) }
-    ensures whole { IfOk result (λ found. IfSome found (IsToldThere options.configuration options.as_given given.entry.script.now commands.now ticket fault.now schedule)) }
+    ensures whole { IfOk result (λ found. IfSome found (IsToldThere options given.entry.script.now commands.now ticket fault.now schedule)) }
     ensures failed { IfErr result (Unled options.configuration commands.now ticket) }
 {
     let (first, _) = commands.split_at(ticket);
@@ -71,7 +71,7 @@ fn told_in(
     requires script { IsScript given.script.now commands.now }
     requires placed { AreAt given.script.now commands.now places.now }
     ensures explained { IfOk result (λ found. Explained options.configuration given.entry.script.now schedule.now (is_some found)) }
-    ensures whole { IfOk result (λ found. IfSome found (IsToldOf options.configuration options.as_given given.entry.script.now schedule.now)) }
+    ensures whole { IfOk result (λ found. IfSome found (IsToldOf options given.entry.script.now schedule.now)) }
     ensures failed { IfErr result (Unexplained options.configuration given.entry.script.now schedule.now) }
 {
     let (number, fault, runs) = read(alloc, schedule)?;
@@ -98,7 +98,7 @@ fn explain_schedule(
     options: ExplainOptions,
 ) -> Result<Answer, RunFault>
     ensures explained { IfOk result (λ answer. Explained options.configuration given.entry.script.now schedule.now answer.yes) }
-    ensures says { IfOk result (λ answer. SaysOf options.configuration options.as_given options.format given.entry.script.now schedule.now answer.yes (string_bytes answer.text)) }
+    ensures says { IfOk result (λ answer. SaysOf options given.entry.script.now schedule.now answer.yes (string_bytes answer.text)) }
     ensures failed { IfErr result (Unexplained options.configuration given.entry.script.now schedule.now) }
 {
     let Script { commands, places } = read_script(alloc, given.script)?;

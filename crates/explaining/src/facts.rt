@@ -1,17 +1,24 @@
 //! What an explanation tells of its launch, its fault, its memory and its schedule.
 #![tactic(auto)]
 
-ghost use Rattle.std.specs.Prelude.{◌≡◌, IfOk, string_bytes};
+ghost use Rattle.std.specs.Prelude.{◌≡◌, IfOk, map, string_bytes};
+ghost use Rattle.std.specs.Str.Lossy.{utf8_lossy};
+ghost use Rattle.clmodel.specs.Setup.{group_items};
+ghost use Rattle.explain_items.specs.Deeds.{HaveEvents, deed_of, told_deeds};
 ghost use Rattle.explain_items.specs.Named.{AreToldInside, told_items};
-ghost use Rattle.explaining.specs.Whole.{AreNamed, TellsFault, TellsLaunch, schedule_words};
+ghost use Rattle.explain_reasons.specs.Reasons.{AreReasons};
+ghost use Rattle.explain_reasons.specs.Steps.{AreSteps};
+ghost use Rattle.item_step.specs.Launches.{setup_of};
+ghost use Rattle.explaining.specs.Whole.{AreNamed, TellsFault, TellsLaunch, TellsNames, TellsPlayed, most_steps, schedule_words};
 
 use clmodel::fault::{Fault, Location};
 use clmodel::setup::Range;
 use clmodel::text::Name;
 use explain_items::{Context, named_items};
-use explain_reasons::{array_of, items_in, reasons_of, steps_of};
+use explain_reasons::{MOST_STEPS, array_of, items_in, reasons_of, steps_of};
 use explanation::{
     Explanation, FaultFacts, LaunchFacts, Memory, NamedItem, ParameterFacts, Reason, ScheduleFacts,
+    ToldEvent,
 };
 use fault_play::{Mark, Played, Stand, event_of};
 use host_commands::kernel::parameters_of;
@@ -43,6 +50,17 @@ pub struct ExplainOptions {
     pub as_given: bool,
     /// Whether each fault and each refusal of a script is told, and not the first one alone
     pub all: bool,
+    /// How many steps are told at most, where a number is asked for
+    pub steps: Option<usize>,
+}
+
+impl ExplainOptions {
+    /// How many steps are told at most.
+    fn most_steps(self) -> usize
+        ensures { result ≡ most_steps self.steps }
+    {
+        self.steps.unwrap_or(MOST_STEPS)
+    }
 }
 
 /// The texts that are given: the name of the script as on the command line and its bytes, and those of a schedule file,
@@ -194,7 +212,9 @@ fn whole_memory(
 }
 
 /// Makes a text of bytes, with a replacement for what is no UTF-8. An error is out of memory.
-fn text(alloc: Global, bytes: &[u8]) -> Result<String, AllocError> {
+fn text(alloc: Global, bytes: &[u8]) -> Result<String, AllocError>
+    ensures { IfOk result (λ text. string_bytes text ≡ utf8_lossy bytes.now) }
+{
     String::from_utf8_lossy(alloc, bytes)
 }
 
@@ -202,13 +222,13 @@ fn text(alloc: Global, bytes: &[u8]) -> Result<String, AllocError> {
 #[derive(Clone, Copy)]
 pub(crate) struct LaunchTexts<'a> {
     pub given: Given<'a>,
+    pub options: ExplainOptions,
     pub ticket: usize,
     /// Where its command stands in the script
     pub place: CommandPlace,
     /// The text of that line
     pub line: &'a [u8],
     pub range: &'a Range,
-    pub budget: u32,
 }
 
 /// The names that a launch runs by.
@@ -220,7 +240,11 @@ struct Names {
 }
 
 /// The names of the kernel, its function and its program. An error is out of memory.
-fn names_of(context: &Context<'_>) -> Result<Names, AllocError> {
+fn names_of(context: &Context<'_>) -> Result<Names, AllocError>
+    ensures kernel { IfOk result (λ names. string_bytes names.kernel ≡ utf8_lossy context.now.kernel.now) }
+    ensures function { IfOk result (λ names. string_bytes names.function ≡ utf8_lossy context.now.program.function.now) }
+    ensures program { IfOk result (λ names. string_bytes names.program ≡ utf8_lossy context.now.program.program.now) }
+{
     let alloc = context.alloc;
     Ok(Names {
         kernel: text(alloc, context.kernel.as_slice())?,
@@ -252,7 +276,8 @@ fn sizes_of(alloc: Global, range: &Range) -> Result<Sizes, AllocError>
 
 /// What is told of a launch: its line in the script, its names and its sizes. An error is out of memory.
 fn launch_facts(context: &Context<'_>, place: &LaunchTexts<'_>) -> Result<LaunchFacts, AllocError>
-    ensures { IfOk result (TellsLaunch place.now.ticket place.now.place place.now.range.now) }
+    ensures launch { IfOk result (TellsLaunch place.now.options.configuration.budget place.now.ticket place.now.place place.now.range.now) }
+    ensures names { IfOk result (TellsNames context.now) }
 {
     let alloc = context.alloc;
     let text = text(alloc, place.line)?;
@@ -269,7 +294,7 @@ fn launch_facts(context: &Context<'_>, place: &LaunchTexts<'_>) -> Result<Launch
         local_size: sizes.local,
         offset: sizes.offset,
         uniform: place.range.uniform,
-        budget: place.budget,
+        budget: place.options.configuration.budget,
     })
 }
 
@@ -319,7 +344,8 @@ fn head_of(
     place: &LaunchTexts<'_>,
     fault: &Fault,
 ) -> Result<Head, AllocError>
-    ensures launch { IfOk result (λ head. TellsLaunch place.now.ticket place.now.place place.now.range.now head.launch) }
+    ensures launch { IfOk result (λ head. TellsLaunch place.now.options.configuration.budget place.now.ticket place.now.place place.now.range.now head.launch) }
+    ensures names { IfOk result (λ head. TellsNames context.now head.launch) }
     ensures fault { IfOk result (λ head. TellsFault fault.now head.fault) }
 {
     Ok(Head {
@@ -345,12 +371,28 @@ fn body_of(
     fault: &Fault,
     played: &Played,
 ) -> Result<Body, AllocError>
-    ensures { IfOk result (λ body. AreToldInside context.now played.now.marks.items (told_items fault.now played.now) body.items.items) }
+    ensures items { IfOk result (λ body. AreToldInside context.now played.now.marks.items (told_items fault.now played.now) body.items.items) }
+    ensures deeds { IfOk result (λ body. map (λ named. deed_of named.does) body.items.items ≡ told_deeds fault.now played.now) }
+    ensures events { IfOk result (λ body. HaveEvents played.now.marks.items (told_items fault.now played.now) body.items.items) }
+    ensures why { IfOk result (λ body. AreReasons (group_items (setup_of context.now.launch.now).range) played.now fault.now body.memory budget body.why.items) }
 {
     let memory = whole_memory(context, buffers, fault, played)?;
     let why = reasons_of(context, played, fault, &memory, budget)?;
     let items = named_items(context, played, fault)?;
     Ok(Body { memory, items, why })
+}
+
+/// The steps of what was played, of which those are told that the items which are named there need. An error is out of
+/// memory.
+fn told_steps(
+    context: &Context<'_>,
+    options: ExplainOptions,
+    played: &Played,
+) -> Result<Vec<ToldEvent>, AllocError>
+    ensures { IfOk result (λ steps. AreSteps (group_items (setup_of context.now.launch.now).range) played.now played.now.first.item played.now.second.item (most_steps options.steps) steps.items) }
+{
+    let named = (played.first.item, played.second.item);
+    steps_of(context, played, named, options.most_steps())
 }
 
 /// An explanation of what was played of the short schedule.
@@ -362,15 +404,23 @@ pub(crate) fn explanation_of(
     played: &Played,
     schedule: ScheduleFacts,
 ) -> Result<Explanation, AllocError>
-    ensures launch { IfOk result (λ whole. TellsLaunch place.now.ticket place.now.place place.now.range.now whole.launch) }
+    ensures launch { IfOk result (λ whole. TellsLaunch place.now.options.configuration.budget place.now.ticket place.now.place place.now.range.now whole.launch) }
+    ensures names { IfOk result (λ whole. TellsNames context.now whole.launch) }
     ensures fault { IfOk result (λ whole. TellsFault fault.now whole.fault) }
     ensures schedule { IfOk result (λ whole. whole.schedule ≡ schedule) }
     ensures items { IfOk result (λ whole. AreToldInside context.now played.now.marks.items (told_items fault.now played.now) whole.items.items) }
+    ensures played { IfOk result (TellsPlayed place.now.options (group_items (setup_of context.now.launch.now).range) fault.now played.now) }
 {
+    let options = place.options;
     let head = head_of(context, place, fault)?;
-    let body = body_of(context, buffers, place.budget, fault, played)?;
-    let steps = steps_of(context, played)?;
-    let steps_left = played.marks.len().saturating_sub(steps.len()) as u64;
+    let body = body_of(
+        context,
+        buffers,
+        options.configuration.budget,
+        fault,
+        played,
+    )?;
+    let steps = told_steps(context, options, played)?;
     Ok(Explanation {
         script: head.script,
         launch: head.launch,
@@ -380,6 +430,5 @@ pub(crate) fn explanation_of(
         why: body.why,
         schedule,
         steps,
-        steps_left,
     })
 }

@@ -24,7 +24,6 @@ use clmodel::setup::Range;
 use clmodel::text::Name;
 use device::{Command, Device, Launch, Refusal};
 use explain_items::Context;
-use explain_reasons::MOST_STEPS;
 use explanation::Explanation;
 use fault_play::{play, shorter};
 use launch_facts::{ProgramSource, schedule_words, source_of};
@@ -101,15 +100,7 @@ fn given_schedule(alloc: Global, schedule: &Schedule) -> Result<GivenSchedule, A
     })
 }
 
-/// How many accesses are told: those of the steps; or all, where the reasons of a fault are looked for among them.
-fn most_of(fault: &Fault) -> usize {
-    match fault {
-        Fault::Conflict { .. } | Fault::Unset { .. } => usize::MAX,
-        _ => MOST_STEPS,
-    }
-}
-
-/// An explanation of what is played of the schedule that is told, if it can be played.
+/// An explanation of what is played of the schedule that is told, with all of its accesses, if it can be played.
 fn whole_of(
     context: &Context<'_>,
     buffers: &Buffers,
@@ -122,21 +113,12 @@ fn whole_of(
     requires leads { Reaches (launch_of (setup_of context.now.launch.now) (bytes_in buffers.now)) (events_of short.now.schedule) fault.now }
     ensures none { IfOk result (λ found. IfNone found (Reaches (launch_of (setup_of context.now.launch.now) (bytes_in buffers.now)) (events_of short.now.schedule) fault.now → ⊥)) }
     ensures given { IfOk result (λ found. IfSome found (λ whole. whole.schedule.given ≡ given.text)) }
-    ensures whole { IfOk result (λ found. IfSome found (IsExplained (launch_of (setup_of context.now.launch.now) (bytes_in buffers.now)) context.now
+    ensures whole { IfOk result (λ found. IfSome found (IsExplained place.now.options (launch_of (setup_of context.now.launch.now) (bytes_in buffers.now)) context.now
         place.now.ticket place.now.place place.now.range.now fault.now short.now.schedule)) }
 {
     let (alloc, launch) = (context.alloc, context.launch);
     let (items, schedule) = (items_of(fault), &short.schedule);
-    let Some(played) = play(
-        alloc,
-        launch,
-        buffers,
-        fault,
-        schedule,
-        items,
-        most_of(fault),
-    )?
-    else {
+    let Some(played) = play(alloc, launch, buffers, fault, schedule, items, usize::MAX)? else {
         return Ok(None);
     };
     let marks = played.marks.as_slice();
@@ -160,7 +142,7 @@ fn told_of(
     ensures told { IfOk result (λ found. IfSome found (λ told. IsShort (launch_of (setup_of context.now.launch.now) (bytes_in buffers.now)) fault.now schedule told.schedule)) }
     ensures wanted { IfOk result (λ found. IfSome found (λ told. IsAsWanted as_given schedule told.schedule)) }
     ensures given { IfOk result (λ found. IfSome found (λ told. string_bytes told.whole.schedule.given ≡ schedule_words schedule)) }
-    ensures whole { IfOk result (λ found. IfSome found (λ told. IsExplained (launch_of (setup_of context.now.launch.now) (bytes_in buffers.now)) context.now
+    ensures whole { IfOk result (λ found. IfSome found (λ told. IsExplained place.now.options (launch_of (setup_of context.now.launch.now) (bytes_in buffers.now)) context.now
         place.now.ticket place.now.place place.now.range.now fault.now told.schedule told.whole)) }
 {
     let given = given_schedule(context.alloc, &schedule)?;
@@ -189,7 +171,7 @@ fn explain_launch(
     ensures told { IfOk result (λ found. IfSome found (λ told. IsShort (launch_of (setup_of context.now.launch.now) (bytes_in buffers.now)) fault.now schedule told.schedule)) }
     ensures wanted { IfOk result (λ found. IfSome found (λ told. IsAsWanted as_given schedule told.schedule)) }
     ensures given { IfOk result (λ found. IfSome found (λ told. string_bytes told.whole.schedule.given ≡ schedule_words schedule)) }
-    ensures whole { IfOk result (λ found. IfSome found (λ told. IsExplained (launch_of (setup_of context.now.launch.now) (bytes_in buffers.now)) context.now
+    ensures whole { IfOk result (λ found. IfSome found (λ told. IsExplained place.now.options (launch_of (setup_of context.now.launch.now) (bytes_in buffers.now)) context.now
         place.now.ticket place.now.place place.now.range.now fault.now told.schedule told.whole)) }
 {
     let (alloc, launch) = (context.alloc, context.launch);
@@ -267,7 +249,7 @@ pub(crate) fn explain_case(
     requires { AreAt performed.now.given.script.now performed.now.commands.now performed.now.places.now }
     ensures told { IfOk result (λ found. Tells (machine_of device.now) performed.now.commands.now ticket fault.now schedule (is_some found)) }
     ensures short { IfOk result (λ found. IfSome found (λ told. HasShort (machine_of device.now) performed.now.commands.now ticket fault.now schedule told.schedule)) }
-    ensures whole { IfOk result (λ found. IfSome found (λ told. HasWhole (machine_of device.now) performed.now.options.as_given performed.now.given.script.now performed.now.commands.now ticket fault.now schedule told.schedule told.whole)) }
+    ensures whole { IfOk result (λ found. IfSome found (λ told. HasWhole (machine_of device.now) performed.now.options performed.now.given.script.now performed.now.commands.now ticket fault.now schedule told.schedule told.whole)) }
     ensures failed { IfErr result (Untold (machine_of device.now) performed.now.commands.now ticket) }
 {
     let Some((kernel, range)) = launch_in(performed.commands, ticket) else {
@@ -290,11 +272,11 @@ pub(crate) fn explain_case(
     };
     let place = LaunchTexts {
         given: performed.given,
+        options: performed.options,
         ticket,
         place: at,
         line: line_text(performed.given.script, at.at),
         range,
-        budget: performed.options.configuration.budget,
     };
     let as_given = performed.options.as_given;
     Ok(explain_launch(

@@ -1,4 +1,4 @@
-use Rattle.std.proofs.Common.{arith}
+use Rattle.std.proofs.Common.{arith, refl}
 use Rattle.std.proofs.lemmas.Option.{IfSome_then, slice_get_within}
 use Rattle.device.specs.Machine.{machine_of}
 use Rattle.explaining.proofs.Placing.{within}
@@ -29,5 +29,5 @@ returns-clause-whole c =
     some_all c.in_ok-explain_launch.field-0 _ _ _ _ _ c.in_ok-explain_launch.ensures.told c.in_ok-explain_launch.ensures.wanted c.in_ok-explain_launch.ensures.given
     c.in_ok-explain_launch.ensures.whole
     (λ told short wanted given explained.
-    whole (machine_of c.args.device.now) c.args.performed.now.options.as_given c.args.performed.now.given.script.now c.args.performed.now.commands.now c.args.ticket c.place_of-at.result c.in-Some.kernel.now c.in-Some.range.now _ c.buffers.result.now c.args.fault.now
-    c.args.schedule told.schedule told.whole c.in-Some.ensures.launch c.in-Ok.ensures.prepared c.buffers.ensures c.program_of.ensures (c.requires.each c.args.ticket c.place_of-at.result c.place_of-at.ensures) short wanted given explained)
+    whole (machine_of c.args.device.now) c.args.performed.now.options c.args.performed.now.given.script.now c.args.performed.now.commands.now c.args.ticket c.place_of-at.result c.in-Some.kernel.now c.in-Some.range.now _ c.buffers.result.now c.args.fault.now
+    c.args.schedule told.schedule told.whole c.in-Some.ensures.launch c.in-Ok.ensures.prepared c.buffers.ensures c.program_of.ensures (c.requires.each c.args.ticket c.place_of-at.result c.place_of-at.ensures) short wanted given explained refl)
