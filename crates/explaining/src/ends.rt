@@ -11,8 +11,8 @@ ghost use Rattle.explaining.specs.Whole.{TellsEnd, TellsFaulted};
 
 use crate::answers::answer_of;
 use crate::building::explain_unbuilt;
+use crate::cases::{PerformedScript, explain_case};
 use crate::refusing::explain_refused;
-use crate::told::{PerformedScript, explain_case};
 use crate::walks::{Case, Unbuilt, Walked};
 use device::Device;
 use simfile::faults::RunFault;

@@ -13,10 +13,10 @@ ghost use Rattle.explaining.specs.Whole.{IsToldOf, IsToldThere, Says, SaysOf, Sa
 
 use crate::answers::{Answer, answer_of, tell};
 use crate::building::explain_source;
+use crate::cases::{PerformedScript, explain_case};
 use crate::ends::end_text;
 use crate::every::{ReadScript, explain_all};
 use crate::facts::{ExplainOptions, Given};
-use crate::told::{ExplainedCase, PerformedScript, explain_case};
 use crate::walks::{Performed, Walked, perform_all, walk_anew};
 use byte_io::Write;
 use clmodel::fault::Fault;
@@ -27,6 +27,7 @@ use simfile::copies::copies_of;
 use simfile::faults::RunFault;
 use simfile::script::{CommandPlace, Script, read_script};
 use std::alloc::{AllocError, Global};
+use telling::ExplainedCase;
 
 /// Explains a case on a new device, to which the commands before its ticket lead.
 fn told_at(
