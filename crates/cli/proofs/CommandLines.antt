@@ -183,6 +183,7 @@ run_parts rows (invocation.Serve options) is = differ is.0 refl
 run_parts rows (invocation.Explain script schedule wish) is = differ is.0 refl
 run_parts rows (invocation.Version json) is = differ is.0 refl
 run_parts rows (invocation.Widen script json limits) is = differ is.0 refl
+run_parts rows (invocation.Plain script) is = differ is.0 refl
 
 pub check_parts : (rows : List Row) (asked : Invocation) → AsksBy (codes "check") rows asked
     → (path : Text) × (limits : Limits) × (first_of (codes "FILE") rows ≡ Some path) × GivesLimits rows limits
@@ -194,6 +195,7 @@ check_parts rows (invocation.Serve options) is = differ is.0 refl
 check_parts rows (invocation.Explain script schedule wish) is = differ is.0 refl
 check_parts rows (invocation.Version json) is = differ is.0 refl
 check_parts rows (invocation.Widen script json limits) is = differ is.0 refl
+check_parts rows (invocation.Plain script) is = differ is.0 refl
 
 pub dump_parts : (rows : List Row) (asked : Invocation) → AsksBy (codes "dump") rows asked
     → (path name : Text) × (limits : Limits) × (first_of (codes "FILE") rows ≡ Some path) × (first_of (codes "KERNEL") rows ≡ Some name) × GivesLimits rows limits
@@ -205,6 +207,7 @@ dump_parts rows (invocation.Serve options) is = differ is.0 refl
 dump_parts rows (invocation.Explain script schedule wish) is = differ is.0 refl
 dump_parts rows (invocation.Version json) is = differ is.0 refl
 dump_parts rows (invocation.Widen script json limits) is = differ is.0 refl
+dump_parts rows (invocation.Plain script) is = differ is.0 refl
 
 pub replay_parts : (rows : List Row) (asked : Invocation) → AsksBy (codes "replay") rows asked
     → (script schedule : Text) × (limits : Limits) × (first_of (codes "SCRIPT") rows ≡ Some script) × (first_of (codes "SCHEDULE") rows ≡ Some schedule) × GivesLimits rows limits
@@ -216,6 +219,7 @@ replay_parts rows (invocation.Serve options) is = differ is.0 refl
 replay_parts rows (invocation.Explain script schedule wish) is = differ is.0 refl
 replay_parts rows (invocation.Version json) is = differ is.0 refl
 replay_parts rows (invocation.Widen script json limits) is = differ is.0 refl
+replay_parts rows (invocation.Plain script) is = differ is.0 refl
 
 pub serve_parts : (rows : List Row) (asked : Invocation) → AsksBy (codes "serve") rows asked
     → (w : ℕ) × (configuration : Configuration) × GivesWorkers rows w × GivesConfiguration rows configuration
@@ -227,6 +231,7 @@ serve_parts rows (invocation.Serve options) is = (options.workers, options.confi
 serve_parts rows (invocation.Explain script schedule wish) is = differ is.0 refl
 serve_parts rows (invocation.Version json) is = differ is.0 refl
 serve_parts rows (invocation.Widen script json limits) is = differ is.0 refl
+serve_parts rows (invocation.Plain script) is = differ is.0 refl
 
 pub explain_parts : (rows : List Row) (asked : Invocation) → AsksBy (codes "explain") rows asked
     → (script : Text) × (configuration : Configuration) × (json : Bool) × (first_of (codes "SCRIPT") rows ≡ Some script) × GivesConfiguration rows configuration × GivesFormat rows json
@@ -238,6 +243,7 @@ explain_parts rows (invocation.Serve options) is = differ is.0 refl
 explain_parts rows (invocation.Explain script schedule wish) is = (script.now, wish.configuration, wish.json, is.1.0, is.1.2, is.1.3)
 explain_parts rows (invocation.Version json) is = differ is.0 refl
 explain_parts rows (invocation.Widen script json limits) is = differ is.0 refl
+explain_parts rows (invocation.Plain script) is = differ is.0 refl
 
 pub version_parts : (rows : List Row) (asked : Invocation) → AsksBy (codes "version") rows asked
     → (json : Bool) × GivesFormat rows json
@@ -249,6 +255,7 @@ version_parts rows (invocation.Serve options) is = differ is.0 refl
 version_parts rows (invocation.Explain script schedule wish) is = differ is.0 refl
 version_parts rows (invocation.Version json) is = (json, is.1)
 version_parts rows (invocation.Widen script json limits) is = differ is.0 refl
+version_parts rows (invocation.Plain script) is = differ is.0 refl
 
 pub widen_parts : (rows : List Row) (asked : Invocation) → AsksBy (codes "widen") rows asked
     → (script : Text) × (json : Bool) × (limits : Limits) × (first_of (codes "SCRIPT") rows ≡ Some script) × GivesFormat rows json × GivesLimits rows limits
@@ -260,6 +267,19 @@ widen_parts rows (invocation.Serve options) is = differ is.0 refl
 widen_parts rows (invocation.Explain script schedule wish) is = differ is.0 refl
 widen_parts rows (invocation.Version json) is = differ is.0 refl
 widen_parts rows (invocation.Widen script json limits) is = (script.now, json, limits, is.1.0, is.1.1, is.1.2)
+widen_parts rows (invocation.Plain script) is = differ is.0 refl
+
+pub plain_parts : (rows : List Row) (asked : Invocation) → AsksBy (codes "plain") rows asked
+    → (script : Text) × (first_of (codes "SCRIPT") rows ≡ Some script)
+plain_parts rows (invocation.Run path options) is = differ is.0 refl
+plain_parts rows (invocation.Check path limits) is = differ is.0 refl
+plain_parts rows (invocation.Dump path name limits) is = differ is.0 refl
+plain_parts rows (invocation.Replay script schedule configuration) is = differ is.0 refl
+plain_parts rows (invocation.Serve options) is = differ is.0 refl
+plain_parts rows (invocation.Explain script schedule wish) is = differ is.0 refl
+plain_parts rows (invocation.Version json) is = differ is.0 refl
+plain_parts rows (invocation.Widen script json limits) is = differ is.0 refl
+plain_parts rows (invocation.Plain script) is = (script.now, is.1)
 
 pub not_there : {A : Type 0} (o : Option A) (x : A) → o ≡ None → ¬ (o ≡ Some x)
 not_there o x none some = let bad : None ≡ Some x = sym none ∙ some in cc
@@ -273,7 +293,8 @@ not_found (Some a) name m missing found named = missing a refl
 -- matches of no form hold nothing
 pub holds_nothing : (m : ArgMatches) → ¬ (subcommand_name_of m ≡ Some (codes "run")) → ¬ (subcommand_name_of m ≡ Some (codes "check")) → ¬ (subcommand_name_of m ≡ Some (codes "dump"))
     → ¬ (subcommand_name_of m ≡ Some (codes "replay")) → ¬ (subcommand_name_of m ≡ Some (codes "serve")) → ¬ (subcommand_name_of m ≡ Some (codes "explain"))
-    → ¬ (subcommand_name_of m ≡ Some (codes "version")) → ¬ (subcommand_name_of m ≡ Some (codes "widen")) → (asked : Invocation) → ¬ Holds (subcommand_rows_of m) asked
+    → ¬ (subcommand_name_of m ≡ Some (codes "version")) → ¬ (subcommand_name_of m ≡ Some (codes "widen")) → ¬ (subcommand_name_of m ≡ Some (codes "plain"))
+    → (asked : Invocation) → ¬ Holds (subcommand_rows_of m) asked
 holds_nothing m = go (out-ArgMatches m).subcommand
   where
     named : {Z : Type 0} → Option (Box SubCommand Z) → Option Text
@@ -281,16 +302,17 @@ holds_nothing m = go (out-ArgMatches m).subcommand
 
     go : {Z : Type 0} (o : Option (Box SubCommand Z)) → ¬ (named o ≡ Some (codes "run")) → ¬ (named o ≡ Some (codes "check")) → ¬ (named o ≡ Some (codes "dump"))
         → ¬ (named o ≡ Some (codes "replay")) → ¬ (named o ≡ Some (codes "serve")) → ¬ (named o ≡ Some (codes "explain")) → ¬ (named o ≡ Some (codes "version"))
-        → ¬ (named o ≡ Some (codes "widen")) → (asked : Invocation) → ¬ Holds (subcommand_rows o) asked
-    go None run check dump replay serve explain version widen asked h = h
-    go (Some b) run check dump replay serve explain version widen (invocation.Run path options) h = run (ap Some h.0)
-    go (Some b) run check dump replay serve explain version widen (invocation.Check path limits) h = check (ap Some h.0)
-    go (Some b) run check dump replay serve explain version widen (invocation.Dump path name limits) h = dump (ap Some h.0)
-    go (Some b) run check dump replay serve explain version widen (invocation.Replay script schedule configuration) h = replay (ap Some h.0)
-    go (Some b) run check dump replay serve explain version widen (invocation.Serve options) h = serve (ap Some h.0)
-    go (Some b) run check dump replay serve explain version widen (invocation.Explain script schedule wish) h = explain (ap Some h.0)
-    go (Some b) run check dump replay serve explain version widen (invocation.Version json) h = version (ap Some h.0)
-    go (Some b) run check dump replay serve explain version widen (invocation.Widen script json limits) h = widen (ap Some h.0)
+        → ¬ (named o ≡ Some (codes "widen")) → ¬ (named o ≡ Some (codes "plain")) → (asked : Invocation) → ¬ Holds (subcommand_rows o) asked
+    go None run check dump replay serve explain version widen plain asked h = h
+    go (Some b) run check dump replay serve explain version widen plain (invocation.Run path options) h = run (ap Some h.0)
+    go (Some b) run check dump replay serve explain version widen plain (invocation.Check path limits) h = check (ap Some h.0)
+    go (Some b) run check dump replay serve explain version widen plain (invocation.Dump path name limits) h = dump (ap Some h.0)
+    go (Some b) run check dump replay serve explain version widen plain (invocation.Replay script schedule configuration) h = replay (ap Some h.0)
+    go (Some b) run check dump replay serve explain version widen plain (invocation.Serve options) h = serve (ap Some h.0)
+    go (Some b) run check dump replay serve explain version widen plain (invocation.Explain script schedule wish) h = explain (ap Some h.0)
+    go (Some b) run check dump replay serve explain version widen plain (invocation.Version json) h = version (ap Some h.0)
+    go (Some b) run check dump replay serve explain version widen plain (invocation.Widen script json limits) h = widen (ap Some h.0)
+    go (Some b) run check dump replay serve explain version widen plain (invocation.Plain script) h = plain (ap Some h.0)
 
 -- ---- refusals
 

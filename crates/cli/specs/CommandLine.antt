@@ -72,9 +72,9 @@ some_schedule = new_rule (codes "SCHEDULE")
 abbrev pub workers : Rule
 workers = number (codes "workers") 16
 
--- `--budget N`, a number from 1 to 1,000,000
+-- `--budget N`, a number from 1 to 1,000,000,000; which of them are a budget, the limits say
 abbrev pub budget : Rule
-budget = number (codes "budget") 1000000
+budget = number (codes "budget") 1000000000
 
 -- `--limits LIMITS`
 abbrev pub limits : Rule
@@ -140,6 +140,10 @@ version_arguments = format ∷ []
 abbrev pub widen_arguments : List Rule
 widen_arguments = script ∷ format ∷ limits ∷ []
 
+-- `plain SCRIPT`
+abbrev pub plain_arguments : List Rule
+plain_arguments = script ∷ []
+
 -- the program without a form; one must be named, but for `--version`
 abbrev pub no_form : App
 no_form = on_top (λ top. record top { subcommand_required = true; has_version = true }) (new_app (codes "clsim"))
@@ -157,7 +161,7 @@ pub record AreForms (forms : List Shape) (command : Command) : Type 0 where
 abbrev pub all_forms : List Shape
 all_forms = form_of (codes "run") run_arguments ∷ form_of (codes "check") check_arguments ∷ form_of (codes "dump") dump_arguments
     ∷ form_of (codes "replay") replay_arguments ∷ form_of (codes "serve") serve_arguments ∷ form_of (codes "explain") explain_arguments
-    ∷ form_of (codes "version") version_arguments ∷ form_of (codes "widen") widen_arguments ∷ []
+    ∷ form_of (codes "version") version_arguments ∷ form_of (codes "widen") widen_arguments ∷ form_of (codes "plain") plain_arguments ∷ []
 
 unfoldable pub program : App
 program = program_of all_forms
@@ -223,10 +227,11 @@ form_name (invocation.Serve _) = codes "serve"
 form_name (invocation.Explain _ _ _) = codes "explain"
 form_name (invocation.Version _) = codes "version"
 form_name (invocation.Widen _ _ _) = codes "widen"
+form_name (invocation.Plain _) = codes "plain"
 
 -- the matches of its form give what is asked for: a run by their workers, under their limits and budget; a check or a
 -- dump within their limits; a replay under their limits; an explanation of the schedule file, if one is named; a script
--- whose replies are widened, within their limits (own)
+-- whose replies are widened, within their limits; a script that is written as one of version 2 (own)
 abbrev pub Gives : List Row → Invocation → Type 0
 Gives rows (invocation.Run path options) =
     (first_of (codes "FILE") rows ≡ Some path.now) × GivesWorkers rows options.workers × GivesConfiguration rows options.configuration
@@ -242,6 +247,7 @@ Gives rows (invocation.Explain script schedule wish) =
 Gives rows (invocation.Version json) = GivesFormat rows json
 Gives rows (invocation.Widen script json limits) =
     (first_of (codes "SCRIPT") rows ≡ Some script.now) × GivesFormat rows json × GivesLimits rows limits
+Gives rows (invocation.Plain script) = first_of (codes "SCRIPT") rows ≡ Some script.now
 
 -- the form of this name, with these matches, asks for it
 abbrev pub AsksBy : Text → List Row → Invocation → Type 0

@@ -3,7 +3,7 @@
 
 ghost use Rattle.std.specs.Prelude.{◌≡◌, ◌≤◌, List, [], ◌∷◌, ◌++◌, codes, map, Ok, IfOk, IfErr, IfSome};
 ghost use Rattle.clap.specs.Words.{Rule, Shape, Text, kind_of, found_of, rows_of, subcommand_rows_of};
-ghost use Rattle.cli.specs.CommandLine.{AreForms, IsArgument, IsForm, all_forms, form_of, needed, option, number, limits, some_schedule, format, flag, configured, working, explained, run_arguments, check_arguments, dump_arguments, replay_arguments, serve_arguments, explain_arguments, version_arguments, widen_arguments, GivesWorkers, GivesLimits, GivesBudget, GivesConfiguration, GivesFormat, AsksBy, Reads, Holds, AsksFor, IsRefused};
+ghost use Rattle.cli.specs.CommandLine.{AreForms, IsArgument, IsForm, all_forms, form_of, needed, option, number, limits, some_schedule, format, flag, configured, working, explained, run_arguments, check_arguments, dump_arguments, replay_arguments, serve_arguments, explain_arguments, version_arguments, widen_arguments, plain_arguments, GivesWorkers, GivesLimits, GivesBudget, GivesConfiguration, GivesFormat, AsksBy, Reads, Holds, AsksFor, IsRefused};
 
 use crate::session::Options;
 use crate::wish::ExplainWish;
@@ -58,10 +58,14 @@ pub enum Invocation<'a> {
         json: bool,
         limits: Limits,
     },
+    /// Writes the script of a file as one of version 2
+    Plain {
+        script: &'a str,
+    },
 }
 
-/// The greatest budget of a run.
-const MAX_BUDGET: u32 = 1_000_000;
+/// The greatest budget of a device, by whatever limits.
+const MAX_BUDGET: u32 = 1_000_000_000;
 
 /// The most workers of a run.
 const MAX_WORKERS: u32 = 16;
@@ -343,6 +347,19 @@ fn widen_form<'a>(alloc: Global) -> Result<Command<'a>, AllocError>
     )
 }
 
+/// The form `plain SCRIPT`.
+fn plain_form<'a>(alloc: Global) -> Result<Command<'a>, AllocError>
+    ensures { IfOk result (IsForm (codes "plain") plain_arguments) }
+{
+    form_on(
+        alloc,
+        "plain",
+        "Prints a script of version 3 as one of version 2, with its files in it",
+        "SCRIPT",
+        "The script",
+    )
+}
+
 /// The limits of a device, the profile's where the option isn't there, and `None` where it names none.
 fn limits_of(matches: &ArgMatches<'_>) -> Option<Limits>
     ensures { Reads (GivesLimits (rows_of (found_of matches.now))) result }
@@ -521,6 +538,14 @@ fn widen_of<'a>(widen: &ArgMatches<'a>) -> Option<Invocation<'a>>
     })
 }
 
+/// What the matches of `plain` ask for.
+fn plain_of<'a>(plain: &ArgMatches<'a>) -> Option<Invocation<'a>>
+    ensures { Reads (AsksBy (codes "plain") (rows_of (found_of plain.now))) result }
+{
+    let script = plain.get_str("SCRIPT")?;
+    Some(Invocation::Plain { script })
+}
+
 /// What the matches of a command line ask for, by the form that they hold.
 fn asked<'a>(matches: &ArgMatches<'a>) -> Option<Invocation<'a>>
     ensures { Reads (Holds (subcommand_rows_of matches.now)) result }
@@ -546,7 +571,10 @@ fn asked<'a>(matches: &ArgMatches<'a>) -> Option<Invocation<'a>>
     if let Some(version) = matches.subcommand_matches("version") {
         return version_of(version);
     }
-    widen_of(matches.subcommand_matches("widen")?)
+    if let Some(widen) = matches.subcommand_matches("widen") {
+        return widen_of(widen);
+    }
+    plain_of(matches.subcommand_matches("plain")?)
 }
 
 /// The forms of the command line, without any of them yet. That there is a version gives them `--version`; what the
@@ -583,7 +611,8 @@ fn forms<'a>(alloc: Global) -> Result<Command<'a>, AllocError>
     let with_serving = with_form(with_replays, serve_form(alloc));
     let with_explaining = with_form(with_serving, explain_form(alloc));
     let with_version = with_form(with_explaining, version_form(alloc));
-    with_form(with_version, widen_form(alloc))
+    let with_widening = with_form(with_version, widen_form(alloc));
+    with_form(with_widening, plain_form(alloc))
 }
 
 /// A form whose usage is shown by this name.
@@ -614,10 +643,25 @@ fn form_of<'a>(alloc: Global, name: &str) -> Result<Command<'a>, AllocError> {
     if name == "widen" {
         return shown(widen_form(alloc), "clsim widen");
     }
+    if name == "plain" {
+        return shown(plain_form(alloc), "clsim plain");
+    }
     shown(version_form(alloc), "clsim version")
 }
 
-/// The error of a form that holds limits without a name, or else a format without one, with the form's usage.
+/// What is wrong with the values of a form that ask for nothing: its limits, or else its format, or else its budget,
+/// which is more than its limits allow.
+fn wrong_in(values: &ArgMatches<'_>) -> &'static str {
+    if limits_of(values).is_none() {
+        return "the limits are profile or large";
+    }
+    if format_of(values).is_none() {
+        return "the format is text or json";
+    }
+    "the budget is at most 1000000, and with --limits large at most 1000000000"
+}
+
+/// The error of a form whose values ask for nothing, with the form's usage.
 fn wrong_value(alloc: Global, matches: &ArgMatches<'_>) -> Result<Error, AllocError>
     ensures { IfOk result (λ error. kind_of error ≡ ErrorKind.InvalidValue) }
 {
@@ -626,12 +670,7 @@ fn wrong_value(alloc: Global, matches: &ArgMatches<'_>) -> Result<Error, AllocEr
         return forms.error(ErrorKind::InvalidValue, "a form is missing");
     };
     let mut form = form_of(alloc, name)?;
-    let message = if limits_of(values).is_none() {
-        "the limits are profile or large"
-    } else {
-        "the format is text or json"
-    };
-    form.error(ErrorKind::InvalidValue, message)
+    form.error(ErrorKind::InvalidValue, wrong_in(values))
 }
 
 /// Reads the words of a command line by its forms.
@@ -661,6 +700,7 @@ fn command_by<'a>(
 ///   [--all]`
 /// - `clsim version [--format text|json]`
 /// - `clsim widen SCRIPT [--format text|json] [--limits LIMITS]`
+/// - `clsim plain SCRIPT`
 ///
 /// The errors of the words `--help`, `help` with a form or without, and `--version` have the kinds `DisplayHelp` and
 /// `DisplayVersion`.

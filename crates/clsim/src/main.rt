@@ -16,16 +16,20 @@ ghost use Rattle.wide_text.specs.Widened.{status_of as wide_status_of};
 mod explain_files;
 mod looks;
 mod named_file;
+mod passing;
 mod piped;
 mod telling;
 mod version;
+mod written_file;
 
 use crate::explain_files::{explain_schedule, explain_script};
 use crate::looks::Looks;
 use crate::named_file::{NamedFile, STANDARD_INPUT};
+use crate::passing::pass;
 use crate::piped::Piped;
 use crate::telling::{Told, tell, tell_place, tell_script, told_of};
 use crate::version::print_version;
+use crate::written_file::WrittenFile;
 use byte_io::{Output, StreamPeer};
 use clap::Error;
 use clap::error::ErrorKind;
@@ -64,7 +68,7 @@ fn output_of<'a, R: Print + AllocGlobal>(
 /// Runs a script, with the replies on standard output, and notes whether its reader is gone.
 fn run_script<R: Files + io::Input + Print + AllocGlobal + Threads + Wait + Sync>(
     rt: &R,
-    script: &mut NamedFile<'_, R>,
+    script: &mut WrittenFile<'_, R>,
     options: Options,
     gone: &mut bool,
 ) -> Result<RunEnd, RunFault> {
@@ -124,7 +128,7 @@ fn dump_kernel<R: Files + io::Input + Print + AllocGlobal>(
 /// was read and found good.
 fn replay_schedule<R: Files + io::Input + Print + AllocGlobal>(
     rt: &R,
-    script: &mut NamedFile<'_, R>,
+    script: &mut WrittenFile<'_, R>,
     schedule: &str,
     configuration: Configuration,
     gone: &mut bool,
@@ -160,7 +164,7 @@ fn options_of(wish: ExplainWish) -> ExplainOptions
 fn explain_fault<R: Files + io::Input + Print + AllocGlobal>(
     rt: &R,
     name: &str,
-    script: &mut NamedFile<'_, R>,
+    script: &mut WrittenFile<'_, R>,
     schedule: Option<&str>,
     options: ExplainOptions,
     gone: &mut bool,
@@ -180,7 +184,7 @@ fn explain_fault<R: Files + io::Input + Print + AllocGlobal>(
 /// Runs a script, with its replies on standard output, and for which bytes and numbers they hold.
 fn widen_script<R: Files + io::Input + Print + AllocGlobal>(
     rt: &R,
-    script: &mut NamedFile<'_, R>,
+    script: &mut WrittenFile<'_, R>,
     json: bool,
     limits: Limits,
     gone: &mut bool,
@@ -200,6 +204,18 @@ fn widen_script<R: Files + io::Input + Print + AllocGlobal>(
         format,
         &mut writer,
     );
+    *gone = writer.into_inner().is_gone();
+    outcome
+}
+
+/// Writes a script on standard output, as a plain text.
+fn write_plain<R: Files + io::Input + Print + AllocGlobal>(
+    rt: &R,
+    script: &mut WrittenFile<'_, R>,
+    gone: &mut bool,
+) -> Result<(), RunFault> {
+    let mut writer = output_of(rt)?;
+    let outcome = pass(rt.alloc(), script, &mut writer);
     *gone = writer.into_inner().is_gone();
     outcome
 }
@@ -267,10 +283,10 @@ fn do_run<R: Files + io::Input + Print + Eprint + AllocGlobal + Threads + Wait +
 ) -> u8
     ensures { result ≤ 2 }
 {
-    let mut script = NamedFile::new(rt, file);
+    let mut script = WrittenFile::new(rt, file);
     let mut gone = false;
     let outcome = run_script(rt, &mut script, options, &mut gone);
-    end_run(rt, outcome, told_of(&script, gone))
+    end_run(rt, outcome, script.told(gone))
 }
 
 /// Serves standard input, and gives the status.
@@ -285,6 +301,7 @@ fn do_serve<R: Files + io::Input + Print + Eprint + AllocGlobal + Threads + Wait
         file: STANDARD_INPUT,
         looks: Looks::Unknown,
         gone: false,
+        bad: None,
     };
     end_run(rt, outcome, told)
 }
@@ -334,10 +351,10 @@ fn do_replay<R: Files + io::Input + Print + Eprint + AllocGlobal>(
 ) -> u8
     ensures { result ≤ 2 }
 {
-    let mut script = NamedFile::new(rt, file);
+    let mut script = WrittenFile::new(rt, file);
     let mut gone = false;
     let outcome = replay_schedule(rt, &mut script, schedule, configuration, &mut gone);
-    end_replay(rt, outcome, schedule, told_of(&script, gone))
+    end_replay(rt, outcome, schedule, script.told(gone))
 }
 
 /// Explains a fault of the script of a file, and gives the status.
@@ -349,16 +366,14 @@ fn do_explain<R: Files + io::Input + Print + Eprint + AllocGlobal>(
 ) -> u8
     ensures { result ≤ 2 }
 {
-    let mut script = NamedFile::new(rt, file);
+    let mut script = WrittenFile::explained(rt, file);
     let mut gone = false;
     let options = options_of(wish);
     let outcome = explain_fault(rt, file, &mut script, schedule, options, &mut gone);
-    end_replay(
-        rt,
-        outcome,
-        schedule.unwrap_or(file),
-        told_of(&script, gone),
-    )
+    if let Ok(true) = outcome {
+        script.tell_lines(rt);
+    }
+    end_replay(rt, outcome, schedule.unwrap_or(file), script.told(gone))
 }
 
 /// Widens the replies of the script of a file, and gives the status.
@@ -370,10 +385,28 @@ fn do_widen<R: Files + io::Input + Print + Eprint + AllocGlobal>(
 ) -> u8
     ensures { result ≤ 2 }
 {
-    let mut script = NamedFile::new(rt, file);
+    let mut script = WrittenFile::new(rt, file);
     let mut gone = false;
     let outcome = widen_script(rt, &mut script, json, limits, &mut gone);
-    end_widen(rt, outcome, told_of(&script, gone))
+    if outcome.is_ok() {
+        script.tell_lines(rt);
+    }
+    end_widen(rt, outcome, script.told(gone))
+}
+
+/// Writes the script of a file as a plain text, and gives the status.
+fn do_plain<R: Files + io::Input + Print + Eprint + AllocGlobal>(rt: &R, file: &str) -> u8
+    ensures { result ≤ 2 }
+{
+    let mut script = WrittenFile::new(rt, file);
+    let mut gone = false;
+    match write_plain(rt, &mut script, &mut gone) {
+        Ok(()) => 0,
+        Err(fault) => {
+            tell(rt, fault, script.told(gone));
+            2
+        }
+    }
 }
 
 /// The status of what was printed on standard output. That it can't be written is told, but where its reader is gone.
@@ -454,6 +487,7 @@ fn perform<R: Files + io::Input + Print + Eprint + AllocGlobal + Threads + Wait 
                 limits,
             },
         ) => do_widen(rt, script, json, limits),
+        Ok(Invocation::Plain { script }) => do_plain(rt, script),
         Err(error) => answer_words(rt, words, &error),
     }
 }
