@@ -192,7 +192,7 @@ no_budget rows limits named none configuration is =
 -- what a command has from its matches
 pub run_parts : (rows : List Row) (asked : Invocation) → AsksBy (codes "run") rows asked
     → (path : Text) × (w : ℕ) × (configuration : Configuration) × (first_of (codes "FILE") rows ≡ Some path) × GivesWorkers rows w × GivesConfiguration rows configuration
-run_parts rows (invocation.Run path options) is = (path.now, options.workers, options.configuration, is.1.0, is.1.1, is.1.2)
+run_parts rows (invocation.Run path options numbered) is = (path.now, options.workers, options.configuration, is.1.0, is.1.1, is.1.2)
 run_parts rows (invocation.Check path limits) is = differ is.0 refl
 run_parts rows (invocation.Dump path name limits) is = differ is.0 refl
 run_parts rows (invocation.Replay script schedule configuration) is = differ is.0 refl
@@ -204,7 +204,7 @@ run_parts rows (invocation.Plain script) is = differ is.0 refl
 
 pub check_parts : (rows : List Row) (asked : Invocation) → AsksBy (codes "check") rows asked
     → (path : Text) × (limits : Limits) × (first_of (codes "FILE") rows ≡ Some path) × GivesLimits rows limits
-check_parts rows (invocation.Run path options) is = differ is.0 refl
+check_parts rows (invocation.Run path options numbered) is = differ is.0 refl
 check_parts rows (invocation.Check path limits) is = (path.now, limits, is.1.0, is.1.1)
 check_parts rows (invocation.Dump path name limits) is = differ is.0 refl
 check_parts rows (invocation.Replay script schedule configuration) is = differ is.0 refl
@@ -216,7 +216,7 @@ check_parts rows (invocation.Plain script) is = differ is.0 refl
 
 pub dump_parts : (rows : List Row) (asked : Invocation) → AsksBy (codes "dump") rows asked
     → (path name : Text) × (limits : Limits) × (first_of (codes "FILE") rows ≡ Some path) × (first_of (codes "KERNEL") rows ≡ Some name) × GivesLimits rows limits
-dump_parts rows (invocation.Run path options) is = differ is.0 refl
+dump_parts rows (invocation.Run path options numbered) is = differ is.0 refl
 dump_parts rows (invocation.Check path limits) is = differ is.0 refl
 dump_parts rows (invocation.Dump path name limits) is = (path.now, name.now, limits, is.1.0, is.1.1, is.1.2)
 dump_parts rows (invocation.Replay script schedule configuration) is = differ is.0 refl
@@ -228,7 +228,7 @@ dump_parts rows (invocation.Plain script) is = differ is.0 refl
 
 pub replay_parts : (rows : List Row) (asked : Invocation) → AsksBy (codes "replay") rows asked
     → (script schedule : Text) × (limits : Limits) × (first_of (codes "SCRIPT") rows ≡ Some script) × (first_of (codes "SCHEDULE") rows ≡ Some schedule) × GivesLimits rows limits
-replay_parts rows (invocation.Run path options) is = differ is.0 refl
+replay_parts rows (invocation.Run path options numbered) is = differ is.0 refl
 replay_parts rows (invocation.Check path limits) is = differ is.0 refl
 replay_parts rows (invocation.Dump path name limits) is = differ is.0 refl
 replay_parts rows (invocation.Replay script schedule configuration) is = (script.now, schedule.now, configuration.limits, is.1.0, is.1.1, is.1.2.0)
@@ -240,7 +240,7 @@ replay_parts rows (invocation.Plain script) is = differ is.0 refl
 
 pub serve_parts : (rows : List Row) (asked : Invocation) → AsksBy (codes "serve") rows asked
     → (w : ℕ) × (configuration : Configuration) × GivesWorkers rows w × GivesConfiguration rows configuration
-serve_parts rows (invocation.Run path options) is = differ is.0 refl
+serve_parts rows (invocation.Run path options numbered) is = differ is.0 refl
 serve_parts rows (invocation.Check path limits) is = differ is.0 refl
 serve_parts rows (invocation.Dump path name limits) is = differ is.0 refl
 serve_parts rows (invocation.Replay script schedule configuration) is = differ is.0 refl
@@ -253,7 +253,7 @@ serve_parts rows (invocation.Plain script) is = differ is.0 refl
 pub explain_parts : (rows : List Row) (asked : Invocation) → AsksBy (codes "explain") rows asked
     → (script : Text) × (configuration : Configuration) × (json : Bool) × (first_of (codes "SCRIPT") rows ≡ Some script) × GivesConfiguration rows configuration × GivesFormat rows json
     × (count : Option ℕ) × GivesSteps rows count
-explain_parts rows (invocation.Run path options) is = differ is.0 refl
+explain_parts rows (invocation.Run path options numbered) is = differ is.0 refl
 explain_parts rows (invocation.Check path limits) is = differ is.0 refl
 explain_parts rows (invocation.Dump path name limits) is = differ is.0 refl
 explain_parts rows (invocation.Replay script schedule configuration) is = differ is.0 refl
@@ -265,7 +265,7 @@ explain_parts rows (invocation.Plain script) is = differ is.0 refl
 
 pub version_parts : (rows : List Row) (asked : Invocation) → AsksBy (codes "version") rows asked
     → (json : Bool) × GivesFormat rows json
-version_parts rows (invocation.Run path options) is = differ is.0 refl
+version_parts rows (invocation.Run path options numbered) is = differ is.0 refl
 version_parts rows (invocation.Check path limits) is = differ is.0 refl
 version_parts rows (invocation.Dump path name limits) is = differ is.0 refl
 version_parts rows (invocation.Replay script schedule configuration) is = differ is.0 refl
@@ -277,7 +277,7 @@ version_parts rows (invocation.Plain script) is = differ is.0 refl
 
 pub widen_parts : (rows : List Row) (asked : Invocation) → AsksBy (codes "widen") rows asked
     → (script : Text) × (json : Bool) × (limits : Limits) × (first_of (codes "SCRIPT") rows ≡ Some script) × GivesFormat rows json × GivesLimits rows limits
-widen_parts rows (invocation.Run path options) is = differ is.0 refl
+widen_parts rows (invocation.Run path options numbered) is = differ is.0 refl
 widen_parts rows (invocation.Check path limits) is = differ is.0 refl
 widen_parts rows (invocation.Dump path name limits) is = differ is.0 refl
 widen_parts rows (invocation.Replay script schedule configuration) is = differ is.0 refl
@@ -289,7 +289,7 @@ widen_parts rows (invocation.Plain script) is = differ is.0 refl
 
 pub plain_parts : (rows : List Row) (asked : Invocation) → AsksBy (codes "plain") rows asked
     → (script : Text) × (first_of (codes "SCRIPT") rows ≡ Some script)
-plain_parts rows (invocation.Run path options) is = differ is.0 refl
+plain_parts rows (invocation.Run path options numbered) is = differ is.0 refl
 plain_parts rows (invocation.Check path limits) is = differ is.0 refl
 plain_parts rows (invocation.Dump path name limits) is = differ is.0 refl
 plain_parts rows (invocation.Replay script schedule configuration) is = differ is.0 refl
@@ -322,7 +322,7 @@ holds_nothing m = go (out-ArgMatches m).subcommand
         → ¬ (named o ≡ Some (codes "replay")) → ¬ (named o ≡ Some (codes "serve")) → ¬ (named o ≡ Some (codes "explain")) → ¬ (named o ≡ Some (codes "version"))
         → ¬ (named o ≡ Some (codes "widen")) → ¬ (named o ≡ Some (codes "plain")) → (asked : Invocation) → ¬ Holds (subcommand_rows o) asked
     go None run check dump replay serve explain version widen plain asked h = h
-    go (Some b) run check dump replay serve explain version widen plain (invocation.Run path options) h = run (ap Some h.0)
+    go (Some b) run check dump replay serve explain version widen plain (invocation.Run path options numbered) h = run (ap Some h.0)
     go (Some b) run check dump replay serve explain version widen plain (invocation.Check path limits) h = check (ap Some h.0)
     go (Some b) run check dump replay serve explain version widen plain (invocation.Dump path name limits) h = dump (ap Some h.0)
     go (Some b) run check dump replay serve explain version widen plain (invocation.Replay script schedule configuration) h = replay (ap Some h.0)

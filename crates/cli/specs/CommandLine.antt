@@ -108,9 +108,13 @@ configured = budget ∷ limits ∷ []
 abbrev pub working : List Rule
 working = workers ∷ configured
 
--- `run FILE [--workers N] [--budget N] [--limits LIMITS]`
+-- `--lines`
+abbrev pub lines : Rule
+lines = flag (codes "lines")
+
+-- `run FILE [--workers N] [--budget N] [--limits LIMITS] [--lines]`
 abbrev pub run_arguments : List Rule
-run_arguments = file ∷ working
+run_arguments = file ∷ workers ∷ budget ∷ limits ∷ lines ∷ []
 
 -- `check FILE [--limits LIMITS]`
 abbrev pub check_arguments : List Rule
@@ -233,7 +237,7 @@ GivesFlag name rows given = IsFlag (one_of name rows) given
 
 -- the name of the form by which this is asked for
 abbrev pub form_name : Invocation → Text
-form_name (invocation.Run _ _) = codes "run"
+form_name (invocation.Run _ _ _) = codes "run"
 form_name (invocation.Check _ _) = codes "check"
 form_name (invocation.Dump _ _ _) = codes "dump"
 form_name (invocation.Replay _ _ _) = codes "replay"
@@ -243,12 +247,14 @@ form_name (invocation.Version _) = codes "version"
 form_name (invocation.Widen _ _ _) = codes "widen"
 form_name (invocation.Plain _) = codes "plain"
 
--- the matches of its form give what is asked for: a run by their workers, under their limits and budget; a check or a
--- dump within their limits; a replay under their limits; an explanation of the schedule file, if one is named; a script
--- whose replies are widened, within their limits; a script that is written as one of version 2 (own)
+-- the matches of its form give what is asked for: a run by their workers, under their limits and budget, with the lines
+-- of its commands or without; a check or a dump within their limits; a replay under their limits; an explanation of the
+-- schedule file, if one is named; a script whose replies are widened, within their limits; a script that is written as
+-- one of version 2 (own)
 abbrev pub Gives : List Row → Invocation → Type 0
-Gives rows (invocation.Run path options) =
+Gives rows (invocation.Run path options numbered) =
     (first_of (codes "FILE") rows ≡ Some path.now) × GivesWorkers rows options.workers × GivesConfiguration rows options.configuration
+    × GivesFlag (codes "lines") rows numbered
 Gives rows (invocation.Check path limits) = (first_of (codes "FILE") rows ≡ Some path.now) × GivesLimits rows limits
 Gives rows (invocation.Dump path name limits) =
     (first_of (codes "FILE") rows ≡ Some path.now) × (first_of (codes "KERNEL") rows ≡ Some name.now) × GivesLimits rows limits

@@ -16,10 +16,11 @@ use std::alloc::{AllocError, Global};
 /// What a command line asks for.
 #[derive(Clone, Copy, Debug, PartialEq, Eq)]
 pub enum Invocation<'a> {
-    /// Runs the script of a file
+    /// Runs the script of a file, with the line of its command in front of each reply or without
     Run {
         file: &'a str,
         options: Options,
+        lines: bool,
     },
     /// Checks the source of a file within limits
     Check {
@@ -199,7 +200,7 @@ fn working<'a>(
     configured(alloc, with(form, workers))
 }
 
-/// The form `run FILE [--workers N] [--budget N] [--limits LIMITS]`.
+/// The form `run FILE [--workers N] [--budget N] [--limits LIMITS] [--lines]`.
 fn run_form<'a>(alloc: Global) -> Result<Command<'a>, AllocError>
     ensures { IfOk result (IsForm (codes "run") run_arguments) }
 {
@@ -210,7 +211,12 @@ fn run_form<'a>(alloc: Global) -> Result<Command<'a>, AllocError>
         "FILE",
         "The script",
     );
-    working(alloc, form)
+    let lines = flag(
+        alloc,
+        "lines",
+        "Prints the line of its command in front of each reply",
+    );
+    with(working(alloc, form), lines)
 }
 
 /// The form `check FILE [--limits LIMITS]`.
@@ -429,12 +435,14 @@ fn run_of<'a>(run: &ArgMatches<'a>) -> Option<Invocation<'a>>
     let file = run.get_str("FILE")?;
     let workers = workers_of(run)?;
     let configuration = configuration_of(run)?;
+    let lines = run.get_flag("lines");
     Some(Invocation::Run {
         file,
         options: Options {
             configuration,
             workers,
         },
+        lines,
     })
 }
 
@@ -716,7 +724,7 @@ fn command_by<'a>(
 }
 
 /// Reads the words of a command line, the program's name first. The forms are:
-/// - `clsim run FILE [--workers N] [--budget N] [--limits LIMITS]`
+/// - `clsim run FILE [--workers N] [--budget N] [--limits LIMITS] [--lines]`
 /// - `clsim check FILE [--limits LIMITS]`
 /// - `clsim dump FILE KERNEL [--limits LIMITS]`
 /// - `clsim replay SCRIPT SCHEDULE [--limits LIMITS]`

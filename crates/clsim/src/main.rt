@@ -16,6 +16,7 @@ ghost use Rattle.wide_text.specs.Widened.{status_of as wide_status_of};
 mod explain_files;
 mod looks;
 mod named_file;
+mod numbered;
 mod passing;
 mod piped;
 mod telling;
@@ -25,12 +26,13 @@ mod written_file;
 use crate::explain_files::{explain_schedule, explain_script};
 use crate::looks::Looks;
 use crate::named_file::{NamedFile, STANDARD_INPUT};
+use crate::numbered::Numbered;
 use crate::passing::pass;
 use crate::piped::Piped;
 use crate::telling::{Told, tell, tell_place, tell_script, told_of};
 use crate::version::print_version;
 use crate::written_file::WrittenFile;
-use byte_io::{Output, StreamPeer};
+use byte_io::{Input, Output, StreamPeer};
 use clap::Error;
 use clap::error::ErrorKind;
 use cli::checking::{check_file, source_status};
@@ -75,6 +77,22 @@ fn run_script<R: Files + io::Input + Print + AllocGlobal + Threads + Wait + Sync
     let mut writer = output_of(rt)?;
     let outcome = run(rt, rt.alloc(), script, &mut writer, options);
     *gone = writer.into_inner().is_gone();
+    outcome
+}
+
+/// Runs a script, with the replies on standard output and the line of its command in front of each.
+fn run_with_lines<R: Files + io::Input + Print + AllocGlobal + Threads + Wait + Sync>(
+    rt: &R,
+    script: &mut WrittenFile<'_, R>,
+    options: Options,
+    gone: &mut bool,
+) -> Result<RunEnd, RunFault> {
+    let text = bytes_of(rt.alloc(), script, Reader::First)?;
+    let lines = script.lines(rt.alloc(), text.as_slice())?;
+    let mut reader = Input::new(text.as_slice());
+    let mut writer = Numbered::new(output_of(rt)?, lines);
+    let outcome = run(rt, rt.alloc(), &mut reader, &mut writer, options);
+    *gone = writer.into_inner().into_inner().is_gone();
     outcome
 }
 
@@ -275,17 +293,22 @@ fn end_widen<R: Files + Eprint>(rt: &R, outcome: Result<WideEnd, RunFault>, told
     wide_status(&outcome)
 }
 
-/// Runs the script of a file, and gives the status.
+/// Runs the script of a file, with the line of its command in front of each reply or without, and gives the status.
 fn do_run<R: Files + io::Input + Print + Eprint + AllocGlobal + Threads + Wait + Sync>(
     rt: &R,
     file: &str,
     options: Options,
+    lines: bool,
 ) -> u8
     ensures { result ≤ 2 }
 {
     let mut script = WrittenFile::new(rt, file);
     let mut gone = false;
-    let outcome = run_script(rt, &mut script, options, &mut gone);
+    let outcome = if lines {
+        run_with_lines(rt, &mut script, options, &mut gone)
+    } else {
+        run_script(rt, &mut script, options, &mut gone)
+    };
     end_run(rt, outcome, script.told(gone))
 }
 
@@ -455,7 +478,13 @@ fn perform<R: Files + io::Input + Print + Eprint + AllocGlobal + Threads + Wait 
     ensures { result ≤ 2 }
 {
     match command(rt.alloc(), words) {
-        Ok(Invocation::Run { file, options }) => do_run(rt, file, options),
+        Ok(
+            Invocation::Run {
+                file,
+                options,
+                lines,
+            },
+        ) => do_run(rt, file, options, lines),
         Ok(Invocation::Check { file, limits }) => do_check(rt, file, limits, watched),
         Ok(
             Invocation::Dump {

@@ -9,10 +9,12 @@ use crate::named_file::{NamedFile, STANDARD_INPUT, read_path};
 use crate::telling::{Place, Told, tell_plain};
 use cli::{Read, ReadFault};
 use clmodel::text::Bytes;
+use simfile::faults::RunFault;
+use simfile::script::read_script;
 use std::alloc::{AllocError, AllocFailed, Global};
 use std::rt::Files;
 use std::{io, str};
-use written_scripts::{NamedFile as SourceFile, Turned, files_of, plain_script};
+use written_scripts::{NamedFile as SourceFile, Turned, WrittenPlace, files_of, plain_script};
 
 /// Why a script has no plain text.
 #[derive(Drop)]
@@ -132,25 +134,46 @@ fn place_in(script: &[u8], number: usize) -> Place
     }
 }
 
-/// The plain text of a script with its files, and whether it is of version 3. Of a script with a bad line the error is
-/// the lowest one.
-fn plain_of(
-    alloc: Global,
-    script: Vec<u8>,
-    files: &[SourceFile],
-) -> Result<(Vec<u8>, bool), NoPlainText>
-    ensures plain { IfOk result (λ read. IsPlainOf files.now script.items read.0.items read.1) }
+/// The plain text of a script, and where in a script of version 3 its commands stand.
+#[derive(Drop)]
+struct PlainText {
+    text: Vec<u8>,
+    places: Option<Vec<WrittenPlace>>,
+}
+
+/// A text that is given as it is.
+fn as_it_is(text: Vec<u8>) -> PlainText
+    ensures { result ≡ record { text = text; places = None } }
+{
+    PlainText { text, places: None }
+}
+
+/// The plain text of a script with its files. Of a script with a bad line the error is the lowest one.
+fn plain_of(alloc: Global, script: Vec<u8>, files: &[SourceFile]) -> Result<PlainText, NoPlainText>
+    ensures plain { IfOk result (IsPlainOf files.now script.items) }
     ensures unturned { IfErr result (Unturned files.now script.items) }
 {
     match plain_script(alloc, script.as_slice(), files)? {
-        Turned::Plain(plain) => Ok((plain.text, true)),
+        Turned::Plain(plain) => Ok(PlainText {
+            text: plain.text,
+            places: Some(plain.places),
+        }),
         Turned::BadLine(number) => Err(NoPlainText::Bad(place_in(script.as_slice(), number))),
-        Turned::Other => Ok((script, false)),
+        Turned::Other => Ok(as_it_is(script)),
     }
 }
 
-/// A script that is opened when it is read, and given as a plain text. What it lacks is noted, and whether it is of
-/// version 3.
+/// The lines in which the commands of a plain text stand, from 1: none where it is no script.
+fn command_lines(alloc: Global, text: &[u8]) -> Result<Vec<usize>, AllocError> {
+    match read_script(alloc, text) {
+        Ok(script) => script.places.iter().map(|place| place.line).collect(alloc),
+        Err(RunFault::OutOfMemory) => Err(AllocError),
+        Err(_) => Ok(Vec::new(alloc)),
+    }
+}
+
+/// A script that is opened when it is read, and given as a plain text. What it lacks is noted, and of one of version 3
+/// where its commands stand.
 #[derive(Drop)]
 pub(crate) struct WrittenFile<'a, R> {
     rt: &'a R,
@@ -159,7 +182,7 @@ pub(crate) struct WrittenFile<'a, R> {
     failures: u64,
     missing: Option<String>,
     bad: Option<Place>,
-    turned: bool,
+    places: Option<Vec<WrittenPlace>>,
 }
 
 impl<'a, R: Files + io::Input> WrittenFile<'a, R> {
@@ -172,7 +195,7 @@ impl<'a, R: Files + io::Input> WrittenFile<'a, R> {
             failures: 0,
             missing: None,
             bad: None,
-            turned: false,
+            places: None,
         }
     }
 
@@ -185,8 +208,16 @@ impl<'a, R: Files + io::Input> WrittenFile<'a, R> {
 
     /// Tells of a script of version 3 that the lines that were told are those of its plain text.
     pub(crate) fn tell_lines(&self, rt: &impl Eprint) {
-        if self.turned {
+        if self.places.is_some() {
             tell_plain(rt, self.file.path());
+        }
+    }
+
+    /// The lines of the script in which the commands of the text that was read stand, from 1.
+    pub(crate) fn lines(&self, alloc: Global, text: &[u8]) -> Result<Vec<usize>, AllocError> {
+        match &self.places {
+            Some(places) => places.iter().map(|place| place.line).collect(alloc),
+            None => command_lines(alloc, text),
         }
     }
 
@@ -209,7 +240,7 @@ impl<'a, R: Files + io::Input> WrittenFile<'a, R> {
     }
 
     /// Reads the script and its files, and turns it.
-    fn read(&mut self, alloc: Global) -> Result<(Vec<u8>, bool), NoPlainText>
+    fn read(&mut self, alloc: Global) -> Result<PlainText, NoPlainText>
         ensures { self.new.failures ≡ self.old.failures }
     {
         let script = match self.file.read_all(alloc) {
@@ -218,7 +249,7 @@ impl<'a, R: Files + io::Input> WrittenFile<'a, R> {
             Err(ReadFault::OutOfMemory) => return Err(NoPlainText::OutOfMemory),
         };
         if self.is_source {
-            return Ok((script, false));
+            return Ok(as_it_is(script));
         }
         let folder = folder_of(self.file.path());
         let files = files_beside(self.rt, alloc, folder, script.as_slice())?;
@@ -233,9 +264,9 @@ impl<R: Files + io::Input> Read for WrittenFile<'_, R> {
 
     fn read_all(&mut self, alloc: Global) -> Result<Vec<u8>, ReadFault> {
         match self.read(alloc) {
-            Ok((text, turned)) => {
-                self.turned = turned;
-                return Ok(text);
+            Ok(plain) => {
+                self.places = plain.places;
+                return Ok(plain.text);
             }
             Err(NoPlainText::OutOfMemory) => return Err(ReadFault::OutOfMemory),
             Err(NoPlainText::Script) => {}
