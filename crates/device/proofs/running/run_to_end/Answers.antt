@@ -12,12 +12,12 @@ pub returns-in-Clean : goal.returns-in-Clean
 returns-in-Clean g c =
     let launch = launch_of (setup_of c.args.launch.now) (bytes_in c.args.buffers.now) in
     clean_end c.determinacy.ensures c.clean_is_complete.ensures launch c.args.orders c.in_ok-changes.field-0 c.in-Clean.changes
-    c.in_ok-changes.ensures c.in-Clean.is
+    (c.requires.concludes _ _ _ _ c.in_ok-changes.ensures) c.in-Clean.is
 
 pub run_again-requires-clause-order : goal.run_again-requires-clause-order
 run_again-requires-clause-order g c =
     let launch = launch_of (setup_of c.args.launch.now) (bytes_in c.args.buffers.now) in
-    in_order launch c.args.orders c.in_ok-changes.field-0 c.in-Faulted.fault c.in-Faulted.schedule c.in_ok-changes.ensures c.in-Faulted.is
+    in_order launch c.args.orders c.in_ok-changes.field-0 c.in-Faulted.fault c.in-Faulted.schedule (c.requires.concludes _ _ _ _ c.in_ok-changes.ensures) c.in-Faulted.is
     (sym c.runs_again.ensures ∙ c.if-runs_again.true)
 
 pub returns-then-runs_again : goal.returns-then-runs_again
@@ -30,4 +30,4 @@ pub returns-else-runs_again : goal.returns-else-runs_again
 returns-else-runs_again g c =
     let launch = launch_of (setup_of c.args.launch.now) (bytes_in c.args.buffers.now) in
     fault_end c.report_is_shown.ensures c.other_reports_stay.ensures launch c.args.orders c.in_ok-changes.field-0 c.in-Faulted.fault c.in-Faulted.schedule
-    c.in_ok-changes.ensures c.in-Faulted.is (sym c.runs_again.ensures ∙ c.if-runs_again.false)
+    (c.requires.concludes _ _ _ _ c.in_ok-changes.ensures) c.in-Faulted.is (sym c.runs_again.ensures ∙ c.if-runs_again.false)
