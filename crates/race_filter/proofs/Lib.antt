@@ -1,3 +1,0 @@
-pub mod Quiet
-pub mod Touching
-pub mod Noted
