@@ -1,7 +1,9 @@
 -- Sets of bytes: what they have once bytes are taken out or added.
-use Rattle.std.proofs.Common.{◌≡◌, ◌+◌, ◌<◌, ◌≤◌, ◌⊎◌, ◌&&◌, ◌||◌, ◌==◌, ℕ, Bool, true, false, not, cond, nat_le, nat_lt, Option, None, Some, List, [], ◌∷◌, slice_get, inl, inr, refl, sym, ap, ap₂, ◌∙◌, subst, arith}
+use Rattle.std.proofs.Common.{Bor, zero, suc, length, map, ◌≡◌, ◌+◌, ◌<◌, ◌≤◌, ◌⊎◌, ◌&&◌, ◌||◌, ◌==◌, ℕ, Bool, true, false, not, cond, nat_le, nat_lt, Option, None, Some, List, [], ◌∷◌, ◌++◌, slice_get, inl, inr, refl, sym, ap, ap₂, ◌∙◌, subst, arith}
 use Rattle.std.specs.Bool.{Decides}
 use Rattle.std.proofs.lemmas.Bool.{and_from, and_parts, both_ways, cases_lt, cases_order, eq-eqb, eqb-true, false_from_ne_true, false≢true, le-leb, leb-true, lt-ltb, ltb-true, not-true, not_from_false, or_cases, or_left, or_right}
+use Rattle.std.proofs.lemmas.List.{length-map, map-append}
+use Rattle.std.proofs.lemmas.Option.{slice_get_within}
 use Rattle.clmodel.specs.declared.fault.Location.{Location}
 use Rattle.fault_play.specs.declared.marks.Mark.{Mark}
 use Rattle.fault_play.specs.declared.played.Touch.{Touch}
@@ -123,9 +125,11 @@ there_more place first count had old taken was left here d = (λ h. forth (or_ca
         let w : WasThere place first count had = d.0 t in
         (w.0, among_back place first count w.0 (or_left (is_among place first count w.0) (same_byte (byte_key place (first + count)) w.0) w.1), w.2)
     forth (inr w) =
-        let k : ByteKey = byte_key place (first + count) in
-        (k, among_back place first count k (or_right (is_among place first count k) (same_byte k k) (same_from k k refl refl)),
-        (and_parts (had k) (not (is_among place first count k)) (sym (left k) ∙ sym here ∙ w)).0)
+        let k : ByteKey = byte_key place (first + count) in (
+          k,
+          among_back place first count k (or_right (is_among place first count k) (same_byte k k) (same_from k k refl refl)),
+          (and_parts (had k) (not (is_among place first count k)) (sym (left k) ∙ sym here ∙ w)).0,
+        )
 
     back : (key : ByteKey) → had key ≡ true → (is_among place first count key ≡ true) ⊎ (same_byte (byte_key place (first + count)) key ≡ true) → (taken || was) ≡ true
     back key h (inl a) = or_left taken was (d.1 (key, a, h))
@@ -166,13 +170,48 @@ not_found_more places place count next at other none earlier below here = go (ca
         let e : earlier ≡ count = omega (arith, below, past) in
         other (one_place places count next place at (subst (λ (n : ℕ). slice_get places n ≡ Some place) e here))
 
--- an object that isn't in a list gets the next place
-pub number_added : (places : List Location) (place : Location) (length_of : ℕ) → slice_get (places ++ place ∷ []) length_of ≡ Some place
-    → ((earlier : ℕ) → earlier < length_of → slice_get (places ++ place ∷ []) earlier ≡ slice_get places earlier) → IsFound places place None → IsNumber (places ++ place ∷ []) place length_of
-number_added places place length_of at same none = record {
-  at = at;
-  first = λ earlier below here. none earlier (sym (same earlier below) ∙ here);
+got_left : {A : Type 0} (xs : List A) (y : A) (k : ℕ) → k < length xs → slice_get (xs ++ y ∷ []) k ≡ slice_get xs k
+got_left [] y k h = absurd (omega (arith, h))
+got_left (x ∷ xs) y zero h = refl
+got_left (x ∷ xs) y (suc k) h = got_left xs y k (omega (arith, h))
+
+got_end : {A : Type 0} (xs : List A) (y : A) → slice_get (xs ++ y ∷ []) (length xs) ≡ Some y
+got_end [] y = refl
+got_end (x ∷ xs) y = got_end xs y
+
+added_number : (places : List Location) (place : Location) → IsFound places place None → IsNumber (places ++ place ∷ []) place (length places)
+added_number places place none = record {
+  at = got_end places place;
+  first = λ earlier below here. none earlier (sym (got_left places place earlier below) ∙ here);
 }
+
+stays_number : (places : List Location) (more place : Location) (number : ℕ) → IsNumber places place number → IsNumber (places ++ more ∷ []) place number
+stays_number places more place number h =
+    let within : number < length places = slice_get_within places number place h.at in
+    record {
+      at = got_left places more number within ∙ h.at;
+      first = λ earlier below here. h.first earlier below (sym (got_left places more earlier (omega (arith, below, within))) ∙ here);
+    }
+
+abbrev now_of : List (Bor Location) → List Location
+now_of places = map (λ place. place.now) places
+
+now_more : (places : List (Bor Location)) (place : Bor Location) (new : List (Bor Location)) → new ≡ places ++ place ∷ [] → now_of new ≡ now_of places ++ place.now ∷ []
+now_more places place new e = ap now_of e ∙ map-append (λ (p : Bor Location). p.now) places (place ∷ [])
+
+-- an object that isn't in a list gets the next place
+pub number_added : (places : List (Bor Location)) (place : Bor Location) (new : List (Bor Location)) (number : ℕ) → new ≡ places ++ place ∷ [] → number ≡ length places
+    → IsFound (map (λ place. place.now) places) place.now None → IsNumber (map (λ place. place.now) new) place.now number
+number_added places place new number e n none =
+    let long : length (now_of places) ≡ number = length-map places (λ (p : Bor Location). p.now) ∙ sym n in
+    subst (λ (l : List Location). IsNumber l place.now number) (sym (now_more places place new e))
+    (subst (λ (k : ℕ). IsNumber (now_of places ++ place.now ∷ []) place.now k) long (added_number (now_of places) place.now none))
+
+-- and the others keep theirs
+pub number_kept : (places : List (Bor Location)) (more : Bor Location) (new : List (Bor Location)) → new ≡ places ++ more ∷ [] → (place : Location) (number : ℕ)
+    → IsNumber (map (λ place. place.now) places) place number → IsNumber (map (λ place. place.now) new) place number
+number_kept places more new e place number h =
+    subst (λ (l : List Location). IsNumber l place number) (sym (now_more places more new e)) (stays_number (now_of places) more.now place number h)
 
 -- ---- bytes that an access writes are taken out
 
@@ -181,7 +220,7 @@ pub unwritten_held : (followed : Followed) (later : List (Mark × Option Touch))
     → Holds bytes (IsLeft followed touch later)
 unwritten_held followed later bytes touch w h = record {
   all = λ place byte left. h.all place byte left.1;
-  only = λ key has. let was = h.only key has in (was.0, was.1, λ wr. false≢true (sym w ∙ wr.0), was.2);
+  only = λ key has. let was = h.only key has in (was.0, was.1, (λ wr. false≢true (sym w ∙ wr.0), was.2));
 }
 
 pub unwritten_given : (followed : Followed) (later : List (Mark × Option Touch)) (touch : Touch) → writes touch.kind ≡ false → Decides false (IsGiven followed touch later)
@@ -195,7 +234,7 @@ unknown_held followed later bytes touch none h = record {
   only =
       λ key has.
       let was = h.only key has in
-      (was.0, was.1, λ wr. none key.place (was.1.at ∙ ap (λ (p : Location). Some p) (sym wr.1.there)), was.2);
+      (was.0, was.1, (λ wr. none key.place (was.1.at ∙ ap (λ (p : Location). Some p) (sym wr.1.there)), was.2));
 }
 
 pub unknown_given : (followed : Followed) (later : List (Mark × Option Touch)) (bytes : ByteSet) (touch : Touch) → IsFound (places_of bytes) touch.location None → Holds bytes (IsAwaited followed later)
@@ -203,8 +242,8 @@ pub unknown_given : (followed : Followed) (later : List (Mark × Option Touch)) 
 unknown_given followed later bytes touch none h = (
   λ e. absurd (false≢true e),
   λ g.
-  let was : Has bytes g.0 g.1 = h.all g.0 g.1 g.3 in
-  absurd (none was.0 (was.1.at ∙ ap (λ (p : Location). Some p) (sym g.2.1.there))),
+      let was : Has bytes g.0 g.1 = h.all g.0 g.1 g.3 in
+      absurd (none was.0 (was.1.at ∙ ap (λ (p : Location). Some p) (sym g.2.1.there))),
 )
 
 -- of another one
@@ -219,9 +258,11 @@ left_held followed later old new touch number w same num keys h = record {
       λ key has.
       let parts : (has_key old.keys key ≡ true) × (not (is_among number touch.byte touch.bytes key) ≡ true) =
       and_parts (has_key old.keys key) (not (is_among number touch.byte touch.bytes key)) (sym (keys key) ∙ has) in
-      let was = h.only key parts.0 in
-      (was.0, subst (λ (l : List Location). IsNumber l was.0 key.place) (sym same) was.1,
-      λ wr. apart key was.0 was.1 wr.1 (not-true (is_among number touch.byte touch.bytes key) parts.1), was.2);
+      let was = h.only key parts.0 in (
+        was.0,
+        subst (λ (l : List Location). IsNumber l was.0 key.place) (sym same) was.1,
+        (λ wr. apart key was.0 was.1 wr.1 (not-true (is_among number touch.byte touch.bytes key) parts.1), was.2),
+      );
 }
   where
     apart : (key : ByteKey) (place : Location) → IsNumber (places_of old) place key.place → IsOn place key.byte touch → is_among number touch.byte touch.bytes key ≡ false → ⊥
@@ -236,9 +277,11 @@ left_held followed later old new touch number w same num keys h = record {
         false_from_ne_true (is_among number touch.byte touch.bytes k)
         (λ a.
         let r : (number ≡ was.0) × (touch.byte ≤ byte) × (byte < touch.byte + touch.bytes) = among_is number touch.byte touch.bytes k a in
-        left.0 (w, record { there = one_place (places_of old) was.0 touch.location place (subst (λ (n : ℕ). slice_get (places_of old) n ≡ Some touch.location) r.0 num.at) was.1.at; from = r.1; to = r.2 })) in
-        (was.0, subst (λ (l : List Location). IsNumber l place was.0) (sym same) was.1,
-        keys k ∙ and_from (has_key old.keys k) (not (is_among number touch.byte touch.bytes k)) was.2 (not_from_false (is_among number touch.byte touch.bytes k) out))
+        left.0 (w, record { there = one_place (places_of old) was.0 touch.location place (subst (λ (n : ℕ). slice_get (places_of old) n ≡ Some touch.location) r.0 num.at) was.1.at; from = r.1; to = r.2 })) in (
+          was.0,
+          subst (λ (l : List Location). IsNumber l place was.0) (sym same) was.1,
+          keys k ∙ and_from (has_key old.keys k) (not (is_among number touch.byte touch.bytes k)) was.2 (not_from_false (is_among number touch.byte touch.bytes k) out),
+        )
 
 -- whether one of them was awaited
 pub left_given :
@@ -250,14 +293,19 @@ left_given followed later old touch number taken w num d h = (λ e. forth (d.0 e
     forth : (key : ByteKey) × (is_among number touch.byte touch.bytes key ≡ true) × (has_key old.keys key ≡ true) → IsGiven followed touch later
     forth t =
         let r : (number ≡ t.0.place) × (touch.byte ≤ t.0.byte) × (t.0.byte < touch.byte + touch.bytes) = among_is number touch.byte touch.bytes t.0 t.1 in
-        let was = h.only t.0 t.2 in
-        (was.0, t.0.byte,
-        (w, record { there = one_place (places_of old) t.0.place touch.location was.0 (subst (λ (n : ℕ). slice_get (places_of old) n ≡ Some touch.location) r.0 num.at) was.1.at; from = r.1; to = r.2 }), was.2)
+        let was = h.only t.0 t.2 in (
+          was.0,
+          t.0.byte,
+          (w, record { there = one_place (places_of old) t.0.place touch.location was.0 (subst (λ (n : ℕ). slice_get (places_of old) n ≡ Some touch.location) r.0 num.at) was.1.at; from = r.1; to = r.2 }),
+          was.2,
+        )
 
     back : (g : IsGiven followed touch later) → Has old g.0 g.1 → (key : ByteKey) × (is_among number touch.byte touch.bytes key ≡ true) × (has_key old.keys key ≡ true)
-    back g was =
-        (byte_key was.0 g.1,
-        among_from number touch.byte touch.bytes (byte_key was.0 g.1) (number_of_place (places_of old) touch.location g.0 number was.0 g.2.1.there num was.1) g.2.1.from g.2.1.to, was.2)
+    back g was = (
+      byte_key was.0 g.1,
+      among_from number touch.byte touch.bytes (byte_key was.0 g.1) (number_of_place (places_of old) touch.location g.0 number was.0 g.2.1.there num was.1) g.2.1.from g.2.1.to,
+      was.2,
+    )
 
 -- ---- bytes that an access gives are added
 
@@ -281,9 +329,11 @@ added_held followed mark later old new touch number theirs g same num keys h = r
 
     all : (place : Location) (byte : ℕ) → IsAwaited followed ((mark, Some touch) ∷ later) place byte → Has new place byte
     all place byte (inl gets) =
-        let k : ByteKey = byte_key number byte in
-        (number, moved place number (subst (λ (l : Location). IsNumber (places_of old) l number) gets.2.there num),
-        keys k ∙ or_right (has_key old.keys k) (is_among number touch.byte touch.bytes k) (among_from number touch.byte touch.bytes k refl gets.2.from gets.2.to))
+        let k : ByteKey = byte_key number byte in (
+          number,
+          moved place number (subst (λ (l : Location). IsNumber (places_of old) l number) gets.2.there num),
+          keys k ∙ or_right (has_key old.keys k) (is_among number touch.byte touch.bytes k) (among_from number touch.byte touch.bytes k refl gets.2.from gets.2.to),
+        )
     all place byte (inr left) =
         let was : Has old place byte = h.all place byte left in
         let k : ByteKey = byte_key was.0 byte in
@@ -293,9 +343,11 @@ added_held followed mark later old new touch number theirs g same num keys h = r
         → (place : Location) × IsNumber (places_of new) place key.place × IsAwaited followed ((mark, Some touch) ∷ later) place key.byte
     only key (inl there) = let was = h.only key there in (was.0, moved was.0 key.place was.1, inr was.2)
     only key (inr a) =
-        let r : (number ≡ key.place) × (touch.byte ≤ key.byte) × (key.byte < touch.byte + touch.bytes) = among_is number touch.byte touch.bytes key a in
-        (touch.location, moved touch.location key.place (subst (λ (n : ℕ). IsNumber (places_of old) touch.location n) r.0 num),
-        inl (theirs, g, record { there = refl; from = r.1; to = r.2 }))
+        let r : (number ≡ key.place) × (touch.byte ≤ key.byte) × (key.byte < touch.byte + touch.bytes) = among_is number touch.byte touch.bytes key a in (
+          touch.location,
+          moved touch.location key.place (subst (λ (n : ℕ). IsNumber (places_of old) touch.location n) r.0 num),
+          inl (theirs, g, record { there = refl; from = r.1; to = r.2 }),
+        )
 
 -- of an access that gives nothing, or is of another item
 pub ungiven_held : (followed : Followed) (mark : Mark) (later : List (Mark × Option Touch)) (bytes : ByteSet) (touch : Touch) → gives touch.kind ≡ false → Holds bytes (IsLeft followed touch later)
@@ -316,7 +368,7 @@ others_held followed mark later bytes touch o h = record { all = all; only = λ 
 
 -- an event without an access
 pub skipped_held : (followed : Followed) (mark : Mark) (later : List (Mark × Option Touch)) (bytes : ByteSet) → Holds bytes (IsAwaited followed later) → Holds bytes (IsAwaited followed ((mark, None) ∷ later))
-skipped_held followed mark later bytes h = record { all = all; only = λ key has. let was = h.only key has in (was.0, was.1, inr (λ w. w, was.2)) }
+skipped_held followed mark later bytes h = record { all = all; only = λ key has. let was = h.only key has in (was.0, was.1, inr ((λ w. w), was.2)) }
   where
     all : (place : Location) (byte : ℕ) → IsAwaited followed ((mark, None) ∷ later) place byte → Has bytes place byte
     all place byte (inl gets) = absurd gets

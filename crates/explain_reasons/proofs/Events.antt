@@ -1,16 +1,19 @@
 -- Events with their accesses, one more at a time.
-use Rattle.std.proofs.Common.{◌≡◌, ◌+◌, ◌-◌, ◌<◌, ◌≤◌, ◌&&◌, ℕ, suc, Bool, true, false, nat_lt, Option, None, Some, List, [], ◌∷◌, ◌++◌, add-one, cond, count_by, drop, drop-cons, get_or, length, take, slice_get, refl, sym, ap, ◌∙◌, subst, append_assoc, arith}
+use Rattle.std.proofs.Common.{◌≡◌, ◌+◌, ◌-◌, ◌<◌, ◌≤◌, ◌&&◌, ℕ, suc, Bool, true, false, nat_lt, Option, None, Some, List, [], ◌∷◌, ◌++◌, add-one, cond, count_by, drop, drop-cons, get_or, length, reverse, take, slice_get, inl, inr, refl, sym, ap, ◌∙◌, subst, append_assoc, arith}
 use Rattle.std.specs.Bool.{Decides}
-use Rattle.std.proofs.lemmas.Bool.{false≢true, ltb-false}
-use Rattle.std.proofs.lemmas.List.{take_more}
+use Rattle.std.proofs.lemmas.Bool.{and_parts, false≢true, ltb-false, ltb-true}
+use Rattle.std.proofs.lemmas.List.{reverse-append, take_more}
 use Rattle.std.proofs.lemmas.List.Sums.{sum_by-cons}
 use Rattle.clmodel.specs.declared.schedule.Event.{Event}
 use Rattle.clmodel.specs.declared.schedule.Event.TheVariants as event
 use Rattle.fault_play.specs.PlayedOut.{is_access}
 use Rattle.fault_play.specs.declared.marks.Mark.{Mark}
 use Rattle.fault_play.specs.declared.played.Touch.{Touch}
-use Rattle.explain_reasons.specs.Chosen.{AreChosen, IsWanted, access_of, events_made, frees_them}
+use Rattle.explain_reasons.specs.Bytes.{Holds}
+use Rattle.explain_reasons.specs.Choosing.{IsChoice}
+use Rattle.explain_reasons.specs.Chosen.{AreChosen, IsAwaited, IsGiven, IsWanted, access_of, events_made, frees_them, is_theirs}
 use Rattle.explain_reasons.specs.StepLists.{AreKnown, is_known}
+use Rattle.explain_reasons.specs.declared.chosen.Choice.{Choice}
 use Rattle.explain_reasons.specs.declared.chosen.Followed.{Followed}
 
 -- the events with one more
@@ -43,6 +46,10 @@ count_next marks n mark within here =
 drop_next : {A : Type 0} (xs : List A) (n : ℕ) (x : A) → n < length xs → x ≡ get_or xs n x → drop n xs ≡ x ∷ drop (n + 1) xs
 drop_next xs n x within here = rw (add-one, drop-cons xs n x within) (ap (λ y. y ∷ drop (suc n) xs) (sym here))
 
+pub drop_whole : {A : Type 0} (xs : List A) → drop (length xs) xs ≡ []
+drop_whole [] = refl
+drop_whole (x ∷ xs) = drop_whole xs
+
 -- the events from a number on are the one of this number and those behind it
 pub events_from : (marks : List Mark) (touches : List Touch) (n before after : ℕ) (mark : Mark) → n < length marks → mark ≡ get_or marks n mark → before + cond (is_access mark.event) 1 0 ≡ after
     → events_made before (drop n marks) touches ≡ (mark, access_of mark.event (slice_get touches before)) ∷ events_made after (drop (n + 1) marks) touches
@@ -62,6 +69,41 @@ chosen_more followed most mark touch later true false rest d e few c =
     let past : most ≤ count_by (λ b. b) rest = ltb-false (count_by (λ b. b) rest) most (sym e) in (λ _. omega (arith, few, past), c)
 chosen_more followed most mark touch later false true rest d e few c = absurd (false≢true (sym e))
 chosen_more followed most mark touch later false false rest d e few c = (λ w. absurd (false≢true (d.1 w)), c)
+
+-- an access of another item
+pub others_wanted : (followed : Followed) (mark : Mark) (touch : Touch) (later : List (Mark × Option Touch)) (found : Bool) → is_theirs followed mark.event ≡ false → Decides found (IsGiven followed touch later)
+    → Decides found (IsWanted followed mark (Some touch) later)
+others_wanted followed mark touch later found other d = (λ t. inr (d.0 t), back)
+  where
+    back : IsWanted followed mark (Some touch) later → found ≡ true
+    back (inl theirs) = absurd (false≢true (sym other ∙ theirs))
+    back (inr given) = d.1 given
+
+few_more : (told wanted : Bool) (count most : ℕ) → told ≡ (wanted && nat_lt count most) → count ≤ most → count + cond told 1 0 ≤ most
+few_more true wanted count most e few =
+    let below : count < most = ltb-true count most (and_parts wanted (nat_lt count most) (sym e)).1 in omega (arith, below)
+few_more false wanted count most e few = omega (arith, few)
+
+-- the choice goes back over one event more
+pub choice_more :
+    (followed : Followed) (most : ℕ) (mark : Mark) (touch : Option Touch) (later : List (Mark × Option Touch)) (old new : Choice) (wanted told : Bool)
+    → Decides wanted (IsWanted followed mark touch later) → told ≡ (wanted && nat_lt old.count most) → new.told.items ≡ old.told.items ++ told ∷ [] → new.count ≡ old.count + cond told 1 0
+    → Holds new.awaited (IsAwaited followed ((mark, touch) ∷ later)) → IsChoice followed most later old → IsChoice followed most ((mark, touch) ∷ later) new
+choice_more followed most mark touch later old new wanted told d e pushed counted held h =
+    let rest = reverse old.told.items in
+    let back : reverse new.told.items ≡ told ∷ reverse old.told.items = ap reverse pushed ∙ reverse-append old.told.items (told ∷ []) in
+    let cons : count_by (λ b. b) (told ∷ rest) ≡ cond told 1 0 + count_by (λ b. b) rest = sum_by-cons (λ b. cond b 1 0) told rest in
+    let all : count_by (λ b. b) (reverse new.told.items) ≡ count_by (λ b. b) (told ∷ rest) = ap (λ (l : List Bool). count_by (λ b. b) l) back in
+    let few : old.count + cond told 1 0 ≤ most = few_more told wanted old.count most e h.few in
+    let still : count_by (λ b. b) rest ≤ most = subst (λ (k : ℕ). k ≤ most) h.counted h.few in
+    record {
+      holds = held;
+      counted = omega (arith, counted, h.counted, cons, all);
+      few = omega (arith, counted, few);
+      chosen =
+          subst (λ (l : List Bool). AreChosen followed most ((mark, touch) ∷ later) l) (sym back)
+          (chosen_more followed most mark touch later wanted told rest d (e ∙ ap (λ (k : ℕ). wanted && nat_lt k most) h.counted) still h.chosen);
+    }
 
 known_wanted : (followed : Followed) (mark : Mark) (e : Event) (next : Option Touch) (later : List (Mark × Option Touch)) → mark.event ≡ e → IsWanted followed mark (access_of e next) later
     → is_known e (access_of e next) ≡ true

@@ -9,7 +9,7 @@ use Rattle.explanation.specs.declared.steps.ToldEvent.{ToldEvent}
 use Rattle.explanation.specs.declared.steps.ToldEvent.TheVariants as told
 use Rattle.explain_reasons.specs.StepLists.{EndsRow, IsAlone, IsRow, ends_omitted, shown_of}
 use Rattle.explain_reasons.specs.Steps.{AreInRow, IsNext, entries, is_omitted, number_of}
-use Rattle.explain_reasons.specs.declared.schedule_steps.StepList.{StepList}
+use Rattle.explain_reasons.specs.declared.step_list.StepList.{StepList}
 
 pub zip_append : {A B : Type 0} (R : A → B → Type 0) (xs xs' : List A) (ys ys' : List B) → AllZip R xs ys → AllZip R xs' ys' → AllZip R (xs ++ xs') (ys ++ ys')
 zip_append R [] xs' [] ys' h k = k

@@ -7,7 +7,7 @@ use Rattle.explanation.specs.declared.steps.ToldEvent.{ToldEvent}
 use Rattle.fault_play.specs.declared.marks.Mark.{Mark}
 use Rattle.fault_play.specs.declared.played.Touch.{Touch}
 use Rattle.explain_reasons.specs.Steps.{AreInRow, entries, is_omitted, number_of}
-use Rattle.explain_reasons.specs.declared.schedule_steps.StepList.{StepList}
+use Rattle.explain_reasons.specs.declared.step_list.StepList.{StepList}
 
 -- an event is a release, or its access is known
 abbrev pub is_known : Event → Option Touch → Bool

@@ -46,28 +46,28 @@ pub record IsAccessStep (mark : Mark) (touch : Touch) (item : ℕ) (does : Acces
 
 -- a step is that of an event: the release of its group, or its access
 abbrev pub IsStep : Mark × Option Touch → ToldEvent → Type 0
-IsStep made (told.Release event group code) = made.0.event ≡ event.Release group
-IsStep made (told.Item event item does memory byte bytes value left code) =
+IsStep made (told.Release number group code) = made.0.event ≡ event.Release group
+IsStep made (told.Item number item does memory byte bytes value left code) =
     (touch : Touch) × (made.1 ≡ Some touch) × IsAccessStep made.0 touch item does memory byte bytes value left
-IsStep made (told.Omitted event events) = ⊥
+IsStep made (told.Omitted number events) = ⊥
 
 -- what stands at the events of a step: the step of one event, or nothing at so many
 abbrev pub entries : ToldEvent → List (Option ToldEvent)
-entries (told.Release event group code) = Some (told.Release event group code) ∷ []
-entries (told.Item event item does memory byte bytes value left code) = Some (told.Item event item does memory byte bytes value left code) ∷ []
-entries (told.Omitted event events) = replicate events None
+entries (told.Release number group code) = Some (told.Release number group code) ∷ []
+entries (told.Item number item does memory byte bytes value left code) = Some (told.Item number item does memory byte bytes value left code) ∷ []
+entries (told.Omitted number events) = replicate events None
 
 -- the number of a step's first event
 abbrev pub number_of : ToldEvent → ℕ
-number_of (told.Release event group code) = event
-number_of (told.Item event item does memory byte bytes value left code) = event
-number_of (told.Omitted event events) = event
+number_of (told.Release number group code) = number
+number_of (told.Item number item does memory byte bytes value left code) = number
+number_of (told.Omitted number events) = number
 
 -- events that are only counted
 abbrev pub is_omitted : ToldEvent → Bool
-is_omitted (told.Release event group code) = false
-is_omitted (told.Item event item does memory byte bytes value left code) = false
-is_omitted (told.Omitted event events) = true
+is_omitted (told.Release number group code) = false
+is_omitted (told.Item number item does memory byte bytes value left code) = false
+is_omitted (told.Omitted number events) = true
 
 -- a step's number is that of its first event, from 1; events are counted together, and at least one
 pub record IsNext (is_behind_omitted : Bool) (before : ℕ) (step : ToldEvent) : Type 0 where

@@ -119,12 +119,14 @@ impl<'a> ByteSet<'a> {
         ensures same { self.new.keys ≡ self.old.keys }
         ensures stay { (place : Place) (number : ℕ) → IsNumber (places_of self.old) place number → IsNumber (places_of self.new) place number }
     {
-        if let Some(place) = place_of(self.places.as_slice(), location) {
-            return Ok(place);
+        match place_of(self.places.as_slice(), location) {
+            Some(place) => Ok(place),
+            None => {
+                let place = self.places.len();
+                self.places.push(location)?;
+                Ok(place)
+            }
         }
-        let place = self.places.len();
-        self.places.push(location)?;
-        Ok(place)
     }
 
     /// Takes out what an access writes. Answers whether any of it was there.
@@ -156,13 +158,13 @@ impl<'a> ByteSet<'a> {
     /// Goes back over an access, of one of the two items or of another, from the bytes that are awaited behind it to
     /// those that are awaited before it. Answers whether one of the two items is given what it writes. An error is out
     /// of memory.
-    pub(crate) fn go_back(&mut self, touch: &'a Touch, is_theirs: bool) -> Result<bool, AllocError>
-        ensures held { IfOk result (λ found. (followed : Followed) (mark : Mark) (later : List (Mark × Option TheTouch)) → is_theirs followed mark.event ≡ is_theirs
+    pub(crate) fn go_back(&mut self, touch: &'a Touch, of_them: bool) -> Result<bool, AllocError>
+        ensures held { IfOk result (λ found. (followed : Followed) (mark : Mark) (later : List (Mark × Option TheTouch)) → is_theirs followed mark.event ≡ of_them
             → Holds self.old (IsAwaited followed later) → Holds self.new (IsAwaited followed ((mark, Some touch.now) ∷ later))) }
         ensures given { IfOk result (λ found. (followed : Followed) (later : List (Mark × Option TheTouch)) → Holds self.old (IsAwaited followed later) → Decides found (IsGiven followed touch.now later)) }
     {
         let found = self.take(touch);
-        if is_theirs {
+        if of_them {
             self.add(touch)?;
         }
         Ok(found)

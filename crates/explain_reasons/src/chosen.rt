@@ -1,7 +1,7 @@
 //! Which events of a schedule are told.
 #![tactic(auto)]
 
-ghost use Rattle.std.specs.Prelude.{◌≡◌, ◌+◌, ◌-◌, ◌^◌, ◌<◌, ◌≤◌, ◌∷◌, ℕ, List, Option, [], cond, count_by, slice_get, option_copied, IfOk, OnOk};
+ghost use Rattle.std.specs.Prelude.{◌≡◌, ◌+◌, ◌-◌, ◌^◌, ◌<◌, ◌≤◌, ◌&&◌, ◌∷◌, ℕ, List, Option, [], cond, count_by, nat_lt, slice_get, option_copied, IfOk, OnOk};
 ghost use Rattle.std.specs.Bool.{Decides};
 ghost use Rattle.fault_play.specs.PlayedOut.{is_access};
 ghost use Rattle.fault_play.specs.declared.marks.Mark.{Mark as TheMark};
@@ -107,9 +107,9 @@ fn is_wanted<'a>(
     followed: Followed,
 ) -> Result<bool, AllocError>
     ensures held { OnOk result ((mark : TheMark) (later : List (TheMark × Option TheTouch)) → mark.event ≡ event
-        → Holds awaited.old (IsAwaited followed later) → Holds awaited.new (IsAwaited followed ((mark, option_copied touch) ∷ later))) }
+        → Holds awaited.old (IsAwaited followed later) → Holds awaited.new (IsAwaited followed ((mark, option_copied touch.entry) ∷ later))) }
     ensures wanted { IfOk result (λ wanted. (mark : TheMark) (later : List (TheMark × Option TheTouch)) → mark.event ≡ event
-        → Holds awaited.old (IsAwaited followed later) → Decides wanted (IsWanted followed mark (option_copied touch) later)) }
+        → Holds awaited.old (IsAwaited followed later) → Decides wanted (IsWanted followed mark (option_copied touch.entry) later)) }
 {
     match touch {
         Some(touch) => {
@@ -119,6 +119,13 @@ fn is_wanted<'a>(
         }
         None => Ok(frees_them(event, followed)),
     }
+}
+
+/// Whether an event is told that is wanted or not, behind which so many are.
+fn is_told(is_wanted: bool, count: usize, most: usize) -> bool
+    ensures { result ≡ (is_wanted && nat_lt count most) }
+{
+    is_wanted && count < most
 }
 
 impl<'a> Choice<'a> {
@@ -142,10 +149,10 @@ impl<'a> Choice<'a> {
         most: usize,
     ) -> Result<(), AllocError>
         ensures { OnOk result ((mark : TheMark) (later : List (TheMark × Option TheTouch)) → mark.event ≡ event
-            → IsChoice followed most later self.old → IsChoice followed most ((mark, option_copied touch) ∷ later) self.new) }
+            → IsChoice followed most later self.old → IsChoice followed most ((mark, option_copied touch.entry) ∷ later) self.new) }
     {
         let is_wanted = is_wanted(&mut self.awaited, event, touch, followed)?;
-        let is_told = is_wanted && self.count < most;
+        let is_told = is_told(is_wanted, self.count, most);
         self.told.push(is_told)?;
         if is_told {
             self.count += 1;
@@ -173,9 +180,10 @@ pub(crate) fn told_events(
     let mut left = marks.len();
     while left > 0 {
         left -= 1;
-        let event = marks[left].event;
-        accesses = before_event(accesses, event);
-        choice.go_back(event, access_of(event, touches, accesses), followed, most)?;
+        let mark = &marks[left];
+        accesses = before_event(accesses, mark.event);
+        let touch = access_of(mark.event, touches, accesses);
+        choice.go_back(mark.event, touch, followed, most)?;
     }
     let mut told = choice.told;
     told.reverse();

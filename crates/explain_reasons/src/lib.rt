@@ -11,6 +11,7 @@ mod bytes;
 mod chosen;
 mod reasons;
 mod schedule_steps;
+mod step_list;
 mod turns;
 mod unset;
 
