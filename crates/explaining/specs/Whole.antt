@@ -81,6 +81,7 @@ abbrev pub TellsReply : ExplainOptions → List ℕ → List Command → Machine
 TellsReply options script commands machine ticket reply.Done text = ⊥
 TellsReply options script commands machine ticket (reply.Data bytes) text = ⊥
 TellsReply options script commands machine ticket reply.Clean text = ⊥
+TellsReply options script commands machine ticket reply.Ordered text = ⊥
 TellsReply options script commands machine ticket (reply.Fault f runs) text = TellsFaulted options script commands machine ticket f runs text
 TellsReply options script commands machine ticket (reply.Refused why) text = TellsAnyRefusal options script commands machine ticket why text
 
