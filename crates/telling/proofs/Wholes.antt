@@ -1,5 +1,5 @@
 -- What is told of a launch that was played.
-use Rattle.std.proofs.Common.{◌≡◌, ◌-◌, ◌^◌, ℕ, Option, None, Some, List, string_bytes, ap, ◌∙◌, subst}
+use Rattle.std.proofs.Common.{◌≡◌, ◌-◌, ◌^◌, ℕ, Bool, Option, None, Some, List, string_bytes, ap, ◌∙◌, subst}
 use Rattle.std.specs.Prelude.{slice_get}
 use Rattle.std.specs.Option.{IfSome}
 use Rattle.clmodel.specs.Launch.{Launch}
@@ -57,12 +57,12 @@ explained e options launch context ticket place range f runs facts first second 
 
 -- what is told of a prepared launch
 pub whole :
-    (m : Machine) (options : TellOptions) (script : List ℕ) (commands : List Command) (ticket : ℕ) (place : CommandPlace) (kernel : List ℕ) (range : Range) (context : Context) (buffers : Table (List ℕ)) (f : Fault) (given runs : List EventRun) (e : Explanation)
-    → slice_get commands ticket ≡ Some (command.Launch kernel range) → IsPrepared m kernel range context.launch.now → buffers ≡ m.buffers → IsSourceOf script commands context.done.now kernel context.program → StandsAt script commands ticket place
+    (m : Machine) (options : TellOptions) (script : List ℕ) (commands : List Command) (done : List Bool) (ticket : ℕ) (place : CommandPlace) (kernel : List ℕ) (range : Range) (context : Context) (buffers : Table (List ℕ)) (f : Fault) (given runs : List EventRun) (e : Explanation)
+    → slice_get commands ticket ≡ Some (command.Launch kernel range) → IsPrepared m kernel range context.launch.now → buffers ≡ m.buffers → IsSourceOf script commands done kernel context.program → StandsAt script commands ticket place
     → IsShort (launch_of (launches.setup_of context.launch.now) (bytes_in buffers)) f given runs → IsAsWanted options.as_given given runs → string_bytes e.schedule.given ≡ schedule_words given
     → IsExplained options (launch_of (launches.setup_of context.launch.now) (bytes_in buffers)) context ticket place range f runs e → context.kernel.now ≡ kernel
-    → HasWhole m options script commands ticket f given runs e
-whole m options script commands ticket place kernel range context buffers f given runs e at p same source stands short wanted words explained named = record {
+    → HasWhole m options script commands done ticket f given runs e
+whole m options script commands done ticket place kernel range context buffers f given runs e at p same source stands short wanted words explained named = record {
   kernel = kernel;
   range = range;
   at = at;

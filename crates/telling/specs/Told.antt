@@ -109,10 +109,10 @@ IsSourceOf script commands done kernel source =
 abbrev pub IsAsWanted : Bool → List EventRun → List EventRun → Type 0
 IsAsWanted as_given given runs = MatchBool as_given (runs ≡ given) ⊤
 
--- An explanation of the launch of a ticket, whose schedule leads the launch to the fault and isn't longer than the
+-- An explanation of the launch of a ticket, where these commands were done, whose schedule leads the launch to the fault and isn't longer than the
 -- given one, or is that very one; its places are those in the source of the kernel's program, and its line that of the
 -- launch's command. The launch runs this kernel's code.
-pub record HasWhole (m : Machine) (options : TellOptions) (script : List ℕ) (commands : List Command) (ticket : ℕ) (f : Fault) (given runs : List EventRun) (e : Explanation) : Type 0 where
+pub record HasWhole (m : Machine) (options : TellOptions) (script : List ℕ) (commands : List Command) (done : List Bool) (ticket : ℕ) (f : Fault) (given runs : List EventRun) (e : Explanation) : Type 0 where
   pub kernel : List ℕ
   pub range : Range
   pub at : slice_get commands ticket ≡ Some (command.Launch kernel range)
@@ -122,7 +122,7 @@ pub record HasWhole (m : Machine) (options : TellOptions) (script : List ℕ) (c
   pub same : launches.setup_of context.launch.now ≡ setup_of m (kernel_of m kernel) range
   pub code : IsCodeOf (program_of m (kernel_of m kernel).program) (kernel_of m kernel).function (launches.code_of context.launch.now)
   pub kernel_named : context.kernel.now ≡ kernel
-  pub source : IsSourceOf script commands context.done.now kernel context.program
+  pub source : IsSourceOf script commands done kernel context.program
   pub place : CommandPlace
   pub stands : StandsAt script commands ticket place
   pub explained : IsExplained options (launch_of (setup_of m (kernel_of m kernel) range) (bytes_of m)) context ticket place range f runs e

@@ -249,7 +249,7 @@ pub fn explain_case(
 ) -> Result<Option<ExplainedCase>, RunFault>
     requires { AreAt launched.now.script.now launched.now.commands.now launched.now.places.now }
     ensures told { IfOk result (λ found. Tells (machine_of device.now) launched.now.commands.now ticket fault.now schedule (is_some found)) }
-    ensures whole { IfOk result (λ found. IfSome found (λ told. HasWhole (machine_of device.now) launched.now.options launched.now.script.now launched.now.commands.now ticket fault.now schedule told.schedule told.whole)) }
+    ensures whole { IfOk result (λ found. IfSome found (λ told. HasWhole (machine_of device.now) launched.now.options launched.now.script.now launched.now.commands.now launched.now.done.now ticket fault.now schedule told.schedule told.whole)) }
     ensures failed { IfErr result (Untold (machine_of device.now) launched.now.commands.now ticket) }
 {
     let Some((kernel, range)) = launch_in(launched.commands, ticket) else {
