@@ -1,6 +1,6 @@
 use Rattle.std.proofs.Common.{length, refl, sym}
 use Rattle.std.proofs.lemmas.Option.{slice_get_past, slice_get_read}
-use Rattle.explain_reasons.proofs.schedule_steps.touch_at.Goals as goal
+use Rattle.explain_reasons.proofs.chosen.touch_at.Goals as goal
 
 pub returns-in-Some : goal.returns-in-Some
 returns-in-Some c =
