@@ -17,6 +17,7 @@ abbrev pub is_done : Reply → Bool
 is_done reply.Done = true
 is_done (reply.Data bytes) = true
 is_done reply.Clean = true
+is_done reply.Ordered = true
 is_done (reply.Fault f runs) = true
 is_done (reply.Refused r) = false
 
