@@ -16,9 +16,9 @@ use Rattle.telling.specs.Judged.{Tells}
 use Rattle.telling.specs.Told.{HasWhole}
 use Rattle.telling.specs.declared.told.ExplainedCase.{ExplainedCase}
 use Rattle.explaining.proofs.Faulting.{faults, told_yes}
-use Rattle.explaining.specs.Leading.{Leads, RepliesAt, WalkedTo, is_end}
+use Rattle.explaining.specs.Leading.{IsNoted, Leads, RepliesAt, WalkedTo, is_end}
 use Rattle.explaining.specs.Refusing.{TellsRefusal}
-use Rattle.explaining.specs.Whole.{AnswersTo, IsToldOf, IsToldThere, SaysOf, SaysOne, TellsEnd, TellsFaulted, tell_options}
+use Rattle.explaining.specs.Whole.{AnswersTo, IsToldOf, IsToldThere, SaysOf, SaysOne, TellsEnd, TellsFaulted, TellsReply, tell_options}
 use Rattle.explaining.specs.declared.answers.Answer.{Answer}
 use Rattle.explaining.specs.declared.facts.ExplainOptions.{ExplainOptions}
 use Rattle.explaining.specs.declared.walks.Case.{Case}
@@ -28,11 +28,11 @@ use Rattle.explaining.specs.declared.walks.Walked.{Walked}
 use Rattle.explaining.specs.declared.walks.Walked.TheVariants as walked
 
 pub whole_there :
-    (options : ExplainOptions) (script : List ℕ) (commands : List Command) (ticket : ℕ) (f : Fault) (runs : List EventRun) (m : Machine) (r : Result (Option ExplainedCase) RunFault) → Leads (opening options.configuration) (take ticket commands) m
-    → IfOk r (λ found. IfSome found (λ told. HasWhole m (tell_options options) script commands ticket f runs told.schedule told.whole)) → IfOk r (λ found. IfSome found (IsToldThere options script commands ticket f runs))
-whole_there options script commands ticket f runs m (Ok (Some told)) led h = record { machine = m; led = led; whole = h }
-whole_there options script commands ticket f runs m (Ok None) led h = tt
-whole_there options script commands ticket f runs m (Err why) led h = tt
+    (options : ExplainOptions) (script : List ℕ) (commands : List Command) (ticket : ℕ) (f : Fault) (runs : List EventRun) (m : Machine) (done : List Bool) (r : Result (Option ExplainedCase) RunFault) → Leads (opening options.configuration) (take ticket commands) m done
+    → IfOk r (λ found. IfSome found (λ told. HasWhole m (tell_options options) script commands done ticket f runs told.schedule told.whole)) → IfOk r (λ found. IfSome found (IsToldThere options script commands ticket f runs))
+whole_there options script commands ticket f runs m done (Ok (Some told)) led h = record { machine = m; done = done; led = led; whole = h }
+whole_there options script commands ticket f runs m done (Ok None) led h = tt
+whole_there options script commands ticket f runs m done (Err why) led h = tt
 
 pub whole_of :
     (options : ExplainOptions) (script schedule : List ℕ) (commands : List Command) (ticket : ℕ) (f : Fault) (runs : List EventRun) (r : Result (Option ExplainedCase) RunFault) → IsScript script commands
@@ -50,45 +50,70 @@ says_of options script schedule None answer is agrees h = subst (λ y. SaysOf op
 
 -- what is told of a launch's fault
 pub tells_faulted :
-    (options : ExplainOptions) (script : List ℕ) (commands : List Command) (m : Machine) (ticket : ℕ) (f : Fault) (runs : List EventRun) (o : Option ExplainedCase) (answer : Answer)
-    → RepliesAt commands m ticket (reply.Fault f runs) → Tells m commands ticket f runs (is_some o) → IfSome o (λ told. HasWhole m (tell_options options) script commands ticket f runs told.schedule told.whole)
-    → AnswersTo options.format (codes "no\n") o answer → TellsFaulted options script commands m ticket f runs (string_bytes answer.text)
-tells_faulted options script commands m ticket f runs o answer at tells has text =
+    (options : ExplainOptions) (script : List ℕ) (commands : List Command) (done : List Bool) (m : Machine) (ticket : ℕ) (f : Fault) (runs : List EventRun) (o : Option ExplainedCase) (answer : Answer)
+    → RepliesAt commands m ticket (reply.Fault f runs) → Tells m commands ticket f runs (is_some o) → IfSome o (λ told. HasWhole m (tell_options options) script commands done ticket f runs told.schedule told.whole)
+    → AnswersTo options.format (codes "no\n") o answer → TellsFaulted options script commands done m ticket f runs (string_bytes answer.text)
+tells_faulted options script commands done m ticket f runs o answer at tells has text =
     go o (told_yes m commands ticket at.command f runs (is_some o) at.at (faults at.before m at.command f runs at.replied) tells) has text
   where
     go :
-        (o : Option ExplainedCase) → is_some o ≡ true → IfSome o (λ told. HasWhole m (tell_options options) script commands ticket f runs told.schedule told.whole) → AnswersTo options.format (codes "no\n") o answer
-        → TellsFaulted options script commands m ticket f runs (string_bytes answer.text)
+        (o : Option ExplainedCase) → is_some o ≡ true → IfSome o (λ told. HasWhole m (tell_options options) script commands done ticket f runs told.schedule told.whole) → AnswersTo options.format (codes "no\n") o answer
+        → TellsFaulted options script commands done m ticket f runs (string_bytes answer.text)
     go None agrees has text = absurd (false≢true agrees)
     go (Some told) agrees has text = record { told = told; whole = has; written = text }
 
 -- what is told of what a walk ended at
 pub unbuilt_end :
-    (options : ExplainOptions) (script : List ℕ) (commands : List Command) (m : Machine) (w : Walked) (u : Unbuilt) (text : List ℕ) → w ≡ walked.Unbuilt u → TellsEnd options script commands m w text
-unbuilt_end options script commands m w u text e = subst (λ (v : Walked). TellsEnd options script commands m v text) (sym e) (inl (u.fault, refl))
+    (options : ExplainOptions) (script : List ℕ) (commands : List Command) (done : List Bool) (m : Machine) (w : Walked) (u : Unbuilt) (text : List ℕ) → w ≡ walked.Unbuilt u
+    → TellsEnd options script commands done m w text
+unbuilt_end options script commands done m w u text e = subst (λ (v : Walked). TellsEnd options script commands done m v text) (sym e) (inl (u.fault, refl))
 
 pub refused_end :
-    (options : ExplainOptions) (script : List ℕ) (commands : List Command) (m : Machine) (w : Walked) (case : RefusedCase) (text : List ℕ) → w ≡ walked.Refused case
-    → TellsRefusal options.configuration.limits m.buffers options.format script commands case.ticket case.refusal text → TellsEnd options script commands m w text
-refused_end options script commands m w case text e h = subst (λ (v : Walked). TellsEnd options script commands m v text) (sym e) (inr h)
+    (options : ExplainOptions) (script : List ℕ) (commands : List Command) (done : List Bool) (m : Machine) (w : Walked) (case : RefusedCase) (text : List ℕ) → w ≡ walked.Refused case
+    → TellsRefusal options.configuration.limits m.buffers options.format script commands case.ticket case.refusal text → TellsEnd options script commands done m w text
+refused_end options script commands done m w case text e h = subst (λ (v : Walked). TellsEnd options script commands done m v text) (sym e) (inr h)
 
 pub faulted_end :
-    (options : ExplainOptions) (script : List ℕ) (commands : List Command) (m : Machine) (w : Walked) (case : Case) {A : Type 0} (bytes : A → List ℕ) (r : Result A RunFault) → w ≡ walked.Faulted case
-    → IfOk r (λ text. TellsFaulted options script commands m case.ticket case.fault case.schedule (bytes text)) → IfOk r (λ text. TellsEnd options script commands m w (bytes text))
-faulted_end options script commands m w case bytes r e h = subst (λ (v : Walked). IfOk r (λ text. TellsEnd options script commands m v (bytes text))) (sym e) h
+    (options : ExplainOptions) (script : List ℕ) (commands : List Command) (done : List Bool) (m : Machine) (w : Walked) (case : Case) {A : Type 0} (bytes : A → List ℕ) (r : Result A RunFault)
+    → w ≡ walked.Faulted case → IfOk r (λ text. TellsFaulted options script commands done m case.ticket case.fault case.schedule (bytes text))
+    → IfOk r (λ text. TellsEnd options script commands done m w (bytes text))
+faulted_end options script commands done m w case bytes r e h = subst (λ (v : Walked). IfOk r (λ text. TellsEnd options script commands done m v (bytes text))) (sym e) h
 
 -- and it is what is said of the script
-says : (options : ExplainOptions) (script : List ℕ) (commands : List Command) (m : Machine) (w : Walked) (text : List ℕ) → IsScript script commands → WalkedTo (opening options.configuration) commands m w
-    → TellsEnd options script commands m w text → SaysOne options script (is_end w) text
-says options script commands m walked.Clean text is h tells = tells
-says options script commands m (walked.Faulted case) text is h tells =
-    record { commands = commands; ticket = case.ticket; machine = m; answer = reply.Fault case.fault case.schedule; is = is; first = h; tells = tells }
-says options script commands m (walked.Unbuilt u) text is h tells =
-    record { commands = commands; ticket = u.ticket; machine = m; answer = reply.Refused (refusal.BuildFailed u.fault); is = is; first = h; tells = tells }
-says options script commands m (walked.Refused case) text is h tells =
-    record { commands = commands; ticket = case.ticket; machine = m; answer = reply.Refused case.refusal; is = is; first = h; tells = tells }
+says :
+    (options : ExplainOptions) (script : List ℕ) (commands : List Command) (done : List Bool) (m : Machine) (w : Walked) (text : List ℕ) → IsScript script commands
+    → WalkedTo (opening options.configuration) commands m w → IsNoted w done → TellsEnd options script commands done m w text → SaysOne options script (is_end w) text
+says options script commands done m walked.Clean text is h noted tells = tells
+says options script commands done m (walked.Faulted case) text is h noted tells = record {
+  commands = commands;
+  ticket = case.ticket;
+  machine = m;
+  answer = reply.Fault case.fault case.schedule;
+  is = is;
+  first = h;
+  tells = subst (λ (l : List Bool). TellsReply options script commands l m case.ticket (reply.Fault case.fault case.schedule) text) noted tells;
+}
+says options script commands done m (walked.Unbuilt u) text is h noted tells = record {
+  commands = commands;
+  ticket = u.ticket;
+  machine = m;
+  answer = reply.Refused (refusal.BuildFailed u.fault);
+  is = is;
+  first = h;
+  tells = subst (λ (l : List Bool). TellsReply options script commands l m u.ticket (reply.Refused (refusal.BuildFailed u.fault)) text) noted tells;
+}
+says options script commands done m (walked.Refused case) text is h noted tells = record {
+  commands = commands;
+  ticket = case.ticket;
+  machine = m;
+  answer = reply.Refused case.refusal;
+  is = is;
+  first = h;
+  tells = subst (λ (l : List Bool). TellsReply options script commands l m case.ticket (reply.Refused case.refusal) text) noted tells;
+}
 
 pub says_one :
-    (options : ExplainOptions) (script : List ℕ) (commands : List Command) (m : Machine) (w : Walked) (answer : Bool) (text : List ℕ) → IsScript script commands
-    → WalkedTo (opening options.configuration) commands m w → TellsEnd options script commands m w text → answer ≡ is_end w → SaysOne options script answer text
-says_one options script commands m w answer text is h tells same = subst (λ y. SaysOne options script y text) (sym same) (says options script commands m w text is h tells)
+    (options : ExplainOptions) (script : List ℕ) (commands : List Command) (done : List Bool) (m : Machine) (w : Walked) (answer : Bool) (text : List ℕ) → IsScript script commands
+    → WalkedTo (opening options.configuration) commands m w → IsNoted w done → TellsEnd options script commands done m w text → answer ≡ is_end w → SaysOne options script answer text
+says_one options script commands done m w answer text is h noted tells same =
+    subst (λ y. SaysOne options script y text) (sym same) (says options script commands done m w text is h noted tells)

@@ -25,13 +25,15 @@ use Rattle.limits.specs.declared.Limits.{Limits}
 -- a case that is judged on a new device, to which the commands before its ticket led
 pub record IsTold (configuration : Configuration) (commands : List Command) (ticket : ℕ) (f : Fault) (runs : List EventRun) (answer : Bool) : Type 0 where
   pub machine : Machine
-  pub led : Leads (opening configuration) (take ticket commands) machine
+  pub done : List Bool
+  pub led : Leads (opening configuration) (take ticket commands) machine done
   pub tells : Tells machine commands ticket f runs answer
 
 -- the launch of a ticket is refused on a new device, to which the commands before it led
 pub record IsRefusedThere (configuration : Configuration) (commands : List Command) (ticket : ℕ) : Type 0 where
   pub machine : Machine
-  pub led : Leads (opening configuration) (take ticket commands) machine
+  pub done : List Bool
+  pub led : Leads (opening configuration) (take ticket commands) machine done
   pub refuses : Refuses machine commands ticket
 
 -- why it wasn't

@@ -1,5 +1,5 @@
 -- The text that is written of a script, of a schedule file or of a source (own).
-use Rattle.std.specs.Prelude.{◌≡◌, ◌⊎◌, ℕ, suc, Bool, true, false, ⊤, Option, None, Some, List, [], ◌∷◌, ◌++◌, codes, decimal, string_bytes, take, MatchBool, MatchOption}
+use Rattle.std.specs.Prelude.{◌≡◌, ◌⊎◌, ℕ, Bool, true, false, ⊤, Option, None, Some, List, [], ◌∷◌, ◌++◌, codes, decimal, length, string_bytes, take, MatchBool, MatchOption}
 use Rattle.clmodel.specs.declared.fault.Fault.{Fault}
 use Rattle.clmodel.specs.declared.schedule.EventRun.{EventRun}
 use Rattle.device.specs.Machine.{Machine, Step, opening}
@@ -20,7 +20,7 @@ use Rattle.telling.specs.Told.{HasWhole}
 use Rattle.telling.specs.declared.facts.TellOptions.{TellOptions}
 use Rattle.telling.specs.declared.told.ExplainedCase.{ExplainedCase}
 use Rattle.explaining.specs.Explaining.{is_source}
-use Rattle.explaining.specs.Leading.{HadMemory, IsFirst, Leads, goes_on}
+use Rattle.explaining.specs.Leading.{HadMemory, IsFirst, Leads, done_to, goes_on, is_done}
 use Rattle.explaining.specs.Refusing.{TellsRefusal}
 use Rattle.explaining.specs.declared.answers.Answer.{Answer}
 use Rattle.explaining.specs.declared.facts.ExplainOptions.{ExplainOptions}
@@ -47,8 +47,9 @@ AnswersTo f word (Some told) answer = IsTextOf f told.whole (string_bytes answer
 -- what is told of a case on a new device, to which the commands before its ticket led
 pub record IsToldThere (options : ExplainOptions) (script : List ℕ) (commands : List Command) (ticket : ℕ) (f : Fault) (given : List EventRun) (told : ExplainedCase) : Type 0 where
   pub machine : Machine
-  pub led : Leads (opening options.configuration) (take ticket commands) machine
-  pub whole : HasWhole machine (tell_options options) script commands ticket f given told.schedule told.whole
+  pub done : List Bool
+  pub led : Leads (opening options.configuration) (take ticket commands) machine done
+  pub whole : HasWhole machine (tell_options options) script commands done ticket f given told.schedule told.whole
 
 -- what is told of the case of a schedule file
 pub record IsToldOf (options : ExplainOptions) (script schedule : List ℕ) (told : ExplainedCase) : Type 0 where
@@ -65,10 +66,10 @@ abbrev pub SaysOf : ExplainOptions → List ℕ → List ℕ → Bool → List �
 SaysOf options script schedule true text = (told : ExplainedCase) × IsToldOf options script schedule told × IsTextOf options.format told.whole text
 SaysOf options script schedule false text = text ≡ codes "no\n"
 
--- a text of a launch's fault, behind which a machine is this one, as it was before
-pub record TellsFaulted (options : ExplainOptions) (script : List ℕ) (commands : List Command) (machine : Machine) (ticket : ℕ) (f : Fault) (runs : List EventRun) (text : List ℕ) : Type 0 where
+-- a text of a launch's fault, behind which a machine is this one, as it was before, and these commands were done
+pub record TellsFaulted (options : ExplainOptions) (script : List ℕ) (commands : List Command) (done : List Bool) (machine : Machine) (ticket : ℕ) (f : Fault) (runs : List EventRun) (text : List ℕ) : Type 0 where
   pub told : ExplainedCase
-  pub whole : HasWhole machine (tell_options options) script commands ticket f runs told.schedule told.whole
+  pub whole : HasWhole machine (tell_options options) script commands done ticket f runs told.schedule told.whole
   pub written : IsTextOf options.format told.whole text
 
 -- a text of a refused command, behind which a machine is this one, as it was before; any text where a build was refused
@@ -76,20 +77,22 @@ abbrev pub TellsAnyRefusal : ExplainOptions → List ℕ → List Command → Ma
 TellsAnyRefusal options script commands machine ticket why text =
     ((fault : BuildFault) × (why ≡ refusal.BuildFailed fault)) ⊎ TellsRefusal options.configuration.limits machine.buffers options.format script commands ticket why text
 
--- a text of the reply to the command of a number, behind which a machine is this one: only of a fault or a refusal
-abbrev pub TellsReply : ExplainOptions → List ℕ → List Command → Machine → ℕ → Reply → List ℕ → Type 0
-TellsReply options script commands machine ticket reply.Done text = ⊥
-TellsReply options script commands machine ticket (reply.Data bytes) text = ⊥
-TellsReply options script commands machine ticket reply.Clean text = ⊥
-TellsReply options script commands machine ticket (reply.Fault f runs) text = TellsFaulted options script commands machine ticket f runs text
-TellsReply options script commands machine ticket (reply.Refused why) text = TellsAnyRefusal options script commands machine ticket why text
+-- a text of the reply to the command of a number, behind which a machine is this one, and these commands were done: only
+-- of a fault or a refusal
+abbrev pub TellsReply : ExplainOptions → List ℕ → List Command → List Bool → Machine → ℕ → Reply → List ℕ → Type 0
+TellsReply options script commands done machine ticket reply.Done text = ⊥
+TellsReply options script commands done machine ticket (reply.Data bytes) text = ⊥
+TellsReply options script commands done machine ticket reply.Clean text = ⊥
+TellsReply options script commands done machine ticket reply.Ordered text = ⊥
+TellsReply options script commands done machine ticket (reply.Fault f runs) text = TellsFaulted options script commands done machine ticket f runs text
+TellsReply options script commands done machine ticket (reply.Refused why) text = TellsAnyRefusal options script commands machine ticket why text
 
 -- the text of what a walk ends at
-abbrev pub TellsEnd : ExplainOptions → List ℕ → List Command → Machine → Walked → List ℕ → Type 0
-TellsEnd options script commands machine walked.Clean text = text ≡ codes "clean\n"
-TellsEnd options script commands machine (walked.Faulted case) text = TellsReply options script commands machine case.ticket (reply.Fault case.fault case.schedule) text
-TellsEnd options script commands machine (walked.Unbuilt build) text = TellsReply options script commands machine build.ticket (reply.Refused (refusal.BuildFailed build.fault)) text
-TellsEnd options script commands machine (walked.Refused case) text = TellsReply options script commands machine case.ticket (reply.Refused case.refusal) text
+abbrev pub TellsEnd : ExplainOptions → List ℕ → List Command → List Bool → Machine → Walked → List ℕ → Type 0
+TellsEnd options script commands done machine walked.Clean text = text ≡ codes "clean\n"
+TellsEnd options script commands done machine (walked.Faulted case) text = TellsReply options script commands done machine case.ticket (reply.Fault case.fault case.schedule) text
+TellsEnd options script commands done machine (walked.Unbuilt build) text = TellsReply options script commands done machine build.ticket (reply.Refused (refusal.BuildFailed build.fault)) text
+TellsEnd options script commands done machine (walked.Refused case) text = TellsReply options script commands done machine case.ticket (reply.Refused case.refusal) text
 
 -- the text for a script: of the first reply that is a fault or a refusal
 pub record SaysFirst (options : ExplainOptions) (script text : List ℕ) : Type 0 where
@@ -99,7 +102,7 @@ pub record SaysFirst (options : ExplainOptions) (script text : List ℕ) : Type 
   pub answer : Reply
   pub is : IsScript script commands
   pub first : IsFirst (opening options.configuration) commands machine ticket answer
-  pub tells : TellsReply options script commands machine ticket answer text
+  pub tells : TellsReply options script commands (done_to ticket answer) machine ticket answer text
 
 -- the line in front of one of several texts: the number of its command, and the command's line in the script; lines of
 -- JSON have none
@@ -108,31 +111,34 @@ heading format.Text ticket line = codes "---- command " ++ decimal ticket ++ cod
 heading format.Json ticket line = []
 
 -- a text of the reply to the command of a number, behind its heading
-pub record IsHeaded (options : ExplainOptions) (script : List ℕ) (commands : List Command) (machine : Machine) (ticket : ℕ) (answer : Reply) (text : List ℕ) : Type 0 where
+pub record IsHeaded (options : ExplainOptions) (script : List ℕ) (commands : List Command) (done : List Bool) (machine : Machine) (ticket : ℕ) (answer : Reply) (text : List ℕ) : Type 0 where
   pub place : CommandPlace
   pub stands : StandsAt script commands ticket place
   pub own : List ℕ
-  pub tells : TellsReply options script commands machine ticket answer own
+  pub tells : TellsReply options script commands done machine ticket answer own
   pub whole : text ≡ heading options.format ticket place.line ++ own
 
 -- a text of a reply that is a fault or a refusal, and nothing of any other one
-abbrev pub TellsAny : ExplainOptions → List ℕ → List Command → Machine → ℕ → Reply → List ℕ → Type 0
-TellsAny options script commands machine ticket answer text = MatchBool (goes_on answer) (text ≡ []) (IsHeaded options script commands machine ticket answer text)
+abbrev pub TellsAny : ExplainOptions → List ℕ → List Command → List Bool → Machine → ℕ → Reply → List ℕ → Type 0
+TellsAny options script commands done machine ticket answer text = MatchBool (goes_on answer) (text ≡ []) (IsHeaded options script commands done machine ticket answer text)
 
--- The texts of the replies to commands, one behind another. The first of these commands has this number in the script,
--- each is done on the machine to which the one before led, and none is refused for want of memory.
-abbrev pub TellsEach : ExplainOptions → List ℕ → List Command → ℕ → Machine → List Command → Machine → List ℕ → Type 0
-TellsEach options script commands ticket old [] new text = (new ≡ old) × (text ≡ [])
-TellsEach options script commands ticket old (c ∷ cs) new text =
-    (mid : Machine) × (answer : Reply) × (first : List ℕ) × (rest : List ℕ) × Step old c answer mid × HadMemory answer × TellsAny options script commands mid ticket answer first
-    × TellsEach options script commands (suc ticket) mid cs new rest × (text ≡ first ++ rest)
+-- The texts of the replies to commands, one behind another. In front of these commands stand those that were done, or
+-- not; each is done on the machine to which the one before led, none is refused for want of memory, and at the end all
+-- these were done, or not.
+abbrev pub TellsEach : ExplainOptions → List ℕ → List Command → List Bool → Machine → List Command → Machine → List Bool → List ℕ → Type 0
+TellsEach options script commands done old [] new all text = (new ≡ old) × (all ≡ done) × (text ≡ [])
+TellsEach options script commands done old (c ∷ cs) new all text =
+    (mid : Machine) × (answer : Reply) × (first : List ℕ) × (rest : List ℕ) × Step old c answer mid × HadMemory answer
+    × TellsAny options script commands (done ++ is_done answer ∷ []) mid (length done) answer first
+    × TellsEach options script commands (done ++ is_done answer ∷ []) mid cs new all rest × (text ≡ first ++ rest)
 
 -- the text for a script of which all is told: of each reply that is a fault or a refusal, in the commands' order
 pub record SaysEach (options : ExplainOptions) (script text : List ℕ) : Type 0 where
   pub commands : List Command
   pub machine : Machine
+  pub done : List Bool
   pub is : IsScript script commands
-  pub each : TellsEach options script commands 0 (opening options.configuration) commands machine text
+  pub each : TellsEach options script commands [] (opening options.configuration) commands machine done text
 
 abbrev pub SaysOne : ExplainOptions → List ℕ → Bool → List ℕ → Type 0
 SaysOne options script true text = SaysFirst options script text

@@ -8,7 +8,7 @@ ghost use Rattle.simfile.specs.Faults.{NoScript};
 ghost use Rattle.simfile.specs.Places.{AreAt};
 ghost use Rattle.simfile.specs.Script.{IsScript};
 ghost use Rattle.explaining.specs.Explaining.{Explained, Explains, Found, IsTold, Unanswered, Unexplained, Unled, Unwritten};
-ghost use Rattle.explaining.specs.Leading.{WalkedTo};
+ghost use Rattle.explaining.specs.Leading.{IsNoted, WalkedTo};
 ghost use Rattle.explaining.specs.Whole.{IsToldOf, IsToldThere, Says, SaysOf, SaysOne, SaysScript};
 
 use crate::answers::{Answer, answer_of, tell};
@@ -124,6 +124,7 @@ fn answer_at(
     requires script { IsScript performed.now.given.script.now performed.now.commands.now }
     requires placed { AreAt performed.now.given.script.now performed.now.commands.now performed.now.places.now }
     requires walked { WalkedTo (opening performed.now.options.configuration) performed.now.commands.now (machine_of device.now) end }
+    requires noted { IsNoted end performed.now.done.now }
     ensures found { IfOk result (λ answer. Found performed.now.options.configuration performed.now.given.script.now answer.yes) }
     ensures says { IfOk result (λ answer. SaysOne performed.now.options performed.now.given.script.now answer.yes (string_bytes answer.text)) }
     ensures failed { IfErr result (NoScript performed.now.given.script.now) }

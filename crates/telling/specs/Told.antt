@@ -1,5 +1,5 @@
 -- What an explanation tells of a launch and its fault (own).
-use Rattle.std.specs.Prelude.{◌≡◌, ◌⊎◌, ◌-◌, ◌^◌, ℕ, Bool, ⊤, Option, Some, List, [], ◌∷◌, map, string_bytes, slice_get, MatchBool}
+use Rattle.std.specs.Prelude.{◌≡◌, ◌⊎◌, ◌-◌, ◌^◌, ℕ, Bool, ⊤, Option, None, Some, List, [], ◌∷◌, length, map, string_bytes, slice_get, MatchBool}
 use Rattle.std.specs.Option.{unwrap_or}
 use Rattle.std.specs.Str.Lossy.{utf8_lossy}
 use Rattle.clmodel.specs.Launch.{Launch}
@@ -7,6 +7,9 @@ use Rattle.clmodel.specs.Next.{launch_of}
 use Rattle.clmodel.specs.Outcome.{events_of}
 use Rattle.clmodel.specs.Setup.{group_items}
 use Rattle.clmodel.specs.declared.fault.Fault.{Fault}
+use Rattle.clmodel.specs.declared.fault.Fault.TheVariants as fault
+use Rattle.clmodel.specs.declared.fault.Location.{Location}
+use Rattle.clmodel.specs.declared.fault.Location.TheVariants as location
 use Rattle.clmodel.specs.declared.schedule.EventRun.{EventRun}
 use Rattle.clmodel.specs.declared.setup.Range.{Range}
 use Rattle.device.specs.Kept.{IsCodeOf}
@@ -19,6 +22,7 @@ use Rattle.explain_reasons.specs.Steps.{AreSteps}
 use Rattle.explanation.specs.declared.told.Explanation.{Explanation}
 use Rattle.explanation.specs.declared.told.FaultFacts.{FaultFacts}
 use Rattle.explanation.specs.declared.told.LaunchFacts.{LaunchFacts}
+use Rattle.explanation.specs.declared.told.Memory.{Memory}
 use Rattle.fault_lines.specs.Text.{fault_text, schedule_text}
 use Rattle.fault_play.specs.PlayedOut.{IsPlayedOut}
 use Rattle.fault_play.specs.declared.played.Played.{Played}
@@ -26,7 +30,7 @@ use Rattle.host_commands.specs.declared.command.Command.{Command}
 use Rattle.host_commands.specs.declared.command.Command.TheVariants as command
 use Rattle.item_step.specs.Launches as launches
 use Rattle.launch_facts.specs.Commands.{HasNoSource, IsSource}
-use Rattle.launch_facts.specs.Facts.{fault_number, named_items, number_name}
+use Rattle.launch_facts.specs.Facts.{TellsMemory, fault_number, named_items, number_name}
 use Rattle.launch_facts.specs.declared.commands.ProgramSource.{ProgramSource}
 use Rattle.simfile.specs.Places.{StandsAt}
 use Rattle.simfile.specs.declared.script.CommandPlace.{CommandPlace}
@@ -67,6 +71,31 @@ pub record TellsFault (f : Fault) (facts : FaultFacts) : Type 0 where
 abbrev pub AreNamed : Fault → ℕ → ℕ → Type 0
 AreNamed f first second = ((named_items f ≡ first ∷ []) × (second ≡ first)) ⊎ (named_items f ≡ first ∷ second ∷ [])
 
+-- where a fault lies, if it lies in a buffer or in local memory
+abbrev pub place_in : Fault → Option Location
+place_in (fault.Conflict clash item kind other_item other_kind location byte) = Some location
+place_in (fault.Bounds item kind location element) = Some location
+place_in (fault.Unset item kind location byte) = Some location
+place_in _ = None
+
+-- the size of a buffer, as its contents have it; of other memory any size
+abbrev pub IsSize : (List ℕ → List ℕ) → Option Location → Option ℕ → Type 0
+IsSize contents (Some (location.Buffer name)) size = size ≡ Some (length (contents name))
+IsSize contents (Some (location.Local group name)) size = ⊤
+IsSize contents None size = ⊤
+
+-- the same memory, of which the size and the parameters aren't compared
+pub record IsSame (bare m : Memory) : Type 0 where
+  pub kind : m.kind ≡ bare.kind
+  pub name : m.name ≡ bare.name
+  pub byte : m.byte ≡ bare.byte
+  pub element : m.element ≡ bare.element
+
+-- the memory that a fault is about, if it is about any; a buffer with its size
+abbrev pub TellsObject : (List ℕ → List ℕ) → Fault → Option Memory → Type 0
+TellsObject contents f None = TellsMemory f None
+TellsObject contents f (Some m) = (bare : Memory) × TellsMemory f (Some bare) × IsSame bare m × IsSize contents (place_in f) m.size
+
 -- By what was played, in a launch with groups of this size: what the items of an explanation do, and by which events;
 -- its steps, by which each event is told or counted, in the order of the events; and its reasons, each of which holds.
 pub record TellsPlayed (options : TellOptions) (size : ℕ) (f : Fault) (played : Played) (e : Explanation) : Type 0 where
@@ -86,11 +115,12 @@ pub record TellsItems (options : TellOptions) (launch : Launch) (context : Conte
   pub told : AreTold context played.marks.items (told_items f played) e.items.items
   pub tells : TellsPlayed options (group_items (launches.setup_of context.launch.now).range) f played e
 
--- an explanation of a launch and its fault by a schedule
-pub record IsExplained (options : TellOptions) (launch : Launch) (context : Context) (ticket : ℕ) (place : CommandPlace) (range : Range) (f : Fault) (runs : List EventRun) (e : Explanation) : Type 0 where
+-- an explanation of a launch, whose buffers have these contents, and of its fault by a schedule
+pub record IsExplained (options : TellOptions) (launch : Launch) (contents : List ℕ → List ℕ) (context : Context) (ticket : ℕ) (place : CommandPlace) (range : Range) (f : Fault) (runs : List EventRun) (e : Explanation) : Type 0 where
   pub launched : TellsLaunch options.budget ticket place range e.launch
   pub names : TellsNames context e.launch
   pub faulted : TellsFault f e.fault
+  pub object : TellsObject contents f e.memory
   pub schedule : string_bytes e.schedule.short ≡ schedule_words runs
   pub items : TellsItems options launch context f runs e
 
@@ -109,21 +139,22 @@ IsSourceOf script commands done kernel source =
 abbrev pub IsAsWanted : Bool → List EventRun → List EventRun → Type 0
 IsAsWanted as_given given runs = MatchBool as_given (runs ≡ given) ⊤
 
--- An explanation of the launch of a ticket, whose schedule leads the launch to the fault and isn't longer than the
+-- An explanation of the launch of a ticket, where these commands were done, whose schedule leads the launch to the fault and isn't longer than the
 -- given one, or is that very one; its places are those in the source of the kernel's program, and its line that of the
 -- launch's command. The launch runs this kernel's code.
-pub record HasWhole (m : Machine) (options : TellOptions) (script : List ℕ) (commands : List Command) (ticket : ℕ) (f : Fault) (given runs : List EventRun) (e : Explanation) : Type 0 where
+pub record HasWhole (m : Machine) (options : TellOptions) (script : List ℕ) (commands : List Command) (done : List Bool) (ticket : ℕ) (f : Fault) (given runs : List EventRun) (e : Explanation) : Type 0 where
   pub kernel : List ℕ
   pub range : Range
-  pub at : slice_get commands ticket ≡ Some (command.Launch kernel range)
+  pub orders : Bool
+  pub at : slice_get commands ticket ≡ Some (command.Launch kernel range orders)
   pub is_short : IsShort (launch_of (setup_of m (kernel_of m kernel) range) (bytes_of m)) f given runs
   pub wanted : IsAsWanted options.as_given given runs
   pub context : Context
   pub same : launches.setup_of context.launch.now ≡ setup_of m (kernel_of m kernel) range
   pub code : IsCodeOf (program_of m (kernel_of m kernel).program) (kernel_of m kernel).function (launches.code_of context.launch.now)
   pub kernel_named : context.kernel.now ≡ kernel
-  pub source : IsSourceOf script commands context.done.now kernel context.program
+  pub source : IsSourceOf script commands done kernel context.program
   pub place : CommandPlace
   pub stands : StandsAt script commands ticket place
-  pub explained : IsExplained options (launch_of (setup_of m (kernel_of m kernel) range) (bytes_of m)) context ticket place range f runs e
+  pub explained : IsExplained options (launch_of (setup_of m (kernel_of m kernel) range) (bytes_of m)) (bytes_of m) context ticket place range f runs e
   pub schedule : string_bytes e.schedule.given ≡ schedule_words given

@@ -1,7 +1,7 @@
 //! What an explanation tells of its launch, its fault, its memory and its schedule.
 #![tactic(auto)]
 
-ghost use Rattle.std.specs.Prelude.{◌≡◌, IfOk, map, string_bytes};
+ghost use Rattle.std.specs.Prelude.{◌≡◌, Some, IfOk, map, option_copied, string_bytes};
 ghost use Rattle.std.specs.Str.Lossy.{utf8_lossy};
 ghost use Rattle.clmodel.specs.Setup.{group_items};
 ghost use Rattle.explain_items.specs.Deeds.{HaveEvents, deed_of, told_deeds};
@@ -9,7 +9,8 @@ ghost use Rattle.explain_items.specs.Named.{AreToldInside, told_items};
 ghost use Rattle.explain_reasons.specs.Reasons.{AreReasons};
 ghost use Rattle.explain_reasons.specs.Steps.{AreSteps};
 ghost use Rattle.item_step.specs.Launches.{setup_of};
-ghost use Rattle.telling.specs.Told.{AreNamed, TellsFault, TellsLaunch, TellsNames, TellsPlayed, most_steps, schedule_words};
+ghost use Rattle.spaces.specs.Buffers.{bytes_in};
+ghost use Rattle.telling.specs.Told.{AreNamed, IsSize, TellsFault, TellsLaunch, TellsNames, TellsObject, TellsPlayed, most_steps, place_in, schedule_words};
 
 use clmodel::fault::{Fault, Location};
 use clmodel::setup::Range;
@@ -99,7 +100,9 @@ fn size_and_parameters(
     buffers: &Buffers,
     location: &Location,
     byte: Option<u64>,
-) -> Result<(Option<u64>, Vec<ParameterFacts>), AllocError> {
+) -> Result<(Option<u64>, Vec<ParameterFacts>), AllocError>
+    ensures { IfOk result (λ known. IsSize (bytes_in buffers.now) (Some location.now) known.0) }
+{
     let alloc = context.alloc;
     let launch = context.launch;
     let tree = launch.tree();
@@ -141,7 +144,9 @@ fn local_size(launch: &Launch<'_>, wanted: &Name) -> Option<u64> {
 }
 
 /// Where a fault lies, if it lies in a buffer or in local memory.
-fn location_of(fault: &Fault) -> Option<&Location> {
+fn location_of(fault: &Fault) -> Option<&Location>
+    ensures { option_copied result ≡ place_in fault.now }
+{
     match fault {
         Fault::Conflict { location, .. }
         | Fault::Bounds { location, .. }
@@ -170,25 +175,57 @@ fn private_size(
     }
 }
 
+/// The size of the private array that a fault is about, if it is about one and the size is known.
+fn array_size(
+    context: &Context<'_>,
+    fault: &Fault,
+    played: &Played,
+) -> Result<Option<u64>, AllocError> {
+    match private_of(fault) {
+        Some(name) => private_size(context, played.first.stand.as_ref(), name),
+        None => Ok(None),
+    }
+}
+
+/// The size of the memory that a fault is about, where it is known, and the parameters that it is an argument for. The
+/// byte is the one that the fault names.
+fn known_of(
+    context: &Context<'_>,
+    buffers: &Buffers,
+    fault: &Fault,
+    played: &Played,
+    byte: Option<u64>,
+) -> Result<(Option<u64>, Vec<ParameterFacts>), AllocError>
+    ensures { IfOk result (λ known. IsSize (bytes_in buffers.now) (place_in fault.now) known.0) }
+{
+    if let Some(location) = location_of(fault) {
+        return size_and_parameters(context, buffers, location, byte);
+    }
+    let size = array_size(context, fault, played)?;
+    Ok((size, Vec::new(context.alloc)))
+}
+
 /// The memory that a fault is about.
 fn whole_memory(
     context: &Context<'_>,
     buffers: &Buffers,
     fault: &Fault,
     played: &Played,
-) -> Result<Option<Memory>, AllocError> {
-    let Some(mut memory) = memory_of(context.alloc, fault)? else {
+) -> Result<Option<Memory>, AllocError>
+    ensures { IfOk result (TellsObject (bytes_in buffers.now) fault.now) }
+{
+    let Some(memory) = memory_of(context.alloc, fault)? else {
         return Ok(None);
     };
-    if let Some(location) = location_of(fault) {
-        let (size, parameters) = size_and_parameters(context, buffers, location, memory.byte)?;
-        memory.size = size;
-        memory.parameters = parameters;
-    }
-    if let Some(name) = private_of(fault) {
-        memory.size = private_size(context, played.first.stand.as_ref(), name)?;
-    }
-    Ok(Some(memory))
+    let (size, parameters) = known_of(context, buffers, fault, played, memory.byte)?;
+    Ok(Some(Memory {
+        kind: memory.kind,
+        name: memory.name,
+        byte: memory.byte,
+        element: memory.element,
+        size,
+        parameters,
+    }))
 }
 
 /// Makes a text of bytes, with a replacement for what is no UTF-8. An error is out of memory.
@@ -352,6 +389,7 @@ fn body_of(
     fault: &Fault,
     played: &Played,
 ) -> Result<Body, AllocError>
+    ensures object { IfOk result (λ body. TellsObject (bytes_in buffers.now) fault.now body.memory) }
     ensures items { IfOk result (λ body. AreToldInside context.now played.now.marks.items (told_items fault.now played.now) body.items.items) }
     ensures deeds { IfOk result (λ body. map (λ named. deed_of named.does) body.items.items ≡ told_deeds fault.now played.now) }
     ensures events { IfOk result (λ body. HaveEvents played.now.marks.items (told_items fault.now played.now) body.items.items) }
@@ -388,6 +426,7 @@ pub(crate) fn explanation_of(
     ensures launch { IfOk result (λ whole. TellsLaunch place.now.options.budget place.now.ticket place.now.place place.now.range.now whole.launch) }
     ensures names { IfOk result (λ whole. TellsNames context.now whole.launch) }
     ensures fault { IfOk result (λ whole. TellsFault fault.now whole.fault) }
+    ensures object { IfOk result (λ whole. TellsObject (bytes_in buffers.now) fault.now whole.memory) }
     ensures schedule { IfOk result (λ whole. whole.schedule ≡ schedule) }
     ensures items { IfOk result (λ whole. AreToldInside context.now played.now.marks.items (told_items fault.now played.now) whole.items.items) }
     ensures played { IfOk result (TellsPlayed place.now.options (group_items (setup_of context.now.launch.now).range) fault.now played.now) }

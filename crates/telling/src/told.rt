@@ -111,7 +111,7 @@ fn whole_of(
     requires leads { Reaches (launch_of (setup_of context.now.launch.now) (bytes_in buffers.now)) (events_of short.now.schedule) fault.now }
     ensures none { IfOk result (λ found. IfNone found (Reaches (launch_of (setup_of context.now.launch.now) (bytes_in buffers.now)) (events_of short.now.schedule) fault.now → ⊥)) }
     ensures given { IfOk result (λ found. IfSome found (λ whole. whole.schedule.given ≡ given.text)) }
-    ensures whole { IfOk result (λ found. IfSome found (IsExplained place.now.options (launch_of (setup_of context.now.launch.now) (bytes_in buffers.now)) context.now
+    ensures whole { IfOk result (λ found. IfSome found (IsExplained place.now.options (launch_of (setup_of context.now.launch.now) (bytes_in buffers.now)) (bytes_in buffers.now) context.now
         place.now.ticket place.now.place place.now.range.now fault.now short.now.schedule)) }
 {
     let (alloc, launch) = (context.alloc, context.launch);
@@ -140,7 +140,7 @@ fn told_of(
     ensures told { IfOk result (λ found. IfSome found (λ told. IsShort (launch_of (setup_of context.now.launch.now) (bytes_in buffers.now)) fault.now schedule told.schedule)) }
     ensures wanted { IfOk result (λ found. IfSome found (λ told. IsAsWanted as_given schedule told.schedule)) }
     ensures given { IfOk result (λ found. IfSome found (λ told. string_bytes told.whole.schedule.given ≡ schedule_words schedule)) }
-    ensures whole { IfOk result (λ found. IfSome found (λ told. IsExplained place.now.options (launch_of (setup_of context.now.launch.now) (bytes_in buffers.now)) context.now
+    ensures whole { IfOk result (λ found. IfSome found (λ told. IsExplained place.now.options (launch_of (setup_of context.now.launch.now) (bytes_in buffers.now)) (bytes_in buffers.now) context.now
         place.now.ticket place.now.place place.now.range.now fault.now told.schedule told.whole)) }
 {
     let given = given_schedule(context.alloc, &schedule)?;
@@ -169,7 +169,7 @@ fn explain_launch(
     ensures told { IfOk result (λ found. IfSome found (λ told. IsShort (launch_of (setup_of context.now.launch.now) (bytes_in buffers.now)) fault.now schedule told.schedule)) }
     ensures wanted { IfOk result (λ found. IfSome found (λ told. IsAsWanted as_given schedule told.schedule)) }
     ensures given { IfOk result (λ found. IfSome found (λ told. string_bytes told.whole.schedule.given ≡ schedule_words schedule)) }
-    ensures whole { IfOk result (λ found. IfSome found (λ told. IsExplained place.now.options (launch_of (setup_of context.now.launch.now) (bytes_in buffers.now)) context.now
+    ensures whole { IfOk result (λ found. IfSome found (λ told. IsExplained place.now.options (launch_of (setup_of context.now.launch.now) (bytes_in buffers.now)) (bytes_in buffers.now) context.now
         place.now.ticket place.now.place place.now.range.now fault.now told.schedule told.whole)) }
 {
     let (alloc, launch) = (context.alloc, context.launch);
@@ -217,13 +217,19 @@ pub fn place_of(places: &[CommandPlace], number: usize) -> CommandPlace
     places[number]
 }
 
-/// What a command of a script launches, if it is a launch.
-fn launch_in(commands: &[Command], ticket: usize) -> Option<(&Name, &Range)>
-    ensures launch { IfSome result (λ found. slice_get commands.now ticket ≡ Some (Command.Launch found.0.now found.1.now)) }
+/// What a command of a script launches, if it is a launch: the kernel, the range, and whether it has `orders`.
+fn launch_in(commands: &[Command], ticket: usize) -> Option<(&Name, &Range, bool)>
+    ensures launch { IfSome result (λ found. slice_get commands.now ticket ≡ Some (Command.Launch found.0.now found.1.now found.2)) }
     ensures none { IfNone result (NoLaunch commands.now ticket) }
 {
     match commands.get(ticket) {
-        Some(Command::Launch { kernel, range }) => Some((kernel, range)),
+        Some(
+            Command::Launch {
+                kernel,
+                range,
+                orders,
+            },
+        ) => Some((kernel, range, *orders)),
         _ => None,
     }
 }
@@ -249,10 +255,10 @@ pub fn explain_case(
 ) -> Result<Option<ExplainedCase>, RunFault>
     requires { AreAt launched.now.script.now launched.now.commands.now launched.now.places.now }
     ensures told { IfOk result (λ found. Tells (machine_of device.now) launched.now.commands.now ticket fault.now schedule (is_some found)) }
-    ensures whole { IfOk result (λ found. IfSome found (λ told. HasWhole (machine_of device.now) launched.now.options launched.now.script.now launched.now.commands.now ticket fault.now schedule told.schedule told.whole)) }
+    ensures whole { IfOk result (λ found. IfSome found (λ told. HasWhole (machine_of device.now) launched.now.options launched.now.script.now launched.now.commands.now launched.now.done.now ticket fault.now schedule told.schedule told.whole)) }
     ensures failed { IfErr result (Untold (machine_of device.now) launched.now.commands.now ticket) }
 {
-    let Some((kernel, range)) = launch_in(launched.commands, ticket) else {
+    let Some((kernel, range, _)) = launch_in(launched.commands, ticket) else {
         return Err(RunFault::NotALaunch(ticket as u64));
     };
     let at = place_of(launched.places, ticket);
