@@ -37,11 +37,23 @@ count_more (y ∷ ys) x =
     let old : count_by (λ mark. is_access mark.event) (y ∷ ys) ≡ cond (is_access y.event) 1 0 + count_by (λ mark. is_access mark.event) ys = sum_by-cons f y ys in
     let more = count_more ys x in whole ∙ omega (arith, old, more)
 
+pub take_next : {A : Type 0} (xs : List A) (n : ℕ) (x : A) → n < length xs → x ≡ get_or xs n x → take (n + 1) xs ≡ take n xs ++ x ∷ []
+take_next xs n x within here = take_more xs n x within ∙ ap (λ y. take n xs ++ y ∷ []) (sym here)
+
 -- the accesses up to the next event
 pub count_next : (marks : List Mark) (n : ℕ) (mark : Mark) → n < length marks → mark ≡ get_or marks n mark
     → count_by (λ mark. is_access mark.event) (take (n + 1) marks) ≡ count_by (λ mark. is_access mark.event) (take n marks) + cond (is_access mark.event) 1 0
 count_next marks n mark within here =
-    ap (λ (l : List Mark). count_by (λ mark. is_access mark.event) l) (take_more marks n mark within ∙ ap (λ (x : Mark). take n marks ++ x ∷ []) (sym here)) ∙ count_more (take n marks) mark
+    ap (λ (l : List Mark). count_by (λ mark. is_access mark.event) l) (take_next marks n mark within here) ∙ count_more (take n marks) mark
+
+-- the first events with the next one
+pub events_next : (marks : List Mark) (touches : List Touch) (n before : ℕ) (mark : Mark) → n < length marks → mark ≡ get_or marks n mark
+    → before ≡ count_by (λ mark. is_access mark.event) (take n marks)
+    → events_made 0 (take (n + 1) marks) touches ≡ events_made 0 (take n marks) touches ++ (mark, access_of mark.event (slice_get touches before)) ∷ []
+events_next marks touches n before mark within here counted =
+    let same : 0 + count_by (λ mark. is_access mark.event) (take n marks) ≡ before = omega (arith, counted) in
+    ap (λ (l : List Mark). events_made 0 l touches) (take_next marks n mark within here) ∙ events_more 0 (take n marks) mark touches
+    ∙ ap (λ (k : ℕ). events_made 0 (take n marks) touches ++ (mark, access_of mark.event (slice_get touches k)) ∷ []) same
 
 drop_next : {A : Type 0} (xs : List A) (n : ℕ) (x : A) → n < length xs → x ≡ get_or xs n x → drop n xs ≡ x ∷ drop (n + 1) xs
 drop_next xs n x within here = rw (add-one, drop-cons xs n x within) (ap (λ y. y ∷ drop (suc n) xs) (sym here))

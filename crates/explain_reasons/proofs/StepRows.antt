@@ -1,14 +1,17 @@
 -- Steps, one behind another.
-use Rattle.std.proofs.Common.{◌≡◌, ◌+◌, ◌-◌, ◌<◌, ◌≤◌, ℕ, Bool, true, false, nat_lt, Option, None, Some, List, [], ◌∷◌, ◌++◌, length, map, is_some, replicate, refl, sym, ap, ◌∙◌, subst, append_assoc, arith}
+use Rattle.std.proofs.Common.{◌≡◌, ◌+◌, ◌-◌, ◌<◌, ◌≤◌, ◌&&◌, ℕ, Bool, true, false, cond, count_by, nat_lt, Option, None, Some, List, [], ◌∷◌, ◌++◌, length, map, is_some, replicate, take, refl, sym, ap, ◌∙◌, subst, append_assoc, arith}
 use Rattle.std.specs.List.{AllZip, flat_map}
 use Rattle.std.proofs.lemmas.Bool.{false≢true, le-ltb, lt-ltb}
 use Rattle.std.proofs.lemmas.Grind.{flat_map-append}
-use Rattle.std.proofs.lemmas.List.{append-nil, length-append, length-replicate, replicate_more}
+use Rattle.std.proofs.lemmas.List.{append-nil, length-append, length-replicate, map-append, replicate_more}
+use Rattle.std.proofs.lemmas.List.Sums.{sum_by-cons}
 use Rattle.std.proofs.lemmas.List.Concat.{flat_map-cons}
 use Rattle.explanation.specs.declared.steps.ToldEvent.{ToldEvent}
 use Rattle.explanation.specs.declared.steps.ToldEvent.TheVariants as told
+use Rattle.fault_play.specs.declared.marks.Mark.{Mark}
+use Rattle.fault_play.specs.declared.played.Touch.{Touch}
 use Rattle.explain_reasons.specs.StepLists.{EndsRow, IsAlone, IsRow, ends_omitted, shown_of}
-use Rattle.explain_reasons.specs.Steps.{AreInRow, IsNext, entries, is_omitted, number_of}
+use Rattle.explain_reasons.specs.Steps.{AreInRow, IsEntry, IsNext, entries, is_omitted, number_of}
 use Rattle.explain_reasons.specs.declared.step_list.StepList.{StepList}
 
 pub zip_append : {A B : Type 0} (R : A → B → Type 0) (xs xs' : List A) (ys ys' : List B) → AllZip R xs ys → AllZip R xs' ys' → AllZip R (xs ++ xs') (ys ++ ys')
@@ -105,3 +108,32 @@ told_row old behind steps step events long same alone row =
           });
       ends = ends_more false steps step ∙ alone.one;
     }
+
+-- ---- what is told
+
+-- one event more is told by its step, or isn't
+pub told_more :
+    (events : List (Mark × Option Touch)) (mark : Mark) (touch : Option Touch) (old new : List (Option ToldEvent)) (step : Option ToldEvent) → AllZip IsEntry events old → IsEntry (mark, touch) step
+    → new ≡ old ++ step ∷ [] → AllZip IsEntry (events ++ (mark, touch) ∷ []) new
+told_more events mark touch old new step told entry e =
+    subst (λ (l : List (Option ToldEvent)). AllZip IsEntry (events ++ (mark, touch) ∷ []) l) (sym e) (zip_append IsEntry events ((mark, touch) ∷ []) old (step ∷ []) told (entry, tt))
+
+both_known : (is_told known : Bool) → (is_told ≡ true → known ≡ true) → (is_told && known) ≡ is_told
+both_known true known h = h refl
+both_known false known h = refl
+
+-- the flags with one more
+pub flags_more :
+    (flags : List Bool) (old new : List (Option ToldEvent)) (step : Option ToldEvent) (n : ℕ) (is_told known : Bool) → map is_some old ≡ take n flags → new ≡ old ++ step ∷ []
+    → is_some step ≡ (is_told && known) → (is_told ≡ true → known ≡ true) → take (n + 1) flags ≡ take n flags ++ is_told ∷ [] → map is_some new ≡ take (n + 1) flags
+flags_more flags old new step n is_told known same e some knows more =
+    ap (map is_some) e ∙ map-append is_some old (step ∷ []) ∙ ap (λ (l : List Bool). l ++ is_some step ∷ []) same ∙ ap (λ (b : Bool). take n flags ++ b ∷ []) (some ∙ both_known is_told known knows) ∙ sym more
+
+-- as many are told as flags are set
+pub flags_counted : (shown : List (Option ToldEvent)) → count_by (λ b. b) (map is_some shown) ≡ count_by is_some shown
+flags_counted [] = refl
+flags_counted (x ∷ xs) =
+    let left : count_by (λ b. b) (is_some x ∷ map is_some xs) ≡ cond (is_some x) 1 0 + count_by (λ b. b) (map is_some xs) = sum_by-cons (λ b. cond b 1 0) (is_some x) (map is_some xs) in
+    let right : count_by is_some (x ∷ xs) ≡ cond (is_some x) 1 0 + count_by is_some xs = sum_by-cons (λ o. cond (is_some o) 1 0) x xs in
+    let rest : count_by (λ b. b) (map is_some xs) ≡ count_by is_some xs = flags_counted xs in
+    omega (arith, left, right, rest)

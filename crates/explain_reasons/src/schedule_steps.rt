@@ -150,7 +150,7 @@ fn told_steps(
 }
 
 /// Two items and their groups.
-fn followed(context: &Context<'_>, items: (u32, u32)) -> Followed
+fn followed_in(context: &Context<'_>, items: (u32, u32)) -> Followed
     ensures { result ≡ followed_of (group_items (setup_of context.now.launch.now).range) items.0 items.1 }
 {
     let size = context.launch.group_size();
@@ -172,7 +172,8 @@ pub fn steps_of(
 ) -> Result<Vec<ToldEvent>, AllocError>
     ensures { IfOk result (λ steps. AreSteps (group_items (setup_of context.now.launch.now).range) played.now items.0 items.1 most steps.items) }
 {
-    let told = told_events(context.alloc, played, followed(context, items), most)?;
+    let followed = followed_in(context, items);
+    let told = told_events(context.alloc, played, followed, most)?;
     told_steps(context, played, told.as_slice())
 }
 
