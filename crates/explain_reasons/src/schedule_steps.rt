@@ -174,7 +174,8 @@ pub fn steps_of(
 {
     let followed = followed_in(context, items);
     let told = told_events(context.alloc, played, followed, most)?;
-    told_steps(context, played, told.as_slice())
+    let steps = told_steps(context, played, told.as_slice())?;
+    Ok(steps)
 }
 
 /// The items that make events, each as often as it makes one.
