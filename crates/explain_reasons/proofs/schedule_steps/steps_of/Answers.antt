@@ -37,6 +37,6 @@ returns c =
       told = c.in_ok-steps.ensures.told;
       few = omega (arith, counted, flags, few);
       chosen =
-          subst (λ (l : List Bool). AreChosen _ most events l) (sym same)
-          (subst (λ (f : Followed). AreChosen f most events told) c.followed_in-followed.ensures c.in_ok-told.ensures.chosen);
+          subst (λ (f : Followed). AreChosen f most events (map is_some shown)) c.followed_in-followed.ensures
+          (subst (λ (l : List Bool). AreChosen c.followed_in-followed.result most events l) (sym same) c.in_ok-told.ensures.chosen);
     }
