@@ -1,8 +1,8 @@
 //! Why a fault that was played comes about, as data, and the events of its schedule one after another. A reason is told
 //! only where it holds, and none behind another one that holds; the steps are the events in their order, each told with
-//! its access and its numbers, or counted, and which ones are told is defined. Where a step or a barrier stands in the source, how many elements a private array
-//! has, and which loops made turns, are only tested. It knows a launch with its source, and neither words a reason nor
-//! performs a command.
+//! its access and its numbers, or counted, and which ones are told is defined. Where a step or a barrier stands in the
+//! source, how many elements a private array has, and which loops made turns, are only tested. It knows a launch with
+//! its source, and neither words a reason nor performs a command.
 #![tactic(auto)]
 
 mod arrays;
