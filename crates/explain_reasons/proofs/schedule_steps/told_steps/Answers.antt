@@ -1,4 +1,4 @@
-use Rattle.std.proofs.Common.{◌≡◌, ◌+◌, ◌<◌, ◌≤◌, ◌++◌, ◌∷◌, [], Option, List, cond, count_by, is_some, length, length-append, map, option_copied, slice_get, take, refl, sym, ap, ◌∙◌, subst, arith}
+use Rattle.std.proofs.Common.{◌≡◌, ◌+◌, ◌<◌, ◌≤◌, ◌&&◌, ◌++◌, ◌∷◌, [], Option, List, cond, count_by, is_some, length, length-append, map, option_copied, slice_get, take, refl, sym, ap, ◌∙◌, subst, arith}
 use Rattle.std.specs.List.{AllZip, flat_map}
 use Rattle.std.proofs.lemmas.List.{take_all}
 use Rattle.explanation.specs.declared.steps.ToldEvent.{ToldEvent}
@@ -11,6 +11,24 @@ use Rattle.explain_reasons.specs.Steps.{IsEntry, entries}
 use Rattle.explain_reasons.proofs.Events.{count_next, events_next, known_next, take_next}
 use Rattle.explain_reasons.proofs.StepRows.{flags_more, told_more}
 use Rattle.explain_reasons.proofs.schedule_steps.told_steps.Goals as goal
+
+pub loop-number-init : goal.loop-number-init
+loop-number-init c =
+    let played = c.args.played.now in
+    let flags = c.args.told.now in
+    let xs = c.as_slice-marks.result.now in
+    let nothing : shown_of c.new-list.result ≡ [] = c.new-list.ensures.nothing in
+    record {
+      counted = refl;
+      few = omega arith;
+      long = ap length nothing;
+      told = subst (λ (l : List (Option ToldEvent)). AllZip IsEntry [] l) (sym nothing) tt;
+      same = ap (map is_some) nothing;
+      row = c.new-list.ensures.row;
+      known =
+          subst (λ (l : List Touch). AreKnown (events_made 0 xs l) flags) (sym c.as_slice-touches.ensures.value)
+          (subst (λ (l : List Mark). AreKnown (events_made 0 l played.touches.items) flags) (sym c.as_slice-marks.ensures.value) c.requires.known);
+    }
 
 pub loop-number-preserved : goal.loop-number-preserved
 loop-number-preserved c =
@@ -49,3 +67,26 @@ loop-number-preserved c =
       row = c.in_ok-push.ensures.row c.loop-number.invariant.row;
       known = knows.1;
     }
+
+pub returns-clause-row : goal.returns-clause-row
+returns-clause-row c = (c.in_ok-push_omitted.ensures.row c.loop-number.invariant.row).in_row
+
+pub returns-clause-told : goal.returns-clause-told
+returns-clause-told c =
+    let played = c.args.played.now in
+    let xs = c.as_slice-marks.result.now in
+    let ts = c.as_slice-touches.result.now in
+    let shown = shown_of c.loop-number.list in
+    let all : take c.loop-number.number xs ≡ played.marks.items =
+    take_all c.loop-number.number xs (omega (arith, c.loop-number-test.false)) ∙ c.as_slice-marks.ensures.value in
+    subst (λ (l : List (Option ToldEvent)). AllZip IsEntry (events_made 0 played.marks.items played.touches.items) l) (sym c.in_ok-push_omitted.ensures.shown)
+    (subst (λ (l : List Touch). AllZip IsEntry (events_made 0 played.marks.items l) shown) c.as_slice-touches.ensures.value
+    (subst (λ (l : List Mark). AllZip IsEntry (events_made 0 l ts) shown) all c.loop-number.invariant.told))
+
+pub returns-clause-same : goal.returns-clause-same
+returns-clause-same c =
+    let flags = c.args.told.now in
+    let xs = c.as_slice-marks.result.now in
+    let many : length flags ≡ length xs = c.requires.long ∙ ap length (sym c.as_slice-marks.ensures.value) in
+    ap (map is_some) c.in_ok-push_omitted.ensures.shown ∙ c.loop-number.invariant.same
+    ∙ take_all c.loop-number.number flags (omega (arith, many, c.loop-number-test.false))
