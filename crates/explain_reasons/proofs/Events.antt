@@ -58,10 +58,6 @@ events_next marks touches n before mark within here counted =
 drop_next : {A : Type 0} (xs : List A) (n : ℕ) (x : A) → n < length xs → x ≡ get_or xs n x → drop n xs ≡ x ∷ drop (n + 1) xs
 drop_next xs n x within here = rw (add-one, drop-cons xs n x within) (ap (λ y. y ∷ drop (suc n) xs) (sym here))
 
-pub drop_whole : {A : Type 0} (xs : List A) → drop (length xs) xs ≡ []
-drop_whole [] = refl
-drop_whole (x ∷ xs) = drop_whole xs
-
 -- the events from a number on are the one of this number and those behind it
 pub events_from : (marks : List Mark) (touches : List Touch) (n before after : ℕ) (mark : Mark) → n < length marks → mark ≡ get_or marks n mark → before + cond (is_access mark.event) 1 0 ≡ after
     → events_made before (drop n marks) touches ≡ (mark, access_of mark.event (slice_get touches before)) ∷ events_made after (drop (n + 1) marks) touches

@@ -1,11 +1,11 @@
 use Rattle.std.proofs.Common.{◌≡◌, ◌+◌, ◌-◌, ◌<◌, ◌∷◌, ℕ, Option, List, cond, count_by, drop, length, option_copied, slice_get, take, refl, sym, ap, ◌∙◌, subst, arith}
-use Rattle.std.proofs.lemmas.List.{take_all}
+use Rattle.std.proofs.lemmas.List.{drop_all, take_all}
 use Rattle.fault_play.specs.PlayedOut.{is_access}
 use Rattle.fault_play.specs.declared.marks.Mark.{Mark}
 use Rattle.fault_play.specs.declared.played.Touch.{Touch}
 use Rattle.explain_reasons.specs.Chosen.{access_of, events_made}
 use Rattle.explain_reasons.specs.Choosing.{IsChoice}
-use Rattle.explain_reasons.proofs.Events.{count_next, drop_whole, events_from}
+use Rattle.explain_reasons.proofs.Events.{count_next, events_from}
 use Rattle.explain_reasons.proofs.chosen.told_events.Goals as goal
 
 pub loop-left-init : goal.loop-left-init
@@ -16,7 +16,7 @@ loop-left-init c =
       within = omega arith;
       counted = c.accesses_in-accesses.ensures ∙ ap (λ (l : List Mark). count_by (λ mark. is_access mark.event) l) (sym whole);
       choice =
-          subst (λ (l : List Mark). IsChoice c.args.followed c.args.most (events_made c.accesses_in-accesses.result l c.as_slice-touches.result.now) c.new-choice.result) (sym (drop_whole xs))
+          subst (λ (l : List Mark). IsChoice c.args.followed c.args.most (events_made c.accesses_in-accesses.result l c.as_slice-touches.result.now) c.new-choice.result) (sym (drop_all (length xs) xs (omega arith)))
           (c.new-choice.ensures c.args.followed c.args.most);
     }
 
