@@ -43,9 +43,11 @@ void check_settings(void) {
     const char *limits = setting("CLSIM_LIMITS");
     if (limits && strcmp(limits, "profile") && strcmp(limits, "large"))
         tell("CLSIM_LIMITS is profile or large, and not %s", limits);
-    size_t group = limits_of_device()->group;
+    size_t group = limits_of_device()->group, ticks = limits_of_device()->ticks;
     if (setting("CLSIM_LOCAL") && number_setting("CLSIM_LOCAL", 1, (long)group, 0) == 0)
         tell("CLSIM_LOCAL is a number from 1 to %zu, and not %s", group, setting("CLSIM_LOCAL"));
+    if (setting("CLSIM_BUDGET") && number_setting("CLSIM_BUDGET", 1, (long)ticks, 0) == 0)
+        tell("CLSIM_BUDGET is a number from 1 to %zu, and not %s", ticks, setting("CLSIM_BUDGET"));
 }
 
 // With CLSIM_STATUS=N the process ends with status N where a launch faulted, whatever it answers itself.
