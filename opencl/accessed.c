@@ -9,24 +9,30 @@
 
 // ---- numbers ----
 
+// The number of a width that is nearest to what a text says.
+static double read_floating(const char *text, unsigned width) {
+    if (width == 2) return floating_of(half_of(strtod(text, NULL)), width);
+    return width == 4 ? (double)strtof(text, NULL) : strtod(text, NULL);
+}
+
 // The fewest digits that are read back as the same number.
-static void put_floating(char *room, size_t n, double value, bool is_float) {
+static void put_floating(char *room, size_t n, double value, unsigned width) {
     locale_t before = begin_c_locale();
-    for (int digits = 1; digits <= (is_float ? 9 : 17); digits++) {
+    for (int digits = 1; digits <= 17; digits++) {
         snprintf(room, n, "%.*g", digits, value);
-        if ((is_float ? (double)strtof(room, NULL) : strtod(room, NULL)) == value) break;
+        if (read_floating(room, width) == value) break;
     }
     end_c_locale(before);
     bool is_whole = strspn(room, "-0123456789") == strlen(room);
     size_t length = strlen(room);
-    snprintf(room + length, n - length, "%s%s", is_whole ? ".0" : "", is_float ? "f" : "");
+    snprintf(room + length, n - length, "%s%s", is_whole ? ".0" : "", width == 2 ? "h" : width == 4 ? "f" : "");
 }
 
-// A number of a type as C has it: `-2`, `0.1f`, `0.1`. (A half is its bits.)
+// A number of a type as OpenCL C has it: `-2`, `0.1h`, `0.1f`, `0.1`.
 static void put_value(char *room, size_t n, const type *type, uint64_t bits) {
-    bool is_floating = type->kind == FLOATING_TYPE && type->width >= 4;
+    bool is_floating = type->kind == FLOATING_TYPE;
     double value = is_floating ? floating_of(bits, type->width) : 0;
-    if (is_floating && isfinite(value)) put_floating(room, n, value, type->width == 4);
+    if (is_floating && isfinite(value)) put_floating(room, n, value, type->width);
     else if (is_floating && isinf(value)) snprintf(room, n, value < 0 ? "-INFINITY" : "INFINITY");
     else if (is_floating) snprintf(room, n, "NAN");
     else if (type->kind == INTEGER_TYPE && type->is_signed)
@@ -47,8 +53,7 @@ static void name_element(named_place *to, const char *name, const type *element,
     char part[160];
     uint64_t width = element->size ? element->size : 1, offset = is_element ? byte % width : byte;
     put_part(part, sizeof part, element, offset);
-    if (is_element)
-        snprintf(to->name, sizeof to->name, "%s[%" PRIu64 "]%s", name, byte / width, part);
+    if (is_element) snprintf(to->name, sizeof to->name, "%s[%" PRIu64 "]%s", name, byte / width, part);
     else snprintf(to->name, sizeof to->name, "%s%s", name, part);
     to->number = number_at(element, offset);
 }
