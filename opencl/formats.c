@@ -81,7 +81,7 @@ unsigned words_of(const printed_argument *a) {
 }
 
 static double number_of_half(uint64_t bits) {
-    int exponent = bits >> 10 & 31, part = bits & 1023;
+    int exponent = (int)(bits >> 10 & 31), part = (int)(bits & 1023);
     double size = ldexp(exponent ? part + 1024 : part, (exponent ? exponent : 1) - 25);
     if (exponent == 31) size = part ? NAN : INFINITY;
     return bits & 0x8000 ? -size : size;
