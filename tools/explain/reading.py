@@ -156,6 +156,12 @@ def text_of(line):
         return "".join(chr(byte) if byte < 128 else "?" for byte in line)
 
 
+def step_words(step):
+    """What a step of a work-item does: of a host program with its number, in the client's words; else where."""
+    where = f" {step['memory']} byte {step['byte']}"
+    return step["does"] + (f": {step['text']}" if "text" in step else where)
+
+
 def told_places(whole):
     """The places of the named items and of the calls of helpers round them, or that of a refusal; none of a command."""
     if is_refusal(whole):
