@@ -17,8 +17,8 @@ use simfile::script::CommandPlace;
 use std::alloc::Global;
 use telling::{ExplainedCase, LaunchedScript, TellOptions};
 
-/// A script that was performed up to a command: what is given of it, how it is told, its commands with their places, and
-/// of those before that one whether they were done.
+/// A script that was performed up to a command: what is given of it, how it is told, its commands with their places,
+/// and of those before that one whether they were done.
 #[derive(Clone, Copy)]
 pub(crate) struct PerformedScript<'a> {
     pub given: Given<'a>,

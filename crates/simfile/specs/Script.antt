@@ -1,5 +1,5 @@
--- The text of a script. A script is the texts of its commands, one after another, in versions 2 and 3 behind a line that
--- says so.
+-- The text of a script. A script is the texts of its commands, one after another, in versions 2 and 3 behind a line
+-- that says so.
 use Rattle.std.specs.Prelude.{◌≡◌, ℕ, ◌+◌, ◌<◌, ◌≤◌, ◌^◌, ◌==◌, Bool, true, false, IsTrue, List, [], ◌∷◌, ◌++◌, length, replicate, codes, decimal, ◌⊎◌}
 use Rattle.std.specs.Fmt.{signed_decimal}
 use Rattle.clmodel.specs.declared.setup.Argument.{Argument}
