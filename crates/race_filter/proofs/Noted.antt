@@ -9,7 +9,7 @@ use Rattle.clmodel.specs.declared.access.Access.{Access}
 use Rattle.clmodel.proofs.Steps.{decided}
 use Rattle.ordered_runs.specs.Ordered.{newest_race, race}
 use Rattle.race_filter.specs.Sorts.{IsOf, is_atomic, is_load, lets, passed, sort_of, sort_with}
-use Rattle.race_filter.specs.Words.{IsOnOneWord, same_word, word_of}
+use Rattle.race_filter.specs.Words.{is_on_one_word, same_word, word_of}
 use Rattle.race_filter.specs.declared.sort.Sort.{Sort}
 use Rattle.race_filter.specs.declared.word.Word.{Word}
 use Rattle.race_filter.proofs.Quiet.{IsCalm, apart_calm, calm_newest, sort_calm}
@@ -47,13 +47,13 @@ kept_newest (Some s) x = newest_of s x
 
 -- each access of a log touches one word, and is of the sort that is kept there
 abbrev pub AreKept : {S : Type 0} → HashMap Word Sort S → List Access → Type 0
-AreKept sorts log = (y : Access) → Logged log y → IsOnOneWord y × IsSomeAnd (get same_word sorts (word_of y)) (λ s. IsOf s y)
+AreKept sorts log = (y : Access) → Logged log y → (is_on_one_word y ≡ true) × IsSomeAnd (get same_word sorts (word_of y)) (λ s. IsOf s y)
 
-pub kept_more : {S : Type 0} (sorts new : HashMap Word Sort S) (x : Access) (log : List Access) (found : Option Sort) → IsOnOneWord x → found ≡ get same_word sorts (word_of x)
+pub kept_more : {S : Type 0} (sorts new : HashMap Word Sort S) (x : Access) (log : List Access) (found : Option Sort) → is_on_one_word x ≡ true → found ≡ get same_word sorts (word_of x)
     → get same_word new (word_of x) ≡ Some (passed found x).0 → ((q : Word) → same_word (word_of x) q ≡ false → get same_word new q ≡ get same_word sorts q)
     → AreKept sorts log → AreKept new (x ∷ log)
 kept_more sorts new x log found own is put others kept y (inl e) =
-    subst (λ (z : Access). IsOnOneWord z × IsSomeAnd (get same_word new (word_of z)) (λ s. IsOf s z)) e
+    subst (λ (z : Access). (is_on_one_word z ≡ true) × IsSomeAnd (get same_word new (word_of z)) (λ s. IsOf s z)) e
     (own, subst (λ (o : Option Sort). IsSomeAnd o (λ s. IsOf s x)) (sym put) (kept_newest found x))
 kept_more sorts new x log found own is put others kept y (inr w) =
     let k = kept y w in
@@ -66,7 +66,7 @@ kept_more sorts new x log found own is put others kept y (inr w) =
         (kept_of found x y (subst (λ (o : Option Sort). IsSomeAnd o (λ s. IsOf s y)) (ap (get same_word sorts) (sym same) ∙ sym is) h))
 
 -- one that is let by what was kept of its word races with none
-pub calm_passed : {S : Type 0} (launch : Launch) (sorts : HashMap Word Sort S) (x : Access) (log : List Access) (found : Option Sort) → IsOnOneWord x → found ≡ get same_word sorts (word_of x)
+pub calm_passed : {S : Type 0} (launch : Launch) (sorts : HashMap Word Sort S) (x : Access) (log : List Access) (found : Option Sort) → is_on_one_word x ≡ true → found ≡ get same_word sorts (word_of x)
     → AreKept sorts log → (passed found x).1 ≡ true → newest_race launch (x ∷ log) ≡ None
 calm_passed launch sorts x log found own is kept quiet = calm_newest launch x log calm
   where

@@ -1,19 +1,19 @@
 -- Accesses that share a byte touch one word.
-use Rattle.std.proofs.Common.{◌≡◌, ℕ, ◌+◌, ◌-◌, ◌/◌, ◌<◌, ◌≤◌, Bool, true, false, ◌&&◌, ◌==◌, refl, sym, ap₂, ◌∙◌, arith}
+use Rattle.std.proofs.Common.{◌≡◌, ℕ, ◌+◌, ◌/◌, ◌%◌, ◌<◌, ◌≤◌, nat_le, Bool, true, false, ◌&&◌, ◌==◌, refl, sym, ap₂, ◌∙◌, arith}
 use Rattle.std.specs.Bool.{beq}
-use Rattle.std.proofs.lemmas.Bool.{and_from, and_parts, eq-eqb, eqb-true, false≢true}
+use Rattle.std.proofs.lemmas.Bool.{and_from, and_parts, eq-eqb, eqb-true, false≢true, leb-true}
 use Rattle.clmodel.specs.Cells.{byte_count, covers}
 use Rattle.clmodel.specs.Launch.{same_region, share}
 use Rattle.clmodel.specs.declared.access.Access.{Access}
 use Rattle.clmodel.specs.declared.access.Region.{Region}
 use Rattle.clmodel.specs.declared.access.Region.TheVariants as region
 use Rattle.clmodel.proofs.CellLaws.{covers_parts}
-use Rattle.race_filter.specs.Words.{IsOnOneWord, first_word, same_word, word_in, word_of}
+use Rattle.race_filter.specs.Words.{is_on_one_word, first_word, same_word, word_in, word_of}
 use Rattle.race_filter.specs.declared.word.Word.{Word}
 
 -- each byte of an access is in its one word
-at_word : (first count byte : ℕ) → (first + count - 1) / 8 ≡ first / 8 → first ≤ byte → byte < first + count → byte / 8 ≡ first / 8
-at_word first count byte one a b = omega (arith, one, a, b)
+at_word : (first count byte : ℕ) → nat_le (first % 8 + count) 8 ≡ true → first ≤ byte → byte < first + count → byte / 8 ≡ first / 8
+at_word first count byte one a b = let w = leb-true (first % 8 + count) 8 one in omega (arith, w, a, b)
 
 in_region : (a b : Region) (p q : ℕ) → same_region a b ≡ true → p ≡ q → same_word (word_in a p) (word_in b q) ≡ true
 in_region (region.Buffer a) (region.Buffer b) p q h e = and_from (a == b) (p == q) h (eq-eqb p q e)
@@ -23,7 +23,7 @@ in_region (region.Local g a) (region.Local h b) p q r e =
     let s : ((g == h) ≡ true) × ((a == b) ≡ true) = and_parts (g == h) (a == b) r in
     and_from (g == h) ((a == b) && (p == q)) s.0 (and_from (a == b) (p == q) s.1 (eq-eqb p q e))
 
-pub shares_word : (y x : Access) (byte : ℕ) → IsOnOneWord y → IsOnOneWord x → share y x byte ≡ true → same_word (word_of y) (word_of x) ≡ true
+pub shares_word : (y x : Access) (byte : ℕ) → is_on_one_word y ≡ true → is_on_one_word x ≡ true → share y x byte ≡ true → same_word (word_of y) (word_of x) ≡ true
 shares_word y x byte one own h =
     let r : ((same_region y.region x.region && covers y.first (byte_count y.width) byte) ≡ true) × (covers x.first (byte_count x.width) byte ≡ true) = and_parts _ _ h in
     let s : (same_region y.region x.region ≡ true) × (covers y.first (byte_count y.width) byte ≡ true) = and_parts _ _ r.0 in

@@ -1,5 +1,5 @@
 -- Words of 8 bytes: which one an access touches (own).
-use Rattle.std.specs.Prelude.{◌≡◌, ℕ, ◌+◌, ◌-◌, ◌/◌, ◌==◌, ◌&&◌, Bool, true, false}
+use Rattle.std.specs.Prelude.{ℕ, ◌+◌, ◌/◌, ◌%◌, ◌==◌, ◌&&◌, nat_le, Bool, true, false}
 use Rattle.std.specs.Bool.{beq}
 use Rattle.clmodel.specs.Cells.{byte_count}
 use Rattle.clmodel.specs.declared.access.Access.{Access}
@@ -7,16 +7,13 @@ use Rattle.clmodel.specs.declared.access.Region.{Region}
 use Rattle.clmodel.specs.declared.access.Region.TheVariants as region
 use Rattle.race_filter.specs.declared.word.Word.{Word}
 
--- the number of the word of an access's first byte, and of its last byte (own)
+-- the number of the word of an access's first byte (own)
 abbrev pub first_word : Access → ℕ
 first_word x = x.first / 8
 
-abbrev pub last_word : Access → ℕ
-last_word x = (x.first + byte_count x.width - 1) / 8
-
--- an access touches one word (own)
-abbrev pub IsOnOneWord : Access → Type 0
-IsOnOneWord x = last_word x ≡ first_word x
+-- an access touches one word: it ends in the word in which it begins (own)
+abbrev pub is_on_one_word : Access → Bool
+is_on_one_word x = nat_le (x.first % 8 + byte_count x.width) 8
 
 -- a word of an object (own)
 abbrev pub word_in : Region → ℕ → Word

@@ -1,12 +1,11 @@
 //! The filter.
 
-ghost use Rattle.std.specs.Prelude.{◌≡◌, ◌∷◌, ◌+◌, ◌<◌, ◌^◌, [], List, None, true, IfOk};
-ghost use Rattle.clmodel.specs.Cells.{byte_count};
+ghost use Rattle.std.specs.Prelude.{◌≡◌, ◌∷◌, [], List, None, true, IfOk};
 ghost use Rattle.clmodel.specs.Launch.{Launch};
 ghost use Rattle.clmodel.specs.declared.access.Access.{Access as TheAccess};
 ghost use Rattle.ordered_runs.specs.Ordered.{newest_race};
 ghost use Rattle.race_filter.specs.Filters.{Keeps};
-ghost use Rattle.race_filter.specs.Words.{IsOnOneWord};
+ghost use Rattle.race_filter.specs.Words.{is_on_one_word};
 
 use crate::sort::{Sort, passed};
 use crate::word::{Word, is_on_one_word, word_of};
@@ -37,7 +36,7 @@ impl RaceFilter {
     /// An error is out of memory.
     fn note(&mut self, x: &Access) -> Result<bool, AllocError>
         requires whole { self.old.is_whole ≡ true }
-        requires own { IsOnOneWord x.now }
+        requires own { is_on_one_word x.now ≡ true }
         ensures { IfOk result (λ quiet. (launch : Launch) (log : List TheAccess) → Keeps self.old log → Keeps self.new (x.now ∷ log) × (quiet ≡ true → newest_race launch (x.now ∷ log) ≡ None)) }
     {
         let word = word_of(x);
@@ -48,7 +47,6 @@ impl RaceFilter {
 
     /// Notes one more access. True is said only where it races with none of those before. An error is out of memory.
     pub fn pass(&mut self, x: &Access) -> Result<bool, AllocError>
-        requires { x.now.first + byte_count x.now.width < 2 ^ 64 }
         ensures { IfOk result (λ quiet. (launch : Launch) (log : List TheAccess) → Keeps self.old log → Keeps self.new (x.now ∷ log) × (quiet ≡ true → newest_race launch (x.now ∷ log) ≡ None)) }
     {
         if !self.is_whole || !is_on_one_word(x) {

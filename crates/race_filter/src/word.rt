@@ -1,8 +1,7 @@
 //! Words of 8 bytes.
 
-ghost use Rattle.std.specs.Prelude.{◌≡◌, ◌==◌, ◌+◌, ◌^◌, ◌<◌};
-ghost use Rattle.clmodel.specs.Cells.{byte_count};
-ghost use Rattle.race_filter.specs.Words.{first_word, last_word, word_in, word_of};
+ghost use Rattle.std.specs.Prelude.{◌≡◌};
+ghost use Rattle.race_filter.specs.Words.{first_word, is_on_one_word, word_in, word_of};
 
 use clmodel::access::{Access, Region};
 
@@ -48,14 +47,6 @@ fn first_word(x: &Access) -> u64
     x.first / WORD
 }
 
-/// The number of the word of an access's last byte.
-fn last_word(x: &Access) -> u64
-    requires { x.now.first + byte_count x.now.width < 2 ^ 64 }
-    ensures { result ≡ last_word x.now }
-{
-    (x.first + x.width.bytes() - 1) / WORD
-}
-
 /// The word that an access begins in.
 pub(crate) fn word_of(x: &Access) -> Word
     ensures { result ≡ word_of x.now }
@@ -65,8 +56,7 @@ pub(crate) fn word_of(x: &Access) -> Word
 
 /// Whether an access touches one word. Each does that begins at a multiple of its width, as all of a kernel do.
 pub(crate) fn is_on_one_word(x: &Access) -> bool
-    requires { x.now.first + byte_count x.now.width < 2 ^ 64 }
-    ensures { result ≡ (last_word x.now == first_word x.now) }
+    ensures { result ≡ is_on_one_word x.now }
 {
-    last_word(x) == first_word(x)
+    x.first % WORD + x.width.bytes() <= WORD
 }
