@@ -7,7 +7,7 @@ use Rattle.item_step.specs.Running.{Running}
 use Rattle.ordered_runs.specs.Ordered.{newest_race}
 use Rattle.race_filter.specs.Filters.{Keeps}
 use Rattle.replay.specs.States.{IsAt}
-use Rattle.ordered_play.specs.declared.watched.Watched.{Watched}
+use Rattle.ordered_play.specs.declared.watching.Watched.{Watched}
 
 -- a player of a launch is at a state of it, and the filter has noted the accesses of that state
 pub record IsWatched {D : Type 0} (launch_of : D → Launch) (started_of : D → ℕ → Running) (launch : Launch) (started : ℕ → Running) (watched : Watched D) (state : State) : Type 0 where

@@ -9,7 +9,7 @@ ghost use Rattle.ordered_play.specs.Watched.{IsWatched};
 ghost use Rattle.ordered_play.specs.Groups.{Gathers, GathersOrReports, Reached, ReachedOrReports, is_barrier};
 
 use crate::stepping::{Stepped, step_item};
-use crate::watched::Watched;
+use crate::watching::Watched;
 use clmodel::action::{Action, Stop};
 use clmodel::fault::Fault;
 use clmodel::schedule::Event;

@@ -16,9 +16,9 @@ mod groups;
 mod ordered;
 mod races;
 mod stepping;
-mod watched;
+mod watching;
 
 pub use ordered::{OrderedEnd, run_ordered};
 pub use races::newest_race;
 pub use stepping::{Stepped, step_item};
-pub use watched::Watched;
+pub use watching::Watched;

@@ -8,7 +8,7 @@ ghost use Rattle.spaces.specs.Buffers.{bytes_in};
 ghost use Rattle.ordered_play.specs.Outcomes.{IsOrderedEnd};
 
 use crate::groups::run_groups;
-use crate::watched::Watched;
+use crate::watching::Watched;
 use clmodel::fault::Fault;
 use clmodel::schedule::Schedule;
 use group_run::Runs;

@@ -11,7 +11,7 @@ ghost use Rattle.ordered_play.specs.Stepping.{IsJudged, IsStepped};
 ghost use Rattle.ordered_play.specs.Watched.{IsWatched};
 
 use crate::races::newest_race;
-use crate::watched::Watched;
+use crate::watching::Watched;
 use clmodel::access::{Object, Operation};
 use clmodel::action::{Action, Stop};
 use clmodel::fault::Fault;

@@ -7,7 +7,7 @@ use Rattle.ordered_play.specs.Watched.{IsWatched}
 use Rattle.replay.proofs.Playing.{is_none}
 use Rattle.ordered_play.specs.Stepping.{CannotGo}
 use Rattle.ordered_play.proofs.Accesses.{out_of_range, reads_unset, never_refused, was_made, lies, made_judged}
-use Rattle.ordered_play.proofs.Watching.{made_of, unmade_of}
+use Rattle.ordered_play.proofs.Noted.{made_of, unmade_of}
 use Rattle.ordered_play.proofs.stepping.access_item.Goals as goal
 
 pub unset_of-requires : goal.unset_of-requires

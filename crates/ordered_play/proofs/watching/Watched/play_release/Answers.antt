@@ -1,6 +1,6 @@
 use Rattle.std.proofs.lemmas.Result.{IfOk-weaker}
-use Rattle.ordered_play.proofs.Watching.{released_too}
-use Rattle.ordered_play.proofs.watched.Watched.play_release.Goals as goal
+use Rattle.ordered_play.proofs.Noted.{released_too}
+use Rattle.ordered_play.proofs.watching.Watched.play_release.Goals as goal
 
 pub play_release-requires : goal.play_release-requires
 play_release-requires g c = (c.requires.0, c.requires.1, c.requires.2, c.requires.3.at)

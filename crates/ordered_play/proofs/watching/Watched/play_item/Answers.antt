@@ -1,5 +1,5 @@
-use Rattle.ordered_play.proofs.Watching.{made_noted, made_untold, not_made}
-use Rattle.ordered_play.proofs.watched.Watched.play_item.Goals as goal
+use Rattle.ordered_play.proofs.Noted.{made_noted, made_untold, not_made}
+use Rattle.ordered_play.proofs.watching.Watched.play_item.Goals as goal
 
 pub play_item-requires : goal.play_item-requires
 play_item-requires g c = (c.requires.0, c.requires.1, c.requires.2, c.requires.3.at)

@@ -15,7 +15,7 @@ use Rattle.race_filter.specs.declared.filter.RaceFilter.{RaceFilter}
 use Rattle.replay.specs.States.{IsAt, IsPlayed}
 use Rattle.replay.specs.declared.player.Player.{Player}
 use Rattle.ordered_play.specs.Watched.{IsMade, IsWatched}
-use Rattle.ordered_play.specs.declared.watched.Watched.{Watched}
+use Rattle.ordered_play.specs.declared.watching.Watched.{Watched}
 use Rattle.ordered_play.proofs.Accesses.{played, unplayed}
 
 -- ---- what came of an access
