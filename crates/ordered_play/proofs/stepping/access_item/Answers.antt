@@ -5,6 +5,7 @@ use Rattle.clmodel.specs.Run.{byte_at}
 use Rattle.clmodel.specs.declared.fault.Fault.TheVariants as fault
 use Rattle.ordered_play.specs.Watched.{IsWatched}
 use Rattle.replay.proofs.Playing.{is_none}
+use Rattle.ordered_runs.specs.Ordered.{newest_race}
 use Rattle.ordered_play.specs.Stepping.{CannotGo}
 use Rattle.ordered_play.proofs.Accesses.{out_of_range, reads_unset, never_refused, was_made, lies, made_judged}
 use Rattle.ordered_play.proofs.Noted.{made_of, unmade_of}
@@ -104,4 +105,9 @@ returns g c =
     c.judge.ensures
 
 pub judge-requires-clause-calm : goal.judge-requires-clause-calm
-judge-requires-clause-calm g c = ?
+judge-requires-clause-calm g c = λ s at quiet.
+    let l = g.D.Described.launch c.args.launch.now in
+    let r = g.D.Runnable.started c.args.launch.now in
+    let new = IsWatched {D = g.row.D.Denot} g.D.Described.launch g.D.Runnable.started l r c.play_item.new.self in
+    let p = made_of l c.requires.0 c.args.item new c.in_ok-quiet.field-0 c.in-Some-play_item.quiet c.in-Some-play_item.is (c.in_ok-quiet.ensures l r c.requires.0 c.requires.1) in
+    ap (newest_race l) (at.at.tells.logged ∙ sym p.2.at.tells.logged) ∙ p.3 quiet
