@@ -9,7 +9,7 @@ use Rattle.clmodel.specs.Outcome.{events_of}
 use Rattle.clmodel.specs.Tree.{Program}
 use Rattle.clmodel.specs.declared.fault.Fault.{Fault}
 use Rattle.clmodel.specs.declared.schedule.EventRun.{EventRun}
-use Rattle.device.specs.Machine.{Machine, Built, Does, Step, bytes_of, first, kernel_of, row, setup_of}
+use Rattle.device.specs.Machine.{Machine, Built, Does, Step, bytes_of, first, kernel_of, launch_row, row, setup_of}
 use Rattle.host_commands.specs.declared.command.BuildFault.{BuildFault}
 use Rattle.host_commands.specs.declared.command.Command.{Command}
 use Rattle.host_commands.specs.declared.command.Command.TheVariants as command
@@ -23,8 +23,8 @@ use Rattle.simfile.specs.declared.faults.RunFault.TheVariants as fault
 
 -- a command is a launch that its row doesn't refuse, and that a schedule leads to a fault
 abbrev pub Faults : Machine → Fault → List EventRun → Command → Type 0
-Faults m f runs (command.Launch kernel range) =
-    (first (row m (command.Launch kernel range)) ≡ None) × Reaches (launch_of (setup_of m (kernel_of m kernel) range) (bytes_of m)) (events_of runs) f
+Faults m f runs (command.Launch kernel range orders) =
+    (first (launch_row m kernel range) ≡ None) × Reaches (launch_of (setup_of m (kernel_of m kernel) range) (bytes_of m)) (events_of runs) f
 Faults m f runs _ = ⊥
 
 is_fault : Reply → Bool
@@ -51,7 +51,8 @@ does old new (command.Release name) f runs e h = absurd (no_fault f runs reply.D
 does old new (command.Program name source) f runs e h = absurd (built old new name h.0 f runs h.2)
 does old new (command.Kernel name program function) f runs e h = absurd (no_fault f runs reply.Done refl h.0)
 does old new (command.Arg kernel index argument) f runs e h = absurd (no_fault f runs reply.Done refl h.0)
-does old new (command.Launch kernel range) f runs e (reaches, reported, merged, same) = subst (λ m. Faults m f runs (command.Launch kernel range)) (sym same) (e, reaches)
+does old new (command.Launch kernel range true) f runs e (reaches, reported, merged, same) = subst (λ m. Faults m f runs (command.Launch kernel range true)) (sym same) (e, reaches)
+does old new (command.Launch kernel range false) f runs e (reaches, reported, merged, same) = subst (λ m. Faults m f runs (command.Launch kernel range false)) (sym same) (e, reaches)
 
 -- a command whose reply is a fault
 pub faults : (old new : Machine) (c : Command) (f : Fault) (runs : List EventRun) → Step old c (reply.Fault f runs) new → Faults new f runs c
@@ -66,7 +67,7 @@ faults old new c f runs (inl h) = go (first (row old c)) refl h
     go (Some r) e d = absurd (no_fault f runs _ refl d.0)
 
 launches : (m : Machine) (commands : List Command) (ticket : ℕ) (c : Command) (f : Fault) (runs : List EventRun) → slice_get commands ticket ≡ Some c → Faults m f runs c → NoLaunch commands ticket → ⊥
-launches m commands ticket (command.Launch kernel range) f runs at h none = none kernel range at
+launches m commands ticket (command.Launch kernel range orders) f runs at h none = none kernel range orders at
 launches m commands ticket _ f runs at h none = absurd h
 
 -- it is explained
@@ -74,12 +75,12 @@ pub told_yes :
     (m : Machine) (commands : List Command) (ticket : ℕ) (c : Command) (f : Fault) (runs : List EventRun) (answer : Bool) → slice_get commands ticket ≡ Some c → Faults m f runs c
     → Tells m commands ticket f runs answer → answer ≡ true
 told_yes m commands ticket c f runs answer at h t =
-    let there : Faults m f runs (command.Launch t.kernel t.range) = subst (Faults m f runs) (some_inj c (command.Launch t.kernel t.range) (sym at ∙ t.at)) h in
+    let there : Faults m f runs (command.Launch t.kernel t.range t.orders) = subst (Faults m f runs) (some_inj c (command.Launch t.kernel t.range t.orders) (sym at ∙ t.at)) h in
     t.replays.decides.1 there.1
 
 refused : (m : Machine) (commands : List Command) (ticket : ℕ) (c : Command) (f : Fault) (runs : List EventRun) → slice_get commands ticket ≡ Some c → Faults m f runs c → Refuses m commands ticket → ⊥
 refused m commands ticket c f runs at h r =
-    let there : Faults m f runs (command.Launch r.kernel r.range) = subst (Faults m f runs) (some_inj c (command.Launch r.kernel r.range) (sym at ∙ r.at)) h in
+    let there : Faults m f runs (command.Launch r.kernel r.range r.orders) = subst (Faults m f runs) (some_inj c (command.Launch r.kernel r.range r.orders) (sym at ∙ r.at)) h in
     none_some r.refusal (sym there.0 ∙ r.refused)
 
 -- and only want of memory stands in its way

@@ -70,6 +70,7 @@ goes_done : (r : Reply) → goes_on r ≡ true → is_done r ≡ true
 goes_done reply.Done on = refl
 goes_done (reply.Data bytes) on = refl
 goes_done reply.Clean on = refl
+goes_done reply.Ordered on = refl
 goes_done (reply.Fault f runs) on = refl
 goes_done (reply.Refused why) on = absurd (false≢true on)
 

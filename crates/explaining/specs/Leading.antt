@@ -17,6 +17,7 @@ abbrev pub is_done : Reply → Bool
 is_done reply.Done = true
 is_done (reply.Data bytes) = true
 is_done reply.Clean = true
+is_done reply.Ordered = true
 is_done (reply.Fault f runs) = true
 is_done (reply.Refused r) = false
 
@@ -31,6 +32,7 @@ abbrev pub goes_on : Reply → Bool
 goes_on reply.Done = true
 goes_on (reply.Data bytes) = true
 goes_on reply.Clean = true
+goes_on reply.Ordered = true
 goes_on (reply.Fault f runs) = false
 goes_on (reply.Refused r) = false
 

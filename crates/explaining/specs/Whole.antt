@@ -83,6 +83,7 @@ abbrev pub TellsReply : ExplainOptions → List ℕ → List Command → List Bo
 TellsReply options script commands done machine ticket reply.Done text = ⊥
 TellsReply options script commands done machine ticket (reply.Data bytes) text = ⊥
 TellsReply options script commands done machine ticket reply.Clean text = ⊥
+TellsReply options script commands done machine ticket reply.Ordered text = ⊥
 TellsReply options script commands done machine ticket (reply.Fault f runs) text = TellsFaulted options script commands done machine ticket f runs text
 TellsReply options script commands done machine ticket (reply.Refused why) text = TellsAnyRefusal options script commands machine ticket why text
 

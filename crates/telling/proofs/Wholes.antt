@@ -58,14 +58,15 @@ explained e options launch contents context ticket place range f runs facts firs
 
 -- what is told of a prepared launch
 pub whole :
-    (m : Machine) (options : TellOptions) (script : List ℕ) (commands : List Command) (done : List Bool) (ticket : ℕ) (place : CommandPlace) (kernel : List ℕ) (range : Range) (context : Context) (buffers : Table (List ℕ)) (f : Fault) (given runs : List EventRun) (e : Explanation)
-    → slice_get commands ticket ≡ Some (command.Launch kernel range) → IsPrepared m kernel range context.launch.now → buffers ≡ m.buffers → IsSourceOf script commands done kernel context.program → StandsAt script commands ticket place
+    (m : Machine) (options : TellOptions) (script : List ℕ) (commands : List Command) (done : List Bool) (ticket : ℕ) (place : CommandPlace) (kernel : List ℕ) (range : Range) (orders : Bool) (context : Context) (buffers : Table (List ℕ)) (f : Fault) (given runs : List EventRun) (e : Explanation)
+    → slice_get commands ticket ≡ Some (command.Launch kernel range orders) → IsPrepared m kernel range context.launch.now → buffers ≡ m.buffers → IsSourceOf script commands done kernel context.program → StandsAt script commands ticket place
     → IsShort (launch_of (launches.setup_of context.launch.now) (bytes_in buffers)) f given runs → IsAsWanted options.as_given given runs → string_bytes e.schedule.given ≡ schedule_words given
     → IsExplained options (launch_of (launches.setup_of context.launch.now) (bytes_in buffers)) (bytes_in buffers) context ticket place range f runs e → context.kernel.now ≡ kernel
     → HasWhole m options script commands done ticket f given runs e
-whole m options script commands done ticket place kernel range context buffers f given runs e at p same source stands short wanted words explained named = record {
+whole m options script commands done ticket place kernel range orders context buffers f given runs e at p same source stands short wanted words explained named = record {
   kernel = kernel;
   range = range;
+  orders = orders;
   at = at;
   is_short =
       subst (λ (b : Table (List ℕ)). IsShort (launch_of (setup_of m (kernel_of m kernel) range) (bytes_in b)) f given runs) same

@@ -145,7 +145,8 @@ IsAsWanted as_given given runs = MatchBool as_given (runs ≡ given) ⊤
 pub record HasWhole (m : Machine) (options : TellOptions) (script : List ℕ) (commands : List Command) (done : List Bool) (ticket : ℕ) (f : Fault) (given runs : List EventRun) (e : Explanation) : Type 0 where
   pub kernel : List ℕ
   pub range : Range
-  pub at : slice_get commands ticket ≡ Some (command.Launch kernel range)
+  pub orders : Bool
+  pub at : slice_get commands ticket ≡ Some (command.Launch kernel range orders)
   pub is_short : IsShort (launch_of (setup_of m (kernel_of m kernel) range) (bytes_of m)) f given runs
   pub wanted : IsAsWanted options.as_given given runs
   pub context : Context

@@ -1,7 +1,7 @@
 //! A fault of a launch explained, where a schedule leads to it.
 #![tactic(auto)]
 
-ghost use Rattle.std.specs.Prelude.{◌≡◌, ◌<◌, Some, length, IfOk, IfErr, IfSome, IfNone, is_some, slice_get, string_bytes};
+ghost use Rattle.std.specs.Prelude.{◌≡◌, ◌<◌, Bool, Some, length, IfOk, IfErr, IfSome, IfNone, is_some, slice_get, string_bytes};
 ghost use Rattle.clmodel.specs.Law.{Reaches};
 ghost use Rattle.clmodel.specs.Next.{launch_of};
 ghost use Rattle.clmodel.specs.Outcome.{events_of};
@@ -219,11 +219,11 @@ pub fn place_of(places: &[CommandPlace], number: usize) -> CommandPlace
 
 /// What a command of a script launches, if it is a launch.
 fn launch_in(commands: &[Command], ticket: usize) -> Option<(&Name, &Range)>
-    ensures launch { IfSome result (λ found. slice_get commands.now ticket ≡ Some (Command.Launch found.0.now found.1.now)) }
+    ensures launch { IfSome result (λ found. (orders : Bool) × (slice_get commands.now ticket ≡ Some (Command.Launch found.0.now found.1.now orders))) }
     ensures none { IfNone result (NoLaunch commands.now ticket) }
 {
     match commands.get(ticket) {
-        Some(Command::Launch { kernel, range }) => Some((kernel, range)),
+        Some(Command::Launch { kernel, range, .. }) => Some((kernel, range)),
         _ => None,
     }
 }
