@@ -18,8 +18,8 @@ pub record IsEndAdded (options : ExplainOptions) (script : List ℕ) (commands :
   pub tells : TellsEnd options script commands done machine end own
   pub added : after ≡ before ++ (heading options.format ticket place.line ++ own)
 
--- A command is done, or not, behind others, and a text gets what is told of its reply. Whether a reply was met that is a
--- fault or a refusal stays as it was, or is true from here on.
+-- A command is done, or not, behind others, and a text gets what is told of its reply. Whether a reply was met that is
+-- a fault or a refusal stays as it was, or is true from here on.
 pub record TellsCommand (options : ExplainOptions) (script : List ℕ) (commands : List Command) (done : List Bool) (old : Machine) (command : Command) (new : Machine) (all : List Bool) (before after : List ℕ) (met met' : Bool) : Type 0 where
   pub answer : Reply
   pub replied : Step old command answer new

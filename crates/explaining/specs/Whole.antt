@@ -77,8 +77,8 @@ abbrev pub TellsAnyRefusal : ExplainOptions → List ℕ → List Command → Ma
 TellsAnyRefusal options script commands machine ticket why text =
     ((fault : BuildFault) × (why ≡ refusal.BuildFailed fault)) ⊎ TellsRefusal options.configuration.limits machine.buffers options.format script commands ticket why text
 
--- a text of the reply to the command of a number, behind which a machine is this one, and these commands were done: only
--- of a fault or a refusal
+-- a text of the reply to the command of a number, behind which a machine is this one, and these commands were done:
+-- only of a fault or a refusal
 abbrev pub TellsReply : ExplainOptions → List ℕ → List Command → List Bool → Machine → ℕ → Reply → List ℕ → Type 0
 TellsReply options script commands done machine ticket reply.Done text = ⊥
 TellsReply options script commands done machine ticket (reply.Data bytes) text = ⊥

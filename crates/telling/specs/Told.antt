@@ -45,15 +45,15 @@ schedule_words runs = utf8_lossy (schedule_text runs)
 abbrev pub most_steps : Option ℕ → ℕ
 most_steps asked = unwrap_or asked 1000
 
--- the launch of a ticket, whose command stands at this place in the script, over this index space and with this budget
-pub record TellsLaunch (budget ticket : ℕ) (place : CommandPlace) (range : Range) (facts : LaunchFacts) : Type 0 where
+-- the launch of a ticket, whose command stands at this place in the script, over this index space, with so many ticks
+pub record TellsLaunch (ticks ticket : ℕ) (place : CommandPlace) (range : Range) (facts : LaunchFacts) : Type 0 where
   pub command : facts.command ≡ ticket
   pub script_line : facts.script_line ≡ place.line
   pub global_size : facts.global_size.items ≡ range.global
   pub local_size : facts.local_size.items ≡ range.local
   pub offset : facts.offset.items ≡ range.offset
   pub uniform : facts.uniform ≡ range.uniform
-  pub budget : facts.budget ≡ budget
+  pub budget : facts.budget ≡ ticks
 
 -- the names that a launch runs by: those of its kernel, of the kernel's function and of its program
 pub record TellsNames (context : Context) (facts : LaunchFacts) : Type 0 where
@@ -139,9 +139,9 @@ IsSourceOf script commands done kernel source =
 abbrev pub IsAsWanted : Bool → List EventRun → List EventRun → Type 0
 IsAsWanted as_given given runs = MatchBool as_given (runs ≡ given) ⊤
 
--- An explanation of the launch of a ticket, where these commands were done, whose schedule leads the launch to the fault and isn't longer than the
--- given one, or is that very one; its places are those in the source of the kernel's program, and its line that of the
--- launch's command. The launch runs this kernel's code.
+-- An explanation of the launch of a ticket, where these commands were done. Its schedule leads the launch to the fault
+-- and isn't longer than the given one, or is that very one; its places are those in the source of the kernel's program,
+-- and its line that of the launch's command. The launch runs this kernel's code.
 pub record HasWhole (m : Machine) (options : TellOptions) (script : List ℕ) (commands : List Command) (done : List Bool) (ticket : ℕ) (f : Fault) (given runs : List EventRun) (e : Explanation) : Type 0 where
   pub kernel : List ℕ
   pub range : Range
