@@ -80,10 +80,11 @@ static bool name_in_local(cl_kernel k, const memory_place *m, uint64_t byte, nam
 // ---- accesses ----
 
 static json step_of(json explanation, json item) {
-    unsigned long event;
-    json step = json_first(json_member(explanation, "steps"));
-    if (!json_number(json_member(item, "event"), &event) || !event) return (json){NULL, NULL};
-    while (step.at && --event) step = json_next(json_member(explanation, "steps"), step);
+    unsigned long event, number;
+    json steps = json_member(explanation, "steps"), step = json_first(steps);
+    if (!json_number(json_member(item, "event"), &event)) return (json){NULL, NULL};
+    while (step.at && (!json_number(json_member(step, "event"), &number) || number != event))
+        step = json_next(steps, step);
     return step;
 }
 

@@ -415,7 +415,7 @@ static void write_sources(writer *w) {
 
 static void write_whole(writer *w) {
     json memory = json_member(w->fault->explanation, "memory");
-    add(w->to, "{\"version\":2");
+    add(w->to, "{\"version\":3");
     begin_member(w, ",", "script");
     write_string(w, place_of_kernel(w).file);
     begin_member(w, ",", "launch");
@@ -430,7 +430,6 @@ static void write_whole(writer *w) {
     write_reasons(w, json_member(w->fault->explanation, "why"));
     write_schedule(w);
     write_rest(w, "steps", "[]");
-    write_rest(w, "steps_left", "0");
     write_sources(w);
     add(w->to, "}\n");
 }

@@ -565,7 +565,7 @@ static char *explanation_of(cl_kernel k, const launch_sizes *s) {
     char *explanation = whole ? explain_script(script.at, script.length) : NULL;
     free_arena(&a);
     json all = json_text(explanation ? explanation : "", explanation ? strlen(explanation) : 0);
-    if (!explanation || !json_number(json_member(all, "version"), &version) || version == 2) return explanation;
+    if (!explanation || !json_number(json_member(all, "version"), &version) || version == 3) return explanation;
     free(explanation);
     return NULL;
 }
