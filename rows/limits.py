@@ -7,10 +7,10 @@ import os
 # launch and of a group, the side of a square of as many items as a launch has, and the bytes of a buffer
 PROFILE = (" --limits profile", 1 << 16, 1 << 8, 1 << 8, 1 << 20)
 LARGE = (" --limits large", 1 << 26, 1 << 10, 1 << 13, 1 << 30)
-# of the same limits what a source and local memory may be: the bytes of a source, how deep it is nested, the nodes of a
-# kernel, the bytes of its private arrays, the elements of an array, and the bytes of the local memory of a group
-PROFILE_SOURCES = (" --limits profile", 1 << 16, 64, 20_000, 1 << 12, 1 << 15, 1 << 15)
-LARGE_SOURCES = (" --limits large", 1 << 22, 256, 1_000_000, 1 << 16, 1 << 16, 1 << 16)
+# of the same limits what a source and local memory may be: the bytes of a source, how deep it is nested, the loops and
+# the nodes of a kernel, the bytes of its private arrays, the elements of an array, and the local bytes of a group
+PROFILE_SOURCES = (" --limits profile", 1 << 16, 64, 8, 20_000, 1 << 12, 1 << 15, 1 << 15)
+LARGE_SOURCES = (" --limits large", 1 << 22, 256, 32, 1_000_000, 1 << 16, 1 << 16, 1 << 16)
 # sizes and offsets that only 64 bits hold
 HUGE, MOST = 1 << 63, (1 << 64) - 1
 
@@ -62,7 +62,7 @@ def sizes():
                   "#" + " " * 65_536, "syntax 5 TooLong at 65536")
 
 
-def sources(option, most, deepest, nodes, private, elements, _):
+def sources(option, most, deepest, loops, nodes, private, elements, _):
     """Sources at the limits by both words, in a script and checked, with their neighbours."""
     empty, head, local = "__kernel void f() { }", "__kernel void f() ", "__kernel void f() { __local char t["
     # a source in a script has a line feed at its end; the token in the innermost block stands behind all brackets
@@ -73,6 +73,8 @@ def sources(option, most, deepest, nodes, private, elements, _):
              (f"{deepest} blocks inside one another",
               lambda more: head + "{" * (deepest + more) + ";" + "}" * (deepest + more),
               f"syntax 4 TooDeep at {len(head) + deepest + 1}"),
+             (f"{loops} loops inside one another", lambda more: head + "{" + "while (0) " * (loops + more) + ";}",
+              "type 10 TooManyLoops at 14"),
              (f"{nodes} nodes", lambda more: head + "{" + ";" * (nodes + more) + "}", "type 11 TooLarge at 14"),
              (f"{private} bytes of two private arrays",
               lambda more: head + f"{{ uchar t[{private - 1}]; uchar u[{1 + more}]; }}", "type 11 TooLarge at 14"),
@@ -83,7 +85,7 @@ def sources(option, most, deepest, nodes, private, elements, _):
         yield checked(f"a source behind a limit, {title} and one more:{option}", source(1), fault, option)
 
 
-def local_memory(option, _, __, ___, ____, _____, local):
+def local_memory(option, _, __, ___, ____, _____, ______, local):
     """The most local memory of an argument, of arguments together and of a declared array, with their neighbours."""
     head = "program p 2\n__kernel void f(__local char *t, __local char *u) { }\n" \
            f"__kernel void g() {{ __local int t[{local // 4}]; }}\nkernel k p f\nkernel l p g\n" \
@@ -218,6 +220,24 @@ def large_launches():
                             "fault 4 bounds item 0 store buffer a element -1 schedule -", "data 00000000"], 1)
 
 
+def deep_loops():
+    """Barriers in as many loops as a large device allows: passed in each turn, and met in another turn of one loop."""
+    heads = [f"for (int i{depth} = 0; i{depth} < 2; i{depth}++) " for depth in range(2)]
+    heads += [f"for (int i{depth} = 0; i{depth} < 1; i{depth}++) " for depth in range(2, 32)]
+    add = "__kernel void f(__global int *a) { int n = get_global_id(0); " + "".join(heads) + \
+          "{ a[n] = a[n] + 1; barrier(CLK_GLOBAL_MEM_FENCE); n = 1 - n; } }"
+    script = ["buffer a 8", "program p 1", add, "kernel k p f", "arg k 0 buffer a", "launch k 2 2", "read a 0 8"]
+    yield ran("two items that take turns over a barrier in 32 loops", script,
+              ["ok"] * 4 + ["clean", "data 0400000004000000"])
+    missed = heads[:31] + ["for (int i31 = get_global_id(0); i31 < 2; i31++) "]
+    barred = "__kernel void f() { " + "".join(missed) + "{ if (i31) barrier(CLK_LOCAL_MEM_FENCE); } }"
+    turns = ",".join(["1"] * 31)
+    yield ran("a barrier met in two turns of the innermost of 32 loops",
+              ["program p 1", barred, "kernel k p f", "launch k 2 2"],
+              ["ok"] * 2 + [f"fault 3 divergence item 0 barrier 0 turns {turns},2 item 1 barrier 0 turns {turns},1 "
+                            "schedule -"], 1)
+
+
 def large_faults():
     """A race of the first and the last of 100,000 items, on one large device and in replays on both."""
     kernel = "__kernel void f(__global int *a) { int i = get_global_id(0); a[i < 99999 ? i : 0] = i; }"
@@ -236,8 +256,8 @@ def large_faults():
     loop = "program p 1\n__kernel void f() {{ for (int i = 0; i < {}; i++) ; }}\nkernel k p f\nlaunch k 1 1\n"
     used_up = "ticket 2\nfault 8 budget item 0 schedule -\n"
     for turns, option, yes in [(100_001, "", True), (100_001, " --limits profile", True), (100_000, "", False),
-                               (100_001, " --limits large", False), (1_000_001, " --limits large", True),
-                               (1_000_000, " --limits large", False)]:
+                               (100_001, " --limits large", False), (10_000_001, " --limits large", True),
+                               (10_000_000, " --limits large", False)]:
         yield dict(title=f"the fault of a budget replayed after {turns} turns{option}", text=loop.format(turns),
                    schedule=used_up, output="yes\n" if yes else "no\n", status=0 if yes else 1,
                    command=f"clsim replay FILE SCHEDULE{option}")
@@ -265,5 +285,6 @@ def rows():
             yield bytes_of_buffers(*limits)
     yield without_room(*LARGE)
     yield from large_launches()
+    yield from deep_loops()
     yield from large_faults()
     yield from large_buffers()

@@ -5,13 +5,14 @@
 //! that workers overlap.
 #![tactic(auto)]
 
+mod group_calls;
 mod overlap;
 mod round;
-mod round_gate;
 mod round_size;
 mod run;
 mod shares;
 mod spare;
+mod units;
 
 pub use run::run_parallel;
 pub use workers_draw::gate::{Gate, OpenGate};

@@ -10,23 +10,19 @@ ghost use Rattle.group_join.specs.Rounds.{CameOfRound};
 ghost use Rattle.spaces.specs.Buffers.{bytes_in};
 ghost use Rattle.workers.specs.Results.{AreOfRound};
 
+use crate::group_calls::GateCalls;
 use crate::round::Round;
-use crate::round_gate::RoundGate;
 use crate::shares::rounds_are_shared;
 use crate::spare::SpareLogs;
+use crate::units::Results;
 use group_join::{JoinEnd, JoinedGroups, join_round};
-use group_run::GroupResult;
 use item_step::Launch;
-use shadow::AccessSummary;
-use spaces::{Buffers, Overlay};
+use spaces::Buffers;
 use std::alloc::{AllocError, Global};
 use std::sync::Wait;
 use std::thread::Threads;
-use workers_draw::gate::Gate;
+use workers_draw::gate::{Gate, OpenGate};
 use workers_draw::run::{run_groups, run_groups_after};
-
-/// The results of the groups of a round, in their order.
-pub(crate) type Results<'a> = Vec<GroupResult<Overlay<'a>, AccessSummary>>;
 
 /// How many workers have something to do: no more than there are parts of the work, and at least one. A further thread
 /// would be started and waited for in vain.
@@ -38,8 +34,8 @@ fn busy_workers(workers: u32, parts: u32) -> usize
     workers.min(parts).max(1) as usize
 }
 
-/// Runs the groups `first..last` of a launch: the results of all of them, or of those up to one that stopped, its own
-/// the last.
+/// Runs the groups `first..last` of a launch, each of which is drawn alone: the results of all of them, or of those up
+/// to one that stopped, its own the last.
 pub(crate) fn run_round<'a, G: Gate, R: Threads + Wait + Sync>(
     rt: &R,
     alloc: Global,
@@ -58,17 +54,18 @@ pub(crate) fn run_round<'a, G: Gate, R: Threads + Wait + Sync>(
     requires workers { (1 ≤ workers) × (workers ≤ 16) }
     ensures { IfOk result (λ v. AreOfRound (launch_of (setup_of launch.now) (bytes_in buffers.now)) last first v.items) }
 {
-    rounds_are_shared();
-    let round = Round::new(launch, buffers, spares, first, last);
-    let gate = RoundGate { gate, first };
+    rounds_are_shared::<G>();
+    let calls = GateCalls { gate };
+    let round = Round::new(launch, buffers, spares, &calls, first, last, 1);
     let workers = busy_workers(workers, last - first);
-    let results = run_groups(rt, alloc, &round, workers, &gate)?;
-    Ok(results)
+    let units = run_groups(rt, alloc, &round, workers, &OpenGate);
+    round.results_of(alloc, units)
 }
 
 /// Joins a round, whose groups are those from `first` up to `last`, to what is joined so far, while the other workers
-/// run the next, whose groups are those from `last` up to `end`. The calling thread joins, and then runs groups of the
-/// next round with the others: so a round of few groups has a worker for each, beside the one that joins.
+/// run the next, whose groups are those from `last` up to `end`, and draw `each` of them at a time. The calling thread
+/// joins, and then runs groups of the next round with the others: so a round of few draws has a worker for each, beside
+/// the one that joins.
 pub(crate) fn join_and_run<'a, 'b, G: Gate, R: Threads + Wait + Sync>(
     rt: &R,
     alloc: Global,
@@ -82,6 +79,7 @@ pub(crate) fn join_and_run<'a, 'b, G: Gate, R: Threads + Wait + Sync>(
     first: u32,
     last: u32,
     end: u32,
+    each: u32,
 ) -> (
     Result<Results<'a>, AllocError>,
     Result<JoinEnd<JoinedGroups<'b>>, AllocError>,
@@ -90,25 +88,27 @@ pub(crate) fn join_and_run<'a, 'b, G: Gate, R: Threads + Wait + Sync>(
     requires some { 0 < group_items (setup_of launch.now).range }
     requires order { (first ≤ last) × (last ≤ end) }
     requires there { end * group_items (setup_of launch.now).range ≤ item_count (setup_of launch.now).range }
+    requires each { 0 < each }
     requires workers { (1 ≤ workers) × (workers ≤ 16) }
     requires so_far { HoldsGroups (launch_of (setup_of launch.now) (bytes_in buffers.now)) first so_far }
     requires results { AreOfRound (launch_of (setup_of launch.now) (bytes_in buffers.now)) last first results.items }
     ensures next { IfOk result.0 (λ v. AreOfRound (launch_of (setup_of launch.now) (bytes_in buffers.now)) end last v.items) }
     ensures joined { IfOk result.1 (CameOfRound (launch_of (setup_of launch.now) (bytes_in buffers.now)) last) }
 {
-    rounds_are_shared();
-    let round = Round::new(launch, buffers, spares, last, end);
-    let gate = RoundGate { gate, first: last };
-    let workers = busy_workers(workers, (end - last).saturating_add(1));
-    run_groups_after(
+    rounds_are_shared::<G>();
+    let calls = GateCalls { gate };
+    let round = Round::new(launch, buffers, spares, &calls, last, end, each);
+    let workers = busy_workers(workers, round.count.saturating_add(1));
+    let (units, joined) = run_groups_after(
         rt,
         alloc,
         &round,
         workers,
-        &gate,
+        &OpenGate,
         move || -> Result<JoinEnd<JoinedGroups<'_>>, AllocError>
             requires { HasGroups (setup_of launch.now) × (first ≤ last) × HoldsGroups (launch_of (setup_of launch.now) (bytes_in buffers.now)) first so_far × AreOfRound (launch_of (setup_of launch.now) (bytes_in buffers.now)) last first results.items }
             ensures { IfOk result (CameOfRound (launch_of (setup_of launch.entry.now) (bytes_in buffers.entry.now)) last) }
         { join_round(alloc, launch, buffers, so_far, first, last, results) },
-    )
+    );
+    (round.results_of(alloc, units), joined)
 }

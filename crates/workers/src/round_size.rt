@@ -1,16 +1,23 @@
-//! How many groups a round has. The workers wait for each other at the end of a round, so few large rounds are sooner
-//! done; the results of two rounds wait for their join, so small rounds hold less memory.
+//! How many groups a round has, and how many of them a worker draws at a time. The workers wait for each other at the
+//! end of a round, so few large rounds are sooner done; the results of two rounds wait for their join, so small rounds
+//! hold less memory. Each draw takes time, and with large draws the last workers are waited for.
 
 ghost use Rattle.std.specs.Prelude.{◌≤◌};
 
-use crate::overlap::Results;
+use crate::units::{Results, ShortResult};
 use clmodel::schedule::{EventRun, Schedule};
-use group_run::{GroupEnd, GroupResult};
-use shadow::{AccessSummary, GroupAccesses};
+use group_run::GroupEnd;
+use shadow::GroupAccesses;
 use spaces::Overlay;
 
 /// How many bytes the results of a round are to take, about; those of two rounds wait at a time.
 const ROUND_BYTES: usize = 7_340_032;
+
+/// How many bytes the results of the groups that are drawn at a time are to take, about.
+const DRAW_BYTES: usize = 65_536;
+
+/// How often each worker draws at least in a round, unless that has fewer groups.
+const DRAWS_EACH: u32 = 4;
 
 /// How many bytes an access takes that a result keeps.
 const ACCESS_BYTES: usize = 56;
@@ -59,7 +66,7 @@ fn changed_bytes_of(buffers: &Vec<Overlay<'_>>) -> usize {
 }
 
 /// How many bytes a result takes, about.
-fn bytes_of(came: &GroupResult<Overlay<'_>, AccessSummary>) -> usize {
+fn bytes_of(came: &ShortResult<'_>) -> usize {
     let changes = match &came.end {
         GroupEnd::Done(spaces) => changed_bytes_of(spaces),
         GroupEnd::Stopped(_) => 0,
@@ -92,7 +99,7 @@ fn event_count(runs: &Schedule) -> u64 {
 }
 
 /// Whether the join of such a group takes long beside its run: it keeps more accesses than half of its events.
-fn joins_slowly(came: &GroupResult<Overlay<'_>, AccessSummary>) -> bool {
+fn joins_slowly(came: &ShortResult<'_>) -> bool {
     came.log.len() as u64 > event_count(&came.runs) / 2
 }
 
@@ -104,15 +111,25 @@ pub(crate) fn first_round(workers: u32) -> u32
     FIRST_EACH * workers
 }
 
-/// How many groups the next round has, of those that are left: as many as may be if each result takes as many bytes as
-/// those of the round before. Where more are left than the last round is to have, a quarter of them stay for the round
-/// that runs beside its join, and half of them where a join takes long.
-pub(crate) fn next_round(results: &Results<'_>, workers: u32, left: u32) -> u32
-    requires { (1 ≤ workers) × (workers ≤ 16) }
-    ensures { 1 ≤ result }
+/// How large a round is.
+#[derive(Clone, Copy)]
+pub(crate) struct RoundSize {
+    /// How many groups it has
+    pub(crate) groups: u32,
+    /// How many of them a worker draws at a time
+    pub(crate) each: u32,
+}
+
+/// How large the next round is, of the groups that are left: it has as many as may be if each result takes as many
+/// bytes as those of the round before. Where more are left than the last round is to have, a quarter of them stay for
+/// the round that runs beside its join, and half of them where a join takes long.
+pub(crate) fn next_round(results: &Results<'_>, workers: u32, left: u32) -> RoundSize
+    requires workers { (1 ≤ workers) × (workers ≤ 16) }
+    requires left { 1 ≤ left }
+    ensures groups { (1 ≤ result.groups) × (result.groups ≤ left) }
+    ensures each { 1 ≤ result.each }
 {
-    let bytes = bytes_of_all(results) / results.len().max(1);
-    let most = (ROUND_BYTES / bytes.max(1)) as u32;
+    let bytes = (bytes_of_all(results) / results.len().max(1)).max(1);
     let wanted = if left <= LAST_EACH * workers {
         left
     } else if results.last().is_some_and(joins_slowly) {
@@ -120,5 +137,9 @@ pub(crate) fn next_round(results: &Results<'_>, workers: u32, left: u32) -> u32
     } else {
         left - left / 4
     };
-    most.min(wanted).max(LEAST_EACH * workers)
+    let most = (ROUND_BYTES / bytes) as u32;
+    let groups = most.min(wanted).max(LEAST_EACH * workers).min(left);
+    let draw = (DRAW_BYTES / bytes) as u32;
+    let each = draw.min(groups / (DRAWS_EACH * workers)).max(1);
+    RoundSize { groups, each }
 }

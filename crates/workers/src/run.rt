@@ -44,10 +44,11 @@ fn run_rounds<G: Gate, R: Threads + Wait + Sync>(
         rt, alloc, launch, buffers, &spares, workers, gate, first, last,
     )?;
     while last < groups {
-        let left = groups - last;
-        let end = last + next_round(&results, workers, left).min(left);
+        let size = next_round(&results, workers, groups - last);
+        let end = last + size.groups;
         let (next, joined) = join_and_run(
             rt, alloc, launch, buffers, &spares, workers, gate, so_far, results, first, last, end,
+            size.each,
         );
         match joined? {
             JoinEnd::Continues(joined) => so_far = joined,
@@ -61,12 +62,12 @@ fn run_rounds<G: Gate, R: Threads + Wait + Sync>(
     Ok(end_of(launch, buffers, end, last))
 }
 
-/// The canonical run of a launch, by 1 to 16 workers (OpenCL 1.2, sections 3.2 and 5.8). Each worker draws groups and
-/// runs them on the buffers as they are, between two calls of the gate with the group's number; a thread that can't be
-/// started is done without. Several workers run the groups in rounds, and the calling thread joins each round before it
-/// runs groups of the next. One worker is the calling thread: it runs and joins group after group, as `run_launch`
-/// does. The launch ends as `run_launch` answers, however many workers there are and whatever the gate does. The
-/// buffers stay as they are. An error is out of memory.
+/// The canonical run of a launch, by 1 to 16 workers (OpenCL 1.2, sections 3.2 and 5.8). Each worker draws some groups
+/// at a time and runs them on the buffers as they are, each between two calls of the gate with the group's number; a
+/// thread that can't be started is done without. Several workers run the groups in rounds, and the calling thread joins
+/// each round before it runs groups of the next. One worker is the calling thread: it runs and joins group after group,
+/// as `run_launch` does. The launch ends as `run_launch` answers, however many workers there are and whatever the gate
+/// does. The buffers stay as they are. An error is out of memory.
 pub fn run_parallel<G: Gate, R: Threads + Wait + Sync>(
     rt: &R,
     alloc: Global,

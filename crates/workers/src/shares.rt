@@ -4,6 +4,7 @@ ghost use denote.Ref.{NamedLft};
 ghost use Rattle.clmodel.specs.contracts.tree.Function as FunctionType;
 ghost use Rattle.clmodel.specs.contracts.tree.Tree as TreeType;
 ghost use Rattle.item_step.specs.contracts.launch.Launch as LaunchType;
+ghost use Rattle.workers.specs.contracts.group_calls.GateCalls as GateCallsType;
 ghost use Rattle.workers.specs.contracts.round.Round as RoundType;
 ghost use Rattle.workers.specs.contracts.spare.SpareLogs as SpareLogsType;
 
@@ -16,6 +17,7 @@ use regcode::Code;
 use spaces::Buffers;
 use std::marker::Sync;
 use steps::Step;
+use workers_draw::gate::Gate;
 
 /// The type's values may be shared.
 fn is_shared<T: Sync>()
@@ -61,10 +63,11 @@ fn spares_are_shared()
 }
 
 /// Groups of launches may be shared.
-pub(crate) fn rounds_are_shared()
-    ensures { (ℓ ℓs : NamedLft) → IsSync (RoundType.the_row ℓ ℓs) }
+pub(crate) fn rounds_are_shared<G: Gate>()
+    ensures { (ℓ ℓs ℓc ℓg : NamedLft) → IsSync (RoundType.the_row ℓ ℓs ℓc (GateCallsType.the_row ℓg G.row)) }
 {
     launches_are_shared();
     is_shared::<Buffers>();
     spares_are_shared();
+    is_shared::<G>();
 }

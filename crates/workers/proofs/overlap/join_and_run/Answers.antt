@@ -2,21 +2,19 @@ use Rattle.std.proofs.Common.{Vec, Global, ap₂}
 use Rattle.std.proofs.lemmas.Result.{IfOk-weaker}
 use denote.Param.Send.{sendable}
 use Rattle.clmodel.specs.Next.{launch_of}
-use Rattle.group_run.specs.declared.result.GroupResult.{GroupResult}
 use Rattle.item_step.specs.Launches.{setup_of}
-use Rattle.shadow.specs.declared.group_accesses.AccessSummary.{AccessSummary}
-use Rattle.spaces.specs.Overlay.{Overlaid}
 use Rattle.spaces.specs.Buffers.{bytes_in}
-use Rattle.workers.proofs.Runs.{are_of_round}
+use Rattle.workers.proofs.Runs.{Came}
+use Rattle.workers.proofs.OfUnits.{same_round}
 use Rattle.workers.proofs.overlap.join_and_run.Goals as goal
 
-pub run_groups_after-requires-sync-W : goal.run_groups_after-requires-sync-W
-run_groups_after-requires-sync-W g c κs = search (sendable, c.rounds_are_shared.ensures)
+pub run_groups_after-units-requires-sync-W : goal.run_groups_after-units-requires-sync-W
+run_groups_after-units-requires-sync-W g c κs = search (sendable, c.rounds_are_shared.ensures)
 
 pub returns-clause-next : goal.returns-clause-next
 returns-clause-next g c =
     let round = c.new-round.result in let new = c.new-round.ensures in
     let same = ap₂ (λ x y. launch_of (setup_of x) (bytes_in y)) new.launch new.buffers in
     IfOk-weaker _ _ _
-    (λ (v : Vec (GroupResult Overlaid AccessSummary) Global) each. are_of_round (launch_of (setup_of round.launch.now) (bytes_in round.buffers.now)) (launch_of (setup_of c.args.launch.now) (bytes_in c.args.buffers.now)) round.first round.count c.args.last c.args.end same new.first new.count v.items each)
-    c.run_groups_after.ensures.results
+    (λ (v : Vec Came Global) are. same_round (launch_of (setup_of round.launch.now) (bytes_in round.buffers.now)) (launch_of (setup_of c.args.launch.now) (bytes_in c.args.buffers.now)) round.first c.args.last round.last c.args.end v.items same new.first new.last are)
+    c.results_of.ensures
