@@ -256,8 +256,8 @@ def large_faults():
     loop = "program p 1\n__kernel void f() {{ for (int i = 0; i < {}; i++) ; }}\nkernel k p f\nlaunch k 1 1\n"
     used_up = "ticket 2\nfault 8 budget item 0 schedule -\n"
     for turns, option, yes in [(100_001, "", True), (100_001, " --limits profile", True), (100_000, "", False),
-                               (100_001, " --limits large", False), (1_000_001, " --limits large", True),
-                               (1_000_000, " --limits large", False)]:
+                               (100_001, " --limits large", False), (10_000_001, " --limits large", True),
+                               (10_000_000, " --limits large", False)]:
         yield dict(title=f"the fault of a budget replayed after {turns} turns{option}", text=loop.format(turns),
                    schedule=used_up, output="yes\n" if yes else "no\n", status=0 if yes else 1,
                    command=f"clsim replay FILE SCHEDULE{option}")

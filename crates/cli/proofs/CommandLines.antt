@@ -19,7 +19,7 @@ use Rattle.cli.specs.declared.command_line.Invocation.{Invocation}
 use Rattle.cli.specs.declared.command_line.Invocation.TheVariants as invocation
 use Rattle.limits.specs.declared.Configuration.{Configuration}
 use Rattle.limits.specs.declared.Limits.{Limits}
-use Rattle.cli.specs.CommandLine.{AreForms, IsArgument, IsForm, all_forms, alone, flag, form_of, needed, number, option, program, program_of, some_schedule, AreLimits, GivesBudget, GivesConfiguration, GivesFormat, GivesLimits, GivesWorkers, IsFormat, IsNumber, AsksBy, IsRefused, Reads, Holds}
+use Rattle.cli.specs.CommandLine.{AreForms, IsArgument, IsForm, all_forms, alone, flag, form_of, needed, number, option, program, program_of, some_schedule, AreLimits, GivesBudget, GivesConfiguration, GivesFormat, GivesLimits, GivesSteps, GivesWorkers, IsCount, IsFormat, IsNumber, AsksBy, IsRefused, Reads, Holds}
 
 -- what holds of the value that was made
 pub of_made : {T E : Type 0} (P : T → Type 0) (made : Result T E) (x : T) → made ≡ Ok x → IfOk made P → P x
@@ -110,6 +110,23 @@ not_read absent most G None e few none reads only n is =
     cc
 not_read absent most G (Some t) e few none reads only n is = only t (Err e) (reads t refl) (is.0, omega (arith, is.1, is.3, few))
 
+-- no count was read where the option isn't there
+pub no_count : (most : ℕ) (o : Option Text) → IsNumber 0 most o 0 → IsCount most o None
+no_count most None is = refl
+no_count most (Some text) is = absurd (omega (arith, is.2))
+
+-- a number that was read is the option's count
+pub counted : (most : ℕ) (o : Option Text) (n : ℕ) → 1 ≤ n → IsNumber 0 most o n → IsCount most o (Some n)
+counted most None n least is = absurd (omega (arith, least, is))
+counted most (Some text) n least is = is
+
+-- where the option's number is none, it has no count
+pub not_counted : (most : ℕ) (o : Option Text) → ((n : ℕ) → ¬ IsNumber 0 most o n) → (count : Option ℕ) → ¬ IsCount most o count
+not_counted most None nothing None is = nothing 0 refl
+not_counted most None nothing (Some n) is = cc
+not_counted most (Some text) nothing None is = is
+not_counted most (Some text) nothing (Some n) is = nothing n is
+
 -- the ticks that limits allow have 32 bits
 pub few_ticks : (ticks : ℕ) → ticks ≤ 1000000000 → ticks < 2 ^ 32
 few_ticks ticks few = omega (arith, few)
@@ -175,7 +192,7 @@ no_budget rows limits named none configuration is =
 -- what a command has from its matches
 pub run_parts : (rows : List Row) (asked : Invocation) → AsksBy (codes "run") rows asked
     → (path : Text) × (w : ℕ) × (configuration : Configuration) × (first_of (codes "FILE") rows ≡ Some path) × GivesWorkers rows w × GivesConfiguration rows configuration
-run_parts rows (invocation.Run path options) is = (path.now, options.workers, options.configuration, is.1.0, is.1.1, is.1.2)
+run_parts rows (invocation.Run path options numbered) is = (path.now, options.workers, options.configuration, is.1.0, is.1.1, is.1.2)
 run_parts rows (invocation.Check path limits) is = differ is.0 refl
 run_parts rows (invocation.Dump path name limits) is = differ is.0 refl
 run_parts rows (invocation.Replay script schedule configuration) is = differ is.0 refl
@@ -183,10 +200,11 @@ run_parts rows (invocation.Serve options) is = differ is.0 refl
 run_parts rows (invocation.Explain script schedule wish) is = differ is.0 refl
 run_parts rows (invocation.Version json) is = differ is.0 refl
 run_parts rows (invocation.Widen script json limits) is = differ is.0 refl
+run_parts rows (invocation.Plain script) is = differ is.0 refl
 
 pub check_parts : (rows : List Row) (asked : Invocation) → AsksBy (codes "check") rows asked
     → (path : Text) × (limits : Limits) × (first_of (codes "FILE") rows ≡ Some path) × GivesLimits rows limits
-check_parts rows (invocation.Run path options) is = differ is.0 refl
+check_parts rows (invocation.Run path options numbered) is = differ is.0 refl
 check_parts rows (invocation.Check path limits) is = (path.now, limits, is.1.0, is.1.1)
 check_parts rows (invocation.Dump path name limits) is = differ is.0 refl
 check_parts rows (invocation.Replay script schedule configuration) is = differ is.0 refl
@@ -194,10 +212,11 @@ check_parts rows (invocation.Serve options) is = differ is.0 refl
 check_parts rows (invocation.Explain script schedule wish) is = differ is.0 refl
 check_parts rows (invocation.Version json) is = differ is.0 refl
 check_parts rows (invocation.Widen script json limits) is = differ is.0 refl
+check_parts rows (invocation.Plain script) is = differ is.0 refl
 
 pub dump_parts : (rows : List Row) (asked : Invocation) → AsksBy (codes "dump") rows asked
     → (path name : Text) × (limits : Limits) × (first_of (codes "FILE") rows ≡ Some path) × (first_of (codes "KERNEL") rows ≡ Some name) × GivesLimits rows limits
-dump_parts rows (invocation.Run path options) is = differ is.0 refl
+dump_parts rows (invocation.Run path options numbered) is = differ is.0 refl
 dump_parts rows (invocation.Check path limits) is = differ is.0 refl
 dump_parts rows (invocation.Dump path name limits) is = (path.now, name.now, limits, is.1.0, is.1.1, is.1.2)
 dump_parts rows (invocation.Replay script schedule configuration) is = differ is.0 refl
@@ -205,10 +224,11 @@ dump_parts rows (invocation.Serve options) is = differ is.0 refl
 dump_parts rows (invocation.Explain script schedule wish) is = differ is.0 refl
 dump_parts rows (invocation.Version json) is = differ is.0 refl
 dump_parts rows (invocation.Widen script json limits) is = differ is.0 refl
+dump_parts rows (invocation.Plain script) is = differ is.0 refl
 
 pub replay_parts : (rows : List Row) (asked : Invocation) → AsksBy (codes "replay") rows asked
     → (script schedule : Text) × (limits : Limits) × (first_of (codes "SCRIPT") rows ≡ Some script) × (first_of (codes "SCHEDULE") rows ≡ Some schedule) × GivesLimits rows limits
-replay_parts rows (invocation.Run path options) is = differ is.0 refl
+replay_parts rows (invocation.Run path options numbered) is = differ is.0 refl
 replay_parts rows (invocation.Check path limits) is = differ is.0 refl
 replay_parts rows (invocation.Dump path name limits) is = differ is.0 refl
 replay_parts rows (invocation.Replay script schedule configuration) is = (script.now, schedule.now, configuration.limits, is.1.0, is.1.1, is.1.2.0)
@@ -216,10 +236,11 @@ replay_parts rows (invocation.Serve options) is = differ is.0 refl
 replay_parts rows (invocation.Explain script schedule wish) is = differ is.0 refl
 replay_parts rows (invocation.Version json) is = differ is.0 refl
 replay_parts rows (invocation.Widen script json limits) is = differ is.0 refl
+replay_parts rows (invocation.Plain script) is = differ is.0 refl
 
 pub serve_parts : (rows : List Row) (asked : Invocation) → AsksBy (codes "serve") rows asked
     → (w : ℕ) × (configuration : Configuration) × GivesWorkers rows w × GivesConfiguration rows configuration
-serve_parts rows (invocation.Run path options) is = differ is.0 refl
+serve_parts rows (invocation.Run path options numbered) is = differ is.0 refl
 serve_parts rows (invocation.Check path limits) is = differ is.0 refl
 serve_parts rows (invocation.Dump path name limits) is = differ is.0 refl
 serve_parts rows (invocation.Replay script schedule configuration) is = differ is.0 refl
@@ -227,21 +248,24 @@ serve_parts rows (invocation.Serve options) is = (options.workers, options.confi
 serve_parts rows (invocation.Explain script schedule wish) is = differ is.0 refl
 serve_parts rows (invocation.Version json) is = differ is.0 refl
 serve_parts rows (invocation.Widen script json limits) is = differ is.0 refl
+serve_parts rows (invocation.Plain script) is = differ is.0 refl
 
 pub explain_parts : (rows : List Row) (asked : Invocation) → AsksBy (codes "explain") rows asked
     → (script : Text) × (configuration : Configuration) × (json : Bool) × (first_of (codes "SCRIPT") rows ≡ Some script) × GivesConfiguration rows configuration × GivesFormat rows json
-explain_parts rows (invocation.Run path options) is = differ is.0 refl
+    × (count : Option ℕ) × GivesSteps rows count
+explain_parts rows (invocation.Run path options numbered) is = differ is.0 refl
 explain_parts rows (invocation.Check path limits) is = differ is.0 refl
 explain_parts rows (invocation.Dump path name limits) is = differ is.0 refl
 explain_parts rows (invocation.Replay script schedule configuration) is = differ is.0 refl
 explain_parts rows (invocation.Serve options) is = differ is.0 refl
-explain_parts rows (invocation.Explain script schedule wish) is = (script.now, wish.configuration, wish.json, is.1.0, is.1.2, is.1.3)
+explain_parts rows (invocation.Explain script schedule wish) is = (script.now, wish.configuration, wish.json, is.1.0, is.1.2, is.1.3, wish.steps, is.1.6)
 explain_parts rows (invocation.Version json) is = differ is.0 refl
 explain_parts rows (invocation.Widen script json limits) is = differ is.0 refl
+explain_parts rows (invocation.Plain script) is = differ is.0 refl
 
 pub version_parts : (rows : List Row) (asked : Invocation) → AsksBy (codes "version") rows asked
     → (json : Bool) × GivesFormat rows json
-version_parts rows (invocation.Run path options) is = differ is.0 refl
+version_parts rows (invocation.Run path options numbered) is = differ is.0 refl
 version_parts rows (invocation.Check path limits) is = differ is.0 refl
 version_parts rows (invocation.Dump path name limits) is = differ is.0 refl
 version_parts rows (invocation.Replay script schedule configuration) is = differ is.0 refl
@@ -249,10 +273,11 @@ version_parts rows (invocation.Serve options) is = differ is.0 refl
 version_parts rows (invocation.Explain script schedule wish) is = differ is.0 refl
 version_parts rows (invocation.Version json) is = (json, is.1)
 version_parts rows (invocation.Widen script json limits) is = differ is.0 refl
+version_parts rows (invocation.Plain script) is = differ is.0 refl
 
 pub widen_parts : (rows : List Row) (asked : Invocation) → AsksBy (codes "widen") rows asked
     → (script : Text) × (json : Bool) × (limits : Limits) × (first_of (codes "SCRIPT") rows ≡ Some script) × GivesFormat rows json × GivesLimits rows limits
-widen_parts rows (invocation.Run path options) is = differ is.0 refl
+widen_parts rows (invocation.Run path options numbered) is = differ is.0 refl
 widen_parts rows (invocation.Check path limits) is = differ is.0 refl
 widen_parts rows (invocation.Dump path name limits) is = differ is.0 refl
 widen_parts rows (invocation.Replay script schedule configuration) is = differ is.0 refl
@@ -260,6 +285,19 @@ widen_parts rows (invocation.Serve options) is = differ is.0 refl
 widen_parts rows (invocation.Explain script schedule wish) is = differ is.0 refl
 widen_parts rows (invocation.Version json) is = differ is.0 refl
 widen_parts rows (invocation.Widen script json limits) is = (script.now, json, limits, is.1.0, is.1.1, is.1.2)
+widen_parts rows (invocation.Plain script) is = differ is.0 refl
+
+pub plain_parts : (rows : List Row) (asked : Invocation) → AsksBy (codes "plain") rows asked
+    → (script : Text) × (first_of (codes "SCRIPT") rows ≡ Some script)
+plain_parts rows (invocation.Run path options numbered) is = differ is.0 refl
+plain_parts rows (invocation.Check path limits) is = differ is.0 refl
+plain_parts rows (invocation.Dump path name limits) is = differ is.0 refl
+plain_parts rows (invocation.Replay script schedule configuration) is = differ is.0 refl
+plain_parts rows (invocation.Serve options) is = differ is.0 refl
+plain_parts rows (invocation.Explain script schedule wish) is = differ is.0 refl
+plain_parts rows (invocation.Version json) is = differ is.0 refl
+plain_parts rows (invocation.Widen script json limits) is = differ is.0 refl
+plain_parts rows (invocation.Plain script) is = (script.now, is.1)
 
 pub not_there : {A : Type 0} (o : Option A) (x : A) → o ≡ None → ¬ (o ≡ Some x)
 not_there o x none some = let bad : None ≡ Some x = sym none ∙ some in cc
@@ -273,7 +311,8 @@ not_found (Some a) name m missing found named = missing a refl
 -- matches of no form hold nothing
 pub holds_nothing : (m : ArgMatches) → ¬ (subcommand_name_of m ≡ Some (codes "run")) → ¬ (subcommand_name_of m ≡ Some (codes "check")) → ¬ (subcommand_name_of m ≡ Some (codes "dump"))
     → ¬ (subcommand_name_of m ≡ Some (codes "replay")) → ¬ (subcommand_name_of m ≡ Some (codes "serve")) → ¬ (subcommand_name_of m ≡ Some (codes "explain"))
-    → ¬ (subcommand_name_of m ≡ Some (codes "version")) → ¬ (subcommand_name_of m ≡ Some (codes "widen")) → (asked : Invocation) → ¬ Holds (subcommand_rows_of m) asked
+    → ¬ (subcommand_name_of m ≡ Some (codes "version")) → ¬ (subcommand_name_of m ≡ Some (codes "widen")) → ¬ (subcommand_name_of m ≡ Some (codes "plain"))
+    → (asked : Invocation) → ¬ Holds (subcommand_rows_of m) asked
 holds_nothing m = go (out-ArgMatches m).subcommand
   where
     named : {Z : Type 0} → Option (Box SubCommand Z) → Option Text
@@ -281,16 +320,17 @@ holds_nothing m = go (out-ArgMatches m).subcommand
 
     go : {Z : Type 0} (o : Option (Box SubCommand Z)) → ¬ (named o ≡ Some (codes "run")) → ¬ (named o ≡ Some (codes "check")) → ¬ (named o ≡ Some (codes "dump"))
         → ¬ (named o ≡ Some (codes "replay")) → ¬ (named o ≡ Some (codes "serve")) → ¬ (named o ≡ Some (codes "explain")) → ¬ (named o ≡ Some (codes "version"))
-        → ¬ (named o ≡ Some (codes "widen")) → (asked : Invocation) → ¬ Holds (subcommand_rows o) asked
-    go None run check dump replay serve explain version widen asked h = h
-    go (Some b) run check dump replay serve explain version widen (invocation.Run path options) h = run (ap Some h.0)
-    go (Some b) run check dump replay serve explain version widen (invocation.Check path limits) h = check (ap Some h.0)
-    go (Some b) run check dump replay serve explain version widen (invocation.Dump path name limits) h = dump (ap Some h.0)
-    go (Some b) run check dump replay serve explain version widen (invocation.Replay script schedule configuration) h = replay (ap Some h.0)
-    go (Some b) run check dump replay serve explain version widen (invocation.Serve options) h = serve (ap Some h.0)
-    go (Some b) run check dump replay serve explain version widen (invocation.Explain script schedule wish) h = explain (ap Some h.0)
-    go (Some b) run check dump replay serve explain version widen (invocation.Version json) h = version (ap Some h.0)
-    go (Some b) run check dump replay serve explain version widen (invocation.Widen script json limits) h = widen (ap Some h.0)
+        → ¬ (named o ≡ Some (codes "widen")) → ¬ (named o ≡ Some (codes "plain")) → (asked : Invocation) → ¬ Holds (subcommand_rows o) asked
+    go None run check dump replay serve explain version widen plain asked h = h
+    go (Some b) run check dump replay serve explain version widen plain (invocation.Run path options numbered) h = run (ap Some h.0)
+    go (Some b) run check dump replay serve explain version widen plain (invocation.Check path limits) h = check (ap Some h.0)
+    go (Some b) run check dump replay serve explain version widen plain (invocation.Dump path name limits) h = dump (ap Some h.0)
+    go (Some b) run check dump replay serve explain version widen plain (invocation.Replay script schedule configuration) h = replay (ap Some h.0)
+    go (Some b) run check dump replay serve explain version widen plain (invocation.Serve options) h = serve (ap Some h.0)
+    go (Some b) run check dump replay serve explain version widen plain (invocation.Explain script schedule wish) h = explain (ap Some h.0)
+    go (Some b) run check dump replay serve explain version widen plain (invocation.Version json) h = version (ap Some h.0)
+    go (Some b) run check dump replay serve explain version widen plain (invocation.Widen script json limits) h = widen (ap Some h.0)
+    go (Some b) run check dump replay serve explain version widen plain (invocation.Plain script) h = plain (ap Some h.0)
 
 -- ---- refusals
 

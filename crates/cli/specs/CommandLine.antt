@@ -72,9 +72,9 @@ some_schedule = new_rule (codes "SCHEDULE")
 abbrev pub workers : Rule
 workers = number (codes "workers") 16
 
--- `--budget N`, a number from 1 to 1,000,000
+-- `--budget N`, a number from 1 to 1,000,000,000; which of them are a budget, the limits say
 abbrev pub budget : Rule
-budget = number (codes "budget") 1000000
+budget = number (codes "budget") 1000000000
 
 -- `--limits LIMITS`
 abbrev pub limits : Rule
@@ -96,6 +96,10 @@ as_given = flag (codes "as-given")
 abbrev pub all : Rule
 all = flag (codes "all")
 
+-- `--steps N`, a number from 1 to 1,000,000
+abbrev pub steps : Rule
+steps = number (codes "steps") 1000000
+
 -- what a device is made with: `--budget N` and `--limits LIMITS`
 abbrev pub configured : List Rule
 configured = budget ∷ limits ∷ []
@@ -104,9 +108,13 @@ configured = budget ∷ limits ∷ []
 abbrev pub working : List Rule
 working = workers ∷ configured
 
--- `run FILE [--workers N] [--budget N] [--limits LIMITS]`
+-- `--lines`
+abbrev pub lines : Rule
+lines = flag (codes "lines")
+
+-- `run FILE [--workers N] [--budget N] [--limits LIMITS] [--lines]`
 abbrev pub run_arguments : List Rule
-run_arguments = file ∷ working
+run_arguments = file ∷ workers ∷ budget ∷ limits ∷ lines ∷ []
 
 -- `check FILE [--limits LIMITS]`
 abbrev pub check_arguments : List Rule
@@ -128,9 +136,9 @@ serve_arguments = working
 abbrev pub explained : List Rule
 explained = script ∷ some_schedule ∷ format ∷ []
 
--- `explain SCRIPT [SCHEDULE] [--format text|json] [--budget N] [--limits LIMITS] [--as-given] [--all]`
+-- `explain SCRIPT [SCHEDULE] [--format text|json] [--budget N] [--limits LIMITS] [--as-given] [--all] [--steps N]`
 abbrev pub explain_arguments : List Rule
-explain_arguments = script ∷ some_schedule ∷ format ∷ budget ∷ limits ∷ as_given ∷ all ∷ []
+explain_arguments = script ∷ some_schedule ∷ format ∷ budget ∷ limits ∷ as_given ∷ all ∷ steps ∷ []
 
 -- `version [--format text|json]`
 abbrev pub version_arguments : List Rule
@@ -139,6 +147,10 @@ version_arguments = format ∷ []
 -- `widen SCRIPT [--format text|json] [--limits LIMITS]`
 abbrev pub widen_arguments : List Rule
 widen_arguments = script ∷ format ∷ limits ∷ []
+
+-- `plain SCRIPT`
+abbrev pub plain_arguments : List Rule
+plain_arguments = script ∷ []
 
 -- the program without a form; one must be named, but for `--version`
 abbrev pub no_form : App
@@ -157,7 +169,7 @@ pub record AreForms (forms : List Shape) (command : Command) : Type 0 where
 abbrev pub all_forms : List Shape
 all_forms = form_of (codes "run") run_arguments ∷ form_of (codes "check") check_arguments ∷ form_of (codes "dump") dump_arguments
     ∷ form_of (codes "replay") replay_arguments ∷ form_of (codes "serve") serve_arguments ∷ form_of (codes "explain") explain_arguments
-    ∷ form_of (codes "version") version_arguments ∷ form_of (codes "widen") widen_arguments ∷ []
+    ∷ form_of (codes "version") version_arguments ∷ form_of (codes "widen") widen_arguments ∷ form_of (codes "plain") plain_arguments ∷ []
 
 unfoldable pub program : App
 program = program_of all_forms
@@ -204,6 +216,16 @@ IsFormat (Some text) json = (text ≡ codes "text") × (json ≡ false) ⊎ (tex
 abbrev pub GivesFormat : List Row → Bool → Type 0
 GivesFormat rows json = IsFormat (first_of (codes "format") rows) json
 
+-- the number of an option, from 1 to the most, where the option is there
+abbrev pub IsCount : ℕ → Option Text → Option ℕ → Type 0
+IsCount most None count = count ≡ None
+IsCount most (Some text) None = ⊥
+IsCount most (Some text) (Some n) = IsNumber 0 most (Some text) n
+
+-- the number of `--steps`, where it is there
+abbrev pub GivesSteps : List Row → Option ℕ → Type 0
+GivesSteps rows count = IsCount 1000000 (one_of (codes "steps") rows) count
+
 -- whether a flag is there
 pub record IsFlag (found : Option Text) (given : Bool) : Type 0 where
   pub there : found ≡ Some (codes "true") → given ≡ true
@@ -215,7 +237,7 @@ GivesFlag name rows given = IsFlag (one_of name rows) given
 
 -- the name of the form by which this is asked for
 abbrev pub form_name : Invocation → Text
-form_name (invocation.Run _ _) = codes "run"
+form_name (invocation.Run _ _ _) = codes "run"
 form_name (invocation.Check _ _) = codes "check"
 form_name (invocation.Dump _ _ _) = codes "dump"
 form_name (invocation.Replay _ _ _) = codes "replay"
@@ -223,13 +245,16 @@ form_name (invocation.Serve _) = codes "serve"
 form_name (invocation.Explain _ _ _) = codes "explain"
 form_name (invocation.Version _) = codes "version"
 form_name (invocation.Widen _ _ _) = codes "widen"
+form_name (invocation.Plain _) = codes "plain"
 
--- the matches of its form give what is asked for: a run by their workers, under their limits and budget; a check or a
--- dump within their limits; a replay under their limits; an explanation of the schedule file, if one is named; a script
--- whose replies are widened, within their limits (own)
+-- the matches of its form give what is asked for: a run by their workers, under their limits and budget, with the lines
+-- of its commands or without; a check or a dump within their limits; a replay under their limits; an explanation of the
+-- schedule file, if one is named; a script whose replies are widened, within their limits; a script that is written as
+-- one of version 2 (own)
 abbrev pub Gives : List Row → Invocation → Type 0
-Gives rows (invocation.Run path options) =
+Gives rows (invocation.Run path options numbered) =
     (first_of (codes "FILE") rows ≡ Some path.now) × GivesWorkers rows options.workers × GivesConfiguration rows options.configuration
+    × GivesFlag (codes "lines") rows numbered
 Gives rows (invocation.Check path limits) = (first_of (codes "FILE") rows ≡ Some path.now) × GivesLimits rows limits
 Gives rows (invocation.Dump path name limits) =
     (first_of (codes "FILE") rows ≡ Some path.now) × (first_of (codes "KERNEL") rows ≡ Some name.now) × GivesLimits rows limits
@@ -239,9 +264,11 @@ Gives rows (invocation.Serve options) = GivesWorkers rows options.workers × Giv
 Gives rows (invocation.Explain script schedule wish) =
     (first_of (codes "SCRIPT") rows ≡ Some script.now) × (first_of (codes "SCHEDULE") rows ≡ option_map (λ s. s.now) schedule)
     × GivesConfiguration rows wish.configuration × GivesFormat rows wish.json × GivesFlag (codes "as-given") rows wish.as_given × GivesFlag (codes "all") rows wish.all
+    × GivesSteps rows wish.steps
 Gives rows (invocation.Version json) = GivesFormat rows json
 Gives rows (invocation.Widen script json limits) =
     (first_of (codes "SCRIPT") rows ≡ Some script.now) × GivesFormat rows json × GivesLimits rows limits
+Gives rows (invocation.Plain script) = first_of (codes "SCRIPT") rows ≡ Some script.now
 
 -- the form of this name, with these matches, asks for it
 abbrev pub AsksBy : Text → List Row → Invocation → Type 0

@@ -3,7 +3,7 @@
 
 ghost use Rattle.std.specs.Prelude.{◌≡◌, ◌≤◌, List, [], ◌∷◌, ◌++◌, codes, map, Ok, IfOk, IfErr, IfSome};
 ghost use Rattle.clap.specs.Words.{Rule, Shape, Text, kind_of, found_of, rows_of, subcommand_rows_of};
-ghost use Rattle.cli.specs.CommandLine.{AreForms, IsArgument, IsForm, all_forms, form_of, needed, option, number, limits, some_schedule, format, flag, configured, working, explained, run_arguments, check_arguments, dump_arguments, replay_arguments, serve_arguments, explain_arguments, version_arguments, widen_arguments, GivesWorkers, GivesLimits, GivesBudget, GivesConfiguration, GivesFormat, AsksBy, Reads, Holds, AsksFor, IsRefused};
+ghost use Rattle.cli.specs.CommandLine.{AreForms, IsArgument, IsForm, all_forms, form_of, needed, option, number, limits, some_schedule, format, flag, configured, working, explained, run_arguments, check_arguments, dump_arguments, replay_arguments, serve_arguments, explain_arguments, version_arguments, widen_arguments, plain_arguments, GivesWorkers, GivesLimits, GivesBudget, GivesConfiguration, GivesFormat, GivesSteps, AsksBy, Reads, Holds, AsksFor, IsRefused};
 
 use crate::session::Options;
 use crate::wish::ExplainWish;
@@ -16,10 +16,11 @@ use std::alloc::{AllocError, Global};
 /// What a command line asks for.
 #[derive(Clone, Copy, Debug, PartialEq, Eq)]
 pub enum Invocation<'a> {
-    /// Runs the script of a file
+    /// Runs the script of a file, with the line of its command in front of each reply or without
     Run {
         file: &'a str,
         options: Options,
+        lines: bool,
     },
     /// Checks the source of a file within limits
     Check {
@@ -58,13 +59,20 @@ pub enum Invocation<'a> {
         json: bool,
         limits: Limits,
     },
+    /// Writes the script of a file as one of version 2
+    Plain {
+        script: &'a str,
+    },
 }
 
-/// The greatest budget of a run.
-const MAX_BUDGET: u32 = 1_000_000;
+/// The greatest budget of a device, by whatever limits.
+const MAX_BUDGET: u32 = 1_000_000_000;
 
 /// The most workers of a run.
 const MAX_WORKERS: u32 = 16;
+
+/// The most steps that an explanation may be asked for.
+const MAX_STEPS: u32 = 1_000_000;
 
 /// An argument that must be given, and what help says of it.
 #[tactic(auto, unfolding(crate::specs::CommandLine::needed))]
@@ -192,7 +200,7 @@ fn working<'a>(
     configured(alloc, with(form, workers))
 }
 
-/// The form `run FILE [--workers N] [--budget N] [--limits LIMITS]`.
+/// The form `run FILE [--workers N] [--budget N] [--limits LIMITS] [--lines]`.
 fn run_form<'a>(alloc: Global) -> Result<Command<'a>, AllocError>
     ensures { IfOk result (IsForm (codes "run") run_arguments) }
 {
@@ -203,7 +211,12 @@ fn run_form<'a>(alloc: Global) -> Result<Command<'a>, AllocError>
         "FILE",
         "The script",
     );
-    working(alloc, form)
+    let lines = flag(
+        alloc,
+        "lines",
+        "Prints the line of its command in front of each reply",
+    );
+    with(working(alloc, form), lines)
 }
 
 /// The form `check FILE [--limits LIMITS]`.
@@ -297,7 +310,8 @@ fn explained<'a>(alloc: Global) -> Result<Command<'a>, AllocError>
     )
 }
 
-/// The form `explain SCRIPT [SCHEDULE] [--format text|json] [--budget N] [--limits LIMITS] [--as-given] [--all]`.
+/// The form `explain SCRIPT [SCHEDULE] [--format text|json] [--budget N] [--limits LIMITS] [--as-given] [--all]
+/// [--steps N]`.
 fn explain_form<'a>(alloc: Global) -> Result<Command<'a>, AllocError>
     ensures { IfOk result (IsForm (codes "explain") explain_arguments) }
 {
@@ -311,7 +325,14 @@ fn explain_form<'a>(alloc: Global) -> Result<Command<'a>, AllocError>
         "all",
         "Explains each fault and each refused command of the script",
     );
-    with(with(configured(alloc, explained(alloc)), as_given), all)
+    let steps = number(
+        alloc,
+        "steps",
+        MAX_STEPS,
+        "The most steps of a way to a fault that are told, the last ones: 1000 without it",
+    );
+    let flagged = with(with(configured(alloc, explained(alloc)), as_given), all);
+    with(flagged, steps)
 }
 
 /// The form `version [--format text|json]`.
@@ -340,6 +361,19 @@ fn widen_form<'a>(alloc: Global) -> Result<Command<'a>, AllocError>
     limited(
         alloc,
         formatted(alloc, form, "How the replies are written: text or json"),
+    )
+}
+
+/// The form `plain SCRIPT`.
+fn plain_form<'a>(alloc: Global) -> Result<Command<'a>, AllocError>
+    ensures { IfOk result (IsForm (codes "plain") plain_arguments) }
+{
+    form_on(
+        alloc,
+        "plain",
+        "Prints a script of version 3 as one of version 2, with its files in it",
+        "SCRIPT",
+        "The script",
     )
 }
 
@@ -401,12 +435,14 @@ fn run_of<'a>(run: &ArgMatches<'a>) -> Option<Invocation<'a>>
     let file = run.get_str("FILE")?;
     let workers = workers_of(run)?;
     let configuration = configuration_of(run)?;
+    let lines = run.get_flag("lines");
     Some(Invocation::Run {
         file,
         options: Options {
             configuration,
             workers,
         },
+        lines,
     })
 }
 
@@ -477,6 +513,18 @@ fn format_of(matches: &ArgMatches<'_>) -> Option<bool>
     None
 }
 
+/// How many steps are told at most, where the option is there, and `None` where its number is none.
+fn steps_of(explain: &ArgMatches<'_>) -> Option<Option<usize>>
+    ensures { Reads (GivesSteps (rows_of (found_of explain.now))) result }
+{
+    match explain.try_get_one::<u32>("steps") {
+        Ok(None) => Some(None),
+        Ok(Some(steps)) if steps >= 1 && steps <= MAX_STEPS => Some(Some(steps as usize)),
+        Ok(Some(_)) => None,
+        Err(_) => None,
+    }
+}
+
 /// What the matches of `explain` ask for.
 fn explain_of<'a>(explain: &ArgMatches<'a>) -> Option<Invocation<'a>>
     ensures { Reads (AsksBy (codes "explain") (rows_of (found_of explain.now))) result }
@@ -487,6 +535,7 @@ fn explain_of<'a>(explain: &ArgMatches<'a>) -> Option<Invocation<'a>>
     let json = format_of(explain)?;
     let as_given = explain.get_flag("as-given");
     let all = explain.get_flag("all");
+    let steps = steps_of(explain)?;
     Some(Invocation::Explain {
         script,
         schedule,
@@ -495,6 +544,7 @@ fn explain_of<'a>(explain: &ArgMatches<'a>) -> Option<Invocation<'a>>
             json,
             as_given,
             all,
+            steps,
         },
     })
 }
@@ -519,6 +569,14 @@ fn widen_of<'a>(widen: &ArgMatches<'a>) -> Option<Invocation<'a>>
         json,
         limits,
     })
+}
+
+/// What the matches of `plain` ask for.
+fn plain_of<'a>(plain: &ArgMatches<'a>) -> Option<Invocation<'a>>
+    ensures { Reads (AsksBy (codes "plain") (rows_of (found_of plain.now))) result }
+{
+    let script = plain.get_str("SCRIPT")?;
+    Some(Invocation::Plain { script })
 }
 
 /// What the matches of a command line ask for, by the form that they hold.
@@ -546,7 +604,10 @@ fn asked<'a>(matches: &ArgMatches<'a>) -> Option<Invocation<'a>>
     if let Some(version) = matches.subcommand_matches("version") {
         return version_of(version);
     }
-    widen_of(matches.subcommand_matches("widen")?)
+    if let Some(widen) = matches.subcommand_matches("widen") {
+        return widen_of(widen);
+    }
+    plain_of(matches.subcommand_matches("plain")?)
 }
 
 /// The forms of the command line, without any of them yet. That there is a version gives them `--version`; what the
@@ -583,7 +644,8 @@ fn forms<'a>(alloc: Global) -> Result<Command<'a>, AllocError>
     let with_serving = with_form(with_replays, serve_form(alloc));
     let with_explaining = with_form(with_serving, explain_form(alloc));
     let with_version = with_form(with_explaining, version_form(alloc));
-    with_form(with_version, widen_form(alloc))
+    let with_widening = with_form(with_version, widen_form(alloc));
+    with_form(with_widening, plain_form(alloc))
 }
 
 /// A form whose usage is shown by this name.
@@ -614,10 +676,25 @@ fn form_of<'a>(alloc: Global, name: &str) -> Result<Command<'a>, AllocError> {
     if name == "widen" {
         return shown(widen_form(alloc), "clsim widen");
     }
+    if name == "plain" {
+        return shown(plain_form(alloc), "clsim plain");
+    }
     shown(version_form(alloc), "clsim version")
 }
 
-/// The error of a form that holds limits without a name, or else a format without one, with the form's usage.
+/// What is wrong with the values of a form that ask for nothing: its limits, or else its format, or else its budget,
+/// which is more than its limits allow.
+fn wrong_in(values: &ArgMatches<'_>) -> &'static str {
+    if limits_of(values).is_none() {
+        return "the limits are profile or large";
+    }
+    if format_of(values).is_none() {
+        return "the format is text or json";
+    }
+    "the budget is at most 1000000, and with --limits large at most 1000000000"
+}
+
+/// The error of a form whose values ask for nothing, with the form's usage.
 fn wrong_value(alloc: Global, matches: &ArgMatches<'_>) -> Result<Error, AllocError>
     ensures { IfOk result (λ error. kind_of error ≡ ErrorKind.InvalidValue) }
 {
@@ -626,12 +703,7 @@ fn wrong_value(alloc: Global, matches: &ArgMatches<'_>) -> Result<Error, AllocEr
         return forms.error(ErrorKind::InvalidValue, "a form is missing");
     };
     let mut form = form_of(alloc, name)?;
-    let message = if limits_of(values).is_none() {
-        "the limits are profile or large"
-    } else {
-        "the format is text or json"
-    };
-    form.error(ErrorKind::InvalidValue, message)
+    form.error(ErrorKind::InvalidValue, wrong_in(values))
 }
 
 /// Reads the words of a command line by its forms.
@@ -652,15 +724,16 @@ fn command_by<'a>(
 }
 
 /// Reads the words of a command line, the program's name first. The forms are:
-/// - `clsim run FILE [--workers N] [--budget N] [--limits LIMITS]`
+/// - `clsim run FILE [--workers N] [--budget N] [--limits LIMITS] [--lines]`
 /// - `clsim check FILE [--limits LIMITS]`
 /// - `clsim dump FILE KERNEL [--limits LIMITS]`
 /// - `clsim replay SCRIPT SCHEDULE [--limits LIMITS]`
 /// - `clsim serve [--workers N] [--budget N] [--limits LIMITS]`
 /// - `clsim explain SCRIPT [SCHEDULE] [--format text|json] [--budget N] [--limits LIMITS] [--as-given]
-///   [--all]`
+///   [--all] [--steps N]`
 /// - `clsim version [--format text|json]`
 /// - `clsim widen SCRIPT [--format text|json] [--limits LIMITS]`
+/// - `clsim plain SCRIPT`
 ///
 /// The errors of the words `--help`, `help` with a form or without, and `--version` have the kinds `DisplayHelp` and
 /// `DisplayVersion`.

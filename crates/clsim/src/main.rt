@@ -1,8 +1,9 @@
 //! The program `clsim`: a simulated OpenCL 1.2 device for scripts, schedules and host programs.
 //!
-//! It calls `cli` and `explaining` with the files and the output of the system; a file named `-` is standard input. The
-//! status is the one that `cli` defines, whether standard error can be written or not; the process ends with 0, 1 or 2.
-//! What stands on standard error is only tested.
+//! It calls `cli`, `explaining` and `wide_text` with the files and the output of the system; a file named `-` is
+//! standard input. A script of version 3 is handed on as its plain text, which `written_scripts` makes of it and of the
+//! files that it names. The status is the one that `cli` defines, whether standard error can be written or not; the
+//! process ends with 0, 1 or 2. What stands on standard error is only tested.
 #![tactic(auto)]
 
 ghost use Rattle.std.specs.Prelude.{◌≡◌, ◌≤◌, IfOk, if◌then◌else◌};
@@ -16,17 +17,23 @@ ghost use Rattle.wide_text.specs.Widened.{status_of as wide_status_of};
 mod explain_files;
 mod looks;
 mod named_file;
+mod numbered;
+mod passing;
 mod piped;
 mod telling;
 mod version;
+mod written_file;
 
 use crate::explain_files::{explain_schedule, explain_script};
 use crate::looks::Looks;
 use crate::named_file::{NamedFile, STANDARD_INPUT};
+use crate::numbered::Numbered;
+use crate::passing::pass;
 use crate::piped::Piped;
 use crate::telling::{Told, tell, tell_place, tell_script, told_of};
 use crate::version::print_version;
-use byte_io::{Output, StreamPeer};
+use crate::written_file::WrittenFile;
+use byte_io::{Input, Output, StreamPeer};
 use clap::Error;
 use clap::error::ErrorKind;
 use cli::checking::{check_file, source_status};
@@ -64,13 +71,29 @@ fn output_of<'a, R: Print + AllocGlobal>(
 /// Runs a script, with the replies on standard output, and notes whether its reader is gone.
 fn run_script<R: Files + io::Input + Print + AllocGlobal + Threads + Wait + Sync>(
     rt: &R,
-    script: &mut NamedFile<'_, R>,
+    script: &mut WrittenFile<'_, R>,
     options: Options,
     gone: &mut bool,
 ) -> Result<RunEnd, RunFault> {
     let mut writer = output_of(rt)?;
     let outcome = run(rt, rt.alloc(), script, &mut writer, options);
     *gone = writer.into_inner().is_gone();
+    outcome
+}
+
+/// Runs a script, with the replies on standard output and the line of its command in front of each.
+fn run_with_lines<R: Files + io::Input + Print + AllocGlobal + Threads + Wait + Sync>(
+    rt: &R,
+    script: &mut WrittenFile<'_, R>,
+    options: Options,
+    gone: &mut bool,
+) -> Result<RunEnd, RunFault> {
+    let text = bytes_of(rt.alloc(), script, Reader::First)?;
+    let lines = script.lines(rt.alloc(), text.as_slice())?;
+    let mut reader = Input::new(text.as_slice());
+    let mut writer = Numbered::new(output_of(rt)?, lines);
+    let outcome = run(rt, rt.alloc(), &mut reader, &mut writer, options);
+    *gone = writer.into_inner().into_inner().is_gone();
     outcome
 }
 
@@ -124,7 +147,7 @@ fn dump_kernel<R: Files + io::Input + Print + AllocGlobal>(
 /// was read and found good.
 fn replay_schedule<R: Files + io::Input + Print + AllocGlobal>(
     rt: &R,
-    script: &mut NamedFile<'_, R>,
+    script: &mut WrittenFile<'_, R>,
     schedule: &str,
     configuration: Configuration,
     gone: &mut bool,
@@ -160,7 +183,7 @@ fn options_of(wish: ExplainWish) -> ExplainOptions
 fn explain_fault<R: Files + io::Input + Print + AllocGlobal>(
     rt: &R,
     name: &str,
-    script: &mut NamedFile<'_, R>,
+    script: &mut WrittenFile<'_, R>,
     schedule: Option<&str>,
     options: ExplainOptions,
     gone: &mut bool,
@@ -180,7 +203,7 @@ fn explain_fault<R: Files + io::Input + Print + AllocGlobal>(
 /// Runs a script, with its replies on standard output, and for which bytes and numbers they hold.
 fn widen_script<R: Files + io::Input + Print + AllocGlobal>(
     rt: &R,
-    script: &mut NamedFile<'_, R>,
+    script: &mut WrittenFile<'_, R>,
     json: bool,
     limits: Limits,
     gone: &mut bool,
@@ -200,6 +223,18 @@ fn widen_script<R: Files + io::Input + Print + AllocGlobal>(
         format,
         &mut writer,
     );
+    *gone = writer.into_inner().is_gone();
+    outcome
+}
+
+/// Writes a script on standard output, as a plain text.
+fn write_plain<R: Files + io::Input + Print + AllocGlobal>(
+    rt: &R,
+    script: &mut WrittenFile<'_, R>,
+    gone: &mut bool,
+) -> Result<(), RunFault> {
+    let mut writer = output_of(rt)?;
+    let outcome = pass(rt.alloc(), script, &mut writer);
     *gone = writer.into_inner().is_gone();
     outcome
 }
@@ -259,18 +294,23 @@ fn end_widen<R: Files + Eprint>(rt: &R, outcome: Result<WideEnd, RunFault>, told
     wide_status(&outcome)
 }
 
-/// Runs the script of a file, and gives the status.
+/// Runs the script of a file, with the line of its command in front of each reply or without, and gives the status.
 fn do_run<R: Files + io::Input + Print + Eprint + AllocGlobal + Threads + Wait + Sync>(
     rt: &R,
     file: &str,
     options: Options,
+    lines: bool,
 ) -> u8
     ensures { result ≤ 2 }
 {
-    let mut script = NamedFile::new(rt, file);
+    let mut script = WrittenFile::new(rt, file);
     let mut gone = false;
-    let outcome = run_script(rt, &mut script, options, &mut gone);
-    end_run(rt, outcome, told_of(&script, gone))
+    let outcome = if lines {
+        run_with_lines(rt, &mut script, options, &mut gone)
+    } else {
+        run_script(rt, &mut script, options, &mut gone)
+    };
+    end_run(rt, outcome, script.told(gone))
 }
 
 /// Serves standard input, and gives the status.
@@ -285,6 +325,7 @@ fn do_serve<R: Files + io::Input + Print + Eprint + AllocGlobal + Threads + Wait
         file: STANDARD_INPUT,
         looks: Looks::Unknown,
         gone: false,
+        bad: None,
     };
     end_run(rt, outcome, told)
 }
@@ -334,10 +375,10 @@ fn do_replay<R: Files + io::Input + Print + Eprint + AllocGlobal>(
 ) -> u8
     ensures { result ≤ 2 }
 {
-    let mut script = NamedFile::new(rt, file);
+    let mut script = WrittenFile::new(rt, file);
     let mut gone = false;
     let outcome = replay_schedule(rt, &mut script, schedule, configuration, &mut gone);
-    end_replay(rt, outcome, schedule, told_of(&script, gone))
+    end_replay(rt, outcome, schedule, script.told(gone))
 }
 
 /// Explains a fault of the script of a file, and gives the status.
@@ -349,16 +390,14 @@ fn do_explain<R: Files + io::Input + Print + Eprint + AllocGlobal>(
 ) -> u8
     ensures { result ≤ 2 }
 {
-    let mut script = NamedFile::new(rt, file);
+    let mut script = WrittenFile::explained(rt, file);
     let mut gone = false;
     let options = options_of(wish);
     let outcome = explain_fault(rt, file, &mut script, schedule, options, &mut gone);
-    end_replay(
-        rt,
-        outcome,
-        schedule.unwrap_or(file),
-        told_of(&script, gone),
-    )
+    if let Ok(true) = outcome {
+        script.tell_lines(rt);
+    }
+    end_replay(rt, outcome, schedule.unwrap_or(file), script.told(gone))
 }
 
 /// Widens the replies of the script of a file, and gives the status.
@@ -370,10 +409,28 @@ fn do_widen<R: Files + io::Input + Print + Eprint + AllocGlobal>(
 ) -> u8
     ensures { result ≤ 2 }
 {
-    let mut script = NamedFile::new(rt, file);
+    let mut script = WrittenFile::new(rt, file);
     let mut gone = false;
     let outcome = widen_script(rt, &mut script, json, limits, &mut gone);
-    end_widen(rt, outcome, told_of(&script, gone))
+    if outcome.is_ok() {
+        script.tell_lines(rt);
+    }
+    end_widen(rt, outcome, script.told(gone))
+}
+
+/// Writes the script of a file as a plain text, and gives the status.
+fn do_plain<R: Files + io::Input + Print + Eprint + AllocGlobal>(rt: &R, file: &str) -> u8
+    ensures { result ≤ 2 }
+{
+    let mut script = WrittenFile::new(rt, file);
+    let mut gone = false;
+    match write_plain(rt, &mut script, &mut gone) {
+        Ok(()) => 0,
+        Err(fault) => {
+            tell(rt, fault, script.told(gone));
+            2
+        }
+    }
 }
 
 /// The status of what was printed on standard output. That it can't be written is told, but where its reader is gone.
@@ -422,7 +479,13 @@ fn perform<R: Files + io::Input + Print + Eprint + AllocGlobal + Threads + Wait 
     ensures { result ≤ 2 }
 {
     match command(rt.alloc(), words) {
-        Ok(Invocation::Run { file, options }) => do_run(rt, file, options),
+        Ok(
+            Invocation::Run {
+                file,
+                options,
+                lines,
+            },
+        ) => do_run(rt, file, options, lines),
         Ok(Invocation::Check { file, limits }) => do_check(rt, file, limits, watched),
         Ok(
             Invocation::Dump {
@@ -454,6 +517,7 @@ fn perform<R: Files + io::Input + Print + Eprint + AllocGlobal + Threads + Wait 
                 limits,
             },
         ) => do_widen(rt, script, json, limits),
+        Ok(Invocation::Plain { script }) => do_plain(rt, script),
         Err(error) => answer_words(rt, words, &error),
     }
 }

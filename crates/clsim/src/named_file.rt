@@ -14,6 +14,14 @@ use std::{fs, io};
 /// The name that stands for standard input.
 pub(crate) const STANDARD_INPUT: &str = "-";
 
+/// Opens the file at a path and reads it whole. The fault is `Failed` also where it can't be opened.
+pub(crate) fn read_path<R: Files>(rt: &R, alloc: Global, path: &str) -> Result<Vec<u8>, ReadFault> {
+    let Ok(file) = fs::open(rt, path) else {
+        return Err(ReadFault::Failed);
+    };
+    Input::new(file).read_all(alloc)
+}
+
 /// A file that is opened when it is read, and read whole; by the name `-` it is standard input. Where that fails, the
 /// failure is counted. It notes what the text that was read looks like, and keeps a copy of it where that is asked.
 #[derive(Drop)]
@@ -73,15 +81,12 @@ impl<'a, R: Files + io::Input> NamedFile<'a, R> {
         }
     }
 
-    /// Opens the file and reads it whole. The fault is `Failed` also where it can't be opened.
+    /// Reads the file whole.
     fn read(&self, alloc: Global) -> Result<Vec<u8>, ReadFault> {
         if self.path == STANDARD_INPUT {
             return Input::new(self.rt.reader()).read_all(alloc);
         }
-        let Ok(file) = fs::open(self.rt, self.path) else {
-            return Err(ReadFault::Failed);
-        };
-        Input::new(file).read_all(alloc)
+        read_path(self.rt, alloc, self.path)
     }
 }
 

@@ -12,6 +12,13 @@ use std::alloc::Global;
 use std::io;
 use std::rt::Files;
 
+/// Where a line of a script of version 3 is bad.
+#[derive(Clone, Copy)]
+pub(crate) struct Place {
+    pub(crate) line: usize,
+    pub(crate) column: usize,
+}
+
 /// What is told of a command that came to no end.
 #[derive(Clone, Copy)]
 pub(crate) struct Told<'a> {
@@ -21,6 +28,8 @@ pub(crate) struct Told<'a> {
     pub(crate) looks: Looks,
     /// Whether the reader of standard output is gone
     pub(crate) gone: bool,
+    /// The bad line of a script of version 3, which was read to its end and has no plain text
+    pub(crate) bad: Option<Place>,
 }
 
 /// What is told of a command that read a file, where the reader of its output is gone or not.
@@ -29,6 +38,7 @@ pub(crate) fn told_of<'a, R: Files + io::Input>(file: &NamedFile<'a, R>, gone: b
         file: file.path(),
         looks: file.looks(),
         gone,
+        bad: None,
     }
 }
 
@@ -48,11 +58,32 @@ fn tell_reason<R: Files + Eprint>(rt: &R, file: &str) {
     }
 }
 
+/// Tells of a script of version 3 that the lines that were told are those of its plain text.
+pub(crate) fn tell_plain(rt: &impl Eprint, file: &str) {
+    let name = name_of(file);
+    let _ = eprintln!(rt;
+        "clsim: {name} is of version 3: the lines are those of its plain text, clsim plain {file}"
+    );
+}
+
+/// Tells which line of a script of version 3 is bad, and where it stands.
+fn tell_bad(rt: &impl Eprint, name: &str, place: Place) {
+    let _ = eprintln!(rt;
+        "clsim: {}\nclsim: {name}:{}:{}",
+        RunFault::BadLine(place.line),
+        place.line,
+        place.column
+    );
+}
+
 /// Tells why a command came to no end. Of a file that can't be read the system's reason stands in a second line, of a
 /// script with a bad line that it looks like a source. Nothing is told where the reader of standard output is gone: it
 /// has read what it wanted.
 pub(crate) fn tell<R: Files + Eprint>(rt: &R, fault: RunFault, told: Told<'_>) {
     let name = name_of(told.file);
+    if let Some(place) = told.bad {
+        return tell_bad(rt, name, place);
+    }
     match fault {
         RunFault::Read(_) => {
             let _ = eprintln!(rt; "clsim: {fault} {name}");

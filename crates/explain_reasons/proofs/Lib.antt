@@ -1,4 +1,6 @@
 mod Mattering
 mod Nearest
 mod Passing
-mod Told
+mod ByteSets
+mod Events
+mod StepRows

@@ -1,4 +1,8 @@
+pub mod Chosen
+pub mod Bytes
+pub mod Choosing
 pub mod Steps
+pub mod StepLists
 pub mod Between
 pub mod Stored
 pub mod Counted

@@ -1,20 +1,20 @@
 -- The steps of an explanation, by the events of a schedule that was played and by its accesses (own).
-use Rattle.std.specs.Prelude.{◌≡◌, ◌+◌, ℕ, String, Option, None, Some, List, [], ◌∷◌, ◌++◌, codes, cond, decimal, slice_get, string_bytes, take}
-use Rattle.std.specs.List.{AllZip}
+use Rattle.std.specs.Prelude.{◌≡◌, ◌<◌, ◌≤◌, ◌+◌, ◌/◌, ⊤, ℕ, Bool, true, false, String, Option, None, Some, List, [], ◌∷◌, ◌++◌, codes, count_by, decimal, is_some, length, map, replicate, string_bytes}
+use Rattle.std.specs.List.{AllZip, flat_map}
 use Rattle.std.specs.Str.Lossy.{utf8_lossy}
 use Rattle.std.specs.declared.alloc.Global.{Global}
 use Rattle.clmodel.specs.declared.access.AccessKind.{AccessKind}
 use Rattle.clmodel.specs.declared.access.AccessKind.TheVariants as kind
 use Rattle.clmodel.specs.declared.fault.Location.{Location}
 use Rattle.clmodel.specs.declared.fault.Location.TheVariants as location
-use Rattle.clmodel.specs.declared.schedule.Event.{Event}
 use Rattle.clmodel.specs.declared.schedule.Event.TheVariants as event
 use Rattle.explanation.specs.declared.steps.ToldEvent.{ToldEvent}
 use Rattle.explanation.specs.declared.steps.ToldEvent.TheVariants as told
-use Rattle.fault_play.specs.PlayedOut.{is_access}
 use Rattle.fault_play.specs.declared.marks.Mark.{Mark}
 use Rattle.fault_play.specs.declared.played.Played.{Played}
 use Rattle.fault_play.specs.declared.played.Touch.{Touch}
+use Rattle.explain_reasons.specs.Chosen.{AreChosen, events_made}
+use Rattle.explain_reasons.specs.declared.chosen.Followed.{Followed}
 
 -- a place in memory, as a reply has it
 abbrev pub memory_words : Location → List ℕ
@@ -46,26 +46,55 @@ pub record IsAccessStep (mark : Mark) (touch : Touch) (item : ℕ) (does : Acces
 
 -- a step is that of an event: the release of its group, or its access
 abbrev pub IsStep : Mark × Option Touch → ToldEvent → Type 0
-IsStep made (told.Release group code) = made.0.event ≡ event.Release group
-IsStep made (told.Item item does memory byte bytes value left code) =
+IsStep made (told.Release event group code) = made.0.event ≡ event.Release group
+IsStep made (told.Item event item does memory byte bytes value left code) =
     (touch : Touch) × (made.1 ≡ Some touch) × IsAccessStep made.0 touch item does memory byte bytes value left
+IsStep made (told.Omitted event events) = ⊥
 
--- an event with its access, if it makes one, and not one whose access isn't known
-abbrev pub told_as : Event → Mark → Option Touch → List (Mark × Option Touch)
-told_as (event.Release group) mark touch = (mark, None) ∷ []
-told_as (event.Item item) mark None = []
-told_as (event.Item item) mark (Some touch) = (mark, Some touch) ∷ []
+-- what stands at the events of a step: the step of one event, or nothing at so many
+abbrev pub entries : ToldEvent → List (Option ToldEvent)
+entries (told.Release event group code) = Some (told.Release event group code) ∷ []
+entries (told.Item event item does memory byte bytes value left code) = Some (told.Item event item does memory byte bytes value left code) ∷ []
+entries (told.Omitted event events) = replicate events None
 
--- the step of an event is added, if it is told
-abbrev pub AddsStep : Mark → Option Touch → List ToldEvent → List ToldEvent → Type 0
-AddsStep mark touch old new = (added : List ToldEvent) × AllZip (λ made step. IsStep made step) (told_as mark.event mark touch) added × (new ≡ old ++ added)
+-- the number of a step's first event
+abbrev pub number_of : ToldEvent → ℕ
+number_of (told.Release event group code) = event
+number_of (told.Item event item does memory byte bytes value left code) = event
+number_of (told.Omitted event events) = event
 
--- the events with their accesses, of which so many were made before
-abbrev pub events_told : ℕ → List Mark → List Touch → List (Mark × Option Touch)
-events_told before [] touches = []
-events_told before (mark ∷ marks) touches =
-    told_as mark.event mark (slice_get touches before) ++ events_told (before + cond (is_access mark.event) 1 0) marks touches
+-- events that are only counted
+abbrev pub is_omitted : ToldEvent → Bool
+is_omitted (told.Release event group code) = false
+is_omitted (told.Item event item does memory byte bytes value left code) = false
+is_omitted (told.Omitted event events) = true
 
--- the steps are those of the first 1,000 events that were played, in their order
-abbrev pub AreSteps : Played → List ToldEvent → Type 0
-AreSteps played steps = AllZip (λ made step. IsStep made step) (events_told 0 (take 1000 played.marks.items) played.touches.items) steps
+-- a step's number is that of its first event, from 1; events are counted together, and at least one
+pub record IsNext (is_behind_omitted : Bool) (before : ℕ) (step : ToldEvent) : Type 0 where
+  pub numbered : number_of step ≡ before + 1
+  pub some : 0 < length (entries step)
+  pub apart : is_omitted step ≡ true → is_behind_omitted ≡ false
+
+-- each of these steps stands so behind the one before it, in front of which so many events are
+abbrev pub AreInRow : Bool → ℕ → List ToldEvent → Type 0
+AreInRow is_behind_omitted before [] = ⊤
+AreInRow is_behind_omitted before (step ∷ steps) =
+    IsNext is_behind_omitted before step × AreInRow (is_omitted step) (before + length (entries step)) steps
+
+-- an event is told by its step, or isn't told
+abbrev pub IsEntry : Mark × Option Touch → Option ToldEvent → Type 0
+IsEntry made None = ⊤
+IsEntry made (Some step) = IsStep made step
+
+-- the two items that are followed, in groups of this size
+abbrev pub followed_of : ℕ → ℕ → ℕ → Followed
+followed_of size first second = record { first = first; second = second; first_group = first / size; second_group = second / size }
+
+-- The steps are the events that were played, in their order. Told are those of the two items, the releases of their
+-- groups, and those that write what one of the two is given; of all these the last ones, as many as may be. The others
+-- are counted.
+pub record AreSteps (size : ℕ) (played : Played) (first second most : ℕ) (steps : List ToldEvent) : Type 0 where
+  pub in_row : AreInRow false 0 steps
+  pub told : AllZip IsEntry (events_made 0 played.marks.items played.touches.items) (flat_map entries steps)
+  pub few : count_by is_some (flat_map entries steps) ≤ most
+  pub chosen : AreChosen (followed_of size first second) most (events_made 0 played.marks.items played.touches.items) (map is_some (flat_map entries steps))

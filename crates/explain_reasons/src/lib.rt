@@ -7,6 +7,8 @@
 
 mod arrays;
 mod budget;
+mod bytes;
+mod chosen;
 mod reasons;
 mod schedule_steps;
 mod turns;

@@ -1,10 +1,15 @@
 //! The steps of a schedule.
 #![tactic(auto)]
 
-ghost use Rattle.std.specs.Prelude.{◌≡◌, ◌+◌, ◌-◌, ◌^◌, ◌<◌, ◌++◌, Some, codes, cond, decimal, take, slice_get, string_bytes, IfOk, OnOk, option_copied};
-ghost use Rattle.explain_reasons.specs.Steps.{AddsStep, AreSteps, IsStep, left_of, memory_words, value_of};
-ghost use Rattle.fault_play.specs.PlayedOut.{is_access};
+ghost use Rattle.std.specs.Prelude.{◌≡◌, ◌+◌, ◌-◌, ◌^◌, ◌<◌, ◌&&◌, ◌++◌, ◌∷◌, [], Some, codes, decimal, false, is_some, length, map, nat_lt, string_bytes, IfOk, IfSome, OnOk, option_copied};
+ghost use Rattle.std.specs.List.{AllZip, flat_map};
+ghost use Rattle.clmodel.specs.Setup.{group_items};
+ghost use Rattle.item_step.specs.Launches.{setup_of};
+ghost use Rattle.explain_reasons.specs.Chosen.{events_made};
+ghost use Rattle.explain_reasons.specs.StepLists.{AreKnown, EndsRow, IsAlone, IsRow, is_known, shown_of};
+ghost use Rattle.explain_reasons.specs.Steps.{AreInRow, AreSteps, IsEntry, IsStep, entries, followed_of, left_of, memory_words, number_of, value_of};
 
+use crate::chosen::{Followed, access_of, told_events, with_event};
 use clmodel::access::AccessKind;
 use clmodel::fault::Location;
 use clmodel::schedule::Event;
@@ -14,7 +19,7 @@ use fault_play::{Mark, Played, Touch};
 use std::alloc::{AllocError, Global};
 use std::fmt::Write;
 
-/// How many steps are told.
+/// How many steps are told at most, where no other number is asked for.
 pub const MOST_STEPS: usize = 1000;
 
 /// Adds the name of local memory, as a reply has it.
@@ -62,13 +67,20 @@ fn values_of(kind: AccessKind, mark: &Mark) -> (Option<u64>, Option<u64>)
     }
 }
 
-/// The step of an access.
-fn access_step(context: &Context<'_>, touch: &Touch, mark: &Mark) -> Result<ToldEvent, AllocError>
-    ensures { IfOk result (IsStep (mark.now, Some touch.now)) }
+/// The step of an access, which is the event of this number.
+fn access_step(
+    context: &Context<'_>,
+    event: u64,
+    touch: &Touch,
+    mark: &Mark,
+) -> Result<ToldEvent, AllocError>
+    ensures step { IfOk result (IsStep (mark.now, Some touch.now)) }
+    ensures number { IfOk result (λ step. number_of step ≡ event) }
 {
     let code = context.code(mark.stand.as_ref())?;
     let (value, left) = values_of(touch.kind, mark);
     Ok(ToldEvent::Item {
+        event,
         item: touch.item,
         does: touch.kind,
         memory: location_text(context.alloc, &touch.location)?,
@@ -80,76 +92,142 @@ fn access_step(context: &Context<'_>, touch: &Touch, mark: &Mark) -> Result<Told
     })
 }
 
-/// Adds the step of an event, where the next access is this one; none of an item's event of which no access is known.
-fn push_step(
+/// The step of an event of this number with its access, if it is told, and is a release or its access is known.
+fn step_of(
     context: &Context<'_>,
+    event: u64,
     mark: &Mark,
     touch: Option<&Touch>,
-    steps: &mut Vec<ToldEvent>,
-) -> Result<(), AllocError>
-    ensures { OnOk result (AddsStep mark.now (option_copied touch.entry) steps.old.items steps.new.items) }
+    is_told: bool,
+) -> Result<Option<ToldEvent>, AllocError>
+    ensures step { IfOk result (λ found. IsEntry (mark.now, option_copied touch.entry) found) }
+    ensures next { IfOk result (λ found. IfSome found (IsAlone event)) }
+    ensures told { IfOk result (λ found. is_some found ≡ (is_told && is_known mark.now.event (option_copied touch.entry))) }
 {
+    if !is_told {
+        return Ok(None);
+    }
     match mark.event {
         Event::Release(group) => {
             let code = context.code(mark.stand.as_ref())?;
-            steps.push(ToldEvent::Release { group, code })?;
-            Ok(())
+            Ok(Some(ToldEvent::Release { event, group, code }))
         }
         Event::Item(_) => match touch {
             Some(touch) => {
-                let step = access_step(context, touch, mark)?;
-                steps.push(step)?;
-                Ok(())
+                let step = access_step(context, event, touch, mark)?;
+                Ok(Some(step))
             }
-            None => Ok(()),
+            None => Ok(None),
         },
     }
 }
 
-/// How many accesses there are up to an event, where so many are before it.
-fn with_event(accesses: usize, event: Event) -> usize
-    ensures { accesses < 2 ^ 64 - 1 → result ≡ accesses + cond (is_access event) 1 0 }
-{
-    match event {
-        Event::Item(_) => accesses.saturating_add(1),
-        Event::Release(_) => accesses,
+/// Steps, and how many events behind them aren't told.
+#[derive(Drop)]
+struct StepList {
+    steps: Vec<ToldEvent>,
+    omitted: usize,
+}
+
+impl StepList {
+    /// No event.
+    fn new(alloc: Global) -> Self
+        ensures nothing { shown_of result ≡ [] }
+        ensures row { IsRow result }
+    {
+        StepList {
+            steps: Vec::new(alloc),
+            omitted: 0,
+        }
+    }
+
+    /// Adds a step of the events that aren't told, if there are any, which are the last of so many events.
+    fn push_omitted(&mut self, events: usize) -> Result<(), AllocError>
+        requires { length (shown_of self.old) ≡ events }
+        ensures nothing { OnOk result (self.new.omitted ≡ 0) }
+        ensures shown { OnOk result (flat_map entries self.new.steps.items ≡ shown_of self.old) }
+        ensures row { OnOk result (IsRow self.old → EndsRow (nat_lt 0 self.old.omitted) self.new.steps.items) }
+    {
+        if self.omitted > 0 {
+            self.steps.push(ToldEvent::Omitted {
+                event: (events - self.omitted) as u64 + 1,
+                events: self.omitted as u64,
+            })?;
+            self.omitted = 0;
+        }
+        Ok(())
+    }
+
+    /// Adds the event behind so many others, by its step if it is told.
+    fn push(&mut self, events: usize, step: Option<ToldEvent>) -> Result<(), AllocError>
+        requires few { events < 2 ^ 64 - 1 }
+        requires behind { length (shown_of self.old) ≡ events }
+        requires next { IfSome step (IsAlone (events + 1)) }
+        ensures shown { OnOk result (shown_of self.new ≡ shown_of self.old ++ step ∷ []) }
+        ensures row { OnOk result (IsRow self.old → IsRow self.new) }
+    {
+        match step {
+            Some(step) => {
+                self.push_omitted(events)?;
+                self.steps.push(step)?;
+            }
+            None => self.omitted += 1,
+        }
+        Ok(())
     }
 }
 
-/// The access of a number, if there is one.
-fn touch_at(touches: &[Touch], number: usize) -> Option<&Touch>
-    ensures { option_copied result ≡ slice_get touches.now number }
+/// The steps of the events that were played, of which these are told.
+fn told_steps(
+    context: &Context<'_>,
+    played: &Played,
+    told: &[bool],
+) -> Result<Vec<ToldEvent>, AllocError>
+    requires long { length told.now ≡ length played.now.marks.items }
+    requires known { AreKnown (events_made 0 played.now.marks.items played.now.touches.items) told.now }
+    ensures row { IfOk result (λ steps. AreInRow false 0 steps.items) }
+    ensures told { IfOk result (λ steps. AllZip IsEntry (events_made 0 played.now.marks.items played.now.touches.items) (flat_map entries steps.items)) }
+    ensures same { IfOk result (λ steps. map is_some (flat_map entries steps.items) ≡ told.now) }
 {
-    match touches.get(number) {
-        Some(touch) => Some(touch),
-        None => None,
-    }
-}
-
-/// The first marks.
-fn first_of(marks: &[Mark], most: usize) -> &[Mark]
-    ensures { result.now ≡ take most marks.now }
-{
-    if most < marks.len() {
-        &marks[..most]
-    } else {
-        marks
-    }
-}
-
-/// The first steps of what was played. An error is out of memory.
-pub fn steps_of(context: &Context<'_>, played: &Played) -> Result<Vec<ToldEvent>, AllocError>
-    ensures { IfOk result (λ steps. AreSteps played.now steps.items) }
-{
-    let mut steps = Vec::new(context.alloc);
+    let (marks, touches) = (played.marks.as_slice(), played.touches.as_slice());
+    let mut list = StepList::new(context.alloc);
     let mut accesses = 0usize;
-    let touches = played.touches.as_slice();
-    let first = first_of(played.marks.as_slice(), MOST_STEPS);
-    for mark in first {
-        push_step(context, mark, touch_at(touches, accesses), &mut steps)?;
+    for number in 0..marks.len() {
+        let mark = &marks[number];
+        let touch = access_of(mark.event, touches, accesses);
+        let step = step_of(context, number as u64 + 1, mark, touch, told[number])?;
+        list.push(number, step)?;
         accesses = with_event(accesses, mark.event);
     }
-    Ok(steps)
+    list.push_omitted(marks.len())?;
+    Ok(list.steps)
+}
+
+/// Two items and their groups.
+fn followed(context: &Context<'_>, items: (u32, u32)) -> Followed
+    ensures { result ≡ followed_of (group_items (setup_of context.now.launch.now).range) items.0 items.1 }
+{
+    let size = context.launch.group_size();
+    Followed {
+        first: items.0,
+        second: items.1,
+        first_group: items.0 / size,
+        second_group: items.1 / size,
+    }
+}
+
+/// The steps of what was played, at most so many of which are told, of the two items that a fault names. The last ones
+/// are told, so that those of the fault are. An error is out of memory.
+pub fn steps_of(
+    context: &Context<'_>,
+    played: &Played,
+    items: (u32, u32),
+    most: usize,
+) -> Result<Vec<ToldEvent>, AllocError>
+    ensures { IfOk result (λ steps. AreSteps (group_items (setup_of context.now.launch.now).range) played.now items.0 items.1 most steps.items) }
+{
+    let told = told_events(context.alloc, played, followed(context, items), most)?;
+    told_steps(context, played, told.as_slice())
 }
 
 /// The items that make events, each as often as it makes one.

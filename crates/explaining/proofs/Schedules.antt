@@ -12,11 +12,12 @@ use Rattle.host_commands.specs.declared.command.Command.TheVariants as command
 use Rattle.fault_lines.specs.ScheduleFile.{IsScheduleFile}
 use Rattle.simfile.specs.Faults.{NoScript}
 use Rattle.simfile.specs.Script.{IsScript}
-use Rattle.explaining.specs.Explaining.{Explained, IsTold, NoLaunch, Tells, Unexplained, Unled, Untold}
+use Rattle.telling.specs.Judged.{NoLaunch, Tells, Untold}
+use Rattle.explaining.specs.Explaining.{Explained, IsTold, Unexplained, Unled}
 use Rattle.explaining.specs.Leading.{Leads}
 use Rattle.simfile.specs.declared.faults.RunFault.{RunFault}
 use Rattle.simfile.specs.declared.faults.RunFault.TheVariants as fault
-use Rattle.explaining.specs.declared.told.ExplainedCase.{ExplainedCase}
+use Rattle.telling.specs.declared.told.ExplainedCase.{ExplainedCase}
 use Rattle.limits.specs.declared.Configuration.{Configuration}
 
 -- the commands that were performed are those before a ticket, on a new device

@@ -1,41 +1,25 @@
--- What an explanation tells of a launch and its fault, and the text that is written of it (own).
-use Rattle.std.specs.Prelude.{◌≡◌, ◌⊎◌, ℕ, suc, Bool, true, false, ⊤, Option, None, Some, List, [], ◌∷◌, ◌++◌, codes, decimal, string_bytes, take, slice_get, MatchBool, MatchOption}
-use Rattle.std.specs.Str.Lossy.{utf8_lossy}
-use Rattle.clmodel.specs.Launch.{Launch}
-use Rattle.clmodel.specs.Next.{launch_of}
-use Rattle.clmodel.specs.Outcome.{events_of}
-use Rattle.clmodel.specs.Setup.{group_items}
+-- The text that is written of a script, of a schedule file or of a source (own).
+use Rattle.std.specs.Prelude.{◌≡◌, ◌⊎◌, ℕ, suc, Bool, true, false, ⊤, Option, None, Some, List, [], ◌∷◌, ◌++◌, codes, decimal, string_bytes, take, MatchBool, MatchOption}
 use Rattle.clmodel.specs.declared.fault.Fault.{Fault}
 use Rattle.clmodel.specs.declared.schedule.EventRun.{EventRun}
-use Rattle.clmodel.specs.declared.setup.Range.{Range}
-use Rattle.device.specs.Kept.{IsCodeOf}
-use Rattle.device.specs.Machine.{Machine, Step, opening, kernel_of, program_of, setup_of, bytes_of}
+use Rattle.device.specs.Machine.{Machine, Step, opening}
 use Rattle.explain_json.specs.Lines.{IsExplanationLine}
-use Rattle.fault_play.specs.PlayedOut.{IsPlayedOut}
-use Rattle.fault_play.specs.declared.played.Played.{Played}
-use Rattle.explain_items.specs.Named.{AreTold, told_items}
-use Rattle.explain_items.specs.declared.context.Context.{Context}
 use Rattle.explain_text.specs.Texts.{IsText}
 use Rattle.explanation.specs.declared.told.Explanation.{Explanation}
-use Rattle.explanation.specs.declared.told.FaultFacts.{FaultFacts}
-use Rattle.explanation.specs.declared.told.LaunchFacts.{LaunchFacts}
-use Rattle.launch_facts.specs.Facts.{fault_number, named_items}
+use Rattle.fault_lines.specs.ScheduleFile.{IsScheduleFile}
 use Rattle.host_commands.specs.declared.command.BuildFault.{BuildFault}
 use Rattle.host_commands.specs.declared.command.Command.{Command}
-use Rattle.host_commands.specs.declared.command.Command.TheVariants as command
 use Rattle.host_commands.specs.declared.command.Refusal.{Refusal}
 use Rattle.host_commands.specs.declared.command.Refusal.TheVariants as refusal
 use Rattle.host_commands.specs.declared.command.Reply.{Reply}
 use Rattle.host_commands.specs.declared.command.Reply.TheVariants as reply
-use Rattle.item_step.specs.Launches as launches
-use Rattle.launch_facts.specs.Commands.{HasNoSource, IsSource}
-use Rattle.launch_facts.specs.declared.commands.ProgramSource.{ProgramSource}
-use Rattle.fault_lines.specs.ScheduleFile.{IsScheduleFile}
-use Rattle.fault_lines.specs.Text.{fault_text, schedule_text}
 use Rattle.simfile.specs.Places.{StandsAt}
 use Rattle.simfile.specs.Script.{IsScript}
 use Rattle.simfile.specs.declared.script.CommandPlace.{CommandPlace}
-use Rattle.explaining.specs.Explaining.{IsShort, is_source}
+use Rattle.telling.specs.Told.{HasWhole}
+use Rattle.telling.specs.declared.facts.TellOptions.{TellOptions}
+use Rattle.telling.specs.declared.told.ExplainedCase.{ExplainedCase}
+use Rattle.explaining.specs.Explaining.{is_source}
 use Rattle.explaining.specs.Leading.{HadMemory, IsFirst, Leads, goes_on}
 use Rattle.explaining.specs.Refusing.{TellsRefusal}
 use Rattle.explaining.specs.declared.answers.Answer.{Answer}
@@ -43,82 +27,12 @@ use Rattle.explaining.specs.declared.facts.ExplainOptions.{ExplainOptions}
 use Rattle.explaining.specs.declared.facts.Format.{Format}
 use Rattle.explaining.specs.declared.facts.Format.TheVariants as format
 use Rattle.explaining.specs.declared.facts.Given.{Given}
-use Rattle.explaining.specs.declared.told.ExplainedCase.{ExplainedCase}
 use Rattle.explaining.specs.declared.walks.Walked.{Walked}
 use Rattle.explaining.specs.declared.walks.Walked.TheVariants as walked
-use Rattle.limits.specs.declared.Configuration.{Configuration}
 
--- a schedule as a schedule file has it
-abbrev pub schedule_words : List EventRun → List ℕ
-schedule_words runs = utf8_lossy (schedule_text runs)
-
--- the launch of a ticket, whose command stands at this place in the script, over this index space
-pub record TellsLaunch (ticket : ℕ) (place : CommandPlace) (range : Range) (facts : LaunchFacts) : Type 0 where
-  pub command : facts.command ≡ ticket
-  pub script_line : facts.script_line ≡ place.line
-  pub global_size : facts.global_size.items ≡ range.global
-  pub local_size : facts.local_size.items ≡ range.local
-  pub offset : facts.offset.items ≡ range.offset
-
--- a fault by its number and its line
-pub record TellsFault (f : Fault) (facts : FaultFacts) : Type 0 where
-  pub number : facts.number ≡ fault_number f
-  pub line : string_bytes facts.line ≡ utf8_lossy (fault_text f)
-
--- the two items that a fault names, or the one that it names twice
-abbrev pub AreNamed : Fault → ℕ → ℕ → Type 0
-AreNamed f first second = ((named_items f ≡ first ∷ []) × (second ≡ first)) ⊎ (named_items f ≡ first ∷ second ∷ [])
-
--- The items of an explanation: those that the fault names, each where it stands behind the events of a schedule that
--- were played.
-pub record TellsItems (launch : Launch) (context : Context) (f : Fault) (runs : List EventRun) (e : Explanation) : Type 0 where
-  pub first : ℕ
-  pub second : ℕ
-  pub named : AreNamed f first second
-  pub most : ℕ
-  pub played : Played
-  pub plays : IsPlayedOut launch (launches.started context.launch.now) (group_items (launches.setup_of context.launch.now).range) (events_of runs) f first second most played
-  pub told : AreTold context played.marks.items (told_items f played) e.items.items
-
--- an explanation of a launch and its fault by a schedule
-pub record IsExplained (launch : Launch) (context : Context) (ticket : ℕ) (place : CommandPlace) (range : Range) (f : Fault) (runs : List EventRun) (e : Explanation) : Type 0 where
-  pub launched : TellsLaunch ticket place range e.launch
-  pub faulted : TellsFault f e.fault
-  pub schedule : string_bytes e.schedule.short ≡ schedule_words runs
-  pub items : TellsItems launch context f runs e
-
--- the source of a program begins in the line of the script behind that of its command
-abbrev pub BeginsBehind : List ℕ → List Command → ProgramSource → Type 0
-BeginsBehind script commands source = (place : CommandPlace) × StandsAt script commands source.program_command place × (source.first_line ≡ place.source_line)
-
--- the source of a kernel's program, where these commands of a script were done: that of one of them, by the line in
--- which it begins; an empty one, where none of them made the kernel, or before it its program
-abbrev pub IsSourceOf : List ℕ → List Command → List Bool → List ℕ → ProgramSource → Type 0
-IsSourceOf script commands done kernel source =
-    ((source.text.now ≡ []) × HasNoSource commands done kernel)
-    ⊎ (IsSource commands done kernel source.kernel_command source.program.now source.function.now source.text.now source.program_command × BeginsBehind script commands source)
-
--- the schedule that is told: where it is wanted as it is given, the given one
-abbrev pub IsAsWanted : Bool → List EventRun → List EventRun → Type 0
-IsAsWanted as_given given runs = MatchBool as_given (runs ≡ given) ⊤
-
--- An explanation of the launch of a ticket, whose schedule leads the launch to the fault and isn't longer than the
--- given one, or is that very one; its places are those in the source of the kernel's program, and its line that of the
--- launch's command. The launch runs this kernel's code.
-pub record HasWhole (m : Machine) (as_given : Bool) (script : List ℕ) (commands : List Command) (ticket : ℕ) (f : Fault) (given runs : List EventRun) (e : Explanation) : Type 0 where
-  pub kernel : List ℕ
-  pub range : Range
-  pub at : slice_get commands ticket ≡ Some (command.Launch kernel range)
-  pub is_short : IsShort (launch_of (setup_of m (kernel_of m kernel) range) (bytes_of m)) f given runs
-  pub wanted : IsAsWanted as_given given runs
-  pub context : Context
-  pub same : launches.setup_of context.launch.now ≡ setup_of m (kernel_of m kernel) range
-  pub code : IsCodeOf (program_of m (kernel_of m kernel).program) (kernel_of m kernel).function (launches.code_of context.launch.now)
-  pub source : IsSourceOf script commands context.done.now kernel context.program
-  pub place : CommandPlace
-  pub stands : StandsAt script commands ticket place
-  pub explained : IsExplained (launch_of (setup_of m (kernel_of m kernel) range) (bytes_of m)) context ticket place range f runs e
-  pub schedule : string_bytes e.schedule.given ≡ schedule_words given
+-- what is asked for of one fault
+abbrev pub tell_options : ExplainOptions → TellOptions
+tell_options options = record { budget = options.configuration.budget; as_given = options.as_given; steps = options.steps }
 
 -- the text of an explanation: one that is defined, or the line of JSON of the explanation's value
 abbrev pub IsTextOf : Format → Explanation → List ℕ → Type 0
@@ -131,30 +45,30 @@ AnswersTo f word None answer = string_bytes answer.text ≡ word
 AnswersTo f word (Some told) answer = IsTextOf f told.whole (string_bytes answer.text)
 
 -- what is told of a case on a new device, to which the commands before its ticket led
-pub record IsToldThere (configuration : Configuration) (as_given : Bool) (script : List ℕ) (commands : List Command) (ticket : ℕ) (f : Fault) (given : List EventRun) (told : ExplainedCase) : Type 0 where
+pub record IsToldThere (options : ExplainOptions) (script : List ℕ) (commands : List Command) (ticket : ℕ) (f : Fault) (given : List EventRun) (told : ExplainedCase) : Type 0 where
   pub machine : Machine
-  pub led : Leads (opening configuration) (take ticket commands) machine
-  pub whole : HasWhole machine as_given script commands ticket f given told.schedule told.whole
+  pub led : Leads (opening options.configuration) (take ticket commands) machine
+  pub whole : HasWhole machine (tell_options options) script commands ticket f given told.schedule told.whole
 
 -- what is told of the case of a schedule file
-pub record IsToldOf (configuration : Configuration) (as_given : Bool) (script schedule : List ℕ) (told : ExplainedCase) : Type 0 where
+pub record IsToldOf (options : ExplainOptions) (script schedule : List ℕ) (told : ExplainedCase) : Type 0 where
   pub commands : List Command
   pub ticket : ℕ
   pub f : Fault
   pub runs : List EventRun
   pub is : IsScript script commands
   pub file : IsScheduleFile schedule ticket f runs
-  pub there : IsToldThere configuration as_given script commands ticket f runs told
+  pub there : IsToldThere options script commands ticket f runs told
 
 -- the text for a schedule file
-abbrev pub SaysOf : Configuration → Bool → Format → List ℕ → List ℕ → Bool → List ℕ → Type 0
-SaysOf configuration as_given f script schedule true text = (told : ExplainedCase) × IsToldOf configuration as_given script schedule told × IsTextOf f told.whole text
-SaysOf configuration as_given f script schedule false text = text ≡ codes "no\n"
+abbrev pub SaysOf : ExplainOptions → List ℕ → List ℕ → Bool → List ℕ → Type 0
+SaysOf options script schedule true text = (told : ExplainedCase) × IsToldOf options script schedule told × IsTextOf options.format told.whole text
+SaysOf options script schedule false text = text ≡ codes "no\n"
 
 -- a text of a launch's fault, behind which a machine is this one, as it was before
 pub record TellsFaulted (options : ExplainOptions) (script : List ℕ) (commands : List Command) (machine : Machine) (ticket : ℕ) (f : Fault) (runs : List EventRun) (text : List ℕ) : Type 0 where
   pub told : ExplainedCase
-  pub whole : HasWhole machine options.as_given script commands ticket f runs told.schedule told.whole
+  pub whole : HasWhole machine (tell_options options) script commands ticket f runs told.schedule told.whole
   pub written : IsTextOf options.format told.whole text
 
 -- a text of a refused command, behind which a machine is this one, as it was before; any text where a build was refused
@@ -241,4 +155,4 @@ SaysSource false text = text ≡ codes "ok\n"
 abbrev pub Says : ExplainOptions → Given → Bool → List ℕ → Type 0
 Says options given answer text =
     MatchBool (is_source given.name.now) (SaysSource answer text)
-    (MatchOption given.schedule (SaysScript options given.script.now answer text) (λ schedule. SaysOf options.configuration options.as_given options.format given.script.now schedule.now answer text))
+    (MatchOption given.schedule (SaysScript options given.script.now answer text) (λ schedule. SaysOf options given.script.now schedule.now answer text))

@@ -1,7 +1,7 @@
 //! What a walk over the commands of a script ended at, told.
 #![tactic(auto)]
 
-ghost use Rattle.std.specs.Prelude.{◌≡◌, IfOk, IfErr, string_bytes};
+ghost use Rattle.std.specs.Prelude.{IfOk, IfErr, string_bytes};
 ghost use Rattle.device.specs.Machine.{machine_of};
 ghost use Rattle.host_commands.specs.declared.command.Reply.TheVariants as reply;
 ghost use Rattle.simfile.specs.Faults.{NoScript};
@@ -11,8 +11,8 @@ ghost use Rattle.explaining.specs.Whole.{TellsEnd, TellsFaulted};
 
 use crate::answers::answer_of;
 use crate::building::explain_unbuilt;
+use crate::cases::{PerformedScript, explain_case};
 use crate::refusing::explain_refused;
-use crate::told::{PerformedScript, explain_case};
 use crate::walks::{Case, Unbuilt, Walked};
 use device::Device;
 use simfile::faults::RunFault;

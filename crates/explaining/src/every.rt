@@ -12,9 +12,9 @@ ghost use Rattle.explaining.specs.Leading.{IsMet, StandsBehind};
 ghost use Rattle.explaining.specs.Whole.{SaysAll, TellsEach, heading};
 
 use crate::answers::{Answer, word_answer};
+use crate::cases::PerformedScript;
 use crate::ends::end_text;
 use crate::facts::{ExplainOptions, Format, Given};
-use crate::told::{PerformedScript, place_of};
 use crate::walks::{Walked, end_of, perform};
 use device::{Command, Device};
 use simfile::copies::copies_of;
@@ -22,6 +22,7 @@ use simfile::faults::RunFault;
 use simfile::script::CommandPlace;
 use std::alloc::{AllocError, Global};
 use std::fmt::Write;
+use telling::place_of;
 
 /// A script that was read: what is given of it, how it is told, and its commands with their places.
 #[derive(Clone, Copy)]

@@ -32,7 +32,7 @@ pub(crate) struct Round<'a, 's, 'c, C> {
     buffers: &'a Buffers,
     /// Logs for the groups of this round and of further ones
     spares: &'s SpareLogs,
-    /// They are made with the number of each group that is run
+    /// Made around the run of each group, with its number
     calls: &'c C,
     /// The number of the first group
     first: u32,
@@ -49,10 +49,11 @@ pub(crate) struct Round<'a, 's, 'c, C> {
     ghost covered: { last ≤ first + count * each },
 }
 
-/// How many units of so many groups each there are, where the last one may have fewer.
+/// How many units there are, of so many groups each but for the last, which may have fewer.
 fn unit_count(groups: u32, each: u32) -> u32
     requires { 0 < each }
-    ensures { groups ≤ result * each }
+    ensures all { groups ≤ result * each }
+    ensures no_empty_one { result * each < groups + each }
 {
     groups.div_ceil(each)
 }

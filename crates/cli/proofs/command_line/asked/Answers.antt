@@ -31,9 +31,13 @@ pub returns-in-Some-subcommand_matches-6 : goal.returns-in-Some-subcommand_match
 returns-in-Some-subcommand_matches-6 c =
     reads_form c.args.matches.now (codes "version") _ c.version_of.result (c.in-Some-subcommand_matches-6.ensures.found.0 refl) c.in-Some-subcommand_matches-6.ensures.rows c.version_of.ensures
 
+pub returns-in-Some-subcommand_matches-7 : goal.returns-in-Some-subcommand_matches-7
+returns-in-Some-subcommand_matches-7 c =
+    reads_form c.args.matches.now (codes "widen") _ c.widen_of.result (c.in-Some-subcommand_matches-7.ensures.found.0 refl) c.in-Some-subcommand_matches-7.ensures.rows c.widen_of.ensures
+
 pub returns : goal.returns
 returns c =
-    reads_form c.args.matches.now (codes "widen") _ c.widen_of.result (c.in_ok-subcommand_matches.ensures.found.0 refl) c.in_ok-subcommand_matches.ensures.rows c.widen_of.ensures
+    reads_form c.args.matches.now (codes "plain") _ c.plain_of.result (c.in_ok-subcommand_matches.ensures.found.0 refl) c.in_ok-subcommand_matches.ensures.rows c.plain_of.ensures
 
 pub returns-in_err-subcommand_matches : goal.returns-in_err-subcommand_matches
 returns-in_err-subcommand_matches c =
@@ -46,4 +50,5 @@ returns-in_err-subcommand_matches c =
     (not_found c.subcommand_matches-5.result (codes "serve") m (c.in_default-subcommand_matches-4).not-Some c.subcommand_matches-5.ensures.found)
     (not_found c.subcommand_matches-6.result (codes "explain") m (c.in_default-subcommand_matches-5).not-Some c.subcommand_matches-6.ensures.found)
     (not_found c.subcommand_matches-7.result (codes "version") m (c.in_default-subcommand_matches-6).not-Some c.subcommand_matches-7.ensures.found)
+    (not_found c.subcommand_matches-8.result (codes "widen") m (c.in_default-subcommand_matches-7).not-Some c.subcommand_matches-8.ensures.found)
     (λ named. false≢true (c.in_err-subcommand_matches.ensures.found.1 named)))

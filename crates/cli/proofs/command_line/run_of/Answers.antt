@@ -1,13 +1,25 @@
 use Rattle.std.proofs.Common.{refl, rules, ◌≡◌, ◌∙◌, ap, sym, codes, option_map, None, Some}
 use Rattle.clap.specs.Words.{found_of, first_of, rows_of}
-use Rattle.clap.proofs.WalkLemmas.{first_value-rows}
+use Rattle.clap.proofs.WalkLemmas.{first_value-rows, one_text-rows}
 use Rattle.cli.proofs.CommandLines.{not_there, run_parts}
 use Rattle.cli.proofs.command_line.run_of.Goals as goal
 
 pub returns : goal.returns
 returns c =
     let found : c.get_str.result ≡ Some c.in_ok-file.file = search rules in
-    (refl, (sym (first_value-rows (found_of c.args.run.now) (codes "FILE")) ∙ (sym c.get_str.ensures ∙ ap (option_map (λ s. s.now)) found), c.in_ok-workers.ensures.given, c.in_ok-configuration.ensures))
+    let lines = one_text-rows (found_of c.args.run.now) (codes "lines") in (
+      refl,
+      (
+        sym (first_value-rows (found_of c.args.run.now) (codes "FILE")) ∙ (sym c.get_str.ensures ∙ ap (option_map (λ s. s.now)) found),
+        c.in_ok-workers.ensures.given,
+        c.in_ok-configuration.ensures,
+        record {
+          there = λ is. c.get_flag-lines.ensures.value (lines ∙ is);
+          absent = λ is. c.get_flag-lines.ensures.other (lines ∙ is);
+          unknown = λ is. c.get_flag-lines.ensures.none (lines ∙ is);
+        },
+      ),
+    )
 
 pub returns-in_err-file : goal.returns-in_err-file
 returns-in_err-file c =

@@ -3,7 +3,7 @@ use Rattle.std.specs.Prelude.{slice_get}
 use Rattle.std.proofs.lemmas.Option.{slice_get_within}
 use Rattle.device.specs.Machine.{machine_of}
 use Rattle.explaining.proofs.Each.{end_told, goes_told, stands_at}
-use Rattle.explaining.proofs.Telling.{if_none}
+use Rattle.telling.proofs.Telling.{if_none}
 use Rattle.explaining.proofs.every.tell_command.Goals as goal
 
 pub push_end-requires-clause-within : goal.push_end-requires-clause-within

@@ -13,7 +13,7 @@ returns-clause-told c =
 
 pub returns-clause-whole : goal.returns-clause-whole
 returns-clause-whole c =
-    whole_there c.args.options.configuration c.args.options.as_given c.args.given.script.now c.args.commands.now c.args.ticket c.args.fault.now c.args.schedule (machine_of c.perform_all.new.device) c.explain_case.result
+    whole_there c.args.options c.args.given.script.now c.args.commands.now c.args.ticket c.args.fault.now c.args.schedule (machine_of c.perform_all.new.device) c.explain_case.result
     (led_there c.args.options.configuration c.args.commands.now c.in_ok-before.before.items c.args.ticket (machine_of c.new-device.result) (machine_of c.perform_all.new.device) c.new-device.ensures
     (c.in_ok-before.ensures ∙ c.split_at.ensures.front) c.in_ok-done.ensures)
     c.explain_case.ensures.whole

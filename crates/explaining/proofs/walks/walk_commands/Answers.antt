@@ -5,7 +5,7 @@ use Rattle.device.specs.Machine.{machine_of}
 use Rattle.host_commands.specs.declared.command.Command.{Command}
 use Rattle.explaining.specs.Leading.{LeadsCleanly}
 use Rattle.explaining.proofs.Performing.{cleanly_more, walk_ends}
-use Rattle.explaining.proofs.Telling.{if_none}
+use Rattle.telling.proofs.Telling.{if_none}
 use Rattle.explaining.proofs.walks.walk_commands.Goals as goal
 
 pub loop-command-init : goal.loop-command-init
