@@ -13,8 +13,8 @@ typedef struct {
     const char *element; // its number as text, NULL where it is a byte
 } memory_place;
 
-// What a step of an explanation loads or stores, in the client's words: `data[1] = 0.1f`. False where it moves no number,
-// or the client has no name for its memory.
+// What a step of an explanation loads or stores, in the client's words: `data[1] = 0.1f`. False where it moves no
+// number, or the client has no name for its memory.
 bool put_accessed(char *room, size_t n, cl_kernel k, json step);
 // Tells that of the step that is the event of an item. Nothing where the explanation hasn't that.
 void tell_accessed(cl_kernel k, json explanation, json item);

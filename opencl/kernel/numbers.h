@@ -25,8 +25,8 @@ size_t number_offset(const element *e, size_t number);
 void put_element_name(char *room, size_t n, const element *e);
 
 typedef enum { IS_NUMBER, IS_NO_NUMBER, DOES_NOT_FIT } number_state;
-// Reads a number of `e`: decimal, or hexadecimal behind 0x or where it is always so; of floating point as C has it, with
-// an `f` behind it or without. Its bytes go into `to`.
+// Reads a number of `e`: decimal, or hexadecimal behind 0x or where it is always so; of floating point as C has it,
+// with an `f` behind it or without. Its bytes go into `to`.
 number_state take_number(const char *text, const element *e, bool is_hex, unsigned char *to);
 // The same of a number in two's complement, with its sign. False where the type has none so large.
 bool store_integer(__int128 value, const element *e, unsigned char *to);
