@@ -20,8 +20,11 @@ import sys
 # The C library of Debian 11.
 OLDEST = (2, 31)
 # What has a newer version besides the one of the first release, and does the same in both.
-RENAMED = {"__libc_start_main", "pthread_attr_setguardsize", "pthread_create", "pthread_detach", "pthread_join",
-           "pthread_kill", "pthread_mutexattr_settype", "pthread_once"}
+THREAD_CALLS = """attr_getguardsize attr_getstack attr_getstacksize attr_setguardsize attr_setstack attr_setstacksize
+create detach getspecific join key_create key_delete kill mutex_trylock mutexattr_destroy mutexattr_init
+mutexattr_settype once rwlock_destroy rwlock_init rwlock_rdlock rwlock_tryrdlock rwlock_trywrlock rwlock_unlock
+rwlock_wrlock setspecific"""
+RENAMED = {"__libc_start_main", *(f"pthread_{it}" for it in THREAD_CALLS.split())}
 # What older.c gives.
 GIVEN = {"__x86_get_cpuid_feature_leaf"}
 FIRST = "GLIBC_2.2.5"
