@@ -26,13 +26,10 @@ static void read_leaf(struct cpuid_feature *to, unsigned int number, unsigned in
     to->active_array[3] = at[3];
 }
 
-// In front of `main`, and of all threads.
-__attribute__((constructor)) static void read_features(void) {
-    read_leaf(&features[LEAF_1], 1, VECTORS_OF_1);
-    read_leaf(&features[LEAF_80000001], 0x80000001, VECTORS_OF_80000001);
-}
-
-// Of a leaf that isn't read nothing is there, so that nothing is used of it.
+// A program asks as it starts, before there are threads, and maybe before this library is begun. Of a leaf that isn't
+// read nothing is there, so that nothing is used of it.
 const struct cpuid_feature *__x86_get_cpuid_feature_leaf(unsigned int leaf) {
+    if (leaf == LEAF_1) read_leaf(&features[leaf], 1, VECTORS_OF_1);
+    if (leaf == LEAF_80000001) read_leaf(&features[leaf], 0x80000001, VECTORS_OF_80000001);
     return &features[leaf < LEAVES ? leaf : LEAVES];
 }
