@@ -72,14 +72,22 @@ static bool name_in_buffer(cl_kernel k, const memory_place *m, uint64_t byte, na
     return false;
 }
 
-static bool name_in_local(cl_kernel k, const memory_place *m, uint64_t byte, named_place *to) {
-    for (unsigned i = 0; i < k->form->local_count; i++) {
-        const local_object *l = &k->form->locals[i];
+static bool name_in_local(const kernel_form *form, const memory_place *m, uint64_t byte, named_place *to) {
+    for (unsigned i = 0; i < form->local_count; i++) {
+        const local_object *l = &form->locals[i];
         if (strlen(l->judged) != m->length || strncmp(l->judged, m->name, m->length)) continue;
         name_element(to, l->shown, l->type, byte, l->is_parameter);
         return true;
     }
     return false;
+}
+
+bool put_local_name(char *room, size_t n, const kernel_form *form, const char *object, uint64_t byte, uint64_t bytes) {
+    const memory_place m = {.is_local = true, .name = object, .length = strlen(object)};
+    named_place at;
+    if (!name_in_local(form, &m, byte, &at) || !at.number || at.number->width != bytes) return false;
+    snprintf(room, n, "%s", at.name);
+    return true;
 }
 
 // ---- accesses ----
@@ -125,7 +133,7 @@ bool put_accessed(char *room, size_t n, cl_kernel k, json step) {
     if (!json_number(json_member(step, "byte"), &byte) || !json_number(json_member(step, "bytes"), &bytes) ||
         !text_number(json_member(step, "value"), &value) || !json_word(json_member(step, "does"), does, sizeof does) ||
         !read_object(json_member(step, "memory"), object, sizeof object, &m) ||
-        !(m.is_local ? name_in_local : name_in_buffer)(k, &m, byte, &at))
+        !(m.is_local ? name_in_local(k->form, &m, byte, &at) : name_in_buffer(k, &m, byte, &at)))
         return false;
     const type plain = {.kind = INTEGER_TYPE, .width = (unsigned)bytes};
     const type *of = at.number && at.number->width == bytes ? at.number : &plain;

@@ -318,7 +318,8 @@ static void write_reason(writer *w, json reason) {
     json name;
     text words = {.arena = w->arena};
     const char *before = "{";
-    bool has_words = add_reason(&words, w->kernel->source, w->kernel->form, reason) && words.length;
+    bool has_words =
+        add_reason(&words, w->kernel->source, w->kernel->form, w->fault->explanation, reason) && words.length;
     for (json m = json_first_member(reason, &name); m.at; m = json_next_member(reason, m, &name), before = ",") {
         add(w->to, before);
         write_raw(w, name);

@@ -621,7 +621,7 @@ static void tell_fault(cl_kernel k, const char *reply, const launch_sizes *s) {
          items = json_member(whole, "items");
     for (json i = json_first(items); i.at; i = json_next(items, i)) tell_spot(k, has_place, whole, i);
     tell_launch(k, line, s, has_place ? &place : NULL, is_held);
-    if (!is_held) tell_reasons(k->source, k->form, json_member(whole, "why"));
+    if (!is_held) tell_reasons(k->source, k->form, whole);
     else tell("  why: such an access of a buffer with this flag is undefined (OpenCL 1.2, table 5.3)");
     tell_reply(line, is_held ? &place : NULL);
     char *held = is_held ? held_line(line) : NULL;
