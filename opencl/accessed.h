@@ -13,7 +13,12 @@ typedef struct {
     const char *element; // its number as text, NULL where it is a byte
 } memory_place;
 
-// Tells what an item of an explanation loads from the place of its fault or stores there: `data[1] = 0.1f`. Nothing
-// where the explanation hasn't that.
-void tell_accessed(cl_kernel k, const memory_place *m, json explanation, json item);
+// What a step of an explanation loads or stores, in the client's words: `data[1] = 0.1f`. False where it moves no
+// number, or the client has no name for its memory.
+bool put_accessed(char *room, size_t n, cl_kernel k, json step);
+// The client's name of a number in local memory, of so many bytes from one on, by the name that the judged text has for
+// the object: `t[1]`. False where that is no number of the client's there.
+bool put_local_name(char *room, size_t n, const kernel_form *form, const char *object, uint64_t byte, uint64_t bytes);
+// Tells that of the step that is the event of an item. Nothing where the explanation hasn't that.
+void tell_accessed(cl_kernel k, json explanation, json item);
 #endif

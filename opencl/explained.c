@@ -1,13 +1,15 @@
 // Faults as JSON in the client's terms. An explanation is written once more member by member: what names the judged
 // text names the client's then, and what has no place there is null, or left out of its list.
 #include "explained.h"
+#include "accessed.h"
 #include "reasons.h"
 #include <errno.h>
 #include <inttypes.h>
 #include <stdio.h>
 #include <string.h>
 
-enum { MOST_TEXTS = 64, MOST_MARKED = 48 };
+// (an explanation of version 2 is written as one)
+enum { VERSION = 3, MOST_TEXTS = 64, MOST_MARKED = 48 };
 
 // What is being written.
 typedef struct {
@@ -316,7 +318,8 @@ static void write_reason(writer *w, json reason) {
     json name;
     text words = {.arena = w->arena};
     const char *before = "{";
-    bool has_words = add_reason(&words, w->kernel->source, w->kernel->form, reason) && words.length;
+    bool has_words =
+        add_reason(&words, w->kernel->source, w->kernel->form, w->fault->explanation, reason) && words.length;
     for (json m = json_first_member(reason, &name); m.at; m = json_next_member(reason, m, &name), before = ",") {
         add(w->to, before);
         write_raw(w, name);
@@ -353,6 +356,51 @@ static void write_object(writer *w, json v) {
         if (!write_value(w, m)) add(w->to, "null");
     }
     add(w->to, *before == '{' ? "{}" : "}");
+}
+
+// The memory of a step: local memory by the client's name.
+static void write_memory_of_step(writer *w, json memory) {
+    char words[256], *name;
+    text told = {.arena = w->arena};
+    bool is_local = json_string(memory, words, sizeof words) && !strncmp(words, "local ", 6);
+    if (!is_local || !(name = strchr(words + 6, ' '))) {
+        write_raw(w, memory);
+        return;
+    }
+    addf(&told, "%.*s%s", (int)(name + 1 - words), words, client_name(w, name + 1));
+    write_string(w, told.at);
+}
+
+// A step, with what it moves in the client's words.
+static void write_step(writer *w, json step) {
+    json name;
+    char words[512];
+    const char *before = "{";
+    for (json m = json_first_member(step, &name); m.at; m = json_next_member(step, m, &name), before = ",") {
+        add(w->to, before);
+        write_raw(w, name);
+        add(w->to, ":");
+        if (is_named(name, "memory")) write_memory_of_step(w, m);
+        else if (!write_value(w, m)) add(w->to, "null");
+    }
+    if (put_accessed(words, sizeof words, w->kernel, step)) {
+        begin_member(w, before, "text");
+        write_string(w, words);
+    }
+    add(w->to, "}");
+}
+
+static void write_steps(writer *w) {
+    json steps = json_member(w->fault->explanation, "steps");
+    bool is_first = true;
+    begin_member(w, ",", "steps");
+    add(w->to, "[");
+    for (json s = json_first(steps); s.at; s = json_next(steps, s)) {
+        add(w->to, is_first ? "" : ",");
+        write_step(w, s);
+        is_first = false;
+    }
+    add(w->to, "]");
 }
 
 static void write_list(writer *w, json v) {
@@ -415,7 +463,9 @@ static void write_sources(writer *w) {
 
 static void write_whole(writer *w) {
     json memory = json_member(w->fault->explanation, "memory");
-    add(w->to, "{\"version\":3");
+    unsigned long version = VERSION;
+    json_number(json_member(w->fault->explanation, "version"), &version);
+    addf(w->to, "{\"version\":%lu", version);
     begin_member(w, ",", "script");
     write_string(w, place_of_kernel(w).file);
     begin_member(w, ",", "launch");
@@ -429,7 +479,8 @@ static void write_whole(writer *w) {
     begin_member(w, ",", "why");
     write_reasons(w, json_member(w->fault->explanation, "why"));
     write_schedule(w);
-    write_rest(w, "steps", "[]");
+    write_steps(w);
+    if (version < VERSION) write_rest(w, "steps_left", "0");
     write_sources(w);
     add(w->to, "}\n");
 }

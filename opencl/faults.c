@@ -43,9 +43,11 @@ void check_settings(void) {
     const char *limits = setting("CLSIM_LIMITS");
     if (limits && strcmp(limits, "profile") && strcmp(limits, "large"))
         tell("CLSIM_LIMITS is profile or large, and not %s", limits);
-    size_t group = limits_of_device()->group;
+    size_t group = limits_of_device()->group, ticks = limits_of_device()->ticks;
     if (setting("CLSIM_LOCAL") && number_setting("CLSIM_LOCAL", 1, (long)group, 0) == 0)
         tell("CLSIM_LOCAL is a number from 1 to %zu, and not %s", group, setting("CLSIM_LOCAL"));
+    if (setting("CLSIM_BUDGET") && number_setting("CLSIM_BUDGET", 1, (long)ticks, 0) == 0)
+        tell("CLSIM_BUDGET is a number from 1 to %zu, and not %s", ticks, setting("CLSIM_BUDGET"));
 }
 
 // With CLSIM_STATUS=N the process ends with status N where a launch faulted, whatever it answers itself.
@@ -524,8 +526,9 @@ static void tell_loops(cl_kernel k, json spot) {
     free(all);
 }
 
-// Tells what an item of an explanation does, and where. One that has ended is told with its last access.
-static void tell_spot(cl_kernel k, const memory_place *m, json whole, json item) {
+// Tells what an item of an explanation does, and where, with the number that it moves where the fault is of memory. One
+// that has ended is told with its last access.
+static void tell_spot(cl_kernel k, bool is_access, json whole, json item) {
     unsigned long number;
     char does[32], words[96];
     if (!json_number(json_member(item, "item"), &number) || !json_word(json_member(item, "does"), does, sizeof does))
@@ -539,7 +542,7 @@ static void tell_spot(cl_kernel k, const memory_place *m, json whole, json item)
         snprintf(words, sizeof words, "  item %lu: %s", number, strcmp(does, "waits") ? does : "waits at the barrier");
         if (tell_at(k, words, spot)) tell_line(k, spot);
         else tell("%s, its place isn't known", words);
-        if (m) tell_accessed(k, m, whole, item);
+        if (is_access) tell_accessed(k, whole, item);
     }
     tell_calls_in_place(k, spot);
     tell_calls(k, json_member(spot, "calls"));
@@ -565,7 +568,9 @@ static char *explanation_of(cl_kernel k, const launch_sizes *s) {
     char *explanation = whole ? explain_script(script.at, script.length) : NULL;
     free_arena(&a);
     json all = json_text(explanation ? explanation : "", explanation ? strlen(explanation) : 0);
-    if (!explanation || !json_number(json_member(all, "version"), &version) || version == 3) return explanation;
+    // (of version 2 too, whose steps aren't numbered)
+    bool is_known = !json_number(json_member(all, "version"), &version) || version == 2 || version == 3;
+    if (!explanation || is_known) return explanation;
     free(explanation);
     return NULL;
 }
@@ -614,9 +619,9 @@ static void tell_fault(cl_kernel k, const char *reply, const launch_sizes *s) {
     char *explanation = explanation_of(k, s);
     json whole = json_text(explanation ? explanation : "", explanation ? strlen(explanation) : 0),
          items = json_member(whole, "items");
-    for (json i = json_first(items); i.at; i = json_next(items, i)) tell_spot(k, has_place ? &place : NULL, whole, i);
+    for (json i = json_first(items); i.at; i = json_next(items, i)) tell_spot(k, has_place, whole, i);
     tell_launch(k, line, s, has_place ? &place : NULL, is_held);
-    if (!is_held) tell_reasons(k->source, k->form, json_member(whole, "why"));
+    if (!is_held) tell_reasons(k->source, k->form, whole);
     else tell("  why: such an access of a buffer with this flag is undefined (OpenCL 1.2, table 5.3)");
     tell_reply(line, is_held ? &place : NULL);
     char *held = is_held ? held_line(line) : NULL;

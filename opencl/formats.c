@@ -1,6 +1,7 @@
 // Formats of printf.
 #define _GNU_SOURCE
 #include "formats.h"
+#include <math.h>
 #include <string.h>
 
 enum { MOST_DIGITS = 6 }; // of a width or a precision
@@ -79,13 +80,35 @@ unsigned words_of(const printed_argument *a) {
     return a->kind == PRINTED_TEXT ? 1 : a->count * (a->width == 8 ? 2 : 1);
 }
 
+static double number_of_half(uint64_t bits) {
+    int exponent = (int)(bits >> 10 & 31), part = (int)(bits & 1023);
+    double size = ldexp(exponent ? part + 1024 : part, (exponent ? exponent : 1) - 25);
+    if (exponent == 31) size = part ? NAN : INFINITY;
+    return bits & 0x8000 ? -size : size;
+}
+
 double floating_of(uint64_t bits, unsigned width) {
     double d;
     float f;
     uint32_t lower = (uint32_t)bits;
+    if (width == 2) return number_of_half(bits);
     memcpy(&f, &lower, sizeof f);
     memcpy(&d, &bits, sizeof d);
     return width == 4 ? (double)f : d;
+}
+
+uint16_t half_of(double value) {
+    uint16_t sign = signbit(value) ? 0x8000 : 0;
+    int exponent;
+    if (!value) return sign;
+    if (isnan(value)) return sign | 0x7e00;
+    if (fabs(value) >= 65520) return sign | 0x7c00;
+    double size = frexp(fabs(value), &exponent);
+    int below = exponent < -13 ? -13 - exponent : 0; // (a step of 2^-24 is the least)
+    // in steps of the last bit, as a sum that has no bit below it
+    int steps = (int)(ldexp(size, 11 - below) + 0x1p52 - 0x1p52);
+    // (2048 steps count one of the exponent by themselves)
+    return sign | (uint16_t)((exponent + below + 13) * 1024 + steps);
 }
 
 locale_t begin_c_locale(void) {

@@ -42,8 +42,10 @@ typedef struct {
 
 // How many words of 32 bits an argument has.
 unsigned words_of(const printed_argument *a);
-// The number that the bits of a float, or of a double, are.
+// The number that the bits of a half, a float or a double are.
 double floating_of(uint64_t bits, unsigned width);
+// The bits of the half that is nearest to a number, of two the even one (IEEE 754-2008, 4.3.1).
+uint16_t half_of(double value);
 // Numbers are written as in C, whatever the client's locale is, between these two.
 locale_t begin_c_locale(void);
 void end_c_locale(locale_t before);

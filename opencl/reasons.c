@@ -1,14 +1,16 @@
 // Why a fault is one. A reason that names a place or an object of the script is worded here, in the client's terms. Of
 // each other one the sentence of the explanation is told, which has neither.
 #include "reasons.h"
+#include "accessed.h"
 #include "session.h"
 #include <stdio.h>
 #include <string.h>
 
-// What a reason is told of: a client's source, and the kernel that was launched.
+// What a reason is told of: a client's source, the kernel that was launched, and the memory of the fault.
 typedef struct {
     const prepared *source;
     const kernel_form *kernel;
+    json memory;
 } client_form;
 
 // ---- words ----
@@ -82,11 +84,42 @@ static bool read_stored(json v, stored_bytes *s) {
            number_of(v, "item", &s->item);
 }
 
+// Adds who has set some bytes, behind what is said of them.
+static void add_setter(text *t, const client_form *form, const stored_bytes *s) {
+    addf(t, ", by work-item %lu", s->item);
+    add_place(t, form, ",", s->place);
+}
+
 static void add_stored(text *t, const client_form *form, const stored_bytes *s) {
     addf(t, "%lu", s->byte);
     if (s->bytes > 1) addf(t, " to %lu", s->byte + (s->bytes - 1));
-    addf(t, ", by work-item %lu", s->item);
-    add_place(t, form, ",", s->place);
+    add_setter(t, form, s);
+}
+
+// The client's name of a number in the local memory of the fault.
+static bool put_name(char *room, size_t n, const client_form *form, unsigned long byte, unsigned long bytes) {
+    char object[256];
+    return is_word(json_member(form->memory, "kind"), "local") &&
+           json_string(json_member(form->memory, "name"), object, sizeof object) &&
+           put_local_name(room, n, form->kernel, object, byte, bytes);
+}
+
+// The same by the client's names, where the number that isn't set and those that are have some.
+static bool add_nearest_names(text *t, const client_form *form, const stored_bytes *sides, unsigned count) {
+    char names[2][256], unset[256];
+    unsigned long byte;
+    if (!number_of(form->memory, "byte", &byte)) return false;
+    unsigned long width = sides[0].bytes, begin = byte - byte % width;
+    for (unsigned i = 0; i < count; i++)
+        if (!put_name(names[i], sizeof names[i], form, sides[i].byte, sides[i].bytes)) return false;
+    if (!put_name(unset, sizeof unset, form, begin, width)) return false;
+    add(t, count == 1 ? "the nearest that was set is " : "the nearest that were set are ");
+    for (unsigned i = 0; i < count; i++) {
+        addf(t, "%s%s", i ? ", and " : "", names[i]);
+        add_setter(t, form, &sides[i]);
+    }
+    addf(t, "; if another work-item sets %s later, a barrier between the two is missing", unset);
+    return true;
 }
 
 static bool add_nearest(text *t, const client_form *form, json reason) {
@@ -95,6 +128,7 @@ static bool add_nearest(text *t, const client_form *form, json reason) {
     n += read_stored(json_member(reason, "below"), &sides[n]);
     n += read_stored(json_member(reason, "above"), &sides[n]);
     if (!n) return false;
+    if (add_nearest_names(t, form, sides, n)) return true;
     add(t,
         n == 1 && sides[0].bytes == 1 ? "the nearest byte that was set is " : "the nearest bytes that were set are ");
     add_stored(t, form, &sides[0]);
@@ -171,8 +205,8 @@ static bool add_sentence(text *t, json reason) {
     return words;
 }
 
-bool add_reason(text *t, const prepared *source, const kernel_form *kernel, json reason) {
-    client_form form = {source, kernel};
+bool add_reason(text *t, const prepared *source, const kernel_form *kernel, json explanation, json reason) {
+    client_form form = {source, kernel, json_member(explanation, "memory")};
     json kind = json_member(reason, "kind");
     for (size_t i = 0; i < sizeof worded / sizeof *worded; i++)
         if (is_word(kind, worded[i].kind)) return worded[i].add(t, &form, reason);
@@ -180,17 +214,18 @@ bool add_reason(text *t, const prepared *source, const kernel_form *kernel, json
 }
 
 // Tells one reason. Where memory is refused, it is left out.
-static void tell_reason(const prepared *source, const kernel_form *kernel, json reason) {
+static void tell_reason(const prepared *source, const kernel_form *kernel, json explanation, json reason) {
     arena a = {0};
     text told = {.arena = &a};
     if (setjmp(a.failed)) {
         free_arena(&a);
         return;
     }
-    if (add_reason(&told, source, kernel, reason) && told.length) tell("  why: %s", told.at);
+    if (add_reason(&told, source, kernel, explanation, reason) && told.length) tell("  why: %s", told.at);
     free_arena(&a);
 }
 
-void tell_reasons(const prepared *source, const kernel_form *kernel, json list) {
-    for (json r = json_first(list); r.at; r = json_next(list, r)) tell_reason(source, kernel, r);
+void tell_reasons(const prepared *source, const kernel_form *kernel, json explanation) {
+    json list = json_member(explanation, "why");
+    for (json r = json_first(list); r.at; r = json_next(list, r)) tell_reason(source, kernel, explanation, r);
 }

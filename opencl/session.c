@@ -136,7 +136,9 @@ static const device_limits profile = {.name = "profile",
                                       .global_bytes = 64 << 20,
                                       .local_bytes = 32768,
                                       .source_bytes = 65536,
-                                      .nesting = 64};
+                                      .nesting = 64,
+                                      .loops = 8,
+                                      .ticks = 1000000};
 // (The largest buffer is at least a quarter of the memory that a device tells of, by table 4.3: so that is four of
 // them. 4,096 would be 4 TiB.)
 static const device_limits large = {.name = "large",
@@ -147,7 +149,9 @@ static const device_limits large = {.name = "large",
                                     .global_bytes = (size_t)4 << 30,
                                     .local_bytes = 65536,
                                     .source_bytes = 1 << 22,
-                                    .nesting = 256};
+                                    .nesting = 256,
+                                    .loops = 32,
+                                    .ticks = 1000000000};
 
 const device_limits *limits_of_device(void) {
     const char *serve = setting("CLSIM_SERVE"), *word = setting("CLSIM_LIMITS");

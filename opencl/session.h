@@ -38,6 +38,8 @@ typedef struct {
     size_t local_bytes;  // of local memory of a work-group
     size_t source_bytes; // of a source, as it is judged
     size_t nesting;      // of blocks, brackets and operators of a source
+    size_t loops;        // inside one another, of a kernel
+    size_t ticks;        // that a budget may have, of a work-item
 } device_limits;
 // Those that the device is asked for: `large`, or `profile` by CLSIM_LIMITS. A `--limits` in CLSIM_SERVE goes before.
 const device_limits *limits_of_device(void);

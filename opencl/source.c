@@ -182,18 +182,13 @@ const type *number_at(const type *type, uint64_t offset) {
 // ---- what a refusal means ----
 
 static const char *meaning(arena *a, const char *name) {
-    static const struct {
-        const char *name, *words;
-    } of[] = {{"TooManyLoops", "loops are nested more than 8 deep"},
-              {"TooLarge", "an array is too large, or the kernel has too many parts"}};
     const device_limits *limits = limits_of_device();
     text words = {.arena = a};
     if (!strcmp(name, "TooDeep")) addf(&words, "this is nested more than %zu deep", limits->nesting);
-    if (!strcmp(name, "TooLong")) addf(&words, "the source has more than %zu bytes", limits->source_bytes);
-    if (words.length) return words.at;
-    for (size_t i = 0; i < sizeof of / sizeof *of; i++)
-        if (!strcmp(name, of[i].name)) return of[i].words;
-    return name;
+    else if (!strcmp(name, "TooLong")) addf(&words, "the source has more than %zu bytes", limits->source_bytes);
+    else if (!strcmp(name, "TooManyLoops")) addf(&words, "loops are nested more than %zu deep", limits->loops);
+    else if (!strcmp(name, "TooLarge")) return "an array is too large, or the kernel has too many parts";
+    return words.length ? words.at : name;
 }
 
 const char *build_log(prepared *p, size_t begin, const char *reply) {

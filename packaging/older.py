@@ -1,14 +1,16 @@
 #!/usr/bin/env python3
 """Lets a program or library that was linked over a newer C library start over one as old as Debian 11's.
 
-    packaging/older.py FROM TO
+    packaging/older.py FROM TO [LIBRARY]
 
 Writes TO, a copy of FROM in which each symbol of the C library is asked for in the version that the older one has:
 since 2.34 the functions of threads and the start of programs carry a new version, though the older one is still there
 and does the same. What runs before `main` is run by the loader, since the older start of a program leaves it to code
-that a newer link doesn't hold. A newer symbol that may be missing (a weak one) is asked for without a version. Only
-tables for the loader change; no byte of code or data does. Where a symbol is asked for that the older C library hasn't,
-nothing is written. Status 0, or 2 with a line on standard error.
+that a newer link doesn't hold. A newer symbol that may be missing (a weak one) is asked for without a version. So is
+one that older.c gives, and the program then names LIBRARY, which is built of it and is found from TO's folder on:
+`../lib/clsim/libclsim_older.so`. Only tables for the loader change; no byte of code or data does. Where a symbol is
+asked for that the older C library hasn't, and that LIBRARY doesn't give, nothing is written. Status 0, or 2 with a line
+on standard error.
 """
 import os
 import re
@@ -18,8 +20,13 @@ import sys
 # The C library of Debian 11.
 OLDEST = (2, 31)
 # What has a newer version besides the one of the first release, and does the same in both.
-RENAMED = {"__libc_start_main", "pthread_attr_setguardsize", "pthread_create", "pthread_detach", "pthread_join",
-           "pthread_kill", "pthread_mutexattr_settype", "pthread_once"}
+THREAD_CALLS = """attr_getguardsize attr_getstack attr_getstacksize attr_setguardsize attr_setstack attr_setstacksize
+create detach getspecific join key_create key_delete kill mutex_trylock mutexattr_destroy mutexattr_init
+mutexattr_settype once rwlock_destroy rwlock_init rwlock_rdlock rwlock_tryrdlock rwlock_trywrlock rwlock_unlock
+rwlock_wrlock setspecific"""
+RENAMED = {"__libc_start_main", *(f"pthread_{it}" for it in THREAD_CALLS.split())}
+# What older.c gives.
+GIVEN = {"__x86_get_cpuid_feature_leaf"}
 FIRST = "GLIBC_2.2.5"
 THREADS = "libpthread.so.0"
 NULL, NEEDED, HASH, STRTAB, STRSZ, SONAME, RPATH, RUNPATH, GNU_HASH = 0, 1, 4, 5, 10, 14, 15, 29, 0x6FFFFEF5
@@ -68,6 +75,10 @@ class Version:
     def lacking(self):
         """The symbols that the older C library hasn't in any version."""
         return sorted(it.name for it in self.symbols if not it.weak and it.name not in RENAMED)
+
+    def is_open(self, symbol):
+        """Whether the loader may take any version of a symbol, or none."""
+        return symbol.weak or symbol.name in GIVEN
 
     def is_newer(self):
         found = re.fullmatch(r"GLIBC_(\d+)\.(\d+)(?:\.\d+)?", self.name)
@@ -173,37 +184,41 @@ class File:
 
 
 def rename(file, version, first):
-    """Has the symbols of a newer version ask for the first one, and weak ones for none."""
+    """Has the symbols of a newer version ask for the first one, and open ones for none."""
     for symbol in version.symbols:
-        file.put("<H", symbol.version_at, UNVERSIONED if symbol.weak else first.number)
+        file.put("<H", symbol.version_at, UNVERSIONED if version.is_open(symbol) else first.number)
     file.put("<I", version.at, hash_of(FIRST))
     file.put("<I", version.at + 8, file.at("<I", first.at + 8)[0])
 
 
-def make_older(file):
-    """Asks for the older versions, by the older library of threads, and has the loader run what runs before `main`."""
+def make_older(file, library):
+    """Asks for the older versions, by the older library of threads, and has the loader run what runs before `main`. The
+    library that gives what the older C library lacks names that of threads itself."""
     versions = list(file.versions())
     first = next((it for it in versions if it.name == FIRST), None) or fail(f"it asks for no symbol of {FIRST}")
     newer = [it for it in versions if it.is_newer()]
     for version in newer:
         for name in version.lacking():
-            fail(f"it needs {name} of {version.name}, which a C library of {OLDEST[0]}.{OLDEST[1]} hasn't")
+            if not library or name not in GIVEN:
+                fail(f"it needs {name} of {version.name}, which a C library of {OLDEST[0]}.{OLDEST[1]} hasn't")
         rename(file, version, first)
     names = {it.name for version in newer for it in version.symbols}
     if "__libc_start_main" in names:
         for at, tag, value in list(file.entries()):
             file.put("<QQ", at, BEFORE_MAIN.get(tag, tag), value)
     needed = [file.name(value) for _, tag, value in file.entries() if tag == NEEDED]
-    if any(it.startswith("pthread_") for it in names) and THREADS not in needed:
+    if names & GIVEN:
+        file.need(f"$ORIGIN/{library}")
+    elif any(it.startswith("pthread_") for it in names) and THREADS not in needed:
         file.need(THREADS)
 
 
 def main():
-    if len(sys.argv) != 3:
-        fail("usage: packaging/older.py FROM TO")
+    if len(sys.argv) not in (3, 4):
+        fail("usage: packaging/older.py FROM TO [LIBRARY]")
     try:
         file = File(sys.argv[1])
-        make_older(file)
+        make_older(file, sys.argv[3] if len(sys.argv) == 4 else None)
         with open(sys.argv[2], "wb") as made:
             made.write(file.bytes)
         os.chmod(sys.argv[2], 0o755)

@@ -53,7 +53,8 @@ static void put_range(const given *g, contents *c) {
     size_t count = numbers_in(c);
     if (e->kind == FLOATING_NUMBER) {
         double first = floating_word(g, e, 0, 0), step = floating_word(g, e, 1, 1);
-        for (size_t i = 0; i < count; i++) store_floating(first + (double)i * step, e, number_at(c, i));
+        for (size_t i = 0; i < count; i++)
+            if (!store_floating(first + (double)i * step, e, number_at(c, i))) stop_outside(g, e, i);
         return;
     }
     // (a step may go down, whatever the type)

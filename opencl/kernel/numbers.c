@@ -1,5 +1,7 @@
 #include "numbers.h"
-#include <errno.h>
+#include "../formats.h"
+#include <ctype.h>
+#include <fenv.h>
 #include <inttypes.h>
 #include <math.h>
 #include <stdio.h>
@@ -8,11 +10,11 @@
 
 // ---- types ----
 
-static const element numbers[] = {{"char", SIGNED_NUMBER, 1, 1},    {"uchar", UNSIGNED_NUMBER, 1, 1},
-                                  {"short", SIGNED_NUMBER, 2, 1},   {"ushort", UNSIGNED_NUMBER, 2, 1},
-                                  {"int", SIGNED_NUMBER, 4, 1},     {"uint", UNSIGNED_NUMBER, 4, 1},
-                                  {"long", SIGNED_NUMBER, 8, 1},    {"ulong", UNSIGNED_NUMBER, 8, 1},
-                                  {"float", FLOATING_NUMBER, 4, 1}, {"double", FLOATING_NUMBER, 8, 1}};
+static const element numbers[] = {
+    {"char", SIGNED_NUMBER, 1, 1},     {"uchar", UNSIGNED_NUMBER, 1, 1}, {"short", SIGNED_NUMBER, 2, 1},
+    {"ushort", UNSIGNED_NUMBER, 2, 1}, {"int", SIGNED_NUMBER, 4, 1},     {"uint", UNSIGNED_NUMBER, 4, 1},
+    {"long", SIGNED_NUMBER, 8, 1},     {"ulong", UNSIGNED_NUMBER, 8, 1}, {"half", FLOATING_NUMBER, 2, 1},
+    {"float", FLOATING_NUMBER, 4, 1},  {"double", FLOATING_NUMBER, 8, 1}};
 
 bool element_named(const char *name, size_t n, element *e) {
     static const char *const lanes[] = {"", "2", "3", "4", "8", "16"};
@@ -98,33 +100,58 @@ static number_state read_integer(const char *text, const element *e, bool is_hex
 
 // ---- floating point ----
 
-void store_floating(double value, const element *e, unsigned char *to) {
+bool store_floating(double value, const element *e, unsigned char *to) {
     float narrow = (float)value;
-    if (e->width == sizeof narrow) memcpy(to, &narrow, sizeof narrow);
-    else memcpy(to, &value, sizeof value);
+    uint16_t half = half_of(value);
+    memcpy(to, e->width == 2 ? (void *)&half : e->width == 4 ? (void *)&narrow : (void *)&value, e->width);
+    return isinf(value) || !isinf(floating_at(e, to));
 }
 
 double floating_at(const element *e, const unsigned char *at) {
-    float narrow;
-    double value;
-    if (e->width == sizeof value) {
-        memcpy(&value, at, sizeof value);
-        return value;
-    }
-    memcpy(&narrow, at, sizeof narrow);
-    return narrow;
+    uint64_t bits = 0;
+    memcpy(&bits, at, e->width);
+    return floating_of(bits, e->width);
 }
 
-// (A float is read as one: by way of a double it could be rounded twice.)
+// Reads a number towards a direction. What is behind it goes into `end`.
+static double read_towards(int direction, const char *text, char **end) {
+    int before = fegetround();
+    fesetround(direction);
+    double value = strtod(text, end);
+    fesetround(before);
+    return value;
+}
+
+// The double that a text is, or that of the two beside it whose last bit is 1. (So one that is rounded once more, to
+// fewer bits, is what the text itself is rounded to.)
+static double read_odd(const char *text, char **end) {
+    double below = read_towards(FE_DOWNWARD, text, end), above = read_towards(FE_UPWARD, text, end);
+    uint64_t bits;
+    memcpy(&bits, &below, sizeof bits);
+    return bits & 1 ? below : above;
+}
+
+// Whether a number of n bytes has a point or an exponent, and so may have a suffix (C99, 6.4.4.2).
+static bool has_point(const char *text, size_t n) {
+    bool is_hex = n > 1 && *text == '0' && tolower((unsigned char)text[1]) == 'x';
+    for (size_t i = 0; i < n; i++)
+        if (tolower((unsigned char)text[i]) == (is_hex ? 'p' : 'e') || (!is_hex && text[i] == '.')) return true;
+    return false;
+}
+
+// The number that a text is, as near to it as the type has one.
 static number_state read_floating(const char *text, const element *e, unsigned char *to) {
     char *end;
     if (!*text || strspn(text, " \t\n\r\v\f")) return IS_NO_NUMBER;
-    errno = 0;
-    double value = e->width == sizeof(float) ? (double)strtof(text, &end) : strtod(text, &end);
-    if (*end || end == text) return IS_NO_NUMBER;
-    if (errno == ERANGE && isinf(value)) return DOES_NOT_FIT;
-    store_floating(value, e, to);
-    return IS_NUMBER;
+    double value = e->width == sizeof(double) ? strtod(text, &end) : read_odd(text, &end);
+    bool is_signed = *text == '-' || *text == '+';
+    const char *digits = text + is_signed;
+    bool has_suffix = tolower((unsigned char)*end) == 'f' && has_point(digits, (size_t)(end - digits));
+    if (end == text || end[has_suffix]) return IS_NO_NUMBER;
+    // (a float's number is a float, also where a double is given by it)
+    if (has_suffix && e->width == sizeof(double)) value = (double)(float)read_odd(text, &end);
+    bool says_infinite = tolower((unsigned char)*digits) == 'i', is_infinite = isinf(value);
+    return store_floating(value, e, to) && is_infinite == says_infinite ? IS_NUMBER : DOES_NOT_FIT;
 }
 
 // ---- both ----
@@ -134,14 +161,16 @@ number_state take_number(const char *text, const element *e, bool is_hex, unsign
 }
 
 void put_bounds(char *room, size_t n, const element *e) {
-    if (e->kind == FLOATING_NUMBER) snprintf(room, n, "up to %s", e->width == 4 ? "3.4e38" : "1.8e308");
+    if (e->kind == FLOATING_NUMBER)
+        snprintf(room, n, "up to %s", e->width == 2 ? "65504" : e->width == 4 ? "3.4e38" : "1.8e308");
     else if (e->kind == UNSIGNED_NUMBER) snprintf(room, n, "0 to %" PRIu64, (uint64_t)greatest_of(e));
     else snprintf(room, n, "%" PRId64 " to %" PRId64, (int64_t)least_of(e), (int64_t)greatest_of(e));
 }
 
 void put_number(char *room, size_t n, const element *e, bool is_hex, const unsigned char *at) {
     uint64_t bits = 0;
-    if (e->kind == FLOATING_NUMBER) snprintf(room, n, e->width == 4 ? "%.9g" : "%.17g", floating_at(e, at));
+    if (e->kind == FLOATING_NUMBER)
+        snprintf(room, n, "%.*g", e->width == 2 ? 5 : e->width == 4 ? 9 : 17, floating_at(e, at));
     else if (is_hex) {
         memcpy(&bits, at, e->width);
         snprintf(room, n, "0x%0*" PRIx64, (int)(2 * e->width), bits);

@@ -44,10 +44,10 @@ typedef struct {
 
 typedef struct {
     arena *arena;
-    const char *file, *kernel, *script; // NULL where they aren't given
-    const char *simulation;             // the file that names them and has the arguments, NULL for none
-    text options;                       // of the build
-    unsigned dimensions;                // 0 where there is no global size
+    const char *file, *kernel, *script, *budget; // NULL where they aren't given
+    const char *simulation;                      // the file that names them and has the arguments, NULL for none
+    text options;                                // of the build
+    unsigned dimensions;                         // 0 where there is no global size
     size_t global[3], local[3], offset[3];
     bool has_local;
     given *arguments;

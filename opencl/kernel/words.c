@@ -24,7 +24,7 @@ static const char usage[] =
     "  --script PATH           writes the script that `clsim run --limits large` judges again\n"
     "  --uniform               the launch is uniform: two stores of one value don't conflict\n"
     "  --workers N             N workers run the groups of the launch (1 to 16)\n"
-    "  --budget N              the most ticks of a work-item (1 to 1000000)\n"
+    "  --budget N              the most ticks of a work-item (1 to 1000000000; by profile to 1000000)\n"
     "  --limits profile|large  what the device allows: large without this option\n"
     "  -D NAME=VALUE           a macro of the source\n"
     "  -I FOLDER               where its headers are looked for, behind the folder of FILE\n"
@@ -33,7 +33,7 @@ static const char usage[] =
     "Any other word with one - in front is an option of the build, as -cl-fast-relaxed-math.\n"
     "\n"
     "Forms of an argument:\n"
-    "  n=5                     a number; v=1,2,3,4 of a vector\n"
+    "  n=5                     a number, or 0x7f, 1.5f, 0x1.8p0 and the like; v=1,2,3,4 of a vector\n"
     "  t=local:256             bytes of local memory; t=local:int[64] that many elements\n"
     "  a=int[1024]             a buffer of zeros; a=[1024] by the type that the parameter points to\n"
     "  a=int:1,2,3             a buffer of these numbers\n"
@@ -110,6 +110,17 @@ static void set_number(const char *option, const char *variable, const char *val
     setenv(variable, decimal, 1);
 }
 
+// (which limits there are is known behind the last word)
+static void set_budget(request *r, const char *value) {
+    r->budget = value;
+    set_number("--budget", "CLSIM_BUDGET", value, 1000000000);
+}
+static void check_budget(const request *r) {
+    const char *limits = getenv("CLSIM_LIMITS");
+    if (r->budget && limits && !strcmp(limits, "profile"))
+        set_number("--budget by the profile", "CLSIM_BUDGET", r->budget, 1000000);
+}
+
 static void set_limits(const char *value) {
     if (strcmp(value, "profile") && strcmp(value, "large")) stop("--limits takes profile or large, and not %s", value);
     setenv("CLSIM_LIMITS", value, 1);
@@ -142,7 +153,7 @@ static bool take_option(request *r, size_counts *counts, const char *option, con
     else if (!strcmp(option, "--dump")) want_dump(r, value);
     else if (!strcmp(option, "--script")) r->script = value;
     else if (!strcmp(option, "--workers")) set_number(option, "CLSIM_WORKERS", value, 16);
-    else if (!strcmp(option, "--budget")) set_number(option, "CLSIM_BUDGET", value, 1000000);
+    else if (!strcmp(option, "--budget")) set_budget(r, value);
     else if (!strcmp(option, "--limits")) set_limits(value);
     else return false;
     return true;
@@ -245,6 +256,7 @@ void read_command(request *r, int count, char **words) {
         exit(2);
     }
     check_sizes(r, &counts);
+    check_budget(r);
     if (is_simulation(r->file)) read_simulation_named(r, &counts);
     add_folder(r);
 }

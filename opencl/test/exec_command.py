@@ -32,16 +32,41 @@ program p {SOURCE.count(chr(10))}
 arg k 0 buffer a
 launch k 4 2
 """
+# a race behind accesses of each kind: local memory, a float, an atomic function, a number below 0
+TYPED = """\
+#define LEAST (-2147483647 - 1)
+__kernel void typed(__global int *a, __global float *b) {
+    __local short t[4];
+    t[get_local_id(0)] = -7;
+    b[get_global_id(0)] = 0.1f;
+    atomic_sub(a + 2, 5);
+    a[1] = LEAST;
+}
+"""
+TYPED_SCRIPT = f"""\
+buffer a 12
+buffer b 8
+program p {TYPED.count(chr(10))}
+{TYPED}kernel k p typed
+arg k 0 buffer a
+arg k 1 buffer b
+launch k 2 2
+"""
 OPTIONS = [(["--uniform"], "CLSIM_UNIFORM=1"), (["--widen"], "CLSIM_WIDEN=1"), (["--check-api"], "CLSIM_CHECK_API=1"),
            (["--on-fault", "go"], "CLSIM_ON_FAULT=go"), (["--script", "a b"], "CLSIM_SCRIPT=a b"),
            (["--log", "l"], "CLSIM_LOG=l"), (["--workers", "3"], "CLSIM_WORKERS=3"),
-           (["--budget", "9"], "CLSIM_BUDGET=9"), (["--local", "7"], "CLSIM_LOCAL=7"),
+           (["--budget", "9"], "CLSIM_BUDGET=9"), (["--budget", "1000000000"], "CLSIM_BUDGET=1000000000"),
+           (["--limits", "profile", "--budget", "1000000"], "CLSIM_BUDGET=1000000"),
+           (["--local", "7"], "CLSIM_LOCAL=7"),
            (["--limits", "profile"], "CLSIM_LIMITS=profile")]
 WRONG = [(["--sarif"], "--sarif takes a value"), (["--orders"], "there is no option --orders"),
          (["--limits", "x", "true"], "--limits takes profile or large, and not x"),
          (["--workers", "17", "true"], "--workers takes a number from 1 to 16, and not 17"),
          (["--workers", "two", "true"], "--workers takes a number from 1 to 16, and not two"),
-         (["--budget", "0", "true"], "--budget takes a number from 1 to 1000000, and not 0"),
+         (["--budget", "0", "true"], "--budget takes a number from 1 to 1000000000, and not 0"),
+         (["--budget", "1000000001", "true"], "--budget takes a number from 1 to 1000000000, and not 1000000001"),
+         (["--budget", "1000001", "--limits", "profile", "true"],
+          "--budget by the profile takes a number from 1 to 1000000, and not 1000001"),
          (["--local", "99999999999999999999", "true"], "--local takes a number from 1 to 1024, and not 9999"),
          (["--local"], "--local takes a value"),
          (["--on-fault", "x", "true"], "--on-fault takes error, go, exit or abort, and not x"),
@@ -71,11 +96,11 @@ def options(bench):
     bench.run([EXEC, "sh", "-c", "exit 7"], 7)
 
 
-def run_in(bench, name, words, **settings):
+def run_in(bench, name, words, script=SCRIPT, **settings):
     """Runs a script by words, of which the last one is its name, in a folder that has the source in a file."""
     folder = bench.path(name)
     os.makedirs(os.path.join(folder, "kernels"))
-    for path, text in [("script", SCRIPT), ("kernels/shift.cl", SOURCE)]:
+    for path, text in [("script", script), ("kernels/shift.cl", SOURCE)]:
         with open(os.path.join(folder, path), "w", encoding="utf-8") as file:
             file.write(text)
     told = bench.run(["sh", "-c", f"cd {folder} && exec \"$@\"", "sh", *words, "script"], None, **settings)
@@ -126,6 +151,25 @@ def whole(bench):
     want(told["memory"]["parameters"] == [{"index": 0, "name": "data", "type": "int*", "element": 1}], told["memory"])
     want(told["sources"] == [{"name": "source", "text": SOURCE}] and told["launch"]["global_size"] == [4], told)
     want(all(step["place"]["text"] == "data" for step in told["steps"] if "item" in step), told["steps"])
+    want([step["text"] for step in told["steps"]] == ["data[2] is 0", "data[1] is 0", "data[1] = 0"], told["steps"])
+
+
+def typed(bench):
+    """Each step tells its number in the client's type, by the client's name."""
+    path = bench.path("exec_typed.json")
+    folder, _ = run_in(bench, "exec_typed", [EXEC, "--html", "page", "--sarif", "out.sarif", bench.path("oclrun")],
+                       TYPED_SCRIPT)
+    run_in(bench, "exec_typed_plain", [bench.path("oclrun")], TYPED_SCRIPT, CLSIM_JSON=path)
+    told = json.loads(read(path))
+    of_first = ["t[0] = -7", "b[0] = 0.1f", "a[2] was 0, now -5", "a[1] = -2147483648"]
+    of_second = ["t[1] = -7", "b[1] = 0.1f", "a[2] was -5, now -10", "a[1] = -2147483648"]
+    found = {item: [step["text"] for step in told["steps"] if step.get("item") == item] for item in (0, 1)}
+    # (which of the two subtracts first is the schedule's)
+    turned = {0: of_first[:2] + of_second[2:], 1: of_second[:2] + of_first[2:]}
+    want(found in ({0: of_first, 1: of_second}, turned), found)
+    page, log = read(folder, "page/index.html"), json.loads(read(folder, "out.sarif"))
+    want("store: b[0] = 0.1f" in page and "store: a[1] = -2147483648" in page, page)
+    want("store: b[1] = 0.1f" in json.dumps(log["runs"][0]["results"][0]["codeFlows"]), log)
 
 
 def not_explained(bench):
@@ -137,6 +181,7 @@ def not_explained(bench):
         want("fault 1 race" in told, told)
     told = json.loads(read(path))
     want((told["items"], told["memory"], told["why"], told["steps"]) == ([], None, [], []), told)
+    want(told["version"] == 3 and "steps_left" not in told, told)
     want(told["fault"]["line"].startswith("fault 1 race item 0 load item 1 store buffer b1 byte 4"), told)
     [result] = json.loads(read(folder, "out.sarif"))["runs"][0]["results"]
     want(result["locations"][0]["physicalLocation"]["region"]["startLine"] == 5, result)
@@ -176,5 +221,6 @@ def tests(bench, is_with_clang, explains):
     yield "clsim-exec: SARIF and a page", lambda: shown(bench)
     yield "clsim-exec: faults that aren't explained", lambda: not_explained(bench)
     yield "faults as JSON", lambda: whole(bench)
+    yield "faults as JSON: numbers by their types", lambda: typed(bench)
     yield "faults as JSON: flags", lambda: held(bench)
     yield "faults as JSON: headers", lambda: headers(bench)

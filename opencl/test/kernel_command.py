@@ -70,7 +70,7 @@ kernel many
   7   __constant uchar *c              --arg c=uchar[COUNT]
   8   uint e                           --arg e=NUMBER
   9   float r                          --arg r=NUMBER
-  10  __global half *h                 --arg h=uchar[BYTES]
+  10  __global half *h                 --arg h=half[COUNT]
   11  uint 11                          --arg 11=NUMBER
 """
 SUM_LISTED = """\
@@ -86,6 +86,13 @@ __kernel void vectors(int3 a, uchar4 b, float2 f, __global int4 *to, __global fl
     to[1] = convert_int4(b);
     floats[0] = f.x;
     floats[1] = f.y;
+}
+"""
+HALVES = """\
+__kernel void halves(__global half *h, __global float *f, float by) {
+    int i = get_global_id(0);
+    f[i] = vload_half(i, h) * by;
+    vstore_half(f[i], i, h);
 }
 """
 STRUCTS = """\
@@ -139,7 +146,8 @@ add
 """
 FILES = {"add.cl": ADD, "shift.cl": SHIFT, "nothing.cl": NOTHING, "tile.cl": TILE, "flag.cl": FLAG, "loop.cl": LOOP,
          "values.cl": VALUES, "many.cl": MANY, "help.h": "#define TOUCH(p) (p)[0] = 1\n", "vectors.cl": VECTORS,
-         "structs.cl": STRUCTS, "headed.cl": HEADED, "part.h": PART, "refused.cl": REFUSED, "empty.cl": "",
+         "structs.cl": STRUCTS, "halves.cl": HALVES, "headed.cl": HEADED, "part.h": PART, "refused.cl": REFUSED,
+         "empty.cl": "",
          "no_kernel.cl": "void f() {\n}\n", "add.sim": SIMULATION, "a.bin": "abcdefgh", "odd.bin": "abc",
          "prints.cl": PRINTS,
          "zero.cl": "__kernel void f(__global int *a) {\n\0}\n"}
@@ -219,6 +227,16 @@ BUFFERS = [
     ("float:0.1,-2.5e3,inf,16777217", "a[0]: 0.100000001 -2500 inf 16777216"),
     ("double:0.1,1e300", "a[0]: 0.10000000000000001 1.0000000000000001e+300"),
     ("float[3]:range=0.5,0.25", "a[0]: 0.5 0.75 1"),
+    ("float:1.5f,-2.F,.5f,1e2f,0.1f", "a[0]: 1.5 -2 0.5 100 0.100000001"),
+    ("float:0x1.8p1,-0X.8P0F,0x1p-149f,0x1f", "a[0]: 3 -0.5 1.40129846e-45 31"),
+    ("double:0x1.8p1,0x1p-1074,0.1f,1e-400", "a[0]: 3 4.9406564584124654e-324 0.10000000149011612 0"),
+    # (half-way between two numbers, and a little above it)
+    ("float:1.000000059604644775390625,1.00000005960464477539062500000001", "a[0]: 1 1.00000012"),
+    ("half:1.00048828125,1.00048828125000000000000000000001", "a[0]: 1 1.001"),
+    ("half:0.1,-65504,65519.99,0x1p-24,3e-8,2e-8,-inf,nan",
+     "a[0]: 0.099976 -65504 65504 5.9605e-08 5.9605e-08 0 -inf nan"),
+    ("half[3]:range=0.5,0.25", "a[0]: 0.5 0.75 1"), ("half2[2]:fill=-2.5f", "a[0]: (-2.5 -2.5) (-2.5 -2.5)"),
+    ("ushort[3]:fill=0x3c00", "a[0]: 15360 15360 15360"),
     ("int2[3]:range", "a[0]: (0 1) (2 3) (4 5)"), ("int3[2]:fill=9", "a[0]: (9 9 9) (9 9 9)"),
     ("uchar16:1,2,3,4,5,6,7,8,9,10,11,12,13,14,15,16", "a[0]: (1 2 3 4 5 6 7 8 9 10 11 12 13 14 15 16)"),
     ("int4[5]:range", "a[0]: (0 1 2 3) (4 5 6 7)\na[2]: (8 9 10 11) (12 13 14 15)\na[4]: (16 17 18 19)"),
@@ -300,6 +318,8 @@ def vectors(bench):
                    "clean\nto[0]: (4 5 6 7) (255 255 255 255)\nfloats[0]: 1 2\n")
     command.writes(f"{words} --arg a=1,2 --arg b=1,2,3,4 --arg f=1,2",
                    "clsim-kernel: --arg a=1,2: 2 numbers are no whole elements of int3\n", 2)
+    command.writes(f"{words} --arg a=1,-2,3 --arg b=1,2,3,4 --arg f=0x1.8p0,-2.5f",
+                   "clean\nto[0]: (1 -2 3 7) (1 2 3 4)\nfloats[0]: 1.5 -2.5\n")
     words = "structs.cl structs --global 1 --arg to=int[3] --dump to"
     command.writes(f"{words} --arg s=short:-5,6,7,0", "clean\nto[0]: -5 6 7\n")
     command.writes(f"{words} --arg s=uchar:file=a.bin", "clean\nto[0]: 25185 25699 1751606885\n")
@@ -307,6 +327,22 @@ def vectors(bench):
     want(told.endswith("clsim-kernel: --arg s=short:1: 2 bytes aren't the size of box s\n"), told)
     command.writes(f"{words} --arg s=1,2,3", "clsim-kernel: --arg s=1,2,3: of which type are its numbers? "
                                              "NAME=TYPE[COUNT], as uchar[16]\n", 2)
+
+
+def halves(bench):
+    """Buffers of half, as numbers and by their bits, and a number of them in a fault."""
+    command = Command(bench, "halves")
+    words = "halves.cl halves --global 4 --arg f=float[4] --dump h --dump f"
+    left = "clean\nh[0]: 3 0.1499 -inf 1.1921e-07\nf[0]: 3 0.149963379 -98256 8.94069672e-08\n"
+    command.writes(f"{words} --arg by=1.5f --arg h=half:2,0.1,-65504,0x1p-24", left)
+    command.writes(f"{words} --arg by=0x1.8p0 --arg h=[4]:2,0.1,-65504,0x1p-24", left)
+    bits = left.replace("3 0.1499 -inf 1.1921e-07", "16896 12492 64512 2")
+    command.writes(f"{words} --arg by=1.5 --arg h=ushort:0x4000,0x2e66,0xfbff,1", bits)
+    told = command.run("halves.cl halves --global 2 --arg f=float[1] --arg h=half:1,0.1 --arg by=1", 1)
+    want("fault 4 bounds" in told, told)
+    command.write("race.cl", "__kernel void f(__global half *h) {\n    vstore_half(get_global_id(0) * 0.1f, 0, h);\n}")
+    told = command.run("race.cl f --global 2 --arg h=half[1]", 1)
+    want("\n    h[0] = 0.0h\n" in told and "\n    h[0] = 0.1h\n" in told, told)
 
 
 def local_memory(bench):
@@ -578,7 +614,9 @@ BAD_WORDS = [
     ("add.cl --global 4,4 --offset 2", "--offset has 1 size, and --global 2"),
     ("add.cl --workers 0", "--workers takes a number from 1 to 16, and not 0"),
     ("add.cl --workers 17", "--workers takes a number from 1 to 16, and not 17"),
-    ("add.cl --budget 1000001", "--budget takes a number from 1 to 1000000, and not 1000001"),
+    ("add.cl --budget 1000000001", "--budget takes a number from 1 to 1000000000, and not 1000000001"),
+    ("add.cl --budget 1000001 --limits profile",
+     "--budget by the profile takes a number from 1 to 1000000, and not 1000001"),
     ("add.cl --limits huge", "--limits takes profile or large, and not huge"),
     ("add.cl --dump =x", "--dump =x: this is neither NAME nor NAME=PATH"),
     ("add.cl --dump b=", "--dump b=: this is neither NAME nor NAME=PATH"),
@@ -588,7 +626,7 @@ BAD_WORDS = [
 # what stands behind `a=`, and what is told of it
 BAD_BUFFERS = [
     ("", " is neither a number nor a TYPE[COUNT] (clsim-kernel --help has the forms)"),
-    ("half[4]", "half[4] is neither a number nor a TYPE[COUNT] (clsim-kernel --help has the forms)"),
+    ("real[4]", "real[4] is neither a number nor a TYPE[COUNT] (clsim-kernel --help has the forms)"),
     ("int5[4]", "__global int *a is a pointer to a buffer: a=int[COUNT]"),
     ("5", "__global int *a is a pointer to a buffer: a=int[COUNT]"),
     ("local:16", "__global int *a is a pointer to a buffer: a=int[COUNT]"),
@@ -608,7 +646,19 @@ BAD_BUFFERS = [
     ("int[4]:random=1,5,4", "the least number is above the greatest"),
     ("int[4]:fill=x", "`x` is no number of the type int"), ("int[4]:fill=", "`` is no number of the type int"),
     ("int[4]:fill=1.5", "`1.5` is no number of the type int"), ("int[4]:fill=0x", "`0x` is no number of the type int"),
-    ("float[4]:fill=1.5f", "`1.5f` is no number of the type float"), ("float[1]:fill=1e39", "1e39 doesn't fit float (up to 3.4e38)"),
+    ("int[4]:fill=1.5f", "`1.5f` is no number of the type int"),
+    ("int[4]:fill=0x1p3", "`0x1p3` is no number of the type int"),
+    ("float[4]:fill=1f", "`1f` is no number of the type float"),
+    ("float[4]:fill=1.5ff", "`1.5ff` is no number of the type float"),
+    ("float[4]:fill=1.5l", "`1.5l` is no number of the type float"),
+    ("float[4]:fill=0x1.8p", "`0x1.8p` is no number of the type float"),
+    ("float[4]:fill=inff", "`inff` is no number of the type float"),
+    ("double[4]:fill=f", "`f` is no number of the type double"),
+    ("float[1]:fill=1e39", "1e39 doesn't fit float (up to 3.4e38)"),
+    ("double[1]:fill=1e309", "1e309 doesn't fit double (up to 1.8e308)"),
+    ("half[1]:fill=65520", "65520 doesn't fit half (up to 65504)"),
+    ("half[3]:range=65000,500", "number 2 of the range doesn't fit half (up to 65504)"),
+    ("float[2]:range=2e38,2e38", "number 1 of the range doesn't fit float (up to 3.4e38)"),
     ("int:1,,2", "`` is no number of the type int"), ("uchar:1,256", "256 doesn't fit uchar (0 to 255)"),
     ("uchar[257]:range", "number 256 of the range doesn't fit uchar (0 to 255)"),
     ("char[3]:range=127,-128", "number 2 of the range doesn't fit char (-128 to 127)"),
@@ -669,6 +719,6 @@ def tests(bench, is_with_clang):
     calls = [buffers, by_chance, values, local_memory, told_at_its_line, settings, beside, listing, dumps, scripts,
              simulations, bad_words]
     if is_with_clang:
-        calls += [vectors, told_in_headers, refused_sources, listing_by_clang, printf]
+        calls += [vectors, halves, told_in_headers, refused_sources, listing_by_clang, printf]
     for call in calls:
         yield f"clsim-kernel: {call.__name__.replace('_', ' ')}", lambda call=call: call(bench)

@@ -9,7 +9,7 @@ import re
 
 from reading import (
     Files, argument_texts, events_of, explanations, file_of, is_refusal, item_text, memory_text, place_of, reason_texts,
-    run, title_of,
+    run, step_words, title_of,
 )
 
 # the picture: how far lanes and events stand from one another, and where the first ones stand, in pixels
@@ -93,10 +93,10 @@ def event_dot(x, y, step, bad):
     """An event of a work-item: a dot with its line and column beside it, and the text as a tooltip."""
     place = step["place"]
     where = f"{place['script_line']}:{place['column']}" if place else ""
-    words = f"{step['does']} {step['memory']} byte {step['byte']}"
-    if step["left"] is not None:
+    words = step_words(step)
+    if "text" not in step and step["left"] is not None:
         words += f": was {step['value']}, now {step['left']}"
-    elif step["value"] is not None:
+    elif "text" not in step and step["value"] is not None:
         words += f": {step['value']}"
     tip = quoted(f"{place['text']} ({words})" if place else words)
     kind = "bad" if bad else "event"

@@ -156,6 +156,11 @@ def text_of(line):
         return "".join(chr(byte) if byte < 128 else "?" for byte in line)
 
 
+def step_words(step):
+    """What a step of a work-item does: of a host program with its number, in the client's words; else where."""
+    return f"{step['does']}: {step['text']}" if "text" in step else f"{step['does']} {step['memory']} byte {step['byte']}"
+
+
 def told_places(whole):
     """The places of the named items and of the calls of helpers round them, or that of a refusal; none of a command."""
     if is_refusal(whole):

@@ -12,6 +12,7 @@ from urllib.parse import quote
 
 from reading import (
     Files, argument_texts, events_of, explanations, file_of, is_refusal, item_text, place_of, reason_texts, run,
+    step_words,
 )
 
 SCHEMA = "https://json.schemastore.org/sarif-2.1.0.json"
@@ -111,8 +112,7 @@ def flows(whole, files):
     threads = {}
     for number, step in events_of(whole).items():
         if "item" in step and step["place"]:
-            words = f"{step['does']} {step['memory']} byte {step['byte']}"
-            place = location(whole, files, step["place"], words)
+            place = location(whole, files, step["place"], step_words(step))
             threads.setdefault(step["item"], []).append({"location": place, "executionOrder": number})
     return [{"id": f"work-item {item}", "locations": places} for item, places in sorted(threads.items())]
 
