@@ -1,5 +1,5 @@
 -- A launch has one answer, out of memory aside.
-use Rattle.std.proofs.Common.{◌≡◌, ℕ, Bool, true, false, Option, Some, List, [], ◌∷◌, map, refl, ap, ap₂, sym, ◌∙◌}
+use Rattle.std.proofs.Common.{◌≡◌, ℕ, true, false, Option, Some, List, [], ◌∷◌, map, refl, ap, ap₂, sym, ◌∙◌}
 use Rattle.clmodel.specs.Launch as launches
 use Rattle.clmodel.specs.Law as law
 use Rattle.clmodel.specs.Law.{CleanWith, OneRun, Reaches, Reports, Shows, turn}
@@ -10,7 +10,7 @@ use Rattle.clmodel.specs.Setup.{Setup, buffer_names}
 use Rattle.clmodel.specs.declared.access.Clash.TheVariants.{Order}
 use Rattle.clmodel.specs.declared.fault.Fault.{Fault}
 use Rattle.clmodel.specs.declared.fault.Fault.TheVariants as fault
-use Rattle.clmodel.proofs.Turns.{finishes_makes, finishes_reports, reports_finishes, reports_inj, reports_makes}
+use Rattle.clmodel.proofs.Turns.{finishes_makes, finishes_reports, reports_inj, reports_makes}
 use Rattle.spaces.specs.Tables.{with_values}
 use Rattle.ordered_runs.proofs.Runs.{ordered_after}
 use Rattle.ordered_runs.specs.Laws.{OneOrderedRun}

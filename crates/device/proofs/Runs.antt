@@ -5,13 +5,13 @@ use Rattle.std.specs.declared.alloc.Global.{Global}
 use Rattle.clmodel.specs.Launch.{Launch}
 use Rattle.clmodel.specs.Run.{State, Events, left}
 use Rattle.clmodel.specs.Law.{Determinacy, CleanIsComplete, ReportIsShown, CleanWith, Reaches, RunsClean, RunsIntoFault}
-use Rattle.clmodel.specs.Outcome.{events_of, IsMerged}
+use Rattle.clmodel.specs.Outcome.{events_of}
 use Rattle.clmodel.specs.Setup.{Setup, item_count, group_items}
 use Rattle.clmodel.specs.declared.fault.Fault.{Fault}
 use Rattle.clmodel.specs.declared.schedule.EventRun.{EventRun}
 use Rattle.launches.specs.Groups.{HasGroups}
 use Rattle.limits.specs.declared.Configuration.{Configuration}
-use Rattle.spaces.specs.Changes.{Changed, all_with_changes}
+use Rattle.spaces.specs.Changes.{Changed}
 use Rattle.group_join.specs.Ends.{EndsAs}
 use Rattle.group_join.specs.declared.launch_end.LaunchEnd.{LaunchEnd}
 use Rattle.group_join.specs.declared.launch_end.LaunchEnd.TheVariants as canonical

@@ -1,8 +1,7 @@
 use Rattle.std.proofs.Common.{◌≡◌, ℕ, ◌+◌, List, [], ◌∷◌, drop, refl, sym, ap, ◌∙◌, arith}
-use Rattle.std.proofs.lemmas.List.{at_drop_all, at_drop_more, nil_from_length}
-use Rattle.std.specs.Map.{set_value}
+use Rattle.std.proofs.lemmas.List.{at_drop_all, at_drop_more}
 use Rattle.std.specs.Vec.Iter.{into_iter_items}
-use Rattle.spaces.specs.Tables.{Table, is, with_values}
+use Rattle.spaces.specs.Tables.{Table, with_values}
 use Rattle.device.proofs.launching.put_all.Goals as goal
 
 no_names : (table : Table (List ℕ)) (values : List (List ℕ)) → with_values table [] values ≡ table

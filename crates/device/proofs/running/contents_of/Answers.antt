@@ -1,4 +1,4 @@
-use Rattle.std.proofs.Common.{◌≡◌, [], ◌∷◌, ◌++◌, List, Option, ℕ, Some, map, ap, ap₂, sym, ◌∙◌, append_assoc, refl, rules, arith}
+use Rattle.std.proofs.Common.{◌≡◌, [], ◌∷◌, ◌++◌, List, Option, ℕ, Some, map, ap, ap₂, sym, ◌∙◌, append_assoc, rules, arith}
 use Rattle.std.specs.Vec.Iter.{into_iter_items}
 use Rattle.std.proofs.lemmas.List.{append-nil, map-append, nil_from_length}
 use Rattle.device.proofs.running.contents_of.Goals as goal

@@ -1,4 +1,4 @@
-use Rattle.std.proofs.Common.{Bool, true, IfOk, sym, ◌∙◌, subst}
+use Rattle.std.proofs.Common.{Bool, IfOk, sym, ◌∙◌, subst}
 use Rattle.std.proofs.lemmas.Bool.{and_parts}
 use Rattle.clmodel.specs.Next.{launch_of}
 use Rattle.item_step.specs.Launches.{setup_of}
