@@ -41,15 +41,15 @@ schedule_words runs = utf8_lossy (schedule_text runs)
 abbrev pub most_steps : Option ℕ → ℕ
 most_steps asked = unwrap_or asked 1000
 
--- the launch of a ticket, whose command stands at this place in the script, over this index space and with this budget
-pub record TellsLaunch (budget ticket : ℕ) (place : CommandPlace) (range : Range) (facts : LaunchFacts) : Type 0 where
+-- the launch of a ticket, whose command stands at this place in the script, over this index space, with so many ticks
+pub record TellsLaunch (ticks ticket : ℕ) (place : CommandPlace) (range : Range) (facts : LaunchFacts) : Type 0 where
   pub command : facts.command ≡ ticket
   pub script_line : facts.script_line ≡ place.line
   pub global_size : facts.global_size.items ≡ range.global
   pub local_size : facts.local_size.items ≡ range.local
   pub offset : facts.offset.items ≡ range.offset
   pub uniform : facts.uniform ≡ range.uniform
-  pub budget : facts.budget ≡ budget
+  pub budget : facts.budget ≡ ticks
 
 -- the names that a launch runs by: those of its kernel, of the kernel's function and of its program
 pub record TellsNames (context : Context) (facts : LaunchFacts) : Type 0 where
