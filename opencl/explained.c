@@ -8,7 +8,7 @@
 #include <stdio.h>
 #include <string.h>
 
-// (an explanation of version 2 is written as one)
+// (an explanation of version 2 is written as one; a fault without one as the version that the scripts beside read)
 enum { VERSION = 3, MOST_TEXTS = 64, MOST_MARKED = 48 };
 
 // What is being written.
@@ -480,7 +480,7 @@ static void write_whole(writer *w) {
     write_reasons(w, json_member(w->fault->explanation, "why"));
     write_schedule(w);
     write_steps(w);
-    if (version < VERSION) write_rest(w, "steps_left", "0");
+    if (version == 2) write_rest(w, "steps_left", "0");
     write_sources(w);
     add(w->to, "}\n");
 }
