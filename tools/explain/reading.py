@@ -158,7 +158,8 @@ def text_of(line):
 
 def step_words(step):
     """What a step of a work-item does: of a host program with its number, in the client's words; else where."""
-    return f"{step['does']}: {step['text']}" if "text" in step else f"{step['does']} {step['memory']} byte {step['byte']}"
+    where = f" {step['memory']} byte {step['byte']}"
+    return step["does"] + (f": {step['text']}" if "text" in step else where)
 
 
 def told_places(whole):
