@@ -35,7 +35,9 @@ def is_command(line, version):
     if name == "arg":
         return (len(words) == 4 and is_form(words[:2], "an")
                 and words[2] in ARGUMENTS and is_form(words[3:], ARGUMENTS[words[2]]))
-    if name == "launch" and version == 2 and words and words[-1] == "uniform":
+    if name == "launch" and version == 3 and words and words[-1] == "orders":
+        words.pop()
+    if name == "launch" and version >= 2 and words and words[-1] == "uniform":
         words.pop()
     return any(is_form(words, letters) for letters in FORMS.get(name, []))
 
@@ -43,8 +45,8 @@ def is_command(line, version):
 def read(text):
     """How many commands a text has, and the number of its lowest bad line, or None."""
     *lines, rest = text.decode("latin1").split("\n")
-    version = 2 if lines[:1] == ["clsim 2"] else 1
-    place, commands = version - 1, 0
+    version = {"clsim 2": 2, "clsim 3": 3}.get(lines[0] if lines else "", 1)
+    place, commands = min(version - 1, 1), 0
     while place < len(lines):
         line = lines[place]
         if commands == MOST_COMMANDS or not is_command(line, version):

@@ -7,7 +7,7 @@ use Rattle.clmodel.specs.Outcome.{events_of}
 use Rattle.clmodel.specs.declared.fault.Fault.{Fault}
 use Rattle.clmodel.specs.declared.schedule.EventRun.{EventRun}
 use Rattle.clmodel.specs.declared.setup.Range.{Range}
-use Rattle.device.specs.Machine.{Machine, Step, opening, first, row, kernel_of, setup_of, bytes_of}
+use Rattle.device.specs.Machine.{Machine, Step, opening, first, row, launch_row, kernel_of, setup_of, bytes_of}
 use Rattle.host_commands.specs.declared.command.Command.{Command}
 use Rattle.host_commands.specs.declared.command.Command.TheVariants as command
 use Rattle.host_commands.specs.declared.command.Refusal.{Refusal}
@@ -34,15 +34,15 @@ pub record Leads (old : Machine) (commands : List Command) (new : Machine) : Typ
   pub plays : Plays old commands replies new
   pub had_memory : All HadMemory replies
 
--- the command of a ticket, counted from 0, launches a kernel over a range, and the commands before it lead a new device
--- of this configuration there
-pub record ComesTo (configuration : Configuration) (commands : List Command) (ticket : ℕ) (kernel : List ℕ) (range : Range) (m : Machine) : Type 0 where
-  pub launch : slice_get commands ticket ≡ Some (command.Launch kernel range)
+-- the command of a ticket, counted from 0, launches a kernel over a range, with `orders` or without, and the commands
+-- before it lead a new device of this configuration there
+pub record ComesTo (configuration : Configuration) (commands : List Command) (ticket : ℕ) (kernel : List ℕ) (range : Range) (orders : Bool) (m : Machine) : Type 0 where
+  pub launch : slice_get commands ticket ≡ Some (command.Launch kernel range orders)
   pub leads : Leads (opening configuration) (take ticket commands) m
 
 -- a launch that its row doesn't refuse: yes exactly where the schedule leads it to a state that shows the fault
 pub record Replays (m : Machine) (kernel : List ℕ) (range : Range) (fault : Fault) (runs : List EventRun) (yes : Bool) : Type 0 where
-  pub admitted : first (row m (command.Launch kernel range)) ≡ None
+  pub admitted : first (launch_row m kernel range) ≡ None
   pub decides : Decides yes (Reaches (launch_of (setup_of m (kernel_of m kernel) range) (bytes_of m)) (events_of runs) fault)
 
 -- the bytes that are read are a schedule file
@@ -55,8 +55,9 @@ pub record ReadsFile (rest : Option (List ℕ)) (ticket : ℕ) (fault : Fault) (
 pub record Judges (configuration : Configuration) (commands : List Command) (ticket : ℕ) (fault : Fault) (runs : List EventRun) (yes : Bool) : Type 0 where
   pub kernel : List ℕ
   pub range : Range
+  pub orders : Bool
   pub machine : Machine
-  pub comes : ComesTo configuration commands ticket kernel range machine
+  pub comes : ComesTo configuration commands ticket kernel range orders machine
   pub replays : Replays machine kernel range fault runs yes
 
 -- the answer to a script and a schedule file
@@ -105,7 +106,8 @@ pub record Unscheduled (rest rest' : Option (List ℕ)) : Type 0 where
 
 -- no command of the ticket launches anything
 abbrev pub NoLaunch : List Command → ℕ → Type 0
-NoLaunch commands ticket = (kernel : List ℕ) (range : Range) → slice_get commands ticket ≡ Some (command.Launch kernel range) → ⊥
+NoLaunch commands ticket =
+    (kernel : List ℕ) (range : Range) (orders : Bool) → slice_get commands ticket ≡ Some (command.Launch kernel range orders) → ⊥
 
 -- there are a script and a schedule file, whose ticket is that of no launch
 pub record Missed (rest rest' : Option (List ℕ)) (ticket : ℕ) : Type 0 where
@@ -120,10 +122,11 @@ pub record Missed (rest rest' : Option (List ℕ)) (ticket : ℕ) : Type 0 where
 pub record Refuses (configuration : Configuration) (commands : List Command) (ticket : ℕ) : Type 0 where
   pub kernel : List ℕ
   pub range : Range
+  pub orders : Bool
   pub machine : Machine
   pub refusal : Refusal
-  pub comes : ComesTo configuration commands ticket kernel range machine
-  pub refused : first (row machine (command.Launch kernel range)) ≡ Some refusal
+  pub comes : ComesTo configuration commands ticket kernel range orders machine
+  pub refused : first (row machine (command.Launch kernel range orders)) ≡ Some refusal
 
 -- there are a script and a schedule file, and the launch of its ticket is refused
 pub record Refused (configuration : Configuration) (rest rest' : Option (List ℕ)) (ticket : ℕ) : Type 0 where

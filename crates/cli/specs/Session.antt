@@ -27,6 +27,7 @@ abbrev pub one_end : Reply → RunEnd → RunEnd
 one_end reply.Done end = end
 one_end (reply.Data bytes) end = end
 one_end reply.Clean end = end
+one_end reply.Ordered end = end
 one_end (reply.Fault fault schedule) end = record end { faulted = true }
 one_end (reply.Refused refusal) end = record end { refused = true }
 

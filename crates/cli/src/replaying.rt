@@ -1,7 +1,7 @@
 //! A schedule file that is replayed on a launch of a script.
 #![tactic(auto)]
 
-ghost use Rattle.std.specs.Prelude.{◌≡◌, ℕ, List, [], false, None, Some, IfOk, IfErr, IfSome, IfNone, OnOk, Decides, slice_get, take};
+ghost use Rattle.std.specs.Prelude.{◌≡◌, ℕ, Bool, List, [], false, None, Some, IfOk, IfErr, IfSome, IfNone, OnOk, Decides, slice_get, take};
 ghost use Rattle.device.specs.Machine.{IsRefusal, machine_of, opening};
 ghost use Rattle.clmodel.specs.declared.setup.Range.{Range};
 ghost use Rattle.byte_io.specs.Sink.{Puts};
@@ -34,6 +34,7 @@ struct Task {
 struct LaunchCommand {
     kernel: Name,
     range: Range,
+    orders: bool,
 }
 
 /// Reads a schedule file.
@@ -52,18 +53,26 @@ fn task_of<R: Read>(alloc: Global, reader: &mut R) -> Result<Task, RunFault>
 
 /// What a launch command names. Other commands name none.
 fn launch_in(command: Command) -> Option<LaunchCommand>
-    ensures launch { IfSome result (λ launched. command ≡ Command.Launch launched.kernel launched.range) }
-    ensures none { IfNone result ((kernel : List ℕ) (range : Range) → command ≡ Command.Launch kernel range → ⊥) }
+    ensures launch { IfSome result (λ launched. command ≡ Command.Launch launched.kernel launched.range launched.orders) }
+    ensures none { IfNone result ((kernel : List ℕ) (range : Range) (orders : Bool) → command ≡ Command.Launch kernel range orders → ⊥) }
 {
     match command {
-        Command::Launch { kernel, range } => Some(LaunchCommand { kernel, range }),
+        Command::Launch {
+            kernel,
+            range,
+            orders,
+        } => Some(LaunchCommand {
+            kernel,
+            range,
+            orders,
+        }),
         _ => None,
     }
 }
 
 /// Takes the launch of a ticket. The commands before it stay.
 fn take_launch(commands: &mut Vec<Command>, ticket: u64) -> Option<LaunchCommand>
-    ensures launch { IfSome result (λ launched. slice_get commands.old.items ticket ≡ Some (Command.Launch launched.kernel launched.range)) }
+    ensures launch { IfSome result (λ launched. slice_get commands.old.items ticket ≡ Some (Command.Launch launched.kernel launched.range launched.orders)) }
     ensures before { IfSome result (λ _. commands.new.items ≡ take ticket commands.old.items) }
     ensures none { IfNone result (NoLaunch commands.old.items ticket) }
 {
@@ -123,7 +132,7 @@ fn decide(
     task: &Task,
 ) -> Result<bool, Refusal>
     ensures decided { IfOk result (Replays (machine_of device.now) launched.now.kernel launched.now.range task.now.fault task.now.schedule) }
-    ensures refused { IfErr result (IsRefusal (machine_of device.now) (Command.Launch launched.now.kernel launched.now.range)) }
+    ensures refused { IfErr result (IsRefusal (machine_of device.now) (Command.Launch launched.now.kernel launched.now.range launched.now.orders)) }
 {
     let launch = device.prepare(&launched.kernel, &launched.range)?;
     Ok(replay(

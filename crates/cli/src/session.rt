@@ -74,7 +74,7 @@ pub fn one_end(reply: &Reply, end: RunEnd) -> RunEnd
             refused: true,
             ..end
         },
-        Reply::Done | Reply::Data(_) | Reply::Clean => end,
+        Reply::Done | Reply::Data(_) | Reply::Clean | Reply::Ordered => end,
     }
 }
 

@@ -1,8 +1,8 @@
--- From what a launch came to to the machine's answer.
-use Rattle.std.proofs.Common.{◌≡◌, ℕ, List, Option, None, Some, ap, subst, ◌∙◌, Vec}
+-- From how a launch ended to the machine's answer.
+use Rattle.std.proofs.Common.{◌≡◌, ℕ, Bool, true, false, List, Option, None, Some, ap, subst, ◌∙◌, Vec}
+use Rattle.std.proofs.lemmas.Bool.{false≢true}
 use Rattle.std.specs.declared.alloc.Global.{Global}
 use Rattle.std.specs.Option.{MatchOption}
-use Rattle.clmodel.specs.Law.{Determinacy, CleanIsComplete, ReportIsShown}
 use Rattle.clmodel.specs.Launch.{Launch}
 use Rattle.clmodel.specs.Next.{launch_of}
 use Rattle.clmodel.specs.Setup.{Setup}
@@ -10,49 +10,84 @@ use Rattle.clmodel.specs.declared.fault.Fault.{Fault}
 use Rattle.clmodel.specs.declared.schedule.EventRun.{EventRun}
 use Rattle.clmodel.specs.declared.setup.Range.{Range}
 use Rattle.spaces.specs.Changes.{Changed, all_with_changes, table_with_changes}
-use Rattle.spaces.specs.Tables.{Table}
-use Rattle.group_join.specs.declared.launch_end.LaunchEnd.{LaunchEnd}
-use Rattle.group_join.specs.declared.launch_end.LaunchEnd.TheVariants.{Clean, Faulted}
+use Rattle.spaces.specs.Tables.{Table, with_values}
 use Rattle.host_commands.specs.declared.command.Command.TheVariants as command
 use Rattle.host_commands.specs.declared.command.Refusal.{Refusal}
 use Rattle.host_commands.specs.declared.command.Reply.TheVariants as reply
-use Rattle.device.specs.Machine.{Machine, Answers, Launches, first, row, kernel_of, setup_of, bytes_of}
+use Rattle.device.specs.Ends.{EndsBy}
+use Rattle.device.specs.Machine.{Machine, Answers, Launches, LaunchesBy, LaunchesOrdered, first, row, kernel_of, setup_of, bytes_of}
 use Rattle.device.specs.Prepared.{Came, Comes}
 use Rattle.device.specs.declared.prepared.Launched.{Launched}
-use Rattle.device.proofs.Runs.{ClaimsClean, ClaimsFault, clean_of, fault_of}
+use Rattle.device.specs.declared.running.RunEnd.{RunEnd}
+use Rattle.device.specs.declared.running.RunEnd.TheVariants.{Clean, Ordered, Faulted}
 use Rattle.device.proofs.Written.{changes_written}
 
 unrefused : (o : Option Refusal) (D : Type 0) (R : Refusal → Type 0) → o ≡ None → D → MatchOption o D R
 unrefused None D R none d = d
 unrefused (Some refusal) D R none d = cc
 
+-- a clean launch is answered alike with `orders` and without
+clean_by : (orders : Bool) (old new : Machine) (setup : Setup) → Launches old setup reply.Clean new → LaunchesBy orders old setup reply.Clean new
+clean_by true old new setup h = h
+clean_by false old new setup h = h
+
+-- an ordered launch has the word
+ordered_by : (orders : Bool) (old new : Machine) (setup : Setup) → orders ≡ true → LaunchesOrdered old setup reply.Ordered new → LaunchesBy orders old setup reply.Ordered new
+ordered_by true old new setup has h = h
+ordered_by false old new setup has h = absurd (false≢true has)
+
+-- a report is that of the run by which the launch is answered
+fault_by : (orders : Bool) (old new : Machine) (setup : Setup) (fault : Fault) (schedule : List EventRun) → EndsBy orders (launch_of setup (bytes_of old)) (Faulted fault schedule) → new ≡ old
+    → LaunchesBy orders old setup (reply.Fault fault schedule) new
+fault_by true old new setup fault schedule h same = (h.0, h.1, h.2, same)
+fault_by false old new setup fault schedule h same = (h.0, h.1, h.2, same)
+
 -- a launch that ended clean
-pub clean_answers : (old new : Machine) (kernel : List ℕ) (range : Range) (launched : Launched) (changes : Vec Changed Global)
-    → Determinacy → CleanIsComplete → Comes old kernel range launched → launched.end ≡ Clean changes
-    → new ≡ record old { buffers = table_with_changes old.buffers launched.names.items changes.items } → Answers old (command.Launch kernel range) reply.Clean new
-clean_answers old new kernel range launched changes determined complete comes is gives =
+pub clean_answers : (old new : Machine) (kernel : List ℕ) (range : Range) (orders : Bool) (launched : Launched) (changes : Vec Changed Global)
+    → Comes old kernel range orders launched → launched.end ≡ Clean changes
+    → new ≡ record old { buffers = table_with_changes old.buffers launched.names.items changes.items } → Answers old (command.Launch kernel range orders) reply.Clean new
+clean_answers old new kernel range orders launched changes comes is gives =
     let setup : Setup = setup_of old (kernel_of old kernel) range in
     let launch : Launch = launch_of setup (bytes_of old) in
-    let came : Came setup (bytes_of old) launched = comes.came in
+    let came : Came setup (bytes_of old) orders launched = comes.came in
     let contents : List (List ℕ) = all_with_changes launch.buffers changes.items in
-    let claims : ClaimsClean launch (Clean changes) = subst (λ (end : LaunchEnd). ClaimsClean launch end) is (clean_of determined complete launch launched.end came.ends) in
-    unrefused (first (row old (command.Launch kernel range))) (Launches old setup reply.Clean new)
-    (λ refusal. (reply.Clean ≡ reply.Refused refusal) × (new ≡ old)) comes.admitted (
+    let claims : EndsBy orders launch (Clean changes) = subst (λ (end : RunEnd). EndsBy orders launch end) is came.ends in
+    unrefused (first (row old (command.Launch kernel range orders))) (LaunchesBy orders old setup reply.Clean new)
+    (λ refusal. (reply.Clean ≡ reply.Refused refusal) × (new ≡ old)) comes.admitted
+    (clean_by orders old new setup (
       contents,
       claims,
       gives
           ∙ ap (λ (names : List (List ℕ)). record old { buffers = table_with_changes old.buffers names changes.items }) came.names
           ∙ ap (λ (buffers : Table (List ℕ)). record old { buffers = buffers }) (changes_written old.buffers setup changes.items),
-    )
+    ))
 
--- a launch that ended with a fault
-pub fault_answers : (old new : Machine) (kernel : List ℕ) (range : Range) (launched : Launched) (fault : Fault) (schedule : List EventRun)
-    → ReportIsShown → Comes old kernel range launched → launched.end ≡ Faulted fault schedule → new ≡ old
-    → Answers old (command.Launch kernel range) (reply.Fault fault schedule) new
-fault_answers old new kernel range launched fault schedule shown comes is same =
+-- a launch that ended ordered
+pub ordered_answers : (old new : Machine) (kernel : List ℕ) (range : Range) (orders : Bool) (launched : Launched) (contents : Vec (List ℕ) Global)
+    → Comes old kernel range orders launched → launched.end ≡ Ordered contents
+    → new ≡ record old { buffers = with_values old.buffers launched.names.items contents.items } → Answers old (command.Launch kernel range orders) reply.Ordered new
+ordered_answers old new kernel range orders launched contents comes is gives =
     let setup : Setup = setup_of old (kernel_of old kernel) range in
     let launch : Launch = launch_of setup (bytes_of old) in
-    let came : Came setup (bytes_of old) launched = comes.came in
-    let claims : ClaimsFault launch (Faulted fault schedule) = subst (λ (end : LaunchEnd). ClaimsFault launch end) is (fault_of shown launch launched.end came.ends) in
-    unrefused (first (row old (command.Launch kernel range))) (Launches old setup (reply.Fault fault schedule) new)
-    (λ refusal. (reply.Fault fault schedule ≡ reply.Refused refusal) × (new ≡ old)) comes.admitted (claims.0, claims.1, claims.2, same)
+    let came : Came setup (bytes_of old) orders launched = comes.came in
+    let claims : EndsBy orders launch (Ordered contents) = subst (λ (end : RunEnd). EndsBy orders launch end) is came.ends in
+    unrefused (first (row old (command.Launch kernel range orders))) (LaunchesBy orders old setup reply.Ordered new)
+    (λ refusal. (reply.Ordered ≡ reply.Refused refusal) × (new ≡ old)) comes.admitted
+    (ordered_by orders old new setup claims.0 (
+      contents.items,
+      claims.1,
+      gives ∙ ap (λ (names : List (List ℕ)). record old { buffers = with_values old.buffers names contents.items }) came.names,
+    ))
+
+-- a launch that ended with a fault
+pub fault_answers : (old new : Machine) (kernel : List ℕ) (range : Range) (orders : Bool) (launched : Launched) (fault : Fault) (schedule : List EventRun)
+    → Comes old kernel range orders launched → launched.end ≡ Faulted fault schedule → new ≡ old
+    → Answers old (command.Launch kernel range orders) (reply.Fault fault schedule) new
+fault_answers old new kernel range orders launched fault schedule comes is same =
+    let setup : Setup = setup_of old (kernel_of old kernel) range in
+    let launch : Launch = launch_of setup (bytes_of old) in
+    let came : Came setup (bytes_of old) orders launched = comes.came in
+    let claims : EndsBy orders launch (Faulted fault schedule) = subst (λ (end : RunEnd). EndsBy orders launch end) is came.ends in
+    unrefused (first (row old (command.Launch kernel range orders))) (LaunchesBy orders old setup (reply.Fault fault schedule) new)
+    (λ refusal. (reply.Fault fault schedule ≡ reply.Refused refusal) × (new ≡ old)) comes.admitted
+    (fault_by orders old new setup fault schedule claims same)

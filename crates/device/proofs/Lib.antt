@@ -6,3 +6,5 @@ pub mod Kept
 pub mod Names
 pub mod Arguments
 pub mod Removed
+mod Merged
+pub mod OneLaunch

@@ -1,17 +1,27 @@
--- From the run of a launch to what the machine says of it.
-use Rattle.std.proofs.Common.{◌≡◌, ℕ, ◌%◌, ◌<◌, ◌≤◌, ◌^◌, List, map, Some, Option, refl, sym, subst, arith}
+-- From the run of a launch to how it ends, as it is answered.
+use Rattle.std.proofs.Common.{◌≡◌, ℕ, ◌%◌, ◌<◌, ◌≤◌, ◌^◌, Bool, true, false, ◌&&◌, List, map, Some, Option, refl, sym, ◌∙◌, subst, arith, Vec}
+use Rattle.std.proofs.lemmas.Bool.{and_parts}
+use Rattle.std.specs.declared.alloc.Global.{Global}
 use Rattle.clmodel.specs.Launch.{Launch}
 use Rattle.clmodel.specs.Run.{State, Events, left}
-use Rattle.clmodel.specs.Law.{Determinacy, CleanIsComplete, ReportIsShown, CleanWith, Reaches, RunsClean}
-use Rattle.device.specs.Machine.{IsReported}
-use Rattle.clmodel.specs.Outcome.{events_of, IsMerged}
+use Rattle.clmodel.specs.Law.{Determinacy, CleanIsComplete, ReportIsShown, CleanWith, Reaches, RunsClean, RunsIntoFault}
+use Rattle.clmodel.specs.Outcome.{events_of}
 use Rattle.clmodel.specs.Setup.{Setup, item_count, group_items}
+use Rattle.clmodel.specs.declared.fault.Fault.{Fault}
+use Rattle.clmodel.specs.declared.schedule.EventRun.{EventRun}
 use Rattle.launches.specs.Groups.{HasGroups}
 use Rattle.limits.specs.declared.Configuration.{Configuration}
-use Rattle.spaces.specs.Changes.{all_with_changes}
+use Rattle.spaces.specs.Changes.{Changed}
 use Rattle.group_join.specs.Ends.{EndsAs}
 use Rattle.group_join.specs.declared.launch_end.LaunchEnd.{LaunchEnd}
-use Rattle.group_join.specs.declared.launch_end.LaunchEnd.TheVariants.{Clean, Faulted}
+use Rattle.group_join.specs.declared.launch_end.LaunchEnd.TheVariants as canonical
+use Rattle.ordered_runs.specs.Laws.{OrderIsMet, OtherReportsStay}
+use Rattle.ordered_runs.specs.Ordered.{is_order}
+use Rattle.ordered_play.specs.Outcomes.{IsOrderedEnd}
+use Rattle.ordered_play.specs.declared.ordered.OrderedEnd.{OrderedEnd}
+use Rattle.ordered_play.specs.declared.ordered.OrderedEnd.TheVariants as again
+use Rattle.device.specs.Ends.{EndsBy, EndsInOrder, IsReportedBy}
+use Rattle.device.specs.declared.running.RunEnd.TheVariants.{Clean, Ordered, Faulted}
 
 -- a launch in whole groups, within the limits and the budget of a device
 pub has_groups : (configuration : Configuration) (setup other : Setup) (size : ℕ) → setup ≡ other → size ≡ group_items other.range → size ≤ configuration.limits.group_items
@@ -38,23 +48,58 @@ clean_with determined complete launch events end run =
       always = λ schedule state leads ends. (determined launch events end run schedule state leads).leaves ends;
     }
 
-abbrev pub ClaimsClean : Launch → LaunchEnd → Type 0
-ClaimsClean launch (Clean changes) = CleanWith launch (map (λ bytes. map Some bytes) (all_with_changes launch.buffers changes.items))
-ClaimsClean launch (Faulted fault schedule) = Unit {0}
+-- ---- by the canonical run
 
-abbrev pub ClaimsFault : Launch → LaunchEnd → Type 0
-ClaimsFault launch (Clean changes) = Unit {0}
-ClaimsFault launch (Faulted fault schedule) = Reaches launch (events_of schedule) fault × IsReported launch (events_of schedule) fault × IsMerged schedule
+-- a canonical run without a report is of a clean launch, with `orders` and without
+pub clean_end : Determinacy → CleanIsComplete → (launch : Launch) (orders : Bool) (end : LaunchEnd) (changes : Vec Changed Global) → EndsAs launch end → end ≡ canonical.Clean changes
+    → EndsBy orders launch (Clean changes)
+clean_end determined complete launch orders end changes h is =
+    let run : EndsAs launch (canonical.Clean changes) = subst (λ (e : LaunchEnd). EndsAs launch e) is h in
+    subst (λ (contents : List (List (Option ℕ))). CleanWith launch contents) run.3 (clean_with determined complete launch run.0 run.1 run.2)
 
--- a clean run is of a clean launch
-pub clean_of : Determinacy → CleanIsComplete → (launch : Launch) (end : LaunchEnd) → EndsAs launch end → ClaimsClean launch end
-clean_of determined complete launch (Clean changes) h =
-    subst (λ (contents : List (List (Option ℕ))). CleanWith launch contents) h.3 (clean_with determined complete launch h.0 h.1 h.2)
-clean_of determined complete launch (Faulted fault schedule) h = tt
+-- A canonical run with a report leads to a state that shows it. Without `orders`, or where the report is no conflict of
+-- kind order, the launch is answered by it.
+pub fault_end : ReportIsShown → OtherReportsStay → (launch : Launch) (orders : Bool) (end : LaunchEnd) (fault : Fault) (schedule : List EventRun) → EndsAs launch end → end ≡ canonical.Faulted fault schedule
+    → (orders && is_order fault) ≡ false → EndsBy orders launch (Faulted fault schedule)
+fault_end shown stays launch orders end fault schedule h is ends =
+    let run : EndsAs launch (canonical.Faulted fault schedule) = subst (λ (e : LaunchEnd). EndsAs launch e) is h in
+    let last = shown launch run.0 run.1 fault run.2 in (
+      subst (λ (events : Events). Reaches launch events fault) run.3 (run.1, last.0, last.1),
+      subst (λ (events : Events). IsReportedBy orders launch events fault) run.3 (by orders run.0 run.1 run.2 ends),
+      run.4,
+    )
+  where
+    by : (b : Bool) (events : Events) (state : State) → RunsIntoFault launch events state fault → (b && is_order fault) ≡ false → IsReportedBy b launch events fault
+    by true events state run other = (state, stays launch events state fault run other)
+    by false events state run other = (state, run)
 
--- a run with a report leads to a state that shows it
-pub fault_of : ReportIsShown → (launch : Launch) (end : LaunchEnd) → EndsAs launch end → ClaimsFault launch end
-fault_of shown launch (Clean changes) h = tt
-fault_of shown launch (Faulted fault schedule) h =
-    let last = shown launch h.0 h.1 fault h.2 in
-    (subst (λ (events : Events). Reaches launch events fault) h.3 (h.1, last.0, last.1), subst (λ (events : Events). IsReported launch events fault) h.3 (h.1, h.2), h.4)
+-- a canonical run that ended by order, of a launch with `orders`
+pub in_order : (launch : Launch) (orders : Bool) (end : LaunchEnd) (fault : Fault) (schedule : List EventRun) → EndsAs launch end → end ≡ canonical.Faulted fault schedule
+    → (orders && is_order fault) ≡ true → EndsInOrder launch
+in_order launch orders end fault schedule h is both =
+    let run : EndsAs launch (canonical.Faulted fault schedule) = subst (λ (e : LaunchEnd). EndsAs launch e) is h in
+    (run.0, run.1, fault, run.2, (and_parts orders (is_order fault) both).1)
+
+-- ---- by the ordered run
+
+-- behind a canonical run that ended by order, an ordered run without a report has accesses that met
+pub ordered_end : OrderIsMet → (launch : Launch) (end : OrderedEnd) (schedule : List EventRun) (spaces : Vec (List (Option ℕ)) Global) (contents : Vec (List ℕ) Global) → EndsInOrder launch
+    → IsOrderedEnd launch end → end ≡ again.Ended schedule spaces → map (λ bytes. map Some bytes) contents.items ≡ spaces.items → EndsBy true launch (Ordered contents)
+ordered_end met launch end schedule spaces contents order h is same =
+    let run : IsOrderedEnd launch (again.Ended schedule spaces) = subst (λ (e : OrderedEnd). IsOrderedEnd launch e) is h in (
+      refl,
+      record {
+        events = events_of schedule;
+        last = run.0;
+        runs = run.1;
+        met = met launch order.0 (events_of schedule) order.1 run.0 order.2 order.3 order.4 run.1;
+        leaves = run.2 ∙ sym same;
+      },
+    )
+
+-- an ordered run with a report
+pub ordered_fault : (launch : Launch) (end : OrderedEnd) (fault : Fault) (schedule : List EventRun) → IsOrderedEnd launch end → end ≡ again.Faulted fault schedule
+    → EndsBy true launch (Faulted fault schedule)
+ordered_fault launch end fault schedule h is =
+    let run : IsOrderedEnd launch (again.Faulted fault schedule) = subst (λ (e : OrderedEnd). IsOrderedEnd launch e) is h in
+    (run.1, run.0, run.3)

@@ -5,7 +5,7 @@ use Rattle.std.specs.Map.{remove_entry, set_value, values_of}
 use Rattle.std.specs.Option.{option_map_or, unwrap_or, MatchOption}
 use Rattle.clmodel.specs.Law.{CleanWith, Reaches, RunsIntoFault}
 use Rattle.clmodel.specs.Launch.{Launch}
-use Rattle.clmodel.specs.Run.{Events, State}
+use Rattle.clmodel.specs.Run.{Events, State, left}
 use Rattle.clmodel.specs.declared.fault.Fault.{Fault}
 use Rattle.clmodel.specs.Next.{launch_of}
 use Rattle.clmodel.specs.Outcome.{events_of, IsMerged}
@@ -28,6 +28,7 @@ use Rattle.host_commands.specs.declared.command.Refusal.TheVariants.{NameInUse, 
 use Rattle.host_commands.specs.declared.command.Reply.{Reply}
 use Rattle.host_commands.specs.declared.command.Reply.TheVariants as reply
 use Rattle.limits.specs.declared.Configuration.{Configuration}
+use Rattle.ordered_runs.specs.Ordered.{HaveMet, OrderedIntoFault, RunsOrdered}
 use Rattle.device.specs.declared.Device.{Device}
 
 -- what is known between two commands: what the device was made with, its limits (table 4.3) and the ticks that an item
@@ -113,6 +114,17 @@ abbrev pub first : Row → Option Refusal
 first [] = None
 first (x ∷ row) = if x.0 then Some x.1 else first row
 
+-- the row of a launch of a kernel, with `orders` and without
+abbrev pub launch_row : Machine → List ℕ → Range → Row
+launch_row m kernel range =
+    (not (has_kernel m kernel), NoSuchName)
+    ∷ (is_bad_dimension range, BadDimension)
+    ∷ (is_bad_group m.configuration.limits range, BadGroupSize)
+    ∷ (is_too_many m.configuration.limits range, TooManyItems)
+    ∷ (list_any (λ a. not (is_some a)) (kernel_of m kernel).arguments, ArgumentsMissing)
+    ∷ (nat_lt m.configuration.limits.local_bytes (sum_by (λ o. o.size) (local_objects (setup_of m (kernel_of m kernel) range))), LocalTooLarge)
+    ∷ []
+
 -- the row of a command
 abbrev pub row : Machine → Command → Row
 row m (command.Buffer name size) =
@@ -153,14 +165,7 @@ row m (command.Arg kernel index argument) =
     ∷ (not (fits m (kernel_of m kernel) index argument), BadArgument)
     ∷ (not (is_there m argument), NoSuchName)
     ∷ []
-row m (command.Launch kernel range) =
-    (not (has_kernel m kernel), NoSuchName)
-    ∷ (is_bad_dimension range, BadDimension)
-    ∷ (is_bad_group m.configuration.limits range, BadGroupSize)
-    ∷ (is_too_many m.configuration.limits range, TooManyItems)
-    ∷ (list_any (λ a. not (is_some a)) (kernel_of m kernel).arguments, ArgumentsMissing)
-    ∷ (nat_lt m.configuration.limits.local_bytes (sum_by (λ o. o.size) (local_objects (setup_of m (kernel_of m kernel) range))), LocalTooLarge)
-    ∷ []
+row m (command.Launch kernel range orders) = launch_row m kernel range
 
 -- A program that is built is there from then on. A source that isn't built is refused.
 abbrev pub Built : Machine → List ℕ → Result Program BuildFault → Reply → Machine → Type 0
@@ -171,9 +176,9 @@ Built old name (Err f) r new = (r ≡ reply.Refused (BuildFailed f)) × (new ≡
 abbrev pub IsReported : Launch → Events → Fault → Type 0
 IsReported launch events fault = (end : State) × RunsIntoFault launch events end fault
 
--- A launch that isn't refused: it is clean, whatever the order in which its items go on, and its buffers hold from then
--- on what every order leaves in them; or the schedule leads to a state that shows the fault, which is the canonical
--- run's report, and no buffer changes.
+-- A launch without `orders` that isn't refused: it is clean, whatever the order in which its items go on, and its
+-- buffers hold from then on what every order leaves in them; or the schedule leads to a state that shows the fault,
+-- which is the canonical run's report, and no buffer changes.
 abbrev pub Launches : Machine → Setup → Reply → Machine → Type 0
 Launches old setup reply.Clean new =
     (contents : List (List ℕ)) × CleanWith (launch_of setup (bytes_of old)) (map (λ bytes. map Some bytes) contents)
@@ -183,7 +188,41 @@ Launches old setup (reply.Fault fault schedule) new =
     × IsMerged schedule × (new ≡ old)
 Launches old setup reply.Done new = ⊥
 Launches old setup (reply.Data bytes) new = ⊥
+Launches old setup reply.Ordered new = ⊥
 Launches old setup (reply.Refused refusal) new = ⊥
+
+-- the ordered run of a launch makes these events and ends with this report (own)
+abbrev pub IsOrderedReport : Launch → Events → Fault → Type 0
+IsOrderedReport launch events fault = (end : State) × OrderedIntoFault launch events end fault
+
+-- the ordered run of a launch makes these events and ends without a report, two accesses have met in it, and it leaves
+-- these contents (own, on 3.3.1 and 6.12.11)
+pub record OrderedWith (launch : Launch) (contents : List (List (Option ℕ))) : Type 0 where
+  pub events : Events
+  pub last : State
+  pub runs : RunsOrdered launch events last
+  pub met : HaveMet launch last
+  pub leaves : left launch last ≡ contents
+
+-- A launch with `orders` that isn't refused (own, on 3.3.1 and 6.12.11): it is clean as one without; or it is ordered,
+-- and its buffers hold from then on what its ordered run left, and of other orders nothing is known; or the schedule
+-- leads to a state that shows the fault, which is the ordered run's report, and no buffer changes.
+abbrev pub LaunchesOrdered : Machine → Setup → Reply → Machine → Type 0
+LaunchesOrdered old setup reply.Clean new = Launches old setup reply.Clean new
+LaunchesOrdered old setup reply.Ordered new =
+    (contents : List (List ℕ)) × OrderedWith (launch_of setup (bytes_of old)) (map (λ bytes. map Some bytes) contents)
+    × (new ≡ record old { buffers = with_values old.buffers (buffer_names setup) contents })
+LaunchesOrdered old setup (reply.Fault fault schedule) new =
+    Reaches (launch_of setup (bytes_of old)) (events_of schedule) fault × IsOrderedReport (launch_of setup (bytes_of old)) (events_of schedule) fault
+    × IsMerged schedule × (new ≡ old)
+LaunchesOrdered old setup reply.Done new = ⊥
+LaunchesOrdered old setup (reply.Data bytes) new = ⊥
+LaunchesOrdered old setup (reply.Refused refusal) new = ⊥
+
+-- a launch that isn't refused, with `orders` or without
+abbrev pub LaunchesBy : Bool → Machine → Setup → Reply → Machine → Type 0
+LaunchesBy true old setup r new = LaunchesOrdered old setup r new
+LaunchesBy false old setup r new = Launches old setup r new
 
 -- a kernel of a program's function, with no arguments yet
 abbrev pub named_kernel : Program → List ℕ → List ℕ → KernelState
@@ -209,7 +248,7 @@ Does old (command.Kernel name program function) r new =
     (r ≡ reply.Done) × (new ≡ record old { kernels = old.kernels ++ (name, named_kernel (program_of old program) program function) ∷ [] })
 Does old (command.Arg kernel index argument) r new =
     (r ≡ reply.Done) × (new ≡ record old { kernels = set_value (is kernel) old.kernels (with_argument (kernel_of old kernel) index argument) })
-Does old (command.Launch kernel range) r new = Launches old (setup_of old (kernel_of old kernel) range) r new
+Does old (command.Launch kernel range orders) r new = LaunchesBy orders old (setup_of old (kernel_of old kernel) range) r new
 
 -- the first refusal of the row, or what the command does
 abbrev pub Answers : Machine → Command → Reply → Machine → Type 0
@@ -226,11 +265,15 @@ takes_memory (command.Release name) = false
 takes_memory (command.Program name source) = true
 takes_memory (command.Kernel name program function) = true
 takes_memory (command.Arg kernel index argument) = true
-takes_memory (command.Launch kernel range) = true
+takes_memory (command.Launch kernel range orders) = true
 
 -- why a command may be refused: the first refusal of its row, or out of memory, where it takes memory
 abbrev pub IsRefusal : Machine → Command → Refusal → Type 0
 IsRefusal old c refusal = (first (row old c) ≡ Some refusal) ⊎ (IsTrue (takes_memory c) × (refusal ≡ OutOfMemory))
+
+-- why a launch of a kernel may be refused: with `orders` as without
+abbrev pub IsLaunchRefusal : Machine → List ℕ → Range → Refusal → Type 0
+IsLaunchRefusal old kernel range refusal = IsRefusal old (command.Launch kernel range false) refusal
 
 -- out of memory may come in place of any answer of a command that takes memory
 abbrev pub LacksMemory : Machine → Command → Reply → Machine → Type 0

@@ -1,16 +1,15 @@
 -- A launch that wasn't refused, and what it came to.
-use Rattle.std.specs.Prelude.{◌≡◌, ℕ, List, None}
+use Rattle.std.specs.Prelude.{◌≡◌, ℕ, Bool, List, None}
 use Rattle.clmodel.specs.Setup.{Setup, buffer_names}
 use Rattle.clmodel.specs.Next.{launch_of}
 use Rattle.clmodel.specs.Tree.{program}
 use Rattle.clmodel.specs.declared.setup.Range.{Range}
-use Rattle.group_join.specs.Ends.{EndsAs}
-use Rattle.host_commands.specs.declared.command.Command.TheVariants as command
 use Rattle.item_step.specs.Launches as launches
 use Rattle.item_step.specs.declared.launch.Launch.{Launch}
 use Rattle.launches.specs.Groups.{HasGroups}
+use Rattle.device.specs.Ends.{EndsBy}
 use Rattle.device.specs.Kept.{IsCodeOf}
-use Rattle.device.specs.Machine.{Machine, first, row, kernel_of, setup_of, bytes_of}
+use Rattle.device.specs.Machine.{Machine, first, launch_row, kernel_of, setup_of, bytes_of}
 use Rattle.device.specs.declared.prepared.Prepared.{Prepared}
 use Rattle.device.specs.declared.prepared.Launched.{Launched}
 use Rattle.device.specs.declared.prepared.Started.{Started}
@@ -20,15 +19,15 @@ abbrev pub prepared_setup : Prepared → Range → Setup
 prepared_setup p range =
     record { program = program p.checked.now.tree; kernel = p.kernel.now.function; range = range; arguments = p.kernel.now.arguments; budget = p.configuration.budget }
 
--- the names of its buffers, and how its run on these bytes ends
-pub record Came (setup : Setup) (bytes : List ℕ → List ℕ) (launched : Launched) : Type 0 where
+-- the names of its buffers, and how it ends on these bytes, with `orders` or without
+pub record Came (setup : Setup) (bytes : List ℕ → List ℕ) (orders : Bool) (launched : Launched) : Type 0 where
   pub names : launched.names.items ≡ buffer_names setup
-  pub ends : EndsAs (launch_of setup bytes) launched.end
+  pub ends : EndsBy orders (launch_of setup bytes) launched.end
 
 -- a launch that its row doesn't refuse: it runs the kernel of this name over this range, in whole groups, and by this
 -- kernel's code
 pub record IsPrepared (m : Machine) (kernel : List ℕ) (range : Range) (launch : Launch) : Type 0 where
-  pub admitted : first (row m (command.Launch kernel range)) ≡ None
+  pub admitted : first (launch_row m kernel range) ≡ None
   pub setup : launches.setup_of launch ≡ setup_of m (kernel_of m kernel) range
   pub groups : HasGroups (launches.setup_of launch)
   pub code : IsCodeOf (launches.setup_of launch).program (launches.setup_of launch).kernel (launches.code_of launch)
@@ -38,7 +37,7 @@ pub record IsStarted (m : Machine) (kernel : List ℕ) (range : Range) (started 
   pub prepared : IsPrepared m kernel range started.launch
   pub names : started.names.items ≡ buffer_names (setup_of m (kernel_of m kernel) range)
 
--- what the run of a launch comes to that its row doesn't refuse
-pub record Comes (m : Machine) (kernel : List ℕ) (range : Range) (launched : Launched) : Type 0 where
-  pub admitted : first (row m (command.Launch kernel range)) ≡ None
-  pub came : Came (setup_of m (kernel_of m kernel) range) (bytes_of m) launched
+-- what a launch comes to that its row doesn't refuse, with `orders` or without
+pub record Comes (m : Machine) (kernel : List ℕ) (range : Range) (orders : Bool) (launched : Launched) : Type 0 where
+  pub admitted : first (launch_row m kernel range) ≡ None
+  pub came : Came (setup_of m (kernel_of m kernel) range) (bytes_of m) orders launched

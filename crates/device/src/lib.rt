@@ -2,10 +2,11 @@
 //!
 //! `apply` is a step of the machine: the first refusal of the command's list, with nothing changed; clean over all
 //! schedules, with the buffers that every complete one leaves; or the canonical report with a schedule that shows it,
-//! and no buffer changed. `apply_with`, by 1 to 16 workers, is such a step too. `open` gives the device a queue of
-//! tickets; `drive_one` and `answer` do a request by a step, and `drive_with` and `answer_with` the same by workers.
-//! `prepare` answers the launch that would run, or the launch's refusal. Refusals are tested in their order; refusal 16
-//! comes where memory is refused.
+//! and no buffer changed. A launch with `orders` whose report would be of kind order runs again, as the ordered run on
+//! the same buffers, and answers `ordered` with what that leaves, or its report. `apply_with`, by 1 to 16 workers, is
+//! such a step too. `open` gives the device a queue of tickets; `drive_one` and `answer` do a request by a step, and
+//! `drive_with` and `answer_with` the same by workers. `prepare` answers the launch that would run, or the launch's
+//! refusal. Refusals are tested in their order; refusal 16 comes where memory is refused.
 #![tactic(auto)]
 
 ghost use Rattle.std.specs.Prelude.{◌≡◌, IfOk, IfErr, IfSome, Some, is_some, false, ◌≤◌, ◌<◌, ◌+◌, ◌^◌, length, nat_lt};
@@ -22,7 +23,9 @@ ghost use Rattle.device.specs.Kept.{ActsAs, AllCompiled, IsCodeOf};
 
 mod compiled;
 mod launching;
+pub mod laws;
 mod prepared;
+mod running;
 mod tickets;
 
 use crate::compiled::{CompiledKernel, code_of, has_program, holds_buffer, set_argument};
@@ -421,7 +424,11 @@ impl Device {
                 index,
                 argument,
             } => self.set_argument(&kernel, index, argument),
-            Command::Launch { kernel, range } => self.launch(&kernel, &range, run),
+            Command::Launch {
+                kernel,
+                range,
+                orders,
+            } => self.launch(&kernel, &range, orders, run),
         }
     }
 

@@ -10,10 +10,10 @@ ghost use Rattle.clmodel.specs.Typing.Sizes.{parameter_limit};
 ghost use Rattle.host_commands.specs.Ranges.{IsLaunchable};
 ghost use Rattle.device.specs.Kept.{ActsAs, IsCodeOf};
 
+use crate::running::RunEnd;
 use clmodel::setup::Range;
 use clmodel::text::Name;
 use cltypes::Checked;
-use group_join::LaunchEnd;
 use host_commands::kernel::Kernel;
 use host_commands::ranges::group_items;
 use item_step::{Launch, Setup};
@@ -45,7 +45,7 @@ pub(crate) struct Started<'a> {
 #[derive(Drop)]
 pub(crate) struct Launched {
     pub(crate) names: Vec<Name>,
-    pub(crate) end: LaunchEnd,
+    pub(crate) end: RunEnd,
 }
 
 impl<'a> Prepared<'a> {

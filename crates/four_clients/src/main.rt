@@ -26,6 +26,7 @@ fn show<R: Print>(rt: &R, number: u8, reply: &Reply) -> io::Result<()> {
             }
         }
         Reply::Clean => print!(rt; "clean")?,
+        Reply::Ordered => print!(rt; "ordered")?,
         Reply::Fault { .. } => print!(rt; "fault")?,
         Reply::Refused(_) => print!(rt; "refused")?,
     }

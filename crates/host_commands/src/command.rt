@@ -72,10 +72,11 @@ pub enum Command {
         index: u64,
         argument: Argument,
     },
-    /// Runs a kernel over an index space (section 5.8).
+    /// Runs a kernel over an index space (section 5.8). With `orders` no conflict of kind order is a report.
     Launch {
         kernel: Name,
         range: Range,
+        orders: bool,
     },
 }
 
@@ -140,6 +141,9 @@ pub enum Reply {
     Data(Bytes),
     /// No interleaving of the launch's items shows a fault
     Clean,
+    /// Of a launch with `orders`: its ordered run shows no fault, two accesses that conflict as order have met in it,
+    /// and the buffers hold what that run left. Of other interleavings nothing is known
+    Ordered,
     /// A fault, and a schedule after which the launch shows it
     Fault { fault: Fault, schedule: Schedule },
     Refused(Refusal),

@@ -61,7 +61,7 @@ fn try_prepared<R: Print + Eprint + Threads + Wait + Sync>(
     device: &Device,
     command: &Command,
 ) -> bool {
-    let Command::Launch { kernel, range } = command else {
+    let Command::Launch { kernel, range, .. } = command else {
         return is_done(rt, "launches prepare", Came::Wrong);
     };
     match device.prepare(kernel, range) {

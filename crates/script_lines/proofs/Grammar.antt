@@ -160,13 +160,13 @@ program_takes bytes said e =
 plain_takes : (text : List ℕ) (said : LineSays) → plain_command_at text ≡ Some said → IsSaid text said
 unfolding plain_command_at
 plain_takes text said e =
-    let s = bind_some (command_at version.Two text) _ said e in
+    let s = bind_some (command_at version.Three text) _ said e in
     let p = unless (not (length s.0.1 == 0) || is_program s.0.0) (says.Command s.0.0) said s.2 in
     let tests = both_false (not (length s.0.1 == 0)) (is_program s.0.0) p.0 in
     let none : s.0.1 ≡ [] = empty_is s.0.1 (not_false (length s.0.1 == 0) tests.0) in
-    let t = command_takes version.Two text s.0.0 s.0.1 s.1 in
+    let t = command_takes version.Three text s.0.0 s.0.1 s.1 in
     let all : text ≡ t.0 = t.1 ∙ (ap (λ l. t.0 ++ l) none ∙ append-nil t.0) in
-    let told : IsText version.Two text s.0.0 = subst (λ (l : List ℕ). IsText version.Two l s.0.0) (sym all) t.2 in
+    let told : IsText version.Three text s.0.0 = subst (λ (l : List ℕ). IsText version.Three l s.0.0) (sym all) t.2 in
     subst (IsSaid text) p.1 (inl (false_not (is_program s.0.0) tests.1, told))
 
 numbers_take : (text : List ℕ) (said : LineSays) → numbers_say_at text ≡ Some said → IsSaid text said
@@ -222,11 +222,11 @@ false_is : (v : Bool) → not v ≡ true → v ≡ false
 false_is true e = absurd (cc)
 false_is false e = refl
 
--- a text of version 2 that no other form has in front is read as its command
-plain_again : (text : List ℕ) (c : Command) → not (is_program c) ≡ true → IsText version.Two text c → same_text text line_feed ≡ false → after (codes "program ") text ≡ None → numbers_say_at text ≡ None → says_at text ≡ Some (says.Command c)
+-- the plain text of a command that no other form has in front is read as it
+plain_again : (text : List ℕ) (c : Command) → not (is_program c) ≡ true → IsText version.Three text c → same_text text line_feed ≡ false → after (codes "program ") text ≡ None → numbers_say_at text ≡ None → says_at text ≡ Some (says.Command c)
 unfolding says_at plain_command_at
 plain_again text c other told some no_program no_numbers =
-    let again : command_at version.Two text ≡ Some (c, []) = rw append-nil at (command_again version.Two text c [] told) in
+    let again : command_at version.Three text ≡ Some (c, []) = rw append-nil at (command_again version.Three text c [] told) in
     let test : is_program c ≡ false = false_is (is_program c) other in
     rw (some, no_program, no_numbers, again, test) refl
 
@@ -243,8 +243,8 @@ read_apart : (buffer : List ℕ) (offset : ℕ) (digits : List ℕ) → IsTrue (
 unfolding read_numbers_at kind_at is_later
 read_apart buffer offset digits n o later = rw (name_before_again, number_before_again, no_word digits later) refl
 
--- each command of version 2 but a program
-command_says : (text : List ℕ) (c : Command) → not (is_program c) ≡ true → IsText version.Two text c → says_at text ≡ Some (says.Command c)
+-- each command that is written as in a plain script, but a program
+command_says : (text : List ℕ) (c : Command) → not (is_program c) ≡ true → IsText version.Three text c → says_at text ≡ Some (says.Command c)
 unfolding numbers_say_at after
 command_says text (command.Buffer name size) p (n, s, is) = plain_again text (command.Buffer name size) p (n, s, is) (rw is refl) (rw is refl) (rw is refl)
 command_says text (command.Write buffer offset bytes) p (n, o, b, is) =
@@ -259,7 +259,8 @@ command_says text (command.Release name) p (n, is) = plain_again text (command.R
 command_says text (command.Program name source) p told = absurd (cc)
 command_says text (command.Kernel name program function) p (n, m, f, is) = plain_again text (command.Kernel name program function) p (n, m, f, is) (rw is refl) (rw is refl) (rw is refl)
 command_says text (command.Arg kernel index argument) p (n, i, (setting, m, is)) = plain_again text (command.Arg kernel index argument) p (n, i, (setting, m, is)) (rw is refl) (rw is refl) (rw is refl)
-command_says text (command.Launch kernel range) p (n, g, l, (offset, word, o, u, is)) = plain_again text (command.Launch kernel range) p (n, g, l, (offset, word, o, u, is)) (rw is refl) (rw is refl) (rw is refl)
+command_says text (command.Launch kernel range orders) p (n, g, l, (offset, word, last, o, u, s, is)) =
+    plain_again text (command.Launch kernel range orders) p (n, g, l, (offset, word, last, o, u, s, is)) (rw is refl) (rw is refl) (rw is refl)
 
 pub says_again : (text : List ℕ) (said : LineSays) → IsSaid text said → says_at text ≡ Some said
 unfolding says_at numbers_say_at write_numbers_at fill_numbers_at read_numbers_at program_at source_lines_at source_until_at source_file_at after is_later
@@ -276,7 +277,7 @@ says_again text (says.Command (command.Release name)) (inr h) = absurd h
 says_again text (says.Command (command.Program name source)) (inr h) = absurd h
 says_again text (says.Command (command.Kernel name program function)) (inr h) = absurd h
 says_again text (says.Command (command.Arg kernel index argument)) (inr h) = absurd h
-says_again text (says.Command (command.Launch kernel range)) (inr h) = absurd h
+says_again text (says.Command (command.Launch kernel range orders)) (inr h) = absurd h
 says_again text (says.ReadNumbers buffer offset kind count) (n, o, k, is) =
     rw is (rw (name_before_again, number_before_again, kind_at_again, number_alone_again count (count_fits kind count k), few_count kind count k) refl)
 says_again text (says.SourceLines name count) (n, some, most, is) =

@@ -1,4 +1,4 @@
--- The plain text of a line of version 3: its words, without its comment and its blanks (own).
+-- The plain text of a line of a written script: its words, without its comment and its blanks (own).
 use Rattle.std.specs.Prelude.{ℕ, ◌==◌, Bool, ◌||◌, nat_lt, List, [], ◌∷◌, ◌++◌, length, codes}
 use Rattle.std.specs.List.{filter, slice_split, join_with_byte, before_first, after_first}
 

@@ -116,10 +116,10 @@ program_at bytes = do
       (or_else (after (codes "file ") name.1) (source_file_at name.0)
       (source_lines_at name.0 name.1))
 
--- a command of version 2 that is all of the text, other than a program
+-- a command, as a plain script of version 3 has it, that is all of the text, other than a program
 unfoldable pub plain_command_at : List ℕ → Option LineSays
 plain_command_at text = do
-  read ← command_at version.Two text
+  read ← command_at version.Three text
   if not (length read.1 == 0) || is_program read.0 then None else Some (says.Command read.0)
 
 -- a `write`, a `fill` or a `read` of numbers

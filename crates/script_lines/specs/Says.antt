@@ -1,4 +1,4 @@
--- What a line of a script of version 3 says (own). Of versions 1 and 2 `simfile` says it.
+-- What a line of a script of version 3 says that is written by hand (own). Of plain scripts `simfile` says it.
 use Rattle.std.specs.Prelude.{◌≡◌, ℕ, ℤ, ◌*◌, ◌<◌, ◌≤◌, ◌^◌, ◌==◌, Bool, true, false, not, ◌&&◌, nat_lt, IsTrue, List, [], ◌∷◌, length, codes, decimal, ◌⊎◌}
 use Rattle.std.specs.List.{list_all}
 use Rattle.byte_io.specs.Pieces.{joined}
@@ -37,7 +37,7 @@ is_path path = nat_lt 0 (length path) && list_all (λ b. not (b == 32) && not (b
 -- what a plain text says
 abbrev pub IsSaid : List ℕ → LineSays → Type 0
 IsSaid text says.Nothing = text ≡ line_feed
-IsSaid text (says.Command told) = IsTrue (not (is_program told)) × IsText version.Two text told ⊎ IsNumbersText text told
+IsSaid text (says.Command told) = IsTrue (not (is_program told)) × IsText version.Three text told ⊎ IsNumbersText text told
 IsSaid text (says.ReadNumbers buffer offset kind count) =
     IsTrue (is_name buffer) × (offset < 2 ^ 64) × (count * size_of kind < 2 ^ 64)
     × (text ≡ joined (codes "read " ∷ buffer ∷ space ∷ decimal offset ∷ space ∷ type_word kind ∷ space ∷ decimal count ∷ line_feed ∷ []))

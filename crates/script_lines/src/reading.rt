@@ -25,12 +25,12 @@ fn is_program(command: &Command) -> bool
     }
 }
 
-/// A command that the whole text is in version 2, other than a program.
+/// A command that the whole text is in a plain script of version 3, other than a program.
 #[tactic(auto, unfolding(crate::specs::Reading::plain_command_at))]
 fn plain_command(alloc: Global, text: &[u8]) -> Result<Option<LineSays>, AllocError>
     ensures { IfOk result (λ told. told ≡ plain_command_at text.now) }
 {
-    let Some((command, rest)) = read_command(alloc, Version::Two, text)? else {
+    let Some((command, rest)) = read_command(alloc, Version::Three, text)? else {
         return Ok(None);
     };
     if !rest.is_empty() || is_program(&command) {

@@ -20,8 +20,8 @@ use Rattle.serving.proofs.Sources.{fails_then}
 use Rattle.simfile.specs.declared.lines.Version.{Version}
 use Rattle.simfile.specs.declared.lines.Version.TheVariants as version
 use Rattle.simfile.specs.Reading.{command_at}
-use Rattle.simfile.specs.Script.{IsText, AreLines, line_feeds, head}
-use Rattle.simfile.specs.Stepwise.{source_lines, IsWhole}
+use Rattle.simfile.specs.Script.{IsText, AreLines, line_feeds}
+use Rattle.simfile.specs.Stepwise.{source_lines, TellsVersion, IsWhole}
 use Rattle.simfile.proofs.Grammar.{command_takes, command_again}
 use Rattle.simfile.proofs.LineLaws.{whole_read, whole_none, no_line, too_few, some_lines}
 
@@ -43,11 +43,21 @@ ends_then None b c bytes h k = tt
 ends_then (Some xs) None c bytes h k = absurd h
 ends_then (Some xs) (Some ys) c bytes h k = k
 
-pub opening_two : {old mid new : Conversation} {before first cleared text : List ℕ} {w whole : Bool} → before ≡ [] → HeardLine old mid before first w → first ≡ head version.Two → cleared ≡ [] → HeardLine mid new cleared text whole → HeardOpening old new text version.Two whole
-opening_two {old} {mid} {new} {before} {first} {cleared} {text} {w} {whole} empty h two none k =
-    let line : h.line ≡ head version.Two = sym (h.added ∙ ap (λ l. l ++ h.line) empty) ∙ two in
+-- the line that tells a version is its greeting
+greets : (line : List ℕ) (v : Version) → TellsVersion line v → ◌≡◌ {A = List Event} (Heard line ∷ []) (greeting v)
+greets line version.One h = absurd h
+greets line version.Two h = ap (λ l. Heard l ∷ []) h
+greets line version.Three h = ap (λ l. Heard l ∷ []) h
+
+greeted_by : {old mid : Conversation} {before first : List ℕ} {w : Bool} (v : Version) → before ≡ [] → HeardLine old mid before first w → TellsVersion first v → Said old mid (greeting v)
+greeted_by {old} {mid} {before} {first} v empty h tells =
+    let line : first ≡ h.line = h.added ∙ ap (λ l. l ++ h.line) empty in
+    subst (λ (es : List Event). Said old mid es) (greets h.line v (subst (λ (l : List ℕ). TellsVersion l v) line tells)) h.said
+
+pub opening_later : {old mid new : Conversation} {before first cleared text : List ℕ} {w whole : Bool} (v : Version) → before ≡ [] → HeardLine old mid before first w → TellsVersion first v → cleared ≡ [] → HeardLine mid new cleared text whole → HeardOpening old new text v whole
+opening_later {old} {mid} {new} {before} {first} {cleared} {text} {w} {whole} v empty h tells none k =
     let second = opening_one none k in
-    let greeted : Said old mid (greeting version.Two) = subst (λ (l : List ℕ). Said old mid (Heard l ∷ [])) line h.said in
+    let greeted : Said old mid (greeting v) = greeted_by v empty h tells in
     record {
       said = said_then greeted second.said;
       failures = second.failures ∙ h.failures;
@@ -58,11 +68,10 @@ opening_two {old} {mid} {new} {before} {first} {cleared} {text} {w} {whole} empt
 pub not_opened : {old new : Conversation} (why : RunFault) → NotHeard old new why → NotOpened old new why
 not_opened why h = record { version = version.One; bytes = h.bytes; said = h.said; fails = h.fails }
 
-pub not_opened_two : {old mid new : Conversation} {before first : List ℕ} {w : Bool} (why : RunFault) → before ≡ [] → HeardLine old mid before first w → first ≡ head version.Two → NotHeard mid new why → NotOpened old new why
-not_opened_two {old} {mid} {new} {before} {first} {w} why empty h two k =
-    let line : h.line ≡ head version.Two = sym (h.added ∙ ap (λ l. l ++ h.line) empty) ∙ two in
-    let greeted : Said old mid (greeting version.Two) = subst (λ (l : List ℕ). Said old mid (Heard l ∷ [])) line h.said in
-    record { version = version.Two; bytes = k.bytes; said = said_then greeted k.said; fails = fails_then new.failures why h.failures k.fails }
+pub not_opened_later : {old mid new : Conversation} {before first : List ℕ} {w : Bool} (v : Version) (why : RunFault) → before ≡ [] → HeardLine old mid before first w → TellsVersion first v → NotHeard mid new why → NotOpened old new why
+not_opened_later {old} {mid} {new} v why empty h tells k =
+    let greeted : Said old mid (greeting v) = greeted_by v empty h tells in
+    record { version = v; bytes = k.bytes; said = said_then greeted k.said; fails = fails_then new.failures why h.failures k.fails }
 
 -- the rest of a command's text
 

@@ -15,6 +15,7 @@ use Rattle.simfile.specs.Stepwise.{IsWhole}
 abbrev pub greeting : Version → List Event
 greeting version.One = []
 greeting version.Two = Heard (head version.Two) ∷ []
+greeting version.Three = Heard (head version.Three) ∷ []
 
 -- a turn for each command: its text is heard, in pieces, and then its reply's line is told
 abbrev pub AreTurns : Version → List Command → List Reply → List Event → Type 0

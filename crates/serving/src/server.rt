@@ -14,7 +14,7 @@ use host_commands::command::{Command, Reply};
 use simfile::faults::RunFault;
 use simfile::lines::Version;
 use simfile::replies::write_reply;
-use simfile::stepwise::{count_lines, is_version_line, read_command, source_lines};
+use simfile::stepwise::{count_lines, read_command, source_lines, version_told};
 use std::alloc::Global;
 
 /// A talk with a peer, of whose next command the first line was heard.
@@ -38,7 +38,7 @@ fn lines_before(version: Version) -> usize
 {
     match version {
         Version::One => 0,
-        Version::Two => 1,
+        Version::Two | Version::Three => 1,
     }
 }
 
@@ -49,16 +49,16 @@ fn hear_opening<P: Peer>(peer: &mut P, text: &mut Vec<u8>) -> Result<(Version, b
     ensures failed { IfErr result (NotOpened (P.view peer.old) (P.view peer.new)) }
 {
     let first = hear_line(peer, text)?;
-    if !is_version_line(text.as_slice()) {
+    let Some(version) = version_told(text.as_slice()) else {
         return Ok((Version::One, first));
-    }
+    };
     text.clear();
     let second = hear_line(peer, text)?;
-    Ok((Version::Two, second))
+    Ok((version, second))
 }
 
 impl Server {
-    /// Begins to serve a peer: hears its first line, and where this is the line of version 2 the one behind it.
+    /// Begins to serve a peer: hears its first line, and where this is that of version 2 or 3 the one behind it.
     pub fn open<P: Peer>(alloc: Global, peer: &mut P) -> Result<Self, RunFault>
         ensures opened { IfOk result (Opened (P.view peer.old) (P.view peer.new)) }
         ensures failed { IfErr result (NotOpened (P.view peer.old) (P.view peer.new)) }

@@ -12,8 +12,8 @@ use Rattle.simfile.specs.declared.lines.Version.TheVariants as version
 use Rattle.text_lines.specs.Texts.{is_later, is_listed, list_text}
 use Rattle.simfile.specs.Fields.{is_name, IsList, numbers_of, hex, is_hex_digit, bytes_of}
 use Rattle.text_lines.specs.Fronts.{list_below, after, number_at, before, or_else, ◌>>=◌}
-use Rattle.simfile.specs.Reading.{list_at, buffer_at, write_at, fill_at, copy_at, read_at, release_at, buffer_argument_at, value_argument_at, local_argument_at, argument_at, listed_offset_at, offset_at, uniform_at, offsets_of, range_of, program_at, kernel_at, arg_at, launch_at, command_at}
-use Rattle.simfile.specs.Script.{IsText, IsSetting, IsOffset, IsUniform, space, line_feed}
+use Rattle.simfile.specs.Reading.{list_at, buffer_at, write_at, fill_at, copy_at, read_at, release_at, buffer_argument_at, value_argument_at, local_argument_at, argument_at, listed_offset_at, offset_at, word_at, uniform_at, orders_at, offsets_of, range_of, program_at, kernel_at, arg_at, launch_at, command_at}
+use Rattle.simfile.specs.Script.{IsText, IsSetting, IsOffset, IsWord, IsUniform, IsOrders, space, line_feed}
 use Rattle.simfile.specs.Laws.{Takes, Again}
 use Rattle.text_lines.proofs.FieldLaws.{bind_some, read_then, before_is, before_again, after_takes, number_takes, number_again, value_takes, value_again, space_ends_list, feed_ends_list}
 use Rattle.fault_lines.proofs.FieldLaws.{number_before, number_before_again}
@@ -140,16 +140,27 @@ offset_takes : (bytes : List ℕ) (x : Option (List ℕ) × List ℕ) → offset
 unfolding offset_at
 offset_takes bytes x e = offset_by bytes x (listed_offset_at bytes) refl e
 
--- the word of a uniform launch lies in front, or nothing does
-abbrev MarkBehind : Version → List ℕ → Bool × List ℕ → Type 0
-MarkBehind version bytes x = (text : List ℕ) × (bytes ≡ text ++ x.1) × IsUniform version text x.0
+-- a word lies in front, or nothing does
+abbrev WordBehind : (List ℕ → Bool → Type 0) → List ℕ → Bool × List ℕ → Type 0
+WordBehind is bytes x = (text : List ℕ) × (bytes ≡ text ++ x.1) × is text x.0
 
-mark_takes : (v : Version) (bytes : List ℕ) (x : Bool × List ℕ) → uniform_at v bytes ≡ Some x → MarkBehind v bytes x
+word_takes_or : (word bytes : List ℕ) (x : Bool × List ℕ) → word_at word bytes ≡ Some x → WordBehind (IsWord word) bytes x
+unfolding word_at
+word_takes_or word bytes x e =
+    by_word (λ l. WordBehind (IsWord word) l x) word bytes (λ onto k. read_is (WordBehind (IsWord word) (word ++ onto)) k (word, refl, refl))
+    (λ k. read_is (WordBehind (IsWord word) bytes) k ([], refl, refl)) e
+
+uniform_takes : (v : Version) (bytes : List ℕ) (x : Bool × List ℕ) → uniform_at v bytes ≡ Some x → WordBehind (IsUniform v) bytes x
 unfolding uniform_at
-mark_takes version.One bytes x e = read_is (MarkBehind version.One bytes) e ([], refl, (refl, refl))
-mark_takes version.Two bytes x e =
-    by_word (λ l. MarkBehind version.Two l x) (codes " uniform") bytes (λ onto k. read_is (MarkBehind version.Two (codes " uniform" ++ onto)) k (codes " uniform", refl, refl))
-    (λ k. read_is (MarkBehind version.Two bytes) k ([], refl, refl)) e
+uniform_takes version.One bytes x e = read_is (WordBehind (IsUniform version.One) bytes) e ([], refl, (refl, refl))
+uniform_takes version.Two bytes x e = word_takes_or (codes " uniform") bytes x e
+uniform_takes version.Three bytes x e = word_takes_or (codes " uniform") bytes x e
+
+orders_takes : (v : Version) (bytes : List ℕ) (x : Bool × List ℕ) → orders_at v bytes ≡ Some x → WordBehind (IsOrders v) bytes x
+unfolding orders_at
+orders_takes version.One bytes x e = read_is (WordBehind (IsOrders version.One) bytes) e ([], refl, (refl, refl))
+orders_takes version.Two bytes x e = read_is (WordBehind (IsOrders version.Two) bytes) e ([], refl, (refl, refl))
+orders_takes version.Three bytes x e = word_takes_or (codes " orders") bytes x e
 
 launch_takes : (v : Version) (bytes : List ℕ) (x : Command × List ℕ) → launch_at v bytes ≡ Some x → Behind v (codes "launch " ++ bytes) x
 unfolding launch_at
@@ -158,12 +169,15 @@ launch_takes v bytes x e =
     let s2 = read_then _ (list_before 32 s1.0.1) s1.2 in
     let s3 = read_then _ (list_takes s2.0.1) s2.2 in
     let s4 = read_then _ (offset_takes s3.0.1) s3.2 in
-    let s5 = bind_some (before 10 (uniform_at v s4.0.1)) _ x s4.2 in
-    let t5 = mark_takes v s4.0.1 (s5.0.0, 10 ∷ s5.0.1) (before_is 10 (uniform_at v s4.0.1) s5.0 s5.1) in
+    let s5 = read_then _ (uniform_takes v s4.0.1) s4.2 in
+    let s6 = bind_some (before 10 (orders_at v s5.0.1)) _ x s5.2 in
+    let t6 = orders_takes v s5.0.1 (s6.0.0, 10 ∷ s6.0.1) (before_is 10 (orders_at v s5.0.1) s6.0 s6.1) in
     let local : Parted s2.0.1 (list_text (numbers_of s3.0.0) ∷ []) s3.0.1 = record { split = s3.1.0 } in
     let offset : Parted s3.0.1 (s4.1.0 ∷ []) s4.0.1 = record { split = s4.1.1 } in
-    let mark : Parted s4.0.1 (t5.0 ∷ line_feed ∷ []) s5.0.1 = record { split = t5.1 } in
-    tells v (command.Launch s1.0.0 (range_of s2.0.0 s3.0.0 s4.0.0 s5.0.0)) x s5.2 (begins (codes "launch " ∷ []) bytes ▸ s1.1.0 ▸ s2.1.0 ▸ local ▸ offset ▸ mark) (s1.1.1, s2.1.1, s3.1.1, (s4.1.0, t5.0, s4.1.2 (numbers_of s2.0.0), t5.2, refl))
+    let mark : Parted s4.0.1 (s5.1.0 ∷ []) s5.0.1 = record { split = s5.1.1 } in
+    let last : Parted s5.0.1 (t6.0 ∷ line_feed ∷ []) s6.0.1 = record { split = t6.1 } in
+    tells v (command.Launch s1.0.0 (range_of s2.0.0 s3.0.0 s4.0.0 s5.0.0) s6.0.0) x s6.2 (begins (codes "launch " ∷ []) bytes ▸ s1.1.0 ▸ s2.1.0 ▸ local ▸ offset ▸ mark ▸ last)
+    (s1.1.1, s2.1.1, s3.1.1, (s4.1.0, s5.1.0, t6.0, s4.1.2 (numbers_of s2.0.0), s5.1.2, t6.2, refl))
 
 -- the command in front, by its first word
 pub command_takes : Takes
@@ -206,34 +220,60 @@ record EndsList (rest : List ℕ) : Type 0 where
   ends : is_listed first ≡ false
   none : listed_offset_at rest ≡ None
 
--- what is read of the word of a uniform launch, and what follows a list
-record MarkRead (v : Version) (text : List ℕ) (uniform : Bool) (rest : List ℕ) : Type 0 where
-  read : uniform_at v (text ++ 10 ∷ rest) ≡ Some (uniform, 10 ∷ rest)
-  ends : EndsList (text ++ 10 ∷ rest)
-
 feed_ends_all : (rest : List ℕ) → EndsList (10 ∷ rest)
 feed_ends_all rest = record { first = 10; more = rest; split = refl; ends = feed_ends_list; none = unfold listed_offset_at in unfold after in refl }
 
-mark_again : (v : Version) (text : List ℕ) (uniform : Bool) (rest : List ℕ) → IsUniform v text uniform → MarkRead v text uniform rest
+-- what is read of the word `orders`, what follows a list, and that it isn't the word of a uniform launch
+record LastRead (v : Version) (text : List ℕ) (orders : Bool) (rest : List ℕ) : Type 0 where
+  read : orders_at v (text ++ 10 ∷ rest) ≡ Some (orders, 10 ∷ rest)
+  ends : EndsList (text ++ 10 ∷ rest)
+  other : after (codes " uniform") (text ++ 10 ∷ rest) ≡ None
+
+last_none : (v : Version) (text : List ℕ) (orders : Bool) (rest : List ℕ) → text ≡ [] → orders_at v (10 ∷ rest) ≡ Some (orders, 10 ∷ rest) → LastRead v text orders rest
+last_none v text orders rest none read = record { read = rw none read; ends = rw none (feed_ends_all rest); other = rw none (unfold after in refl) }
+
+last_again : (v : Version) (text : List ℕ) (orders : Bool) (rest : List ℕ) → IsOrders v text orders → LastRead v text orders rest
 unfolding is_listed
-mark_again version.One text uniform rest h = record {
-  read = rw (h.0, h.1) (unfold uniform_at in refl);
-  ends = rw h.0 (feed_ends_all rest);
-}
-mark_again version.Two text false rest h = record {
-  read = rw h (unfold uniform_at in unfold after in refl);
-  ends = rw h (feed_ends_all rest);
-}
-mark_again version.Two text true rest h = record {
-  read = rw h (unfold uniform_at in unfold after in refl);
+last_again version.One text orders rest h = last_none version.One text orders rest h.0 (rw h.1 (unfold orders_at in refl))
+last_again version.Two text orders rest h = last_none version.Two text orders rest h.0 (rw h.1 (unfold orders_at in refl))
+last_again version.Three text false rest h = last_none version.Three text false rest h (unfold orders_at in unfold word_at in unfold after in refl)
+last_again version.Three text true rest h = record {
+  read = rw h (unfold orders_at in unfold word_at in unfold after in refl);
   ends = rw h (record {
     first = 32;
-    more = codes "uniform" ++ 10 ∷ rest;
+    more = codes "orders" ++ 10 ∷ rest;
     split = refl;
     ends = space_ends_list;
     none = unfold listed_offset_at in unfold after in unfold list_below in refl;
   });
+  other = rw h (unfold after in refl);
 }
+
+-- what is read of the word of a uniform launch, and what follows a list
+record MarkRead (v : Version) (text : List ℕ) (uniform : Bool) (rest : List ℕ) : Type 0 where
+  read : uniform_at v (text ++ rest) ≡ Some (uniform, rest)
+  ends : EndsList (text ++ rest)
+
+mark_again : (text : List ℕ) (uniform : Bool) (rest : List ℕ) → IsWord (codes " uniform") text uniform → after (codes " uniform") rest ≡ None → word_at (codes " uniform") (text ++ rest) ≡ Some (uniform, rest)
+unfolding word_at
+mark_again text false rest h none = rw h (rw none refl)
+mark_again text true rest h none = rw h (unfold after in refl)
+
+mark_ends : (text : List ℕ) (uniform : Bool) (rest : List ℕ) → IsWord (codes " uniform") text uniform → EndsList rest → EndsList (text ++ rest)
+unfolding is_listed
+mark_ends text false rest h k = rw h k
+mark_ends text true rest h k = rw h (record {
+  first = 32;
+  more = codes "uniform" ++ rest;
+  split = refl;
+  ends = space_ends_list;
+  none = unfold listed_offset_at in unfold after in unfold list_below in refl;
+})
+
+uniform_again : (v : Version) (text : List ℕ) (uniform : Bool) (rest : List ℕ) → IsUniform v text uniform → EndsList rest → after (codes " uniform") rest ≡ None → MarkRead v text uniform rest
+uniform_again version.One text uniform rest h k none = record { read = rw (h.0, h.1) (unfold uniform_at in refl); ends = rw h.0 k }
+uniform_again version.Two text uniform rest h k none = record { read = unfold uniform_at in mark_again text uniform rest h none; ends = mark_ends text uniform rest h k }
+uniform_again version.Three text uniform rest h k none = record { read = unfold uniform_at in mark_again text uniform rest h none; ends = mark_ends text uniform rest h k }
 
 -- what is read of the offsets
 record OffsetRead (text sizes offsets rest : List ℕ) : Type 0 where
@@ -271,13 +311,16 @@ offset_again text sizes offsets rest (inr h) k = record {
   ends = space_ends_list;
 }
 
-launch_again : (v : Version) (kernel : List ℕ) (range : Range) (offset mark rest : List ℕ) → IsTrue (is_name kernel) → IsList range.global → IsList range.local → IsOffset offset range.global range.offset → IsUniform v mark range.uniform → launch_at v (joined_onto (kernel ∷ space ∷ list_text range.global ∷ space ∷ list_text range.local ∷ offset ∷ mark ∷ line_feed ∷ []) rest) ≡ Some (command.Launch kernel range, rest)
+launch_again : (v : Version) (kernel : List ℕ) (range : Range) (orders : Bool) (offset mark last rest : List ℕ) → IsTrue (is_name kernel) → IsList range.global → IsList range.local → IsOffset offset range.global range.offset → IsUniform v mark range.uniform → IsOrders v last orders
+    → launch_at v (joined_onto (kernel ∷ space ∷ list_text range.global ∷ space ∷ list_text range.local ∷ offset ∷ mark ∷ last ∷ line_feed ∷ []) rest) ≡ Some (command.Launch kernel range orders, rest)
 unfolding launch_at is_later is_listed
-launch_again v kernel range offset mark rest n g m o u =
-    let w = mark_again v mark range.uniform rest u in
-    let t = offset_again offset range.global range.offset (mark ++ 10 ∷ rest) o w.ends in
-    let local : list_at (list_text range.local ++ (offset ++ (mark ++ 10 ∷ rest))) ≡ Some (list_text range.local, offset ++ (mark ++ 10 ∷ rest)) = rw t.split (list_again range.local m t.first t.more t.ends) in
-    rw (name_before_again, list_before_again, local, t.read, w.read, before_again range.uniform 10 rest, list_back range.global g, list_back range.local m, t.same)
+launch_again v kernel range orders offset mark last rest n g m o u s =
+    let e = last_again v last orders rest s in
+    let w = uniform_again v mark range.uniform (last ++ 10 ∷ rest) u e.ends e.other in
+    let t = offset_again offset range.global range.offset (mark ++ (last ++ 10 ∷ rest)) o w.ends in
+    let local : list_at (list_text range.local ++ (offset ++ (mark ++ (last ++ 10 ∷ rest)))) ≡ Some (list_text range.local, offset ++ (mark ++ (last ++ 10 ∷ rest))) =
+    rw t.split (list_again range.local m t.first t.more t.ends) in
+    rw (name_before_again, list_before_again, local, t.read, w.read, e.read, before_again orders 10 rest, list_back range.global g, list_back range.local m, t.same)
 
 -- the text of parts is read as they are, one after another
 by_parts : (v : Version) {text : List ℕ} (parts : List (List ℕ)) (rest : List ℕ) {x : Option (Command × List ℕ)} → text ≡ joined parts → command_at v (joined_onto parts rest) ≡ x → command_at v (text ++ rest) ≡ x
@@ -305,5 +348,5 @@ command_again v text (command.Kernel name program function) rest (n, p, f, is) =
     by_parts v (codes "kernel " ∷ name ∷ space ∷ program ∷ space ∷ function ∷ line_feed ∷ []) rest is (rw (name_before_again, name_before_again, name_before_again))
 command_again v text (command.Arg kernel index argument) rest (n, i, (setting, m, is)) =
     by_parts v (codes "arg " ∷ kernel ∷ space ∷ decimal index ∷ setting ∷ line_feed ∷ []) rest is (rw (name_before_again, index_again index i setting argument m rest, argument_again setting argument rest m))
-command_again v text (command.Launch kernel range) rest (n, g, m, (offset, mark, o, u, is)) =
-    by_parts v (codes "launch " ∷ kernel ∷ space ∷ list_text range.global ∷ space ∷ list_text range.local ∷ offset ∷ mark ∷ line_feed ∷ []) rest is (launch_again v kernel range offset mark rest n g m o u)
+command_again v text (command.Launch kernel range orders) rest (n, g, m, (offset, mark, last, o, u, s, is)) =
+    by_parts v (codes "launch " ∷ kernel ∷ space ∷ list_text range.global ∷ space ∷ list_text range.local ∷ offset ∷ mark ∷ last ∷ line_feed ∷ []) rest is (launch_again v kernel range orders offset mark last rest n g m o u s)

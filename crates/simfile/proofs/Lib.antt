@@ -3,4 +3,5 @@ pub mod FieldLaws
 pub mod Grammar
 pub mod Scripts
 pub mod LineLaws
+mod VersionLines
 mod Places

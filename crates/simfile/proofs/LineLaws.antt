@@ -20,7 +20,7 @@ use Rattle.text_lines.proofs.FieldLaws.{and_true, if_some, read_then, after_take
 use Rattle.fault_lines.proofs.FieldLaws.{number_before, number_before_again}
 use Rattle.fault_lines.proofs.ReaderSteps.{joined_onto, joined-append, Parted, begins, ◌▸◌, read_is}
 use Rattle.simfile.specs.Fields.{is_name, IsList, AreBytes, hex, is_hex_digit}
-use Rattle.simfile.specs.Script.{IsText, IsSetting, IsOffset, IsUniform, AreLines, line_feeds, space, line_feed}
+use Rattle.simfile.specs.Script.{IsText, IsSetting, IsOffset, IsWord, IsUniform, IsOrders, AreLines, line_feeds, space, line_feed}
 use Rattle.simfile.specs.Reading.{name_at, hex_at, source_at, program_at, command_at}
 use Rattle.simfile.specs.Stepwise.{source_lines, IsWhole, WholeRead, WholeNone, NoLine, TooFew}
 use Rattle.simfile.proofs.FieldLaws.{hex_again, list_again, name_before, name_before_again, source_takes, source_again}
@@ -120,10 +120,19 @@ plain_offset : (offset sizes offsets : List ℕ) → IsOffset offset sizes offse
 plain_offset offset sizes offsets (inl h) = ap line_feeds h.0
 plain_offset offset sizes offsets (inr h) = rw h.1 (plain_list offsets h.0)
 
+plain_word : (word text : List ℕ) (said : Bool) → line_feeds word ≡ 0 → IsWord word text said → line_feeds text ≡ 0
+plain_word word text false plain h = ap line_feeds h
+plain_word word text true plain h = ap line_feeds h ∙ plain
+
 plain_mark : (v : Version) (mark : List ℕ) (uniform : Bool) → IsUniform v mark uniform → line_feeds mark ≡ 0
 plain_mark version.One mark uniform h = ap line_feeds h.0
-plain_mark version.Two mark false h = ap line_feeds h
-plain_mark version.Two mark true h = ap line_feeds h
+plain_mark version.Two mark uniform h = plain_word (codes " uniform") mark uniform refl h
+plain_mark version.Three mark uniform h = plain_word (codes " uniform") mark uniform refl h
+
+plain_last : (v : Version) (last : List ℕ) (orders : Bool) → IsOrders v last orders → line_feeds last ≡ 0
+plain_last version.One last orders h = ap line_feeds h.0
+plain_last version.Two last orders h = ap line_feeds h.0
+plain_last version.Three last orders h = plain_word (codes " orders") last orders refl h
 
 -- parts without line feeds
 abbrev Plain : List (List ℕ) → Type 0
@@ -177,9 +186,9 @@ one_line v text (command.Kernel name program function) (n, p, f, is) =
     inl (line_of (codes "kernel " ∷ name ∷ space ∷ program ∷ space ∷ function ∷ []) (refl, (plain_name name n, (refl, (plain_name program p, (refl, (plain_name function f, tt)))))) is)
 one_line v text (command.Arg kernel index a) (n, i, (setting, m, is)) =
     inl (line_of (codes "arg " ∷ kernel ∷ space ∷ decimal index ∷ setting ∷ []) (refl, (plain_name kernel n, (refl, (plain_number index i, (plain_setting setting a m, tt))))) is)
-one_line v text (command.Launch kernel range) (n, g, l, (offset, mark, o, u, is)) =
-    inl (line_of (codes "launch " ∷ kernel ∷ space ∷ list_text range.global ∷ space ∷ list_text range.local ∷ offset ∷ mark ∷ [])
-    (refl, (plain_name kernel n, (refl, (plain_list range.global g, (refl, (plain_list range.local l, (plain_offset offset range.global range.offset o, (plain_mark v mark range.uniform u, tt)))))))) is)
+one_line v text (command.Launch kernel range orders) (n, g, l, (offset, mark, last, o, u, s, is)) =
+    inl (line_of (codes "launch " ∷ kernel ∷ space ∷ list_text range.global ∷ space ∷ list_text range.local ∷ offset ∷ mark ∷ last ∷ [])
+    (refl, (plain_name kernel n, (refl, (plain_list range.global g, (refl, (plain_list range.local l, (plain_offset offset range.global range.offset o, (plain_mark v mark range.uniform u, (plain_last v last orders s, tt))))))))) is)
 
 -- a program's line, and what is read of it
 

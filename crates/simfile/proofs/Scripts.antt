@@ -1,16 +1,18 @@
 -- Scripts: what is read command by command.
-use Rattle.std.proofs.Common.{◌≡◌, ℕ, ◌+◌, ◌-◌, ◌<◌, ◌≤◌, zero, suc, Bool, true, false, List, [], ◌∷◌, ◌++◌, length, take, Option, None, Some, ◌⊎◌, inl, inr, refl, ap, sym, ◌∙◌, subst, arith, append_assoc, length-append}
+use Rattle.std.proofs.Common.{◌≡◌, ℕ, ◌+◌, ◌-◌, ◌<◌, ◌≤◌, zero, suc, Bool, true, false, not, IsTrue, codes, List, [], ◌∷◌, ◌++◌, length, take, Option, None, Some, ◌⊎◌, inl, inr, refl, ap, sym, ◌∙◌, subst, arith, append_assoc, length-append}
 use Rattle.std.proofs.Math.Seq.{take-append_seam}
+use Rattle.std.specs.List.{list_all}
 use Rattle.std.proofs.lemmas.List.{append-nil}
+use Rattle.clmodel.specs.declared.setup.Range.{Range}
 use Rattle.host_commands.specs.declared.command.Command.{Command}
 use Rattle.host_commands.specs.declared.command.Command.TheVariants as command
 use Rattle.simfile.specs.declared.lines.Version.{Version}
 use Rattle.simfile.specs.declared.lines.Version.TheVariants as version
 use Rattle.text_lines.specs.Fronts.{after, or_else}
 use Rattle.simfile.specs.Reading.{version_at, command_at}
-use Rattle.simfile.specs.Script.{IsText, IsUniform, Begins, head, IsScript, IsBadLine, line_feeds}
-use Rattle.simfile.specs.Laws.{OneScript, Keeps, EitherOne, NotBoth, OneBadLine}
-use Rattle.text_lines.proofs.FieldLaws.{after_takes}
+use Rattle.simfile.specs.Script.{IsText, IsWord, IsNoWord, IsUniform, IsOrders, Begins, head, IsScript, IsBadLine, line_feeds}
+use Rattle.simfile.specs.Laws.{OneScript, Keeps, KeepsMore, Adds, has_no_orders, EitherOne, NotBoth, OneBadLine}
+use Rattle.text_lines.proofs.FieldLaws.{after_takes, and_true}
 use Rattle.simfile.proofs.Grammar.{command_takes, command_again}
 
 -- the bytes give these commands, and the rest follows
@@ -84,38 +86,54 @@ stops_last v bytes (c ∷ cs) (d ∷ ds) more rest n h k stop short =
     let further : n + suc (length ds) ≡ suc n + length ds = omega arith in
     stops_last v k.0 cs ds more rest (suc n) (subst P one.1 h.2) k.2 (subst Q further stop) (omega (arith, short))
 
--- no command of version 1 is read at the line of version 2
+-- no command of version 1 is read at the line of version 2, nor at that of version 3
 no_command : (lines : List ℕ) → command_at version.One (head version.Two ++ lines) ≡ None
 no_command lines = unfold command_at in unfold after in refl
 
--- bytes of version 2 are read as such
+no_command_more : (lines : List ℕ) → command_at version.One (head version.Three ++ lines) ≡ None
+no_command_more lines = unfold command_at in unfold after in refl
+
+-- bytes of version 2 are read as such, and those of version 3
 second : (lines : List ℕ) → version_at (head version.Two ++ lines) ≡ (version.Two, lines)
 second lines = unfold version_at in unfold after in refl
 
--- bytes that begin with the line of version 2 have no command of version 1
-version_by : (bytes : List ℕ) (o : Option (List ℕ)) → after (head version.Two) bytes ≡ o → (cs : List Command) (more : List ℕ) → Reads version.One bytes cs more
-    → (◌≡◌ {A = Version × List ℕ} (version.One, bytes) (or_else o (λ lines. (version.Two, lines)) (version.One, bytes))) ⊎ (bytes ≡ more) × (0 < length bytes)
-version_by bytes None is cs more h = inl refl
-version_by bytes (Some lines) is [] more h = inr (h, omega (arith, ap length (after_takes (head version.Two) bytes lines is)))
-version_by bytes (Some lines) is (c ∷ cs) more h =
-    let none : command_at version.One bytes ≡ None = rw (after_takes (head version.Two) bytes lines is) (no_command lines) in
-    let some : command_at version.One bytes ≡ Some (c, h.0) = h.1 in
+third : (lines : List ℕ) → version_at (head version.Three ++ lines) ≡ (version.Three, lines)
+third lines = unfold version_at in unfold after in refl
+
+some_bytes : 0 < 8
+some_bytes = omega arith
+
+-- bytes that begin with a line at which no command of version 1 is read have none
+first_none : (first bytes lines : List ℕ) (cs : List Command) (more : List ℕ) → bytes ≡ first ++ lines → 0 < length first → command_at version.One (first ++ lines) ≡ None → Reads version.One bytes cs more → (bytes ≡ more) × (0 < length bytes)
+first_none first bytes lines [] more split some none h = (h, omega (arith, ap length split, length-append first lines, some))
+first_none first bytes lines (c ∷ cs) more split some none h =
+    let nothing : command_at version.One bytes ≡ None = ap (command_at version.One) split ∙ none in
+    let something : command_at version.One bytes ≡ Some (c, h.0) = h.1 in
     absurd (cc)
+
+version_by : (bytes : List ℕ) (o p : Option (List ℕ)) → after (head version.Two) bytes ≡ o → after (head version.Three) bytes ≡ p → (cs : List Command) (more : List ℕ) → Reads version.One bytes cs more
+    → (◌≡◌ {A = Version × List ℕ} (version.One, bytes) (or_else o (λ lines. (version.Two, lines)) (or_else p (λ lines. (version.Three, lines)) (version.One, bytes)))) ⊎ (bytes ≡ more) × (0 < length bytes)
+version_by bytes None None is other cs more h = inl refl
+version_by bytes (Some lines) p is other cs more h = inr (first_none (head version.Two) bytes lines cs more (after_takes (head version.Two) bytes lines is) some_bytes (no_command lines) h)
+version_by bytes None (Some lines) is other cs more h = inr (first_none (head version.Three) bytes lines cs more (after_takes (head version.Three) bytes lines other) some_bytes (no_command_more lines) h)
 
 -- lines whose commands are read are of the version that the first line tells, or none is read
 its_version : (v : Version) (lines : List ℕ) (cs : List Command) (more : List ℕ) → Reads v lines cs more
     → ((v, lines) ≡ version_at (head v ++ lines)) ⊎ (head v ++ lines ≡ more) × (0 < length (head v ++ lines))
-its_version version.One lines cs more h = unfold version_at in version_by lines (after (head version.Two) lines) refl cs more h
+its_version version.One lines cs more h = unfold version_at in version_by lines (after (head version.Two) lines) (after (head version.Three) lines) refl refl cs more h
 its_version version.Two lines cs more h = inl (sym (second lines))
+its_version version.Three lines cs more h = inl (sym (third lines))
 
-split_by : (bytes : List ℕ) (o : Option (List ℕ)) → after (head version.Two) bytes ≡ o → (v : Version) (lines : List ℕ) → ◌≡◌ {A = Version × List ℕ} (v, lines) (or_else o (λ lines. (version.Two, lines)) (version.One, bytes)) → bytes ≡ head v ++ lines
-split_by bytes None is v lines e = let P : Version × List ℕ → Type 0 = λ p. bytes ≡ head p.0 ++ p.1 in subst P (sym e) refl
-split_by bytes (Some more) is v lines e = let P : Version × List ℕ → Type 0 = λ p. bytes ≡ head p.0 ++ p.1 in subst P (sym e) (after_takes (head version.Two) bytes more is)
+split_by : (bytes : List ℕ) (o p : Option (List ℕ)) → after (head version.Two) bytes ≡ o → after (head version.Three) bytes ≡ p → (v : Version) (lines : List ℕ)
+    → ◌≡◌ {A = Version × List ℕ} (v, lines) (or_else o (λ lines. (version.Two, lines)) (or_else p (λ lines. (version.Three, lines)) (version.One, bytes))) → bytes ≡ head v ++ lines
+split_by bytes (Some more) p is other v lines e = let P : Version × List ℕ → Type 0 = λ p. bytes ≡ head p.0 ++ p.1 in subst P (sym e) (after_takes (head version.Two) bytes more is)
+split_by bytes None None is other v lines e = let P : Version × List ℕ → Type 0 = λ p. bytes ≡ head p.0 ++ p.1 in subst P (sym e) refl
+split_by bytes None (Some more) is other v lines e = let P : Version × List ℕ → Type 0 = λ p. bytes ≡ head p.0 ++ p.1 in subst P (sym e) (after_takes (head version.Three) bytes more other)
 
 -- the lines follow the first line of their version
 pub heads : (bytes : List ℕ) (v : Version) (lines : List ℕ) → (v, lines) ≡ version_at bytes → bytes ≡ head v ++ lines
 unfolding version_at
-heads bytes v lines is = split_by bytes (after (head version.Two) bytes) refl v lines is
+heads bytes v lines is = split_by bytes (after (head version.Two) bytes) (after (head version.Three) bytes) refl refl v lines is
 
 -- a script is read as one of the version that its first line tells
 script_by : (bytes : List ℕ) (v : Version) (lines : List ℕ) (cs : List Command) → bytes ≡ head v ++ lines → Reads v lines cs [] → ((v, lines) ≡ version_at (head v ++ lines)) ⊎ (head v ++ lines ≡ []) × (0 < length (head v ++ lines))
@@ -129,25 +147,54 @@ script_reads bytes cs h = let k = begins_reads h.0 h.1 cs [] h.3 in script_by by
 pub one_script : OneScript
 one_script bytes cs ds h k = same_commands (version_at bytes).0 (version_at bytes).1 cs ds (script_reads bytes cs h) (script_reads bytes ds k)
 
--- what a text of version 1 says, it says in version 2
-keeps_text : (text : List ℕ) (c : Command) → IsText version.One text c → IsText version.Two text c
-keeps_text text (command.Buffer name size) h = h
-keeps_text text (command.Write buffer offset bytes) h = h
-keeps_text text (command.Read buffer offset count) h = h
-keeps_text text (command.Fill buffer offset count pattern) h = h
-keeps_text text (command.Copy source offset target target_offset count) h = h
-keeps_text text (command.Release name) h = h
-keeps_text text (command.Program name source) h = h
-keeps_text text (command.Kernel name program function) h = h
-keeps_text text (command.Arg kernel index argument) h = h
-keeps_text text (command.Launch kernel range) h = (h.0, h.1, h.2, (h.3.0, h.3.1, h.3.2, keeps_mark h.3.1 range.uniform h.3.3, h.3.4)) where
-  keeps_mark : (mark : List ℕ) (uniform : Bool) → IsUniform version.One mark uniform → IsUniform version.Two mark uniform
-  keeps_mark mark false k = k.0
-  keeps_mark mark true k = let f : true ≡ false = k.1 in absurd (cc)
+-- the words of a launch in one version, as another one has them
+abbrev SameWords : Version → Version → Bool → Bool → Type 0
+SameWords v w uniform orders = ((word : List ℕ) → IsUniform v word uniform → IsUniform w word uniform) × ((last : List ℕ) → IsOrders v last orders → IsOrders w last orders)
+
+-- what a text of one version says, it says in another that has the words of its launch
+keeps_text : (v w : Version) (text : List ℕ) (c : Command) → ((kernel : List ℕ) (range : Range) (orders : Bool) → c ≡ command.Launch kernel range orders → SameWords v w range.uniform orders) → IsText v text c → IsText w text c
+keeps_text v w text (command.Buffer name size) same h = h
+keeps_text v w text (command.Write buffer offset bytes) same h = h
+keeps_text v w text (command.Read buffer offset count) same h = h
+keeps_text v w text (command.Fill buffer offset count pattern) same h = h
+keeps_text v w text (command.Copy source offset target target_offset count) same h = h
+keeps_text v w text (command.Release name) same h = h
+keeps_text v w text (command.Program name source) same h = h
+keeps_text v w text (command.Kernel name program function) same h = h
+keeps_text v w text (command.Arg kernel index argument) same h = h
+keeps_text v w text (command.Launch kernel range orders) same h =
+    let words = same kernel range orders refl in
+    (h.0, h.1, h.2, (h.3.0, h.3.1, h.3.2, h.3.3, words.0 h.3.1 h.3.4, words.1 h.3.2 h.3.5, h.3.6))
+
+-- nothing in place of a word
+no_word : (word text : List ℕ) (said : Bool) → IsNoWord text said → IsWord word text said
+no_word word text false h = h.0
+no_word word text true h = let f : true ≡ false = h.1 in absurd (cc)
+
+words_kept : (uniform orders : Bool) → SameWords version.One version.Two uniform orders
+words_kept uniform orders = (λ word h. no_word (codes " uniform") word uniform h, λ last h. h)
+
+words_kept_more : (uniform orders : Bool) → SameWords version.Two version.Three uniform orders
+words_kept_more uniform orders = (λ word h. h, λ last h. no_word (codes " orders") last orders h)
+
+-- without `orders` version 2 has the words of version 3
+words_left : (uniform orders : Bool) → not orders ≡ true → SameWords version.Three version.Two uniform orders
+words_left uniform false none = (λ word h. h, λ last h. (h, refl))
+words_left uniform true none = absurd (cc)
 
 pub keeps : Keeps
 keeps lines rest [] h = h
-keeps lines rest (c ∷ cs) h = (h.0, h.1, h.2, keeps_text h.0 c h.3, keeps h.1 rest cs h.4)
+keeps lines rest (c ∷ cs) h = (h.0, h.1, h.2, keeps_text version.One version.Two h.0 c (λ kernel range orders is. words_kept range.uniform orders) h.3, keeps h.1 rest cs h.4)
+
+pub keeps_more : KeepsMore
+keeps_more lines rest [] h = h
+keeps_more lines rest (c ∷ cs) h = (h.0, h.1, h.2, keeps_text version.Two version.Three h.0 c (λ kernel range orders is. words_kept_more range.uniform orders) h.3, keeps_more h.1 rest cs h.4)
+
+pub adds : Adds
+adds lines rest [] none h = h
+adds lines rest (c ∷ cs) none h =
+    let both = and_true (has_no_orders c) (list_all has_no_orders cs) none in
+    (h.0, h.1, h.2, keeps_text version.Three version.Two h.0 c (λ kernel range orders is. words_left range.uniform orders (sym (ap has_no_orders is) ∙ both.0)) h.3, adds h.1 rest cs both.1 h.4)
 
 pub not_both : NotBoth
 not_both bytes cs n h bad =

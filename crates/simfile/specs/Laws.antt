@@ -1,6 +1,8 @@
 -- What the grammar and the reader have to do with one another.
-use Rattle.std.specs.Prelude.{◌≡◌, ℕ, Some, List, ◌++◌, ◌⊎◌}
+use Rattle.std.specs.Prelude.{◌≡◌, ℕ, Bool, true, not, IsTrue, Some, List, ◌++◌, ◌⊎◌}
+use Rattle.std.specs.List.{list_all}
 use Rattle.host_commands.specs.declared.command.Command.{Command}
+use Rattle.host_commands.specs.declared.command.Command.TheVariants as command
 use Rattle.simfile.specs.declared.lines.Version.{Version}
 use Rattle.simfile.specs.declared.lines.Version.TheVariants as version
 use Rattle.simfile.specs.Script.{IsText, Begins, IsScript, IsBadLine}
@@ -21,6 +23,20 @@ OneScript = (bytes : List ℕ) (cs ds : List Command) → IsScript bytes cs → 
 -- lines that tell commands in version 1 tell the same in version 2
 abbrev pub Keeps : Type 0
 Keeps = (lines rest : List ℕ) (cs : List Command) → Begins version.One lines cs rest → Begins version.Two lines cs rest
+
+-- and lines that tell commands in version 2 tell the same in version 3
+abbrev pub KeepsMore : Type 0
+KeepsMore = (lines rest : List ℕ) (cs : List Command) → Begins version.Two lines cs rest → Begins version.Three lines cs rest
+
+-- a command isn't a launch with `orders`
+abbrev pub has_no_orders : Command → Bool
+has_no_orders (command.Launch kernel range orders) = not orders
+has_no_orders _ = true
+
+-- version 3 adds launches with `orders` alone: lines that tell commands in it, and none of these, tell the same in
+-- version 2
+abbrev pub Adds : Type 0
+Adds = (lines rest : List ℕ) (cs : List Command) → IsTrue (list_all has_no_orders cs) → Begins version.Three lines cs rest → Begins version.Two lines cs rest
 
 -- a text is a script or has a lowest bad line
 abbrev pub EitherOne : Type 0

@@ -103,6 +103,7 @@ abbrev pub line : Reply → List ℕ
 line reply.Done = codes "ok\n"
 line (reply.Data bytes) = joined (codes "data " ∷ hex bytes ∷ codes "\n" ∷ [])
 line reply.Clean = codes "clean\n"
+line reply.Ordered = codes "ordered\n"
 line (reply.Fault fault schedule) = fault_line fault schedule
 line (reply.Refused refusal) = refused_line (refusal_word refusal) (fault_of refusal)
 

@@ -132,10 +132,21 @@ listed_offset_at bytes = after (32 ∷ []) bytes >>= list_at
 unfoldable pub offset_at : List ℕ → Option (Option (List ℕ) × List ℕ)
 offset_at bytes = or_else (listed_offset_at bytes) (λ offset. Some (Some offset.0, offset.1)) (Some (None, bytes))
 
--- whether the word of a uniform launch stands in front, which only version 2 has, and the rest
+-- whether a word stands in front, and the rest
+unfoldable pub word_at : List ℕ → List ℕ → Option (Bool × List ℕ)
+word_at word bytes = or_else (after word bytes) (λ rest. Some (true, rest)) (Some (false, bytes))
+
+-- whether the word of a uniform launch stands in front, which version 1 lacks, and the rest
 unfoldable pub uniform_at : Version → List ℕ → Option (Bool × List ℕ)
 uniform_at version.One bytes = Some (false, bytes)
-uniform_at version.Two bytes = or_else (after (codes " uniform") bytes) (λ rest. Some (true, rest)) (Some (false, bytes))
+uniform_at version.Two bytes = word_at (codes " uniform") bytes
+uniform_at version.Three bytes = word_at (codes " uniform") bytes
+
+-- whether the word of a launch with `orders` stands in front, which version 3 has, and the rest
+unfoldable pub orders_at : Version → List ℕ → Option (Bool × List ℕ)
+orders_at version.One bytes = Some (false, bytes)
+orders_at version.Two bytes = Some (false, bytes)
+orders_at version.Three bytes = word_at (codes " orders") bytes
 
 -- the offsets of a list, or as many zeros as there are sizes
 abbrev pub offsets_of : Option (List ℕ) → List ℕ → List ℕ
@@ -158,12 +169,15 @@ launch_at version bytes = do
   global ← before 32 (list_at kernel.1)
   local ← list_at global.1
   offset ← offset_at local.1
-  uniform ← before 10 (uniform_at version offset.1)
-  Some (command.Launch kernel.0 (range_of global.0 local.0 offset.0 uniform.0), uniform.1)
+  uniform ← uniform_at version offset.1
+  orders ← before 10 (orders_at version uniform.1)
+  Some (command.Launch kernel.0 (range_of global.0 local.0 offset.0 uniform.0) orders.0, orders.1)
 
 -- the version that the first line tells, and the lines behind it
 unfoldable pub version_at : List ℕ → Version × List ℕ
-version_at bytes = or_else (after (head version.Two) bytes) (λ lines. (version.Two, lines)) (version.One, bytes)
+version_at bytes =
+    or_else (after (head version.Two) bytes) (λ lines. (version.Two, lines))
+    (or_else (after (head version.Three) bytes) (λ lines. (version.Three, lines)) (version.One, bytes))
 
 -- a command by its first word
 unfoldable pub command_at : Version → List ℕ → Option (Command × List ℕ)

@@ -1,5 +1,5 @@
--- The text of a script. A script is the texts of its commands, one after another, in version 2 behind a line that says
--- so.
+-- The text of a script. A script is the texts of its commands, one after another, in versions 2 and 3 behind a line
+-- that says so.
 use Rattle.std.specs.Prelude.{◌≡◌, ℕ, ◌+◌, ◌<◌, ◌≤◌, ◌^◌, ◌==◌, Bool, true, false, IsTrue, List, [], ◌∷◌, ◌++◌, length, replicate, codes, decimal, ◌⊎◌}
 use Rattle.std.specs.Fmt.{signed_decimal}
 use Rattle.clmodel.specs.declared.setup.Argument.{Argument}
@@ -35,11 +35,26 @@ IsSetting text (argument.Local size) = (size < 2 ^ 64) × (text ≡ codes " loca
 abbrev pub IsOffset : List ℕ → List ℕ → List ℕ → Type 0
 IsOffset text sizes offsets = (text ≡ []) × (offsets ≡ replicate (length sizes) 0) ⊎ IsList offsets × (text ≡ space ++ list_text offsets)
 
--- the word that makes a launch uniform, with the space before it, or nothing; only version 2 has the word
+-- a word, with the space before it, or nothing, which says that it isn't so
+abbrev pub IsWord : List ℕ → List ℕ → Bool → Type 0
+IsWord word text false = text ≡ []
+IsWord word text true = text ≡ word
+
+-- nothing, where a version lacks the word
+abbrev pub IsNoWord : List ℕ → Bool → Type 0
+IsNoWord text said = (text ≡ []) × (said ≡ false)
+
+-- the word that makes a launch uniform, which versions 2 and 3 have
 abbrev pub IsUniform : Version → List ℕ → Bool → Type 0
-IsUniform version.One text uniform = (text ≡ []) × (uniform ≡ false)
-IsUniform version.Two text false = text ≡ []
-IsUniform version.Two text true = text ≡ codes " uniform"
+IsUniform version.One text uniform = IsNoWord text uniform
+IsUniform version.Two text uniform = IsWord (codes " uniform") text uniform
+IsUniform version.Three text uniform = IsWord (codes " uniform") text uniform
+
+-- the word of a launch of which no conflict of kind order is a report, which version 3 has
+abbrev pub IsOrders : Version → List ℕ → Bool → Type 0
+IsOrders version.One text orders = IsNoWord text orders
+IsOrders version.Two text orders = IsNoWord text orders
+IsOrders version.Three text orders = IsWord (codes " orders") text orders
 
 -- the text of a command
 abbrev pub IsText : Version → List ℕ → Command → Type 0
@@ -71,20 +86,21 @@ IsText version text (command.Arg kernel index argument) =
     IsTrue (is_name kernel) × (index < 2 ^ 64)
     × ((setting : List ℕ) × IsSetting setting argument
     × (text ≡ joined (codes "arg " ∷ kernel ∷ space ∷ decimal index ∷ setting ∷ line_feed ∷ [])))
-IsText version text (command.Launch kernel range) =
+IsText version text (command.Launch kernel range orders) =
     IsTrue (is_name kernel) × IsList range.global × IsList range.local
-    × ((offset word : List ℕ) × IsOffset offset range.global range.offset × IsUniform version word range.uniform
-    × (text ≡ joined (codes "launch " ∷ kernel ∷ space ∷ list_text range.global ∷ space ∷ list_text range.local ∷ offset ∷ word ∷ line_feed ∷ [])))
+    × ((offset word last : List ℕ) × IsOffset offset range.global range.offset × IsUniform version word range.uniform × IsOrders version last orders
+    × (text ≡ joined (codes "launch " ∷ kernel ∷ space ∷ list_text range.global ∷ space ∷ list_text range.local ∷ offset ∷ word ∷ last ∷ line_feed ∷ [])))
 
 -- the bytes are the texts of the commands, in order, and then the rest
 abbrev pub Begins : Version → List ℕ → List Command → List ℕ → Type 0
 Begins version bytes [] rest = bytes ≡ rest
 Begins version bytes (c ∷ cs) rest = (text mid : List ℕ) × (bytes ≡ text ++ mid) × IsText version text c × Begins version mid cs rest
 
--- what stands before the commands of a script: in version 2 its first line
+-- what stands before the commands of a script: in versions 2 and 3 its first line
 abbrev pub head : Version → List ℕ
 head version.One = []
 head version.Two = codes "clsim 2\n"
+head version.Three = codes "clsim 3\n"
 
 -- a script has at most 4,096 commands, behind what its version begins with
 abbrev pub IsScript : List ℕ → List Command → Type 0

@@ -3,9 +3,16 @@ use Rattle.std.specs.Prelude.{◌≡◌, ℕ, ◌<◌, ◌&&◌, nat_lt, nat_le,
 use Rattle.std.specs.Option.{MatchOption}
 use Rattle.host_commands.specs.declared.command.Command.{Command}
 use Rattle.simfile.specs.declared.lines.Version.{Version}
+use Rattle.simfile.specs.declared.lines.Version.TheVariants as version
 use Rattle.text_lines.specs.Fronts.{◌>>=◌, after, before, number_at}
 use Rattle.simfile.specs.Reading.{name_at, command_at}
-use Rattle.simfile.specs.Script.{AreLines, line_feeds}
+use Rattle.simfile.specs.Script.{AreLines, head, line_feeds}
+
+-- a line tells a version: it is the first one of a script of version 2 or 3
+abbrev pub TellsVersion : List ℕ → Version → Type 0
+TellsVersion line version.One = ⊥
+TellsVersion line version.Two = line ≡ head version.Two
+TellsVersion line version.Three = line ≡ head version.Three
 
 -- how many source lines follow the line of a program, 1 to 65,536
 unfoldable pub source_lines : List ℕ → Option ℕ

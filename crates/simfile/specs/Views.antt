@@ -42,7 +42,7 @@ abbrev pub arg_of : ArgLine → Command
 arg_of told = command.Arg told.kernel.now told.index (argument_of told.argument)
 
 abbrev pub launch_of : LaunchLine → Command
-launch_of told = command.Launch told.kernel.now (range_of told.global.now told.local.now (option_map (λ list. list.now) told.offset) told.uniform)
+launch_of told = command.Launch told.kernel.now (range_of told.global.now told.local.now (option_map (λ list. list.now) told.offset) told.uniform) told.orders
 
 -- the command that a line tells
 abbrev pub command_of : Line → Command

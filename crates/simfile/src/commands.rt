@@ -146,6 +146,7 @@ fn launch(alloc: Global, line: LaunchLine<'_>) -> Result<Command, AllocError>
     Ok(Command::Launch {
         kernel: Name::copy_of(alloc, line.kernel)?,
         range: range_of(alloc, line)?,
+        orders: line.orders,
     })
 }
 

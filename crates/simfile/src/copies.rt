@@ -159,13 +159,14 @@ fn arg(alloc: Global, kernel: &Name, index: u64, argument: &Argument) -> Result<
     })
 }
 
-/// A `launch` of a kernel over an index space. An error is out of memory.
-fn launch(alloc: Global, kernel: &Name, range: &Range) -> Result<Command, AllocError>
-    ensures { IfOk result (λ made. made ≡ command.Launch kernel.now range.now) }
+/// A `launch` of a kernel over an index space, with `orders` or without. An error is out of memory.
+fn launch(alloc: Global, kernel: &Name, range: &Range, orders: bool) -> Result<Command, AllocError>
+    ensures { IfOk result (λ made. made ≡ command.Launch kernel.now range.now orders) }
 {
     Ok(Command::Launch {
         kernel: kernel.copied(alloc)?,
         range: range_of(alloc, range)?,
+        orders,
     })
 }
 
@@ -210,7 +211,11 @@ pub fn copy_of(alloc: Global, command: &Command) -> Result<Command, AllocError>
             index,
             argument,
         } => arg(alloc, kernel, *index, argument),
-        Command::Launch { kernel, range } => launch(alloc, kernel, range),
+        Command::Launch {
+            kernel,
+            range,
+            orders,
+        } => launch(alloc, kernel, range, *orders),
     }
 }
 

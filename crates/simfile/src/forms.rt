@@ -3,7 +3,7 @@
 
 ghost use Rattle.std.specs.Prelude.{◌≡◌};
 ghost use Rattle.std.specs.Option.{option_map};
-ghost use Rattle.simfile.specs.Reading.{buffer_at, write_at, fill_at, copy_at, read_at, release_at, program_at, source_at, kernel_at, buffer_argument_at, value_argument_at, local_argument_at, argument_at, arg_at, listed_offset_at, offset_at, uniform_at, launch_at, version_at, command_at};
+ghost use Rattle.simfile.specs.Reading.{buffer_at, write_at, fill_at, copy_at, read_at, release_at, program_at, source_at, kernel_at, buffer_argument_at, value_argument_at, local_argument_at, argument_at, arg_at, listed_offset_at, offset_at, word_at, uniform_at, orders_at, launch_at, version_at, command_at};
 ghost use Rattle.simfile.specs.Views.{argument_of, command_of};
 
 use crate::fields::{hex_before, lines_at, list_at, list_before, name_at, name_before};
@@ -220,21 +220,40 @@ fn offset_at(bytes: &[u8]) -> (Option<&[u8]>, &[u8])
     }
 }
 
-/// Whether the word of a uniform launch stands in front, which only version 2 has, and the rest.
+/// Whether a word stands in front, and the rest.
+#[tactic(auto, unfolding(crate::specs::Reading::word_at))]
+fn word_at<'a>(word: &[u8], bytes: &'a [u8]) -> (bool, &'a [u8])
+    ensures { Some (result.0, result.1.now) ≡ word_at word.now bytes.now }
+{
+    match after(word, bytes) {
+        Some(rest) => (true, rest),
+        None => (false, bytes),
+    }
+}
+
+/// Whether the word of a uniform launch stands in front, which version 1 lacks, and the rest.
 #[tactic(auto, unfolding(crate::specs::Reading::uniform_at))]
 fn uniform_at(version: Version, bytes: &[u8]) -> (bool, &[u8])
     ensures { Some (result.0, result.1.now) ≡ uniform_at version bytes.now }
 {
     match version {
         Version::One => (false, bytes),
-        Version::Two => match after(b" uniform", bytes) {
-            Some(rest) => (true, rest),
-            None => (false, bytes),
-        },
+        Version::Two | Version::Three => word_at(b" uniform", bytes),
     }
 }
 
-/// A `launch`, behind that word: its kernel, its lists, `uniform` if it is so, a line feed, and the rest.
+/// Whether the word of a launch with `orders` stands in front, which only version 3 has, and the rest.
+#[tactic(auto, unfolding(crate::specs::Reading::orders_at))]
+fn orders_at(version: Version, bytes: &[u8]) -> (bool, &[u8])
+    ensures { Some (result.0, result.1.now) ≡ orders_at version bytes.now }
+{
+    match version {
+        Version::One | Version::Two => (false, bytes),
+        Version::Three => word_at(b" orders", bytes),
+    }
+}
+
+/// A `launch`, behind that word: its kernel, its lists, `uniform` and `orders` if it is so, a line feed, and the rest.
 #[tactic(auto, unfolding(crate::specs::Reading::launch_at, text_lines::specs::Fronts::before))]
 fn launch_at(version: Version, bytes: &[u8]) -> Option<(Line<'_>, &[u8])>
     ensures { option_map (λ read. (command_of read.0, read.1.now)) result ≡ launch_at version bytes.now }
@@ -244,6 +263,7 @@ fn launch_at(version: Version, bytes: &[u8]) -> Option<(Line<'_>, &[u8])>
     let (local, rest) = list_at(rest)?;
     let (offset, rest) = offset_at(rest);
     let (uniform, rest) = uniform_at(version, rest);
+    let (orders, rest) = orders_at(version, rest);
     let rest = after(b"\n", rest)?;
     let line = LaunchLine {
         kernel,
@@ -251,6 +271,7 @@ fn launch_at(version: Version, bytes: &[u8]) -> Option<(Line<'_>, &[u8])>
         local,
         offset,
         uniform,
+        orders,
     };
     Some((Line::Launch(line), rest))
 }
@@ -261,8 +282,11 @@ fn launch_at(version: Version, bytes: &[u8]) -> Option<(Line<'_>, &[u8])>
 pub fn version_at(bytes: &[u8]) -> (Version, &[u8])
     ensures { (result.0, result.1.now) ≡ version_at bytes.now }
 {
-    match after(b"clsim 2\n", bytes) {
-        Some(rest) => (Version::Two, rest),
+    if let Some(rest) = after(b"clsim 2\n", bytes) {
+        return (Version::Two, rest);
+    }
+    match after(b"clsim 3\n", bytes) {
+        Some(rest) => (Version::Three, rest),
         None => (Version::One, bytes),
     }
 }

@@ -7,6 +7,8 @@ pub enum Version {
     One,
     /// A launch may be uniform
     Two,
+    /// A launch may be uniform, and it may have `orders`
+    Three,
 }
 
 /// What a line sets an argument to.
@@ -77,6 +79,7 @@ pub struct LaunchLine<'a> {
     pub local: &'a [u8],
     pub offset: Option<&'a [u8]>,
     pub uniform: bool,
+    pub orders: bool,
 }
 
 /// A line of a script, with the source that follows a program's.

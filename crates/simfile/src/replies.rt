@@ -170,6 +170,7 @@ pub fn write_reply<W: Write>(reply: &Reply, writer: &mut W) -> Result<(), WriteF
         Reply::Done => writer.write(b"ok\n"),
         Reply::Data(bytes) => write_data(bytes.as_slice(), writer),
         Reply::Clean => writer.write(b"clean\n"),
+        Reply::Ordered => writer.write(b"ordered\n"),
         Reply::Fault { fault, schedule } => fault_lines::write(fault, schedule, writer),
         Reply::Refused(refusal) => write_refused(
             refusal_word(*refusal),

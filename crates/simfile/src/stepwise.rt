@@ -1,12 +1,13 @@
 //! A script that is read command by command.
 #![tactic(auto)]
 
-ghost use Rattle.std.specs.Prelude.{◌≡◌, ◌↔◌, IsTrue, IfOk};
+ghost use Rattle.std.specs.Prelude.{◌≡◌, ◌↔◌, IsTrue, Some, IfOk, IfSome};
 ghost use Rattle.std.specs.Option.{option_map};
-ghost use Rattle.simfile.specs.declared.lines.Version.TheVariants as version;
+ghost use Rattle.simfile.specs.declared.lines.Version.{Version};
+ghost use Rattle.simfile.specs.declared.lines.Version.TheVariants.{Two, Three};
 ghost use Rattle.simfile.specs.Script.{head, line_feeds};
 ghost use Rattle.simfile.specs.Reading.{command_at};
-ghost use Rattle.simfile.specs.Stepwise.{source_lines, WholeRead, WholeNone, NoLine, TooFew};
+ghost use Rattle.simfile.specs.Stepwise.{source_lines, TellsVersion, WholeRead, WholeNone, NoLine, TooFew};
 
 use crate::commands::command_of;
 use crate::fields::name_before;
@@ -19,11 +20,35 @@ use text_lines::{after, line_feeds, number_before};
 /// The first line of a script of version 2.
 const VERSION_TWO: &[u8] = b"clsim 2\n";
 
+/// The first line of a script of version 3.
+const VERSION_THREE: &[u8] = b"clsim 3\n";
+
 /// Whether a line is the first one of a script of version 2.
-pub fn is_version_line(line: &[u8]) -> bool
-    ensures { IsTrue result ↔ line.now ≡ head version.Two }
+fn is_version_two(line: &[u8]) -> bool
+    ensures { IsTrue result ↔ line.now ≡ head Two }
 {
     line == VERSION_TWO
+}
+
+/// Whether a line is the first one of a script of version 3.
+fn is_version_three(line: &[u8]) -> bool
+    ensures { IsTrue result ↔ line.now ≡ head Three }
+{
+    line == VERSION_THREE
+}
+
+/// The version that a line tells, where it is the first one of a script of version 2 or 3.
+pub fn version_told(line: &[u8]) -> Option<Version>
+    ensures found { IfSome result (TellsVersion line.now) }
+    ensures only { (version : Version) → TellsVersion line.now version → result ≡ Some version }
+{
+    if is_version_two(line) {
+        return Some(Version::Two);
+    }
+    if is_version_three(line) {
+        return Some(Version::Three);
+    }
+    None
 }
 
 /// How many lines the bytes have, counted by their line feeds.

@@ -52,7 +52,7 @@ fn ran<W: Threads + Wait + Sync, G: Gate>(
 ) -> Option<Outcome>
     requires workers { (1 ≤ workers) × (workers ≤ 16) }
 {
-    let Command::Launch { kernel, range } = command else {
+    let Command::Launch { kernel, range, .. } = command else {
         return None;
     };
     let Ok(launch) = device.prepare(kernel, range) else {

@@ -58,18 +58,18 @@ pub record IsAt (files : List NamedFile) (lines : List (List ℕ)) (at : ℕ) (p
   pub front : List ℕ
   pub within : at ≤ length lines
   pub begins : BeginsWritten files (length lines + 1) lines tolds (drop at lines)
-  pub text : plain.text.items ≡ head version.Two ++ front
-  pub texts : Begins version.Two front (commands_of tolds) []
+  pub text : plain.text.items ≡ head version.Three ++ front
+  pub texts : Begins version.Three front (commands_of tolds) []
   pub places : plain.places.items ≡ places_of tolds
   pub few : length plain.places.items ≤ 4096
 
-pub starts : (files : List NamedFile) (lines : List (List ℕ)) (plain : PlainScript) → plain.text.items ≡ head version.Two → plain.places.items ≡ [] → IsAt files lines 0 plain
+pub starts : (files : List NamedFile) (lines : List (List ℕ)) (plain : PlainScript) → plain.text.items ≡ head version.Three → plain.places.items ≡ [] → IsAt files lines 0 plain
 starts files lines plain text none = record {
   tolds = [];
   front = [];
   within = omega arith;
   begins = refl;
-  text = text ∙ sym (append-nil (head version.Two));
+  text = text ∙ sym (append-nil (head version.Three));
   texts = refl;
   places = none;
   few = omega (arith, ap length none);
@@ -86,24 +86,24 @@ drop_more (x ∷ xs) (suc n) m = let z : suc n + m ≡ suc (n + m) = omega arith
 -- the text and the places with what is told
 record Grown (plain : PlainScript) (tolds : List Told) : Type 0 where
   front : List ℕ
-  text : plain.text.items ≡ head version.Two ++ front
-  texts : Begins version.Two front (commands_of tolds) []
+  text : plain.text.items ≡ head version.Three ++ front
+  texts : Begins version.Three front (commands_of tolds) []
   places : plain.places.items ≡ places_of tolds
 
-grown : (tolds : List Told) (told : Told) (old new : PlainScript) (front : List ℕ) → old.text.items ≡ head version.Two ++ front → Begins version.Two front (commands_of tolds) [] → old.places.items ≡ places_of tolds → Grows told old new → Grown new (tolds ++ told ∷ [])
+grown : (tolds : List Told) (told : Told) (old new : PlainScript) (front : List ℕ) → old.text.items ≡ head version.Three ++ front → Begins version.Three front (commands_of tolds) [] → old.places.items ≡ places_of tolds → Grows told old new → Grown new (tolds ++ told ∷ [])
 grown tolds None old new front text texts places h =
     let none : commands_of (tolds ++ None ∷ []) ≡ commands_of tolds = commands_more tolds None ∙ append-nil (commands_of tolds) in
     record {
       front = front;
       text = h.0 ∙ text;
-      texts = subst (λ (l : List Command). Begins version.Two front l []) (sym none) texts;
+      texts = subst (λ (l : List Command). Begins version.Three front l []) (sym none) texts;
       places = h.1 ∙ (places ∙ sym (places_more tolds None ∙ append-nil (places_of tolds)));
     }
 grown tolds (Some told) old new front text texts places h =
     record {
       front = front ++ h.0.0;
-      text = h.0.2 ∙ (ap (λ l. l ++ h.0.0) text ∙ append_assoc (head version.Two) front h.0.0);
-      texts = subst (λ (l : List Command). Begins version.Two (front ++ h.0.0) l []) (sym (commands_more tolds (Some told))) (text_more version.Two front (commands_of tolds) h.0.0 told.0 texts h.0.1);
+      text = h.0.2 ∙ (ap (λ l. l ++ h.0.0) text ∙ append_assoc (head version.Three) front h.0.0);
+      texts = subst (λ (l : List Command). Begins version.Three (front ++ h.0.0) l []) (sym (commands_more tolds (Some told))) (text_more version.Three front (commands_of tolds) h.0.0 told.0 texts h.0.1);
       places = h.1 ∙ (ap (λ l. l ++ told.1 ∷ []) places ∙ sym (places_more tolds (Some told)));
     }
 
@@ -143,7 +143,7 @@ whole files lines at plain past here =
     let P : List (List ℕ) → Type 0 = λ l. BeginsWritten files (length lines + 1) lines here.tolds l in
     record {
       commands = commands_of here.tolds;
-      text = (version.Two, here.front, here.text, here.texts, many);
+      text = (version.Three, here.front, here.text, here.texts, many);
       told = record { tolds = here.tolds; begins = subst P none here.begins; are = refl; at = here.places; few = many };
     } where
       nothing : (l : List (List ℕ)) → length l ≡ 0 → l ≡ []
@@ -258,7 +258,7 @@ adds_none files number line behind plain taken read few =
 
 -- one that tells a command adds its text and its place
 pub adds_some : (files : List NamedFile) (number : ℕ) (line : List ℕ) (behind : List (List ℕ)) (old new : PlainScript) (taken : ℕ) (c : Command) (place : WrittenPlace) (text : List ℕ) → told_at files number line behind ≡ Some (Some (c, place), taken) → length old.places.items < 4096
-    → IsText version.Two text c → new.text.items ≡ old.text.items ++ text → new.places.items ≡ old.places.items ++ place ∷ [] → Adds files number line behind old new taken
+    → IsText version.Three text c → new.text.items ≡ old.text.items ++ text → new.places.items ≡ old.places.items ++ place ∷ [] → Adds files number line behind old new taken
 adds_some files number line behind old new taken c place text read room is texts places =
     let t = read_tells files number line behind (Some (c, place)) taken read in
     record {

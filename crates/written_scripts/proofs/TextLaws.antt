@@ -106,8 +106,8 @@ file_told files line name path made told named e c =
     let s = bind_some (text_at files path) _ made e in
     program_text line name (ended s.0) 0 made told named (λ some. (before_end s.0, refl)) s.2 c
 
--- a command of version 2 that isn't a program
-plain_told : (line : List ℕ) (told : Command) → IsTrue (not (is_program told)) → IsText version.Two (plain line) told → HasText line told
+-- a command as plain scripts have it that isn't a program
+plain_told : (line : List ℕ) (told : Command) → IsTrue (not (is_program told)) → IsText version.Three (plain line) told → HasText line told
 plain_told line (command.Buffer name size) p h = h
 plain_told line (command.Write buffer offset bytes) p h = (h.0, h.1, h.2.0, h.2.1)
 plain_told line (command.Read buffer offset count) p h = (h.0, h.1, h.2)
@@ -117,7 +117,7 @@ plain_told line (command.Release name) p h = h
 plain_told line (command.Program name source) p h = absurd (cc)
 plain_told line (command.Kernel name program function) p h = h
 plain_told line (command.Arg kernel index argument) p h = h
-plain_told line (command.Launch kernel range) p h = h
+plain_told line (command.Launch kernel range orders) p h = h
 
 numbers_told : (line : List ℕ) (told : Command) → IsNumbersText (plain line) told → HasText line told
 numbers_told line (command.Write buffer offset bytes) (n, o, (kind, numbers, are, is)) = (n, o, some_numbers kind numbers bytes are, are.few)
@@ -129,7 +129,7 @@ numbers_told line (command.Release name) h = absurd h
 numbers_told line (command.Program name source) h = absurd h
 numbers_told line (command.Kernel name program function) h = absurd h
 numbers_told line (command.Arg kernel index argument) h = absurd h
-numbers_told line (command.Launch kernel range) h = absurd h
+numbers_told line (command.Launch kernel range orders) h = absurd h
 
 -- each command that a line tells has a text
 pub has_text : (files : List NamedFile) (line : List ℕ) (said : LineSays) (behind : List (List ℕ)) (made : Option Command × ℕ) (told : Command) → Says line said → told_by files said behind ≡ Some made → made.0 ≡ Some told → HasText line told
@@ -148,7 +148,7 @@ has_text files line (says.SourceUntil name word) behind made told (n, w, is) e c
 has_text files line (says.SourceFile name path) behind made told (n, f, is) e c = file_told files line name path made told n e c
 
 -- the text of a program, by how many lines its source has
-pub program_is : (name source text : List ℕ) (lines : ℕ) → IsTrue (is_name name) → (n : ℕ) × (n ≤ 65536) × AreLines source n → lines ≡ line_feeds source → text ≡ joined (codes "program " ∷ name ∷ space ∷ decimal lines ∷ line_feed ∷ source ∷ []) → IsText version.Two text (command.Program name source)
+pub program_is : (name source text : List ℕ) (lines : ℕ) → IsTrue (is_name name) → (n : ℕ) × (n ≤ 65536) × AreLines source n → lines ≡ line_feeds source → text ≡ joined (codes "program " ∷ name ∷ space ∷ decimal lines ∷ line_feed ∷ source ∷ []) → IsText version.Three text (command.Program name source)
 program_is name source text lines named h count is =
     let a = h.2 in
     let fed : line_feeds source ≡ h.0 = ap line_feeds a.ends ∙ (feeds_append a.front (10 ∷ []) ∙ a.count) in

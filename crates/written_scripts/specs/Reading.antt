@@ -25,7 +25,7 @@ told_at files number line behind = do
 abbrev pub Grows : Option (Command × WrittenPlace) → PlainScript → PlainScript → Type 0
 Grows None old new = (new.text.items ≡ old.text.items) × (new.places.items ≡ old.places.items)
 Grows (Some told) old new =
-    ((text : List ℕ) × IsText version.Two text told.0 × (new.text.items ≡ old.text.items ++ text)) × (new.places.items ≡ old.places.items ++ told.1 ∷ [])
+    ((text : List ℕ) × IsText version.Three text told.0 × (new.text.items ≡ old.text.items ++ text)) × (new.places.items ≡ old.places.items ++ told.1 ∷ [])
 
 -- the line tells something, which is added
 pub record Adds (files : List NamedFile) (number : ℕ) (line : List ℕ) (behind : List (List ℕ)) (old new : PlainScript) (taken : ℕ) : Type 0 where

@@ -1,4 +1,4 @@
--- The text of a command in version 2, by the line of version 3 that tells it (own).
+-- The text of a command in a plain script of version 3, by the line of the written script that tells it (own).
 use Rattle.std.specs.Prelude.{ℕ, ◌<◌, ◌≤◌, ◌^◌, IsTrue, List, length}
 use Rattle.host_commands.specs.declared.command.Command.{Command}
 use Rattle.host_commands.specs.declared.command.Command.TheVariants as command
@@ -15,4 +15,4 @@ HasText line (command.Fill buffer offset count pattern) =
     IsTrue (is_name buffer) × (offset < 2 ^ 64) × (count < 2 ^ 64) × (0 < length pattern) × (length pattern ≤ 1048576)
 HasText line (command.Read buffer offset count) = IsTrue (is_name buffer) × (offset < 2 ^ 64) × (count < 2 ^ 64)
 HasText line (command.Program name source) = IsTrue (is_name name) × ((n : ℕ) × (n ≤ 65536) × AreLines source n)
-HasText line told = IsText version.Two (plain line) told
+HasText line told = IsText version.Three (plain line) told

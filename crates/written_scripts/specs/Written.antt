@@ -86,7 +86,7 @@ pub record IsBadWritten (files : List NamedFile) (script : List ℕ) (number : �
 abbrev pub IsOther : List ℕ → Type 0
 IsOther script = (lines : List (List ℕ)) → IsThird script lines → ⊥
 
--- the text is a script of version 2 of the commands that the script tells, which stand in that one at these places
+-- the text is a plain script of the commands that the script tells, which stand in that one at these places
 pub record IsPlain (files : List NamedFile) (script : List ℕ) (plain : PlainScript) : Type 0 where
   pub commands : List Command
   pub text : IsScript plain.text.items commands

@@ -15,7 +15,7 @@ pub struct WrittenPlace {
     pub called: Bytes,
 }
 
-/// The text of version 2 of a script, and the place of each command.
+/// The plain text of a script, which is of version 3, and the place of each command.
 #[derive(Drop)]
 pub struct PlainScript {
     pub text: Vec<u8>,
@@ -25,7 +25,7 @@ pub struct PlainScript {
 /// What comes of a text.
 #[derive(Drop)]
 pub enum Turned {
-    /// The script as one of version 2
+    /// The script as a plain one
     Plain(PlainScript),
     /// The number of the lowest bad line, from 1
     BadLine(usize),

@@ -1,4 +1,4 @@
-//! The text of a command in version 2.
+//! The text of a command in a plain script of version 3.
 #![tactic(auto)]
 
 ghost use Rattle.std.specs.Prelude.{◌≡◌, ◌<◌, ◌≤◌, ℕ, [], ◌∷◌, length, codes, decimal, IsTrue, IfOk};
@@ -109,7 +109,7 @@ fn write_text(
     requires named { IsTrue (is_name buffer.now) }
     requires some { 0 < length bytes.now }
     requires few { length bytes.now ≤ 1048576 }
-    ensures { IfOk result (λ text. IsText version.Two text.items (command.Write buffer.now offset bytes.now)) }
+    ensures { IfOk result (λ text. IsText version.Three text.items (command.Write buffer.now offset bytes.now)) }
 {
     let digits = hex_of(alloc, bytes)?;
     write_line(alloc, buffer, offset, digits.as_slice())
@@ -152,7 +152,7 @@ fn fill_text(
     requires named { IsTrue (is_name buffer.now) }
     requires some { 0 < length pattern.now }
     requires few { length pattern.now ≤ 1048576 }
-    ensures { IfOk result (λ text. IsText version.Two text.items (command.Fill buffer.now offset count pattern.now)) }
+    ensures { IfOk result (λ text. IsText version.Three text.items (command.Fill buffer.now offset count pattern.now)) }
 {
     let digits = hex_of(alloc, pattern)?;
     fill_line(alloc, buffer, offset, count, digits.as_slice())
@@ -161,7 +161,7 @@ fn fill_text(
 /// The text of a `read`.
 fn read_text(alloc: Global, buffer: &[u8], offset: u64, count: u64) -> Result<Vec<u8>, AllocError>
     requires { IsTrue (is_name buffer.now) }
-    ensures { IfOk result (λ text. IsText version.Two text.items (command.Read buffer.now offset count)) }
+    ensures { IfOk result (λ text. IsText version.Three text.items (command.Read buffer.now offset count)) }
 {
     text_of(
         alloc,
@@ -181,7 +181,7 @@ fn read_text(alloc: Global, buffer: &[u8], offset: u64, count: u64) -> Result<Ve
 fn program_text<'a>(alloc: Global, name: &'a [u8], source: &'a [u8]) -> Result<Vec<u8>, AllocError>
     requires named { IsTrue (is_name name.now) }
     requires lines { (n : ℕ) × (n ≤ 65536) × AreLines source.now n }
-    ensures { IfOk result (λ text. IsText version.Two text.items (command.Program name.now source.now)) }
+    ensures { IfOk result (λ text. IsText version.Three text.items (command.Program name.now source.now)) }
 {
     let lines = line_feeds(source) as u64;
     text_of(
@@ -204,7 +204,7 @@ pub(crate) fn command_text(
     command: &Command,
 ) -> Result<Vec<u8>, AllocError>
     requires { HasText line.now command.now }
-    ensures { IfOk result (λ text. IsText version.Two text.items command.now) }
+    ensures { IfOk result (λ text. IsText version.Three text.items command.now) }
 {
     match command {
         Command::Write {

@@ -1,4 +1,4 @@
-//! A script of version 3, turned into one of version 2.
+//! A script of version 3 that people write by hand, turned into a plain one.
 #![tactic(auto)]
 
 ghost use Rattle.std.specs.Prelude.{◌≡◌, List, [], map, IfOk};
@@ -15,16 +15,16 @@ use crate::reading::add_line;
 use script_lines::is_version_line;
 use std::alloc::{AllocError, Global};
 
-/// The first line of a script of version 2.
-const VERSION_TWO: &[u8] = b"clsim 2\n";
+/// The first line of a plain script of version 3.
+const VERSION_THREE: &[u8] = b"clsim 3\n";
 
 /// The plain text of a script without commands.
 fn no_commands(alloc: Global) -> Result<PlainScript, AllocError>
-    ensures text { IfOk result (λ plain. plain.text.items ≡ head version.Two) }
+    ensures text { IfOk result (λ plain. plain.text.items ≡ head version.Three) }
     ensures places { IfOk result (λ plain. plain.places.items ≡ []) }
 {
     Ok(PlainScript {
-        text: VERSION_TWO.to_vec(alloc)?,
+        text: VERSION_THREE.to_vec(alloc)?,
         places: Vec::new(alloc),
     })
 }
@@ -52,10 +52,10 @@ fn turned(alloc: Global, files: &[NamedFile], lines: &[&[u8]]) -> Result<Turned,
     Ok(Turned::Plain(plain))
 }
 
-/// The script of version 2 of the commands that a script of version 3 tells, with their places in that one. It has a
-/// bad line where one says nothing that version 3 has, lacks lines of its source, names a file that isn't among those
-/// given, has a source of more than 65,536 lines or of none, or is that of the 4,097th command. The last line may lack
-/// its line feed, and so may that of a file.
+/// The plain script of the commands that a script of version 3 tells, with their places in that one. It has a bad line
+/// where one says nothing that version 3 has, lacks lines of its source, names a file that isn't among those given, has
+/// a source of more than 65,536 lines or of none, or is that of the 4,097th command. The last line may lack its line
+/// feed, and so may that of a file.
 pub fn plain_script(alloc: Global, script: &[u8], files: &[NamedFile]) -> Result<Turned, AllocError>
     ensures turned { IfOk result (Turns files.now script.now) }
     ensures only { (commands : List Command) → IsWritten files.now script.now commands → IfOk result (IsTextOf commands) }

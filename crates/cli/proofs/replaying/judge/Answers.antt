@@ -15,6 +15,7 @@ pub returns-in-Ok-clause-judged : goal.returns-in-Ok-clause-judged
 returns-in-Ok-clause-judged c = record {
   kernel = c.in-Some.launched.kernel;
   range = c.in-Some.launched.range;
+  orders = c.in-Some.launched.orders;
   machine = machine_of c.in_ok-device.device;
   comes = record {
     launch = c.in-Some.ensures.launch;
@@ -31,13 +32,14 @@ returns c = record {
     record {
       kernel = c.in-Some.launched.kernel;
       range = c.in-Some.launched.range;
+      orders = c.in-Some.launched.orders;
       machine = machine_of c.in_ok-device.device;
       refusal = c.in-Err.field-0;
       comes = record {
         launch = c.in-Some.ensures.launch;
         leads = subst (λ (done : List Command). Leads (opening c.args.configuration) done (machine_of c.in_ok-device.device)) c.in-Some.ensures.before c.in_ok-device.ensures;
       };
-      refused = by_row (machine_of c.in_ok-device.device) (command.Launch c.in-Some.launched.kernel c.in-Some.launched.range) c.in-Err.field-0 c.in-Err.ensures.refused (λ e. search rules);
+      refused = by_row (machine_of c.in_ok-device.device) (command.Launch c.in-Some.launched.kernel c.in-Some.launched.range c.in-Some.launched.orders) c.in-Err.field-0 c.in-Err.ensures.refused (λ e. search rules);
     },
   );
 }

@@ -24,4 +24,4 @@ returns-clause-launch c =
 pub returns-clause-none : goal.returns-clause-none
 returns-clause-none c =
     let command = last c.args.commands.now.items c.truncate.new.self.items c.pop.new.self.items c.args.ticket c.in_ok-command.command (omega arith) c.truncate.ensures.items c.in_ok-command.ensures.items in
-    none_then c.launch_in.result c.launch_in.ensures.none (λ h kernel range e. h kernel range (same_Some _ _ (sym command ∙ e)))
+    none_then c.launch_in.result c.launch_in.ensures.none (λ h kernel range orders e. h kernel range orders (same_Some _ _ (sym command ∙ e)))

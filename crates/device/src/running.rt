@@ -1,0 +1,124 @@
+//! How a launch is run: once, and where that ends by order, again as the ordered run (own, on OpenCL 1.2, sections 3.2,
+//! 3.3.1 and 6.12.11).
+#![tactic(auto)]
+
+ghost use Rattle.std.specs.Prelude.{◌≡◌, ◌&&◌, true, IfOk, Some, map};
+ghost use Rattle.clmodel.specs.Next.{launch_of};
+ghost use Rattle.item_step.specs.Launches.{setup_of};
+ghost use Rattle.launches.specs.Groups.{HasGroups};
+ghost use Rattle.group_join.specs.Ends.{EndsAs};
+ghost use Rattle.ordered_runs.specs.Ordered.{is_order};
+ghost use Rattle.spaces.specs.Buffers.{bytes_in};
+ghost use Rattle.device.specs.Ends.{EndsBy, EndsInOrder};
+
+use clmodel::access::Clash;
+use clmodel::determinacy::{clean_is_complete, determinacy};
+use clmodel::fault::Fault;
+use clmodel::run_laws::report_is_shown;
+use clmodel::schedule::Schedule;
+use clmodel::text::Bytes;
+use group_join::LaunchEnd;
+use item_step::Launch;
+use ordered_play::{OrderedEnd, run_ordered};
+use ordered_runs::laws::{order_is_met, other_reports_stay};
+use spaces::{Buffers, Changes, Plain};
+use std::alloc::{AllocError, Global};
+
+/// How a launch ends, as it is answered. The launch's buffers are as they were.
+#[derive(Drop)]
+pub(crate) enum RunEnd {
+    /// Clean, with these changes of the launch's buffers, in their order
+    Clean(Vec<Changes>),
+    /// The ordered run without a report, after two accesses that met, with these bytes in the launch's buffers, in
+    /// their order
+    Ordered(Vec<Bytes>),
+    /// With this report, after this schedule
+    Faulted(Fault, Schedule),
+}
+
+/// Whether a fault is a conflict of kind order (OpenCL 1.2, section 6.12.11).
+fn is_order(fault: &Fault) -> bool
+    ensures { result ≡ is_order fault.now }
+{
+    match fault {
+        Fault::Conflict {
+            clash: Clash::Order,
+            ..
+        } => true,
+        Fault::Conflict {
+            clash: Clash::Race,
+            ..
+        }
+        | Fault::Divergence { .. }
+        | Fault::Bounds { .. }
+        | Fault::PrivateBounds { .. }
+        | Fault::Unset { .. }
+        | Fault::UnsetVariable { .. }
+        | Fault::UnsetElement { .. }
+        | Fault::DivideByZero { .. }
+        | Fault::DivideOverflow { .. }
+        | Fault::Budget { .. } => false,
+    }
+}
+
+/// Whether a launch whose canonical run has this report runs again, by whether it has `orders`.
+fn runs_again(orders: bool, fault: &Fault) -> bool
+    ensures { result ≡ (orders && is_order fault.now) }
+{
+    orders && is_order(fault)
+}
+
+/// The bytes that spaces hold, in their order. An error is out of memory.
+fn contents_of(alloc: Global, spaces: Vec<Plain>) -> Result<Vec<Bytes>, AllocError>
+    ensures { IfOk result (λ contents. map (λ bytes. map Some bytes) contents.items ≡ spaces.items) }
+{
+    let mut contents = Vec::new(alloc);
+    for space in spaces {
+        contents.push(Bytes::new(space.into_bytes()))?;
+    }
+    Ok(contents)
+}
+
+/// How the ordered run of a launch ends whose canonical run ended by order (own). It begins again, on the buffers as
+/// they were for that run. An error is out of memory.
+fn run_again(alloc: Global, launch: &Launch<'_>, buffers: &Buffers) -> Result<RunEnd, AllocError>
+    requires whole { HasGroups (setup_of launch.now) }
+    requires order { EndsInOrder (launch_of (setup_of launch.now) (bytes_in buffers.now)) }
+    ensures { IfOk result (EndsBy true (launch_of (setup_of launch.now) (bytes_in buffers.now))) }
+{
+    order_is_met();
+    match run_ordered(alloc, launch, buffers)? {
+        OrderedEnd::Ended(_, spaces) => Ok(RunEnd::Ordered(contents_of(alloc, spaces)?)),
+        OrderedEnd::Faulted(fault, schedule) => Ok(RunEnd::Faulted(fault, schedule)),
+    }
+}
+
+/// How a launch ends by what runs it. With `orders` a report of kind order is no end, and the ordered run is made in
+/// its place. An error is out of memory.
+pub(crate) fn run_to_end<R: FnOnce(Global, &Launch<'_>, &Buffers) -> Result<LaunchEnd, AllocError>>(
+    alloc: Global,
+    launch: &Launch<'_>,
+    buffers: &Buffers,
+    orders: bool,
+    run: R,
+) -> Result<RunEnd, AllocError>
+    requires whole { HasGroups (setup_of launch.now) }
+    requires runs { (alloc : _) (launch : _) (buffers : _) → HasGroups (setup_of launch.now) → R.pre run alloc launch buffers }
+    requires concludes { (alloc : _) (launch : _) (buffers : _) (end : _) → R.post run alloc launch buffers end → IfOk end (EndsAs (launch_of (setup_of launch.now) (bytes_in buffers.now))) }
+    ensures { IfOk result (EndsBy orders (launch_of (setup_of launch.now) (bytes_in buffers.now))) }
+{
+    determinacy();
+    clean_is_complete();
+    report_is_shown();
+    other_reports_stay();
+    match run(alloc, launch, buffers)? {
+        LaunchEnd::Clean(changes) => Ok(RunEnd::Clean(changes)),
+        LaunchEnd::Faulted(fault, schedule) => {
+            if runs_again(orders, &fault) {
+                run_again(alloc, launch, buffers)
+            } else {
+                Ok(RunEnd::Faulted(fault, schedule))
+            }
+        }
+    }
+}
