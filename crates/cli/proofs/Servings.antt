@@ -42,10 +42,12 @@ is_none (Some a) h = absurd (h a refl)
 heard_greeting : (v : Version) → heard (greeting v) ≡ head v
 heard_greeting version.One = refl
 heard_greeting version.Two = refl
+heard_greeting version.Three = refl
 
 told_greeting : (v : Version) → told (greeting v) ≡ []
 told_greeting version.One = refl
 told_greeting version.Two = refl
+told_greeting version.Three = refl
 
 told_turns : (v : Version) (cs : List Command) (rs : List Reply) (es : List Event) → AreTurns v cs rs es → told es ≡ lines rs
 told_turns v [] [] es h = ap told h
@@ -168,6 +170,7 @@ serves_first {old} {new} configuration {server} h = record {
   first_lines : (v : Version) → line_feeds (head v) ≡ up_to_most (line_feeds (heard (greeting v ++ [])))
   first_lines version.One = refl
   first_lines version.Two = refl
+  first_lines version.Three = refl
 
 -- the same, on the machine of a new device
 pub serves_new : {old new : Conversation} (configuration : Configuration) {server : Server} {machine : Machine} → machine ≡ opening configuration → Opened old new server → Serves old new configuration server machine (end_of [])
