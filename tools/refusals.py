@@ -49,8 +49,8 @@ CALLER = "refused_calls"
 CALLS = [b"passes lex", b"passes parse", b"passes check", b"passes lower", b"store", b"update", b"fetch", b"list note",
          b"list note of a conflict", b"log note", b"log note of a conflict", b"pages note",
          b"pages note of a conflict", b"launches prepare", b"launches start", b"launches run_group by one_group",
-         b"launches merge", b"launches run_launch", b"launches replay", b"launches run_parallel", b"queue open",
-         b"queue drive_one with memory", b"answer open"]
+         b"launches merge", b"launches run_launch", b"launches replay", b"launches run_parallel", b"orders launch",
+         b"orders launch of a race", b"queue open", b"queue drive_one with memory", b"answer open"]
 # the call that takes memory while every request is refused
 REFUSABLE = b"queue drive_one where memory may be refused"
 

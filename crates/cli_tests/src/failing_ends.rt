@@ -1,7 +1,9 @@
 //! `run` over a reader that fails at its n-th read, and over a writer that fails at its n-th write or flush, for each
 //! n.
 
-use crate::scripts::{RACE, RACE_REPLIES, REFUSED, REFUSED_REPLIES, SUM, SUM_REPLIES};
+use crate::scripts::{
+    ORDERS, ORDERS_REPLIES, RACE, RACE_REPLIES, REFUSED, REFUSED_REPLIES, SUM, SUM_REPLIES,
+};
 use byte_io::{Input, Output};
 use cli::session::{Options, RunEnd};
 use cli::{Reader, RunFault, run};
@@ -68,11 +70,20 @@ struct Row {
     end: RunEnd,
 }
 
-/// A script that ends well, one whose launch races, and one with commands that are refused.
-const ROWS: [Row; 3] = [
+/// A script that ends well, one whose launch is ordered, which ends well too, one whose launch races, and one with
+/// commands that are refused.
+const ROWS: [Row; 4] = [
     Row {
         script: SUM,
         replies: SUM_REPLIES,
+        end: RunEnd {
+            faulted: false,
+            refused: false,
+        },
+    },
+    Row {
+        script: ORDERS,
+        replies: ORDERS_REPLIES,
         end: RunEnd {
             faulted: false,
             refused: false,

@@ -50,6 +50,26 @@ fault 1 race item 0 load item 1 store buffer a byte 4 schedule 0*2 1*1
 data 00000000000000000000000000000000
 ";
 
+/// Items of two groups that draw places, in a script of version 3.
+pub const ORDERS: &str = "clsim 3
+buffer a 12
+program p 1
+__kernel void f(__global int *a) { a[1 + atomic_inc(&a[0])] = 7 + get_global_id(0); }
+kernel k p f
+arg k 0 buffer a
+launch k 2 1 orders
+read a 0 12
+";
+
+/// Its replies.
+pub const ORDERS_REPLIES: &str = "ok
+ok
+ok
+ok
+ordered
+data 020000000700000008000000
+";
+
 /// Buffers of which three are refused.
 pub const REFUSED: &str = "buffer a 1048576
 buffer a 4

@@ -10,6 +10,7 @@ mod launch_calls;
 mod logs;
 mod machine;
 mod one_thread;
+mod orders_calls;
 mod passes;
 mod queue;
 mod requests;
@@ -29,6 +30,7 @@ fn try_all<R: Print + Eprint + Threads + Wait + Sync>(rt: &R, alloc: Global) {
     spaces_lent::try_all(rt, alloc);
     logs::try_all(rt, alloc);
     launch_calls::try_all(rt, alloc);
+    orders_calls::try_all(rt, alloc);
     without_memory::try_all(rt, alloc);
     clients::try_all(rt, alloc);
 }

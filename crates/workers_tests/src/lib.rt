@@ -1,5 +1,5 @@
-//! Tests with threads: the groups that workers draw at gates that hold them, and two workers at a gate in a launch, by
-//! itself and on a device.
+//! Tests with threads: the groups that workers draw at gates that hold them, two workers at a gate in a launch, by
+//! itself and on a device, and a launch with `orders` on a device of two.
 #![tactic(auto)]
 
 #[cfg(test)]
@@ -10,6 +10,8 @@ mod gates;
 mod launched;
 #[cfg(test)]
 mod numbers;
+#[cfg(test)]
+mod orders;
 #[cfg(test)]
 mod scripts;
 #[cfg(test)]
