@@ -236,7 +236,7 @@ form_name (invocation.Plain _) = codes "plain"
 -- the matches of its form give what is asked for: a run by their workers, under their limits and budget, with the lines
 -- of its commands or without; a check or a dump within their limits; a replay under their limits; an explanation of the
 -- schedule file, if one is named; a script whose replies are widened, within their limits; a script that is written as
--- one of version 2 (own)
+-- a plain one (own)
 abbrev pub Gives : List Row → Invocation → Type 0
 Gives rows (invocation.Run path options numbered) =
     (first_of (codes "FILE") rows ≡ Some path.now) × GivesWorkers rows options.workers × GivesConfiguration rows options.configuration

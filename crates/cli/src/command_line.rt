@@ -59,7 +59,7 @@ pub enum Invocation<'a> {
         json: bool,
         limits: Limits,
     },
-    /// Writes the script of a file as one of version 2
+    /// Writes the script of a file as a plain one
     Plain {
         script: &'a str,
     },
@@ -360,7 +360,7 @@ fn plain_form<'a>(alloc: Global) -> Result<Command<'a>, AllocError>
     form_on(
         alloc,
         "plain",
-        "Prints a script of version 3 as one of version 2, with its files in it",
+        "Prints a script of version 3 as a plain one, with its files in it",
         "SCRIPT",
         "The script",
     )

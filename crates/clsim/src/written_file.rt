@@ -1,8 +1,8 @@
 //! The script of a file as a plain text: one of version 3 is read with the files that it names, which stand beside it,
-//! and turned into one of version 2. Any other text stays as it is.
+//! and turned into a plain one. Any other text stays as it is.
 #![tactic(auto)]
 
-ghost use Rattle.std.specs.Prelude.{◌≡◌, None, IfOk, IfErr};
+ghost use Rattle.std.specs.Prelude.{◌≡◌, false, None, IfOk, IfErr};
 ghost use Rattle.clsim.specs.Plain.{IsPlainOf, Unturned};
 
 use crate::named_file::{NamedFile, STANDARD_INPUT, read_path};
@@ -139,13 +139,19 @@ fn place_in(script: &[u8], number: usize) -> Place
 struct PlainText {
     text: Vec<u8>,
     places: Option<Vec<WrittenPlace>>,
+    /// Whether it is another text than the script
+    is_other: bool,
 }
 
 /// A text that is given as it is.
 fn as_it_is(text: Vec<u8>) -> PlainText
-    ensures { result ≡ record { text = text; places = None } }
+    ensures { result ≡ record { text = text; places = None; is_other = false } }
 {
-    PlainText { text, places: None }
+    PlainText {
+        text,
+        places: None,
+        is_other: false,
+    }
 }
 
 /// The plain text of a script with its files. Of a script with a bad line the error is the lowest one.
@@ -154,10 +160,14 @@ fn plain_of(alloc: Global, script: Vec<u8>, files: &[SourceFile]) -> Result<Plai
     ensures unturned { IfErr result (Unturned files.now script.items) }
 {
     match plain_script(alloc, script.as_slice(), files)? {
-        Turned::Plain(plain) => Ok(PlainText {
-            text: plain.text,
-            places: Some(plain.places),
-        }),
+        Turned::Plain(plain) => {
+            let is_other = plain.text.as_slice() != script.as_slice();
+            Ok(PlainText {
+                text: plain.text,
+                places: Some(plain.places),
+                is_other,
+            })
+        }
         Turned::BadLine(number) => Err(NoPlainText::Bad(place_in(script.as_slice(), number))),
         Turned::Other => Ok(as_it_is(script)),
     }
@@ -183,6 +193,7 @@ pub(crate) struct WrittenFile<'a, R> {
     missing: Option<String>,
     bad: Option<Place>,
     places: Option<Vec<WrittenPlace>>,
+    is_other: bool,
 }
 
 impl<'a, R: Files + io::Input> WrittenFile<'a, R> {
@@ -196,6 +207,7 @@ impl<'a, R: Files + io::Input> WrittenFile<'a, R> {
             missing: None,
             bad: None,
             places: None,
+            is_other: false,
         }
     }
 
@@ -206,9 +218,9 @@ impl<'a, R: Files + io::Input> WrittenFile<'a, R> {
         file
     }
 
-    /// Tells of a script of version 3 that the lines that were told are those of its plain text.
+    /// Tells of a script of version 3 that the lines that were told are those of its plain text, where it is another.
     pub(crate) fn tell_lines(&self, rt: &impl Eprint) {
-        if self.places.is_some() {
+        if self.is_other {
             tell_plain(rt, self.file.path());
         }
     }
@@ -266,6 +278,7 @@ impl<R: Files + io::Input> Read for WrittenFile<'_, R> {
         match self.read(alloc) {
             Ok(plain) => {
                 self.places = plain.places;
+                self.is_other = plain.is_other;
                 return Ok(plain.text);
             }
             Err(NoPlainText::OutOfMemory) => return Err(ReadFault::OutOfMemory),
