@@ -1,5 +1,5 @@
 //! The script of a file as a plain text: one of version 3 is read with the files that it names, which stand beside it,
-//! and turned into one of version 2. Any other text stays as it is.
+//! and turned into a plain one. Any other text stays as it is.
 #![tactic(auto)]
 
 ghost use Rattle.std.specs.Prelude.{◌≡◌, None, IfOk, IfErr};
