@@ -52,9 +52,9 @@ NamesBuffer _ name = ⊥
 -- number that they hold
 abbrev pub IsLimited : Limits → Command → Limited → ℕ → ℕ → Type 0
 IsLimited limits (command.Buffer name size) bound.BufferBytes number limit = (number ≡ size) × (limit ≡ limits.buffer_bytes)
-IsLimited limits (command.Launch kernel range) bound.GroupItems number limit = (number ≡ min (product range.local) (2 ^ 64 - 1)) × (limit ≡ limits.group_items)
-IsLimited limits (command.Launch kernel range) bound.Items number limit = (number ≡ min (product range.global) (2 ^ 64 - 1)) × (limit ≡ limits.items)
-IsLimited limits (command.Launch kernel range) bound.LocalBytes number limit = limit ≡ limits.local_bytes
+IsLimited limits (command.Launch kernel range orders) bound.GroupItems number limit = (number ≡ min (product range.local) (2 ^ 64 - 1)) × (limit ≡ limits.group_items)
+IsLimited limits (command.Launch kernel range orders) bound.Items number limit = (number ≡ min (product range.global) (2 ^ 64 - 1)) × (limit ≡ limits.items)
+IsLimited limits (command.Launch kernel range orders) bound.LocalBytes number limit = limit ≡ limits.local_bytes
 IsLimited limits (command.Arg kernel index (argument.Local size)) bound.LocalBytes number limit = (number ≡ size) × (limit ≡ limits.local_bytes)
 IsLimited limits _ _ number limit = ⊥
 
@@ -72,7 +72,7 @@ IsCount _ n = ⊥
 abbrev pub Divides : Command → Divided → ℕ → ℕ → Type 0
 Divides (command.Fill buffer at count pattern) division.FillOffset number of = (number ≡ at) × (of ≡ length pattern)
 Divides (command.Fill buffer at count pattern) division.FillCount number of = (number ≡ count) × (of ≡ length pattern)
-Divides (command.Launch kernel range) (division.GlobalSize dimension) number of =
+Divides (command.Launch kernel range orders) (division.GlobalSize dimension) number of =
     (slice_get range.global dimension ≡ Some number) × (slice_get range.local dimension ≡ Some of)
 Divides _ _ number of = ⊥
 
@@ -84,7 +84,7 @@ Overlaps _ name offset other count = ⊥
 
 -- how many sizes a launch has, which it may not have
 abbrev pub HasCounts : Command → ℕ → ℕ → ℕ → Type 0
-HasCounts (command.Launch kernel range) global local offset =
+HasCounts (command.Launch kernel range orders) global local offset =
     (global ≡ length range.global) × (local ≡ length range.local) × (offset ≡ length range.offset)
 HasCounts _ global local offset = ⊥
 
@@ -93,12 +93,12 @@ IsBadCount global local offset = (global ≡ 0) ⊎ (3 < global) ⊎ (local ≢ 
 
 -- an offset of a launch, and the global size of its dimension
 abbrev pub HasOffset : Command → ℕ → ℕ → ℕ → Type 0
-HasOffset (command.Launch kernel range) dimension offset size = (slice_get range.offset dimension ≡ Some offset) × (slice_get range.global dimension ≡ Some size)
+HasOffset (command.Launch kernel range orders) dimension offset size = (slice_get range.offset dimension ≡ Some offset) × (slice_get range.global dimension ≡ Some size)
 HasOffset _ dimension offset size = ⊥
 
 -- a size of a launch is 0 in a dimension
 abbrev pub HasZero : Command → ℕ → Type 0
-HasZero (command.Launch kernel range) dimension = (slice_get range.global dimension ≡ Some 0) ⊎ (slice_get range.local dimension ≡ Some 0)
+HasZero (command.Launch kernel range orders) dimension = (slice_get range.global dimension ≡ Some 0) ⊎ (slice_get range.local dimension ≡ Some 0)
 HasZero _ dimension = ⊥
 
 -- where a buffer is wanted, none has the name

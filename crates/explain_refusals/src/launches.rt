@@ -1,7 +1,7 @@
 //! Why a launch was refused (OpenCL 1.2, section 5.8).
 #![tactic(auto)]
 
-ghost use Rattle.std.specs.Prelude.{IfOk};
+ghost use Rattle.std.specs.Prelude.{Bool, IfOk};
 ghost use Rattle.clmodel.specs.declared.setup.Range.{Range as RangeOf};
 ghost use Rattle.host_commands.specs.declared.command.Command.{Command as CommandOf};
 ghost use Rattle.host_commands.specs.declared.command.Command.TheVariants as command;
@@ -48,7 +48,7 @@ fn offset_at(
     range: &Range,
     dimension: usize,
 ) -> Option<Found>
-    ensures { HoldsOf refusing.now (command.Launch kernel.now range.now) result }
+    ensures { (orders : Bool) → HoldsOf refusing.now (command.Launch kernel.now range.now orders) result }
 {
     let offset = *range.offset.as_slice().get(dimension)?;
     let size = *range.global.as_slice().get(dimension)?;
@@ -65,7 +65,7 @@ fn offset_at(
 
 /// The first dimension whose offset and global size pass 2^64 - 1 together.
 fn large_offset(refusing: &Refusing<'_>, kernel: &Name, range: &Range) -> Option<Found>
-    ensures { HoldsOf refusing.now (command.Launch kernel.now range.now) result }
+    ensures { (orders : Bool) → HoldsOf refusing.now (command.Launch kernel.now range.now orders) result }
 {
     for dimension in 0..range.offset.as_slice().len() {
         if let Some(found) = offset_at(refusing, kernel, range, dimension) {
@@ -77,7 +77,7 @@ fn large_offset(refusing: &Refusing<'_>, kernel: &Name, range: &Range) -> Option
 
 /// Lists of lengths that no launch may have, or an offset that is too large.
 fn bad_dimension(refusing: &Refusing<'_>, kernel: &Name, range: &Range) -> Option<Found>
-    ensures { HoldsOf refusing.now (command.Launch kernel.now range.now) result }
+    ensures { (orders : Bool) → HoldsOf refusing.now (command.Launch kernel.now range.now orders) result }
 {
     let global = range.global.as_slice().len() as u64;
     let local = range.local.as_slice().len() as u64;
@@ -95,7 +95,7 @@ fn bad_dimension(refusing: &Refusing<'_>, kernel: &Name, range: &Range) -> Optio
 
 /// A size of a dimension that is 0, if one is.
 fn zero_at(refusing: &Refusing<'_>, kernel: &Name, range: &Range, dimension: usize) -> Option<Found>
-    ensures { HoldsOf refusing.now (command.Launch kernel.now range.now) result }
+    ensures { (orders : Bool) → HoldsOf refusing.now (command.Launch kernel.now range.now orders) result }
 {
     let global = *range.global.as_slice().get(dimension)?;
     let local = *range.local.as_slice().get(dimension)?;
@@ -116,7 +116,7 @@ fn uneven_at(
     range: &Range,
     dimension: usize,
 ) -> Option<Found>
-    ensures { HoldsOf refusing.now (command.Launch kernel.now range.now) result }
+    ensures { (orders : Bool) → HoldsOf refusing.now (command.Launch kernel.now range.now orders) result }
 {
     let number = *range.global.as_slice().get(dimension)?;
     let of = *range.local.as_slice().get(dimension)?;
@@ -138,7 +138,7 @@ fn bad_size_at(
     range: &Range,
     dimension: usize,
 ) -> Option<Found>
-    ensures { HoldsOf refusing.now (command.Launch kernel.now range.now) result }
+    ensures { (orders : Bool) → HoldsOf refusing.now (command.Launch kernel.now range.now orders) result }
 {
     match zero_at(refusing, kernel, range, dimension) {
         Some(found) => Some(found),
@@ -148,7 +148,7 @@ fn bad_size_at(
 
 /// The sizes that no group may have, in the first such dimension, or a group of too many work-items.
 fn bad_group(refusing: &Refusing<'_>, kernel: &Name, range: &Range) -> Option<Found>
-    ensures { HoldsOf refusing.now (command.Launch kernel.now range.now) result }
+    ensures { (orders : Bool) → HoldsOf refusing.now (command.Launch kernel.now range.now orders) result }
 {
     for dimension in 0..range.global.as_slice().len() {
         if let Some(found) = bad_size_at(refusing, kernel, range, dimension) {
@@ -242,7 +242,7 @@ fn arguments_reason(
     kernel: &Name,
     refusal: Refusal,
 ) -> Result<Option<Found>, AllocError>
-    ensures { (range : RangeOf) → IfOk result (HoldsOf refusing.now (command.Launch kernel.now range)) }
+    ensures { (range : RangeOf) (orders : Bool) → IfOk result (HoldsOf refusing.now (command.Launch kernel.now range orders)) }
 {
     let there = names_there(refusing.alloc, refusing.before)?;
     let Some(made) = made_of(there.as_slice(), kernel, NameKind::Kernel) else {
@@ -269,7 +269,7 @@ pub(crate) fn launch_reason(
     range: &Range,
     refusal: Refusal,
 ) -> Result<Option<Found>, AllocError>
-    ensures { IfOk result (HoldsOf refusing.now (command.Launch kernel.now range.now)) }
+    ensures { (orders : Bool) → IfOk result (HoldsOf refusing.now (command.Launch kernel.now range.now orders)) }
 {
     match refusal {
         Refusal::NoSuchName => unknown(refusing, kernel, Wanted::Kernel, 1),

@@ -229,6 +229,6 @@ pub fn reason_of(
             index,
             argument,
         } => arg_reason(refusing, kernel, *index, argument, refusal),
-        Command::Launch { kernel, range } => launch_reason(refusing, kernel, range, refusal),
+        Command::Launch { kernel, range, .. } => launch_reason(refusing, kernel, range, refusal),
     }
 }

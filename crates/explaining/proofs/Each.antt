@@ -172,6 +172,7 @@ found configuration script commands m true is h =
     split reply.Done first ends = absurd (false≢true (sym ends))
     split (reply.Data bytes) first ends = absurd (false≢true (sym ends))
     split reply.Clean first ends = absurd (false≢true (sym ends))
+    split reply.Ordered first ends = absurd (false≢true (sym ends))
     split (reply.Fault f runs) first ends = inl (f, runs, first)
     split (reply.Refused why) first ends = inr (why, first)
 

@@ -6,10 +6,11 @@ use Rattle.clmodel.proofs.Steps.{none_some, some_inj}
 use Rattle.clmodel.specs.Law.{Reaches}
 use Rattle.clmodel.specs.Next.{launch_of}
 use Rattle.clmodel.specs.Outcome.{events_of}
+use Rattle.clmodel.specs.Setup.{Setup}
 use Rattle.clmodel.specs.Tree.{Program}
 use Rattle.clmodel.specs.declared.fault.Fault.{Fault}
 use Rattle.clmodel.specs.declared.schedule.EventRun.{EventRun}
-use Rattle.device.specs.Machine.{Machine, Built, Does, Step, bytes_of, first, kernel_of, row, setup_of}
+use Rattle.device.specs.Machine.{Machine, Built, Does, LaunchesBy, Step, bytes_of, first, kernel_of, launch_row, row, setup_of}
 use Rattle.host_commands.specs.declared.command.BuildFault.{BuildFault}
 use Rattle.host_commands.specs.declared.command.Command.{Command}
 use Rattle.host_commands.specs.declared.command.Command.TheVariants as command
@@ -23,8 +24,8 @@ use Rattle.simfile.specs.declared.faults.RunFault.TheVariants as fault
 
 -- a command is a launch that its row doesn't refuse, and that a schedule leads to a fault
 abbrev pub Faults : Machine → Fault → List EventRun → Command → Type 0
-Faults m f runs (command.Launch kernel range) =
-    (first (row m (command.Launch kernel range)) ≡ None) × Reaches (launch_of (setup_of m (kernel_of m kernel) range) (bytes_of m)) (events_of runs) f
+Faults m f runs (command.Launch kernel range orders) =
+    (first (launch_row m kernel range) ≡ None) × Reaches (launch_of (setup_of m (kernel_of m kernel) range) (bytes_of m)) (events_of runs) f
 Faults m f runs _ = ⊥
 
 is_fault : Reply → Bool
@@ -40,6 +41,13 @@ unfolding is_fault
 built old new name (Ok p) f runs h = no_fault f runs reply.Done refl h.0
 built old new name (Err e) f runs h = no_fault f runs _ refl h.0
 
+-- a fault of a launch is one to which its schedule leads, with `orders` and without, and no machine changes
+launch_told :
+    (orders : Bool) (old : Machine) (setup : Setup) (f : Fault) (runs : List EventRun) (new : Machine) → LaunchesBy orders old setup (reply.Fault f runs) new
+    → Reaches (launch_of setup (bytes_of old)) (events_of runs) f × (new ≡ old)
+launch_told true old setup f runs new (reaches, reported, merged, same) = (reaches, same)
+launch_told false old setup f runs new (reaches, reported, merged, same) = (reaches, same)
+
 does : (old new : Machine) (c : Command) (f : Fault) (runs : List EventRun) → first (row old c) ≡ None → Does old c (reply.Fault f runs) new → Faults new f runs c
 unfolding is_fault
 does old new (command.Buffer name size) f runs e h = absurd (no_fault f runs reply.Done refl h.0)
@@ -51,7 +59,9 @@ does old new (command.Release name) f runs e h = absurd (no_fault f runs reply.D
 does old new (command.Program name source) f runs e h = absurd (built old new name h.0 f runs h.2)
 does old new (command.Kernel name program function) f runs e h = absurd (no_fault f runs reply.Done refl h.0)
 does old new (command.Arg kernel index argument) f runs e h = absurd (no_fault f runs reply.Done refl h.0)
-does old new (command.Launch kernel range) f runs e (reaches, reported, merged, same) = subst (λ m. Faults m f runs (command.Launch kernel range)) (sym same) (e, reaches)
+does old new (command.Launch kernel range orders) f runs e h =
+    let told = launch_told orders old (setup_of old (kernel_of old kernel) range) f runs new h in
+    subst (λ m. Faults m f runs (command.Launch kernel range orders)) (sym told.1) (e, told.0)
 
 -- a command whose reply is a fault
 pub faults : (old new : Machine) (c : Command) (f : Fault) (runs : List EventRun) → Step old c (reply.Fault f runs) new → Faults new f runs c
@@ -66,7 +76,7 @@ faults old new c f runs (inl h) = go (first (row old c)) refl h
     go (Some r) e d = absurd (no_fault f runs _ refl d.0)
 
 launches : (m : Machine) (commands : List Command) (ticket : ℕ) (c : Command) (f : Fault) (runs : List EventRun) → slice_get commands ticket ≡ Some c → Faults m f runs c → NoLaunch commands ticket → ⊥
-launches m commands ticket (command.Launch kernel range) f runs at h none = none kernel range at
+launches m commands ticket (command.Launch kernel range orders) f runs at h none = none kernel range orders at
 launches m commands ticket _ f runs at h none = absurd h
 
 -- it is explained
@@ -74,12 +84,12 @@ pub told_yes :
     (m : Machine) (commands : List Command) (ticket : ℕ) (c : Command) (f : Fault) (runs : List EventRun) (answer : Bool) → slice_get commands ticket ≡ Some c → Faults m f runs c
     → Tells m commands ticket f runs answer → answer ≡ true
 told_yes m commands ticket c f runs answer at h t =
-    let there : Faults m f runs (command.Launch t.kernel t.range) = subst (Faults m f runs) (some_inj c (command.Launch t.kernel t.range) (sym at ∙ t.at)) h in
+    let there : Faults m f runs (command.Launch t.kernel t.range t.orders) = subst (Faults m f runs) (some_inj c (command.Launch t.kernel t.range t.orders) (sym at ∙ t.at)) h in
     t.replays.decides.1 there.1
 
 refused : (m : Machine) (commands : List Command) (ticket : ℕ) (c : Command) (f : Fault) (runs : List EventRun) → slice_get commands ticket ≡ Some c → Faults m f runs c → Refuses m commands ticket → ⊥
 refused m commands ticket c f runs at h r =
-    let there : Faults m f runs (command.Launch r.kernel r.range) = subst (Faults m f runs) (some_inj c (command.Launch r.kernel r.range) (sym at ∙ r.at)) h in
+    let there : Faults m f runs (command.Launch r.kernel r.range r.orders) = subst (Faults m f runs) (some_inj c (command.Launch r.kernel r.range r.orders) (sym at ∙ r.at)) h in
     none_some r.refusal (sym there.0 ∙ r.refused)
 
 -- and only want of memory stands in its way

@@ -71,8 +71,8 @@ explained configuration script schedule commands ticket f runs (Err why) is file
 
 -- no command stands at a place behind the last one
 pub none_behind : (commands : List Command) (ticket : ℕ) → length commands ≤ ticket → NoLaunch commands ticket
-none_behind commands ticket past kernel range h =
-    let bad : ◌≡◌ {A = Option Command} None (Some (command.Launch kernel range)) = sym (slice_get_past commands ticket past) ∙ h in
+none_behind commands ticket past kernel range orders h =
+    let bad : ◌≡◌ {A = Option Command} None (Some (command.Launch kernel range orders)) = sym (slice_get_past commands ticket past) ∙ h in
     cc
 
 pub no_launch :

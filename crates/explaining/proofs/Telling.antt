@@ -11,7 +11,7 @@ use Rattle.clmodel.specs.Setup.{Setup}
 use Rattle.clmodel.specs.declared.fault.Fault.{Fault}
 use Rattle.clmodel.specs.declared.schedule.EventRun.{EventRun}
 use Rattle.clmodel.specs.declared.setup.Range.{Range}
-use Rattle.device.specs.Machine.{Machine, IsRefusal, kernel_of, setup_of}
+use Rattle.device.specs.Machine.{Machine, IsLaunchRefusal, kernel_of, setup_of}
 use Rattle.device.specs.Prepared.{IsPrepared}
 use Rattle.host_commands.specs.declared.command.Command.{Command}
 use Rattle.host_commands.specs.declared.command.Command.TheVariants as command
@@ -47,13 +47,14 @@ decided_not answer not d p = false≢true (sym not ∙ d.1 p)
 
 -- a prepared launch whose explanation was found exactly if its schedule leads to the fault
 pub tells :
-    (m : Machine) (commands : List Command) (ticket : ℕ) (kernel : List ℕ) (range : Range) (launch : Launch) (buffers : Table (List ℕ)) (f : Fault) (runs : List EventRun) (found : Option ExplainedCase)
-    → slice_get commands ticket ≡ Some (command.Launch kernel range) → IsPrepared m kernel range launch → buffers ≡ m.buffers
+    (m : Machine) (commands : List Command) (ticket : ℕ) (kernel : List ℕ) (range : Range) (orders : Bool) (launch : Launch) (buffers : Table (List ℕ)) (f : Fault) (runs : List EventRun) (found : Option ExplainedCase)
+    → slice_get commands ticket ≡ Some (command.Launch kernel range orders) → IsPrepared m kernel range launch → buffers ≡ m.buffers
     → IfNone found (Reaches (launch_of (launches.setup_of launch) (bytes_in buffers)) (events_of runs) f → ⊥)
     → IfSome found (λ _. Reaches (launch_of (launches.setup_of launch) (bytes_in buffers)) (events_of runs) f) → Tells m commands ticket f runs (is_some found)
-tells m commands ticket kernel range launch buffers f runs found at p e none some = record {
+tells m commands ticket kernel range orders launch buffers f runs found at p e none some = record {
   kernel = kernel;
   range = range;
+  orders = orders;
   at = at;
   replays = record { admitted = p.admitted; decides = moved (go found none some) };
 }
@@ -73,12 +74,13 @@ tells m commands ticket kernel range launch buffers f runs found at p e none som
 
 -- the schedule that is told of a prepared launch
 pub short :
-    (m : Machine) (commands : List Command) (ticket : ℕ) (kernel : List ℕ) (range : Range) (launch : Launch) (buffers : Table (List ℕ)) (f : Fault) (given runs : List EventRun)
-    → slice_get commands ticket ≡ Some (command.Launch kernel range) → IsPrepared m kernel range launch → buffers ≡ m.buffers
+    (m : Machine) (commands : List Command) (ticket : ℕ) (kernel : List ℕ) (range : Range) (orders : Bool) (launch : Launch) (buffers : Table (List ℕ)) (f : Fault) (given runs : List EventRun)
+    → slice_get commands ticket ≡ Some (command.Launch kernel range orders) → IsPrepared m kernel range launch → buffers ≡ m.buffers
     → IsShort (launch_of (launches.setup_of launch) (bytes_in buffers)) f given runs → HasShort m commands ticket f given runs
-short m commands ticket kernel range launch buffers f given runs at p e h = record {
+short m commands ticket kernel range orders launch buffers f given runs at p e h = record {
   kernel = kernel;
   range = range;
+  orders = orders;
   at = at;
   is_short =
       subst (λ (b : Table (List ℕ)). IsShort (launch_of (setup_of m (kernel_of m kernel) range) (bytes_in b)) f given runs) e
@@ -87,7 +89,7 @@ short m commands ticket kernel range launch buffers f given runs at p e h = reco
 
 -- a launch that is refused, and not for want of memory, is refused by its row
 pub refuses :
-    (m : Machine) (commands : List Command) (ticket : ℕ) (kernel : List ℕ) (range : Range) (r : Refusal) → slice_get commands ticket ≡ Some (command.Launch kernel range)
-    → IsRefusal m (command.Launch kernel range) r → (r ≡ refusal.OutOfMemory → ⊥) → Refuses m commands ticket
-refuses m commands ticket kernel range r at (inl h) other = record { kernel = kernel; range = range; refusal = r; at = at; refused = h }
-refuses m commands ticket kernel range r at (inr h) other = absurd (other h.1)
+    (m : Machine) (commands : List Command) (ticket : ℕ) (kernel : List ℕ) (range : Range) (orders : Bool) (r : Refusal) → slice_get commands ticket ≡ Some (command.Launch kernel range orders)
+    → IsLaunchRefusal m kernel range r → (r ≡ refusal.OutOfMemory → ⊥) → Refuses m commands ticket
+refuses m commands ticket kernel range orders r at (inl h) other = record { kernel = kernel; range = range; orders = orders; refusal = r; at = at; refused = h }
+refuses m commands ticket kernel range orders r at (inr h) other = absurd (other h.1)

@@ -74,13 +74,14 @@ explained e launch context ticket place range f runs facts first second most pla
 
 -- what is told of a prepared launch
 pub whole :
-    (m : Machine) (as_given : Bool) (script : List ℕ) (commands : List Command) (ticket : ℕ) (place : CommandPlace) (kernel : List ℕ) (range : Range) (context : Context) (buffers : Table (List ℕ)) (f : Fault) (given runs : List EventRun) (e : Explanation)
-    → slice_get commands ticket ≡ Some (command.Launch kernel range) → IsPrepared m kernel range context.launch.now → buffers ≡ m.buffers → IsSourceOf script commands context.done.now kernel context.program → StandsAt script commands ticket place
+    (m : Machine) (as_given : Bool) (script : List ℕ) (commands : List Command) (ticket : ℕ) (place : CommandPlace) (kernel : List ℕ) (range : Range) (orders : Bool) (context : Context) (buffers : Table (List ℕ)) (f : Fault) (given runs : List EventRun) (e : Explanation)
+    → slice_get commands ticket ≡ Some (command.Launch kernel range orders) → IsPrepared m kernel range context.launch.now → buffers ≡ m.buffers → IsSourceOf script commands context.done.now kernel context.program → StandsAt script commands ticket place
     → IsShort (launch_of (launches.setup_of context.launch.now) (bytes_in buffers)) f given runs → IsAsWanted as_given given runs → string_bytes e.schedule.given ≡ schedule_words given
     → IsExplained (launch_of (launches.setup_of context.launch.now) (bytes_in buffers)) context ticket place range f runs e → HasWhole m as_given script commands ticket f given runs e
-whole m as_given script commands ticket place kernel range context buffers f given runs e at p same source stands short wanted words explained = record {
+whole m as_given script commands ticket place kernel range orders context buffers f given runs e at p same source stands short wanted words explained = record {
   kernel = kernel;
   range = range;
+  orders = orders;
   at = at;
   is_short =
       subst (λ (b : Table (List ℕ)). IsShort (launch_of (setup_of m (kernel_of m kernel) range) (bytes_in b)) f given runs) same

@@ -10,7 +10,7 @@ use Rattle.clmodel.specs.declared.fault.Fault.{Fault}
 use Rattle.clmodel.specs.declared.schedule.EventRun.{EventRun}
 use Rattle.clmodel.specs.declared.setup.Range.{Range}
 use Rattle.byte_io.specs.Sink.{Sink, Stopped}
-use Rattle.device.specs.Machine.{Machine, opening, first, row, kernel_of, setup_of, bytes_of}
+use Rattle.device.specs.Machine.{Machine, opening, first, launch_row, kernel_of, setup_of, bytes_of}
 use Rattle.host_commands.specs.Builds.{Builds}
 use Rattle.host_commands.specs.declared.command.BuildFault.{BuildFault}
 use Rattle.host_commands.specs.declared.command.Command.{Command}
@@ -29,7 +29,8 @@ use Rattle.limits.specs.declared.Limits.{Limits}
 
 -- the command of a ticket launches nothing, or there is none
 abbrev pub NoLaunch : List Command → ℕ → Type 0
-NoLaunch commands ticket = (kernel : List ℕ) (range : Range) → slice_get commands ticket ≡ Some (command.Launch kernel range) → ⊥
+NoLaunch commands ticket =
+    (kernel : List ℕ) (range : Range) (orders : Bool) → slice_get commands ticket ≡ Some (command.Launch kernel range orders) → ⊥
 
 -- a schedule that leads where the given one leads, and isn't longer
 pub record IsShort (launch : Launch) (f : Fault) (given short : List EventRun) : Type 0 where
@@ -38,30 +39,33 @@ pub record IsShort (launch : Launch) (f : Fault) (given short : List EventRun) :
 
 -- a launch that its row doesn't refuse: true exactly where the schedule leads it to a state that shows the fault
 pub record Replays (m : Machine) (kernel : List ℕ) (range : Range) (f : Fault) (runs : List EventRun) (answer : Bool) : Type 0 where
-  pub admitted : first (row m (command.Launch kernel range)) ≡ None
+  pub admitted : first (launch_row m kernel range) ≡ None
   pub decides : Decides answer (Reaches (launch_of (setup_of m (kernel_of m kernel) range) (bytes_of m)) (events_of runs) f)
 
 -- the command of a ticket is a launch that is judged so
 pub record Tells (m : Machine) (commands : List Command) (ticket : ℕ) (f : Fault) (runs : List EventRun) (answer : Bool) : Type 0 where
   pub kernel : List ℕ
   pub range : Range
-  pub at : slice_get commands ticket ≡ Some (command.Launch kernel range)
+  pub orders : Bool
+  pub at : slice_get commands ticket ≡ Some (command.Launch kernel range orders)
   pub replays : Replays m kernel range f runs answer
 
 -- the schedule that is told leads the launch of a ticket to the fault, and isn't longer than the given one
 pub record HasShort (m : Machine) (commands : List Command) (ticket : ℕ) (f : Fault) (given short : List EventRun) : Type 0 where
   pub kernel : List ℕ
   pub range : Range
-  pub at : slice_get commands ticket ≡ Some (command.Launch kernel range)
+  pub orders : Bool
+  pub at : slice_get commands ticket ≡ Some (command.Launch kernel range orders)
   pub is_short : IsShort (launch_of (setup_of m (kernel_of m kernel) range) (bytes_of m)) f given short
 
 -- the launch of a ticket is refused by its row
 pub record Refuses (m : Machine) (commands : List Command) (ticket : ℕ) : Type 0 where
   pub kernel : List ℕ
   pub range : Range
+  pub orders : Bool
   pub refusal : Refusal
-  pub at : slice_get commands ticket ≡ Some (command.Launch kernel range)
-  pub refused : first (row m (command.Launch kernel range)) ≡ Some refusal
+  pub at : slice_get commands ticket ≡ Some (command.Launch kernel range orders)
+  pub refused : first (launch_row m kernel range) ≡ Some refusal
 
 -- why the launch of a ticket wasn't explained
 abbrev pub Untold : Machine → List Command → ℕ → RunFault → Type 0

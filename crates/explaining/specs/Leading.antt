@@ -22,6 +22,7 @@ abbrev pub goes_on : Reply → Bool
 goes_on reply.Done = true
 goes_on (reply.Data bytes) = true
 goes_on reply.Clean = true
+goes_on reply.Ordered = true
 goes_on (reply.Fault f runs) = false
 goes_on (reply.Refused r) = false
 

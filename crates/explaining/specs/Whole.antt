@@ -108,7 +108,8 @@ IsAsWanted as_given given runs = MatchBool as_given (runs ≡ given) ⊤
 pub record HasWhole (m : Machine) (as_given : Bool) (script : List ℕ) (commands : List Command) (ticket : ℕ) (f : Fault) (given runs : List EventRun) (e : Explanation) : Type 0 where
   pub kernel : List ℕ
   pub range : Range
-  pub at : slice_get commands ticket ≡ Some (command.Launch kernel range)
+  pub orders : Bool
+  pub at : slice_get commands ticket ≡ Some (command.Launch kernel range orders)
   pub is_short : IsShort (launch_of (setup_of m (kernel_of m kernel) range) (bytes_of m)) f given runs
   pub wanted : IsAsWanted as_given given runs
   pub context : Context
@@ -167,6 +168,7 @@ abbrev pub TellsReply : ExplainOptions → List ℕ → List Command → Machine
 TellsReply options script commands machine ticket reply.Done text = ⊥
 TellsReply options script commands machine ticket (reply.Data bytes) text = ⊥
 TellsReply options script commands machine ticket reply.Clean text = ⊥
+TellsReply options script commands machine ticket reply.Ordered text = ⊥
 TellsReply options script commands machine ticket (reply.Fault f runs) text = TellsFaulted options script commands machine ticket f runs text
 TellsReply options script commands machine ticket (reply.Refused why) text = TellsAnyRefusal options script commands machine ticket why text
 

@@ -236,13 +236,19 @@ pub(crate) fn place_of(places: &[CommandPlace], number: usize) -> CommandPlace
     places[number]
 }
 
-/// What a command of a script launches, if it is a launch.
-fn launch_in(commands: &[Command], ticket: usize) -> Option<(&Name, &Range)>
-    ensures launch { IfSome result (λ found. slice_get commands.now ticket ≡ Some (Command.Launch found.0.now found.1.now)) }
+/// What a command of a script launches, if it is a launch: the kernel, the range, and whether it has `orders`.
+fn launch_in(commands: &[Command], ticket: usize) -> Option<(&Name, &Range, bool)>
+    ensures launch { IfSome result (λ found. slice_get commands.now ticket ≡ Some (Command.Launch found.0.now found.1.now found.2)) }
     ensures none { IfNone result (NoLaunch commands.now ticket) }
 {
     match commands.get(ticket) {
-        Some(Command::Launch { kernel, range }) => Some((kernel, range)),
+        Some(
+            Command::Launch {
+                kernel,
+                range,
+                orders,
+            },
+        ) => Some((kernel, range, *orders)),
         _ => None,
     }
 }
@@ -270,7 +276,7 @@ pub(crate) fn explain_case(
     ensures whole { IfOk result (λ found. IfSome found (λ told. HasWhole (machine_of device.now) performed.now.options.as_given performed.now.given.script.now performed.now.commands.now ticket fault.now schedule told.schedule told.whole)) }
     ensures failed { IfErr result (Untold (machine_of device.now) performed.now.commands.now ticket) }
 {
-    let Some((kernel, range)) = launch_in(performed.commands, ticket) else {
+    let Some((kernel, range, _)) = launch_in(performed.commands, ticket) else {
         return Err(RunFault::NotALaunch(ticket as u64));
     };
     let at = place_of(performed.places, ticket);

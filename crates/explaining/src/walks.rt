@@ -129,7 +129,7 @@ pub(crate) fn end_of(ticket: usize, reply: Reply) -> Option<Walked>
             Some(Walked::Unbuilt(Unbuilt { ticket, fault }))
         }
         Reply::Refused(refusal) => Some(Walked::Refused(RefusedCase { ticket, refusal })),
-        Reply::Done | Reply::Data(_) | Reply::Clean => None,
+        Reply::Done | Reply::Data(_) | Reply::Clean | Reply::Ordered => None,
     }
 }
 

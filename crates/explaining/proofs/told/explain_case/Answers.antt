@@ -14,14 +14,14 @@ line_text-requires c = within c.args.performed.now.given.script.now c.args.perfo
 
 pub returns-clause-told : goal.returns-clause-told
 returns-clause-told c =
-    tells (machine_of c.args.device.now) c.args.performed.now.commands.now c.args.ticket c.in-Some.kernel.now c.in-Some.range.now c.in-Ok.launch c.buffers.result.now c.args.fault.now
+    tells (machine_of c.args.device.now) c.args.performed.now.commands.now c.args.ticket c.in-Some.kernel.now c.in-Some.range.now _ c.in-Ok.launch c.buffers.result.now c.args.fault.now
     c.args.schedule c.in_ok-explain_launch.field-0 c.in-Some.ensures.launch c.in-Ok.ensures.prepared c.buffers.ensures c.in_ok-explain_launch.ensures.none c.in_ok-explain_launch.ensures.leads
 
 pub returns-clause-short : goal.returns-clause-short
 returns-clause-short c =
     IfSome_then c.in_ok-explain_launch.field-0 c.in_ok-explain_launch.ensures.told
     (λ told h.
-    short (machine_of c.args.device.now) c.args.performed.now.commands.now c.args.ticket c.in-Some.kernel.now c.in-Some.range.now c.in-Ok.launch c.buffers.result.now c.args.fault.now
+    short (machine_of c.args.device.now) c.args.performed.now.commands.now c.args.ticket c.in-Some.kernel.now c.in-Some.range.now _ c.in-Ok.launch c.buffers.result.now c.args.fault.now
     c.args.schedule told.schedule c.in-Some.ensures.launch c.in-Ok.ensures.prepared c.buffers.ensures h)
 
 pub returns-clause-whole : goal.returns-clause-whole
@@ -29,5 +29,5 @@ returns-clause-whole c =
     some_all c.in_ok-explain_launch.field-0 _ _ _ _ _ c.in_ok-explain_launch.ensures.told c.in_ok-explain_launch.ensures.wanted c.in_ok-explain_launch.ensures.given
     c.in_ok-explain_launch.ensures.whole
     (λ told short wanted given explained.
-    whole (machine_of c.args.device.now) c.args.performed.now.options.as_given c.args.performed.now.given.script.now c.args.performed.now.commands.now c.args.ticket c.place_of-at.result c.in-Some.kernel.now c.in-Some.range.now _ c.buffers.result.now c.args.fault.now
+    whole (machine_of c.args.device.now) c.args.performed.now.options.as_given c.args.performed.now.given.script.now c.args.performed.now.commands.now c.args.ticket c.place_of-at.result c.in-Some.kernel.now c.in-Some.range.now _ _ c.buffers.result.now c.args.fault.now
     c.args.schedule told.schedule told.whole c.in-Some.ensures.launch c.in-Ok.ensures.prepared c.buffers.ensures c.program_of.ensures (c.requires.each c.args.ticket c.place_of-at.result c.place_of-at.ensures) short wanted given explained)
