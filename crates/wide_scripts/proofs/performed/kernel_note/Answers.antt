@@ -1,11 +1,9 @@
 use Rattle.std.proofs.Common.{Bool, sym, subst}
 use Rattle.std.proofs.lemmas.Result.{IfOk-weaker}
-use Rattle.clmodel.specs.declared.setup.Range.{Range}
 use Rattle.device.specs.Machine.{machine_of}
 use Rattle.host_commands.specs.declared.command.Command.TheVariants as command
 use Rattle.host_commands.specs.declared.command.Reply.TheVariants.{Done}
-use Rattle.item_step.specs.Launches.{setup_of}
-use Rattle.wide_scripts.specs.Notes.{IsNoteBy, IsNoted}
+use Rattle.wide_scripts.specs.Notes.{IsNoted}
 use Rattle.wide_scripts.proofs.Performing.{prepared_noted, refused_noted}
 use Rattle.wide_scripts.proofs.performed.kernel_note.Goals as goal
 
