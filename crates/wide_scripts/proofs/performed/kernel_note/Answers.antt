@@ -7,15 +7,15 @@ use Rattle.wide_scripts.specs.Notes.{IsNoted}
 use Rattle.wide_scripts.proofs.Performing.{prepared_noted, refused_noted}
 use Rattle.wide_scripts.proofs.performed.kernel_note.Goals as goal
 
-pub returns-in-Ok-if-orders-true : goal.returns-in-Ok-if-orders-true
-returns-in-Ok-if-orders-true c =
+pub returns-then-orders : goal.returns-then-orders
+returns-then-orders c =
     let m = machine_of c.args.device.now in
     IfOk-weaker c.ordered_note.result _ _
     (λ n noted. subst (λ (orders : Bool). IsNoted m (command.Launch c.args.kernel.now c.args.range.now orders) Done n) (sym c.if-orders.true)
     (prepared_noted m c.args.kernel.now c.args.range.now true c.in-Ok.launch n c.in-Ok.ensures.prepared noted)) c.ordered_note.ensures
 
-pub returns-in-Ok-if-orders-false : goal.returns-in-Ok-if-orders-false
-returns-in-Ok-if-orders-false c =
+pub returns-else-orders : goal.returns-else-orders
+returns-else-orders c =
     let m = machine_of c.args.device.now in
     IfOk-weaker c.launch_note.result _ _
     (λ n noted. subst (λ (orders : Bool). IsNoted m (command.Launch c.args.kernel.now c.args.range.now orders) Done n) (sym c.if-orders.false)
