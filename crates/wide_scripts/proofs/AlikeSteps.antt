@@ -29,11 +29,11 @@ use Rattle.host_commands.specs.declared.command.Refusal.{Refusal}
 use Rattle.host_commands.specs.declared.command.Refusal.TheVariants.{NameInUse, NoSuchName, BadSize, OutOfRange, TooManyBuffers, Overlap, NoSuchKernel, BadArgument, InUse, BuildFailed}
 use Rattle.host_commands.specs.declared.command.Reply.{Reply}
 use Rattle.host_commands.specs.declared.command.Reply.TheVariants as reply
-use Rattle.device.specs.Machine.{Machine, Answers, Built, Does, IsReported, Launches, bytes_of, do_overlap, fits, first, has_kernel, has_kernels, is_argument, is_there, is_used, kernel_of, program_of, row, setup_of}
+use Rattle.device.specs.Machine.{Machine, Answers, Built, Does, IsOrderedReport, IsReported, Launches, LaunchesOrdered, OrderedWith, bytes_of, do_overlap, fits, first, has_kernel, has_kernels, is_argument, is_there, is_used, kernel_of, program_of, row, setup_of}
 use Rattle.same_launches.specs.Verdicts.{AlikeBytes}
 use Rattle.widening.specs.Widened.{ArgumentsDiffer, DifferBy, is_free_at, with_arguments}
 use Rattle.wide_launches.specs.Replies.{IsWideReply, SameReply}
-use Rattle.wide_scripts.specs.Notes.{Taint, Includes, IsLaunchNote, IsNoted, are_free, behind, is_free_name, may_pass, may_read}
+use Rattle.wide_scripts.specs.Notes.{Taint, Includes, IsLaunchNote, IsNoted, IsOrderedNote, are_free, behind, is_free_name, may_pass, may_read}
 use Rattle.wide_scripts.specs.Scripts.{AlikeReply, MayDiffer, data_of, with_data}
 use Rattle.wide_scripts.specs.declared.note.Note.{Note}
 use Rattle.wide_scripts.specs.declared.note.Note.TheVariants as note
@@ -66,6 +66,7 @@ pub one_reply : (differs : Bool) (r : Reply) → AlikeReply differs r r
 one_reply differs reply.Done = refl
 one_reply differs (reply.Data xs) = same_bytes differs xs xs refl
 one_reply differs reply.Clean = refl
+one_reply differs reply.Ordered = refl
 one_reply differs (reply.Fault f s) = refl
 one_reply differs (reply.Refused why) = refl
 
@@ -154,11 +155,16 @@ same_map f g [] each = refl
 same_map f g (name ∷ names) each = ap₂ (λ x xs. x ∷ xs) (each zero name refl) (same_map f g names (λ number other is_name. each (suc number) other is_name))
 
 -- a launch on the same bytes is the same launch
+launch_on : (m other : Machine) (setup : Setup) → ((number : ℕ) (name : List ℕ) → slice_get (buffer_names setup) number ≡ Some name → bytes_of m name ≡ bytes_of other name)
+    → launch_of setup (bytes_of m) ≡ launch_of setup (bytes_of other)
+launch_on m other setup each =
+    ap (λ (bs : List (List ℕ)). record (launch_of setup (bytes_of m)) { buffers = bs }) (same_map (bytes_of m) (bytes_of other) (buffer_names setup) each)
+
+-- and has the same reply
 same_launch : (m other : Machine) (setup : Setup) → ((number : ℕ) (name : List ℕ) → slice_get (buffer_names setup) number ≡ Some name → bytes_of m name ≡ bytes_of other name)
     → SameReply [] m other setup setup
 same_launch m other setup each =
-    let same : launch_of setup (bytes_of m) ≡ launch_of setup (bytes_of other) =
-    ap (λ (bs : List (List ℕ)). record (launch_of setup (bytes_of m)) { buffers = bs }) (same_map (bytes_of m) (bytes_of other) (buffer_names setup) each) in
+    let same : launch_of setup (bytes_of m) ≡ launch_of setup (bytes_of other) = launch_on m other setup each in
     record {
       clean = λ new l. (
         with_buffers other (with_values other.buffers (buffer_names setup) l.0),
@@ -353,9 +359,10 @@ module _ (taint after : Taint) (free differs : Bool) (m : Machine) (buffers : Ta
   launched : (kernel : List ℕ) (range : Range) (flags : List Bool) → Includes after taint
       → ((number : ℕ) (name : List ℕ) → slice_get (buffer_names (setup_of m (kernel_of m kernel) range)) number ≡ Some name → is_free_at flags number ≡ true → after name ≡ true)
       → SameReply flags m (with_buffers m buffers) (setup_of m (kernel_of m kernel) range) (setup_of m (kernel_of m kernel) range)
-      → (r : Reply) (new : Machine) → Launches m (setup_of m (kernel_of m kernel) range) r new → DoesAlike after differs m buffers (command.Launch kernel range) r new
+      → (r : Reply) (new : Machine) → Launches m (setup_of m (kernel_of m kernel) range) r new → DoesAlike after differs m buffers (command.Launch kernel range false) r new
   launched kernel range flags more marks same reply.Done new l = absurd l
   launched kernel range flags more marks same (reply.Data xs) new l = absurd l
+  launched kernel range flags more marks same reply.Ordered new l = absurd l
   launched kernel range flags more marks same (reply.Refused why) new l = absurd l
   launched kernel range flags more marks same (reply.Fault f schedule) new l =
       record {
@@ -383,11 +390,64 @@ module _ (taint after : Taint) (free differs : Bool) (m : Machine) (buffers : Ta
         same = refl;
       }
 
+  -- the same contents in the buffers of these names
+  both_left : Includes after taint → (names contents : List (List ℕ)) → AlikeTables after (with_values m.buffers names contents) (with_values buffers names contents)
+  both_left more names contents =
+      both_with_values after m.buffers buffers names contents contents (kept more) refl
+      (λ number name is_name. same_bytes (after name) (slice_index_or contents number []) (slice_index_or contents number []) refl)
+
+  -- what a launch with `orders` leaves on the same bytes
+  launched_ordered : (kernel : List ℕ) (range : Range) → Includes after taint
+      → launch_of (setup_of m (kernel_of m kernel) range) (bytes_of m) ≡ launch_of (setup_of m (kernel_of m kernel) range) (bytes_in buffers)
+      → (r : Reply) (new : Machine) → LaunchesOrdered m (setup_of m (kernel_of m kernel) range) r new → DoesAlike after differs m buffers (command.Launch kernel range true) r new
+  launched_ordered kernel range more same reply.Done new l = absurd l
+  launched_ordered kernel range more same (reply.Data xs) new l = absurd l
+  launched_ordered kernel range more same (reply.Refused why) new l = absurd l
+  launched_ordered kernel range more same (reply.Fault f schedule) new l =
+      let setup = setup_of m (kernel_of m kernel) range in
+      record {
+        reply = reply.Fault f schedule;
+        left = buffers;
+        does =
+            subst (λ (x : Machine). LaunchesOrdered (with_buffers m buffers) setup (reply.Fault f schedule) (with_buffers x buffers)) (sym l.3) (
+              subst (λ (launch : launches.Launch). Reaches launch (events_of schedule) f) same l.0,
+              subst (λ (launch : launches.Launch). IsOrderedReport launch (events_of schedule) f) same l.1,
+              l.2,
+              refl,
+            );
+        alike = subst (λ (x : Machine). AlikeTables after x.buffers buffers) (sym l.3) (kept more);
+        same = refl;
+      }
+  launched_ordered kernel range more same reply.Clean new l =
+      let setup = setup_of m (kernel_of m kernel) range in
+      let left = with_values buffers (buffer_names setup) l.0 in
+      record {
+        reply = reply.Clean;
+        left = left;
+        does =
+            subst (λ (x : Machine). LaunchesOrdered (with_buffers m buffers) setup reply.Clean (with_buffers x left)) (sym l.2)
+            (l.0, subst (λ (launch : launches.Launch). CleanWith launch (map (λ b. map Some b) l.0)) same l.1, refl);
+        alike = subst (λ (x : Machine). AlikeTables after x.buffers left) (sym l.2) (both_left more (buffer_names setup) l.0);
+        same = refl;
+      }
+  launched_ordered kernel range more same reply.Ordered new l =
+      let setup = setup_of m (kernel_of m kernel) range in
+      let left = with_values buffers (buffer_names setup) l.0 in
+      record {
+        reply = reply.Ordered;
+        left = left;
+        does =
+            subst (λ (x : Machine). LaunchesOrdered (with_buffers m buffers) setup reply.Ordered (with_buffers x left)) (sym l.2)
+            (l.0, subst (λ (launch : launches.Launch). OrderedWith launch (map (λ b. map Some b) l.0)) same l.1, refl);
+        alike = subst (λ (x : Machine). AlikeTables after x.buffers left) (sym l.2) (both_left more (buffer_names setup) l.0);
+        same = refl;
+      }
+
   -- a launch that has a buffer that may differ, and one that has none
   noted_launch : (kernel : List ℕ) (range : Range) (r : Reply) (new : Machine) (n : Note) → IsLaunchNote m (setup_of m (kernel_of m kernel) range) n → may_pass taint n ≡ true
-      → Includes after (behind free n taint) → Answers m (command.Launch kernel range) r new → ∥ AnswersAlike after differs m buffers (command.Launch kernel range) r new ∥₁
+      → Includes after (behind free n taint) → Answers m (command.Launch kernel range false) r new → ∥ AnswersAlike after differs m buffers (command.Launch kernel range false) r new ∥₁
   noted_launch kernel range r new n noted pass includes =
-      answered_more more (command.Launch kernel range) (command.Launch kernel range) r new refl
+      answered_more more (command.Launch kernel range false) (command.Launch kernel range false) r new refl
       (λ l. by (list_any taint names) refl l)
     where
       setup : Setup
@@ -408,7 +468,7 @@ module _ (taint after : Taint) (free differs : Bool) (m : Machine) (buffers : Ta
       among : (number : ℕ) (name : List ℕ) → slice_get (buffer_names setup) number ≡ Some name → slice_get names number ≡ Some name
       among number name is_name = ap (λ ns. slice_get ns number) noted.3 ∙ is_name
 
-      by : (b : Bool) → list_any taint names ≡ b → Launches m setup r new → ∥ DoesAlike after differs m buffers (command.Launch kernel range) r new ∥₁
+      by : (b : Bool) → list_any taint names ≡ b → Launches m setup r new → ∥ DoesAlike after differs m buffers (command.Launch kernel range false) r new ∥₁
       by false none l =
           ∣ launched kernel range [] more (λ number name is_name freed. absurd (false≢true freed))
           (same_launch m (with_buffers m buffers) setup
@@ -427,16 +487,46 @@ module _ (taint after : Taint) (free differs : Bool) (m : Machine) (buffers : Ta
           (and_from (list_any taint names) (is_free_name names flags name) some (free_named names flags number name (among number name is_name) freed))))
           same r new l)
 
-  launch_step : (kernel : List ℕ) (range : Range) (r : Reply) (new : Machine) (n : Note) → IsNoted m (command.Launch kernel range) r n → may_pass taint n ≡ true
-      → Includes after (behind free n taint) → Answers m (command.Launch kernel range) r new → ∥ AnswersAlike after differs m buffers (command.Launch kernel range) r new ∥₁
-  launch_step kernel range r new n (inl refused) pass includes =
-      answered after differs m buffers (command.Launch kernel range) (command.Launch kernel range) r new refl (λ why said. kept (noted_as taint after free n note.Other refused.2 includes))
-      (λ none l. absurd (not_both (first (row m (command.Launch kernel range))) refused.0 refused.1 none))
+  -- a launch with `orders`, of which no buffer may differ
+  ordered_launch : (kernel : List ℕ) (range : Range) (r : Reply) (new : Machine) (n : Note) → IsOrderedNote (setup_of m (kernel_of m kernel) range) n → may_pass taint n ≡ true
+      → Includes after (behind free n taint) → Answers m (command.Launch kernel range true) r new → ∥ AnswersAlike after differs m buffers (command.Launch kernel range true) r new ∥₁
+  ordered_launch kernel range r new n noted pass includes =
+      answered_more more (command.Launch kernel range true) (command.Launch kernel range true) r new refl
+      (λ l. ∣ launched_ordered kernel range more (launch_on m (with_buffers m buffers) setup same) r new l ∣₁)
+    where
+      setup : Setup
+      setup = setup_of m (kernel_of m kernel) range
+
+      names : List (List ℕ)
+      names = noted.0.items
+
+      flags : List Bool
+      flags = noted.1.buffers.items
+
+      more : Includes after taint
+      more x t =
+          noted_as taint after free n (note.Launched noted.0 noted.1) noted.2 includes x (or_right (list_any taint names && is_free_name names flags x) (taint x) t)
+
+      closed : are_free taint names [] ≡ true
+      closed = subst (λ free. are_free taint names free ≡ true) noted.4 (sym (ap (may_pass taint) noted.2) ∙ pass)
+
+      same : (number : ℕ) (name : List ℕ) → slice_get (buffer_names setup) number ≡ Some name → bytes_of m name ≡ bytes_in buffers name
+      same number name is_name =
+          weaker (taint name) false (bytes_of m name) (bytes_in buffers name)
+          (free_there taint names [] number name closed (ap (λ ns. slice_get ns number) noted.3 ∙ is_name)) (holds name)
+
+  launch_step : (kernel : List ℕ) (range : Range) (orders : Bool) (r : Reply) (new : Machine) (n : Note) → IsNoted m (command.Launch kernel range orders) r n → may_pass taint n ≡ true
+      → Includes after (behind free n taint) → Answers m (command.Launch kernel range orders) r new → ∥ AnswersAlike after differs m buffers (command.Launch kernel range orders) r new ∥₁
+  launch_step kernel range orders r new n (inl refused) pass includes =
+      answered after differs m buffers (command.Launch kernel range orders) (command.Launch kernel range orders) r new refl
+      (λ why said. kept (noted_as taint after free n note.Other refused.2 includes))
+      (λ none l. absurd (not_both (first (row m (command.Launch kernel range orders))) refused.0 refused.1 none))
     where
       not_both : (o : Option Refusal) (why : Refusal) → o ≡ Some why → o ≡ None → ⊥
       not_both None why some none = cc
       not_both (Some other) why some none = cc
-  launch_step kernel range r new n (inr noted) pass includes = noted_launch kernel range r new n noted pass includes
+  launch_step kernel range true r new n (inr noted) pass includes = ordered_launch kernel range r new n noted pass includes
+  launch_step kernel range false r new n (inr noted) pass includes = noted_launch kernel range r new n noted pass includes
 
   -- ---- all of them
 
@@ -455,7 +545,7 @@ module _ (taint after : Taint) (free differs : Bool) (m : Machine) (buffers : Ta
       by (command.Program name source) put alike noted = program_step name source r new (noted_as taint after free n note.Other noted includes)
       by (command.Kernel name program function) put alike noted = kernel_step name program function r new (noted_as taint after free n note.Other noted includes)
       by (command.Arg kernel index given) put alike noted = arg_step kernel index given r new (noted_as taint after free n note.Other noted includes)
-      by (command.Launch kernel range) put alike noted = launch_step kernel range r new n noted pass includes
+      by (command.Launch kernel range orders) put alike noted = launch_step kernel range orders r new n noted pass includes
 
 -- where nothing is free, the reply to a launch holds
 pub nothing_free : (m : Machine) (setup : Setup) → IsWideReply [] [] m setup

@@ -14,12 +14,12 @@ use Rattle.host_commands.specs.declared.command.Refusal.TheVariants.{OutOfMemory
 use Rattle.host_commands.specs.declared.command.Reply.{Reply}
 use Rattle.host_commands.specs.declared.command.Reply.TheVariants as reply
 use Rattle.device.specs.Kept.{IsCodeOf}
-use Rattle.device.specs.Machine.{Machine, Answers, IsRefusal, Step, first, kernel_of, row, setup_of}
+use Rattle.device.specs.Machine.{Machine, Answers, IsLaunchRefusal, Step, first, kernel_of, row, setup_of}
 use Rattle.device.specs.Prepared.{IsPrepared}
 use Rattle.regcode.specs.Listing.{Listing}
 use Rattle.widening.specs.declared.wide.Wide.{Wide}
 use Rattle.wide_launches.specs.Replies.{IsWideReply}
-use Rattle.wide_scripts.specs.Notes.{AreNoted, IsLaunchNote, IsNoted, NothingIsFree}
+use Rattle.wide_scripts.specs.Notes.{AreNoted, IsLaunchNote, IsNoteBy, IsNoted, NothingIsFree}
 use Rattle.wide_scripts.specs.declared.note.Note.{Note}
 use Rattle.wide_scripts.specs.declared.note.Note.TheVariants as note
 
@@ -53,18 +53,16 @@ launch_noted m launch code names arguments uniform found wide buffers nothing is
       (subst (λ c. IsCodeOf (launches.setup_of launch).program (launches.setup_of launch).kernel c) (sym coded) is) named given said holds same,
 )
 
--- the note of a launch that was prepared
-pub prepared_noted : (m : Machine) (kernel : List ℕ) (range : Range) (launch : Launch) (n : Note) → IsPrepared m kernel range launch
-    → ((m : Machine) → IsCodeOf (launches.setup_of launch).program (launches.setup_of launch).kernel (launches.code_of launch) → IsLaunchNote m (launches.setup_of launch) n)
-    → IsNoted m (command.Launch kernel range) reply.Done n
-prepared_noted m kernel range launch n prepared noted =
-    inr (subst (λ (setup : Setup). IsLaunchNote m setup n) prepared.setup (noted m prepared.code))
+-- the note of a launch that was prepared, with `orders` or without
+pub prepared_noted : (m : Machine) (kernel : List ℕ) (range : Range) (orders : Bool) (launch : Launch) (n : Note) → IsPrepared m kernel range launch
+    → IsNoteBy orders m (launches.setup_of launch) n → IsNoted m (command.Launch kernel range orders) reply.Done n
+prepared_noted m kernel range orders launch n prepared noted = inr (subst (λ (setup : Setup). IsNoteBy orders m setup n) prepared.setup noted)
 
 -- of a launch that is refused for its row nothing is noted
-pub refused_noted : (m : Machine) (kernel : List ℕ) (range : Range) (why : Refusal) → IsRefusal m (command.Launch kernel range) why → (why ≡ OutOfMemory → ⊥)
-    → IsNoted m (command.Launch kernel range) reply.Done note.Other
-refused_noted m kernel range why (inl refused) memory = inl (why, refused, refl)
-refused_noted m kernel range why (inr lacks) memory = absurd (memory lacks.1)
+pub refused_noted : (m : Machine) (kernel : List ℕ) (range : Range) (orders : Bool) (why : Refusal) → IsLaunchRefusal m kernel range why → (why ≡ OutOfMemory → ⊥)
+    → IsNoted m (command.Launch kernel range orders) reply.Done note.Other
+refused_noted m kernel range orders why (inl refused) memory = inl (why, refused, refl)
+refused_noted m kernel range orders why (inr lacks) memory = absurd (memory lacks.1)
 
 -- what was noted before the reply is noted behind it, but of a buffer that wasn't made
 pub still_noted : (m : Machine) (c : Command) (r : Reply) (n : Note) → ((buffer : List ℕ) → n ≡ note.Made buffer → ⊥) → IsNoted m c reply.Done n → IsNoted m c r n
@@ -78,7 +76,7 @@ still_noted m (command.Release name) r n unmade noted = noted
 still_noted m (command.Program name source) r n unmade noted = noted
 still_noted m (command.Kernel name program function) r n unmade noted = noted
 still_noted m (command.Arg kernel index argument) r n unmade noted = noted
-still_noted m (command.Launch kernel range) r n unmade noted = noted
+still_noted m (command.Launch kernel range orders) r n unmade noted = noted
 
 pub unmade_noted : (m : Machine) (c : Command) (r : Reply) (buffer : List ℕ) → IsNoted m c reply.Done (note.Made buffer) → IsNoted m c r note.Other
 unmade_noted m (command.Buffer name size) r buffer noted = inl refl
@@ -102,8 +100,12 @@ unmade_noted m (command.Release name) r buffer noted = refl
 unmade_noted m (command.Program name source) r buffer noted = refl
 unmade_noted m (command.Kernel name program function) r buffer noted = refl
 unmade_noted m (command.Arg kernel index argument) r buffer noted = refl
-unmade_noted m (command.Launch kernel range) r buffer (inl refused) = inl (refused.0, refused.1, refl)
-unmade_noted m (command.Launch kernel range) r buffer (inr noted) = absurd (no noted.2)
+unmade_noted m (command.Launch kernel range orders) r buffer (inl refused) = inl (refused.0, refused.1, refl)
+unmade_noted m (command.Launch kernel range true) r buffer (inr noted) = absurd (no noted.2)
+  where
+    no : note.Made buffer ≡ note.Launched noted.0 noted.1 → ⊥
+    no e = cc
+unmade_noted m (command.Launch kernel range false) r buffer (inr noted) = absurd (no noted.2)
   where
     no : note.Made buffer ≡ note.Launched noted.0 noted.1 → ⊥
     no e = cc

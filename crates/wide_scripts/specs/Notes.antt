@@ -28,6 +28,17 @@ IsLaunchNote m setup n =
     (buffers : Vec (List ℕ) Global) × (wide : Wide) × (n ≡ note.Launched buffers wide) × (buffers.items ≡ buffer_names setup)
     × IsWideReply wide.buffers.items wide.arguments.items m setup
 
+-- what is noted of a launch with `orders`: the names of its buffers, of which none is free, and no argument
+abbrev pub IsOrderedNote : Setup → Note → Type 0
+IsOrderedNote setup n =
+    (buffers : Vec (List ℕ) Global) × (wide : Wide) × (n ≡ note.Launched buffers wide) × (buffers.items ≡ buffer_names setup)
+    × (wide.buffers.items ≡ []) × (wide.arguments.items ≡ [])
+
+-- what is noted of a launch that isn't refused, with `orders` or without
+abbrev pub IsNoteBy : Bool → Machine → Setup → Note → Type 0
+IsNoteBy true m setup n = IsOrderedNote setup n
+IsNoteBy false m setup n = IsLaunchNote m setup n
+
 -- what is noted of a command that a machine answered: nothing of a launch that its row refuses, or of a buffer that
 -- wasn't made
 abbrev pub IsNoted : Machine → Command → Reply → Note → Type 0
@@ -40,8 +51,9 @@ IsNoted m (command.Release name) r n = n ≡ note.Other
 IsNoted m (command.Program name source) r n = n ≡ note.Other
 IsNoted m (command.Kernel name program function) r n = n ≡ note.Other
 IsNoted m (command.Arg kernel index argument) r n = n ≡ note.Other
-IsNoted m (command.Launch kernel range) r n =
-    ((why : Refusal) × (first (row m (command.Launch kernel range)) ≡ Some why) × (n ≡ note.Other)) ⊎ IsLaunchNote m (setup_of m (kernel_of m kernel) range) n
+IsNoted m (command.Launch kernel range orders) r n =
+    ((why : Refusal) × (first (row m (command.Launch kernel range orders)) ≡ Some why) × (n ≡ note.Other))
+    ⊎ IsNoteBy orders m (setup_of m (kernel_of m kernel) range) n
 
 -- a run of the machine over commands, with what is noted of each
 abbrev pub AreNoted : Machine → List Command → List Reply → List Note → Machine → Type 0

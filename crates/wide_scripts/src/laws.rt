@@ -4,9 +4,9 @@
 ghost use Rattle.wide_scripts.specs.Notes.{NothingIsFree, WalksAreWide};
 ghost use Rattle.wide_scripts.specs.Scripts.{RunsAreOne};
 
-use clmodel::run_laws::{clean_exactly, one_run};
 use clsyntax::one_source;
 use cltypes::laws::typed_exactly;
+use device::laws::launches_once;
 
 /// The machine has one run over a script, if no command lacks memory (OpenCL 1.2, section 3.2.1).
 pub fn runs_are_one()
@@ -14,8 +14,7 @@ pub fn runs_are_one()
 {
     one_source();
     typed_exactly();
-    one_run();
-    clean_exactly();
+    launches_once();
 }
 
 /// Where a run of a script has a walk, its replies hold for all bytes of the writes and fills that are free (OpenCL

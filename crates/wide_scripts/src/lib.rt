@@ -3,7 +3,8 @@
 //! `widen_script` performs a script. With any other bytes of the writes and fills that it answers, each reply is the
 //! same: what launches answer, by `widen_launch`, refusals, and the bytes of all reads but those that it names. A
 //! command puts what may differ into a buffer, a copy and a launch carry it on, and no launch may have it in a buffer
-//! that isn't free there. `walk` tests that along the notes of a script; its law is over runs of the machine.
+//! that isn't free there, as none is in a launch with `orders`. `walk` tests that along the notes of a script; its law
+//! is over runs of the machine.
 #![tactic(auto)]
 
 pub mod laws;

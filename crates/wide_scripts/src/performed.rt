@@ -8,7 +8,7 @@ ghost use Rattle.device.specs.Kept.{IsCodeOf};
 ghost use Rattle.device.specs.Machine.{Machine, Answers, machine_of, opening};
 ghost use Rattle.host_commands.specs.declared.command.Command.{Command as CommandOf};
 ghost use Rattle.host_commands.specs.declared.command.Reply.TheVariants.{Done};
-ghost use Rattle.wide_scripts.specs.Notes.{AreNoted, IsLaunchNote, IsNoted};
+ghost use Rattle.wide_scripts.specs.Notes.{AreNoted, IsLaunchNote, IsNoted, IsOrderedNote};
 
 use crate::laws::nothing_is_free;
 use crate::note::Note;
@@ -66,17 +66,34 @@ fn launch_note(alloc: Global, launch: &Launch<'_>) -> Result<Note, AllocError>
     Ok(Note::Launched { buffers, wide })
 }
 
-/// What is noted of a launch of a kernel over a range: nothing, where it is refused. An error is out of memory.
+/// What is noted of a launch with `orders` that may run: nothing of it is free. An error is out of memory.
+fn ordered_note(alloc: Global, launch: &Launch<'_>) -> Result<Note, AllocError>
+    ensures { IfOk result (IsOrderedNote (setup_of launch.now)) }
+{
+    let buffers = Name::copies(alloc, launch.buffer_names())?;
+    let wide = or_nothing(alloc, None);
+    Ok(Note::Launched { buffers, wide })
+}
+
+/// What is noted of a launch of a kernel over a range, with `orders` or without: nothing, where it is refused. An error
+/// is out of memory.
 fn kernel_note(
     alloc: Global,
     device: &Device,
     kernel: &Name,
     range: &Range,
+    orders: bool,
 ) -> Result<Note, AllocError>
-    ensures { IfOk result (λ note. IsNoted (machine_of device.now) (Command.Launch kernel.now range.now) Done note) }
+    ensures { IfOk result (λ note. IsNoted (machine_of device.now) (Command.Launch kernel.now range.now orders) Done note) }
 {
     match device.prepare(kernel, range) {
-        Ok(launch) => launch_note(alloc, &launch),
+        Ok(launch) => {
+            if orders {
+                ordered_note(alloc, &launch)
+            } else {
+                launch_note(alloc, &launch)
+            }
+        }
         Err(refusal) => {
             if is_lack(&refusal) {
                 return Err(AllocError);
@@ -104,7 +121,11 @@ fn note_of(alloc: Global, device: &Device, command: &Command) -> Result<Note, Al
         Command::Read { buffer, .. } => Ok(Note::Read {
             buffer: buffer.copied(alloc)?,
         }),
-        Command::Launch { kernel, range } => kernel_note(alloc, device, kernel, range),
+        Command::Launch {
+            kernel,
+            range,
+            orders,
+        } => kernel_note(alloc, device, kernel, range, *orders),
         Command::Release { .. }
         | Command::Program { .. }
         | Command::Kernel { .. }
@@ -119,7 +140,11 @@ fn answered_note(note: Note, reply: &Reply) -> Note
     match note {
         Note::Made { buffer } => match reply {
             Reply::Done => Note::Made { buffer },
-            Reply::Data(_) | Reply::Clean | Reply::Fault { .. } | Reply::Refused(_) => Note::Other,
+            Reply::Data(_)
+            | Reply::Clean
+            | Reply::Ordered
+            | Reply::Fault { .. }
+            | Reply::Refused(_) => Note::Other,
         },
         Note::Other => Note::Other,
         Note::Put { buffer } => Note::Put { buffer },

@@ -53,8 +53,9 @@ fn find(alloc: Global, notes: &[Note]) -> Result<Found, AllocError>
 /// (OpenCL 1.2, sections 3.2 and 3.3.1). With any other bytes of the writes and any other patterns of the fills that
 /// are free, as many, each reply is the same, but for the bytes of the reads that may differ. Of each launch that isn't
 /// refused the notes tell for which bytes of its buffers and which numbers of its arguments its reply holds, whatever
-/// else the machine has, and where the others decide. Beside the commands' own, it takes the time of `widen_launch` for
-/// each launch, and time in proportion to the commands and to the buffers of the launches. An error is out of memory.
+/// else the machine has, and where the others decide; of one with `orders` none is free. Beside the commands' own, it
+/// takes the time of `widen_launch` for each launch, and time in proportion to the commands and to the buffers of the
+/// launches. An error is out of memory.
 pub fn widen_script(
     alloc: Global,
     configuration: Configuration,

@@ -124,8 +124,14 @@ impl Script {
         Some(())
     }
 
-    /// A launch of so many items, in groups of so many.
-    pub(crate) fn launch(&mut self, kernel: &str, items: u64, group: u64) -> Option<()> {
+    /// A launch of so many items, in groups of so many, with `orders` or without.
+    pub(crate) fn launch_by(
+        &mut self,
+        kernel: &str,
+        items: u64,
+        group: u64,
+        orders: bool,
+    ) -> Option<()> {
         let kernel = name(self.alloc, kernel)?;
         let range = Range {
             global: one(self.alloc, items)?,
@@ -133,7 +139,16 @@ impl Script {
             offset: one(self.alloc, 0)?,
             uniform: false,
         };
-        self.add(Command::Launch { kernel, range })
+        self.add(Command::Launch {
+            kernel,
+            range,
+            orders,
+        })
+    }
+
+    /// A launch of so many items, in groups of so many.
+    pub(crate) fn launch(&mut self, kernel: &str, items: u64, group: u64) -> Option<()> {
+        self.launch_by(kernel, items, group, false)
     }
 
     /// What is found of it.

@@ -174,3 +174,45 @@ fn refused(alloc: Global) -> Option<WideScript> {
 fn refusals(rt: HostRuntime) {
     assert!(rt; finds(refused(rt.alloc()), &[1, 3], &[4]));
 }
+
+/// Numbers that are drawn in the order of the items.
+const TICKETS: &str = "__kernel void tickets(__global uint *a, __global uint *b) { \
+    b[get_global_id(0)] = atomic_inc(&a[0]); }";
+
+fn drawn(alloc: Global, orders: bool) -> Option<WideScript> {
+    let mut script = Script::new(alloc);
+    script.buffer("a")?;
+    script.buffer("b")?;
+    script.buffer("c")?;
+    script.write("a", 1)?;
+    script.write("c", 1)?;
+    script.program(TICKETS)?;
+    script.kernel("tickets", &["a", "b"])?;
+    script.launch_by("tickets", 2, 1, orders)?;
+    script.write("b", 2)?;
+    script.read("b")?;
+    script.read("a")?;
+    script.widened()
+}
+
+/// Whether the launch of a script is ordered, on two buffers, and nothing of it is free.
+fn is_ordered_alone(script: Option<WideScript>, ticket: usize) -> bool {
+    match script {
+        Some(wide) => match (wide.replies.get(ticket), wide.notes.get(ticket)) {
+            (Some(Reply::Ordered), Some(Note::Launched { buffers, wide })) => {
+                buffers.len() == 2 && wide.buffers.is_empty() && wide.arguments.is_empty()
+            }
+            _ => false,
+        },
+        None => false,
+    }
+}
+
+/// Each buffer of a launch with the word decides, whatever the kernel does with its numbers. What is put behind it, or
+/// into another buffer, doesn't.
+#[test]
+fn orders(rt: HostRuntime) {
+    assert!(rt; finds(drawn(rt.alloc(), false), &[3, 4, 10], &[11, 12]));
+    assert!(rt; finds(drawn(rt.alloc(), true), &[4, 10], &[11]));
+    assert!(rt; is_ordered_alone(drawn(rt.alloc(), true), 9));
+}

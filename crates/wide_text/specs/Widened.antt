@@ -26,6 +26,7 @@ is_fault (reply.Fault fault schedule) = true
 is_fault reply.Done = false
 is_fault (reply.Data bytes) = false
 is_fault reply.Clean = false
+is_fault reply.Ordered = false
 is_fault (reply.Refused why) = false
 
 abbrev pub is_refused : Reply → Bool
@@ -33,15 +34,24 @@ is_refused (reply.Refused why) = true
 is_refused reply.Done = false
 is_refused (reply.Data bytes) = false
 is_refused reply.Clean = false
+is_refused reply.Ordered = false
 is_refused (reply.Fault fault schedule) = false
+
+abbrev pub is_ordered : Reply → Bool
+is_ordered reply.Ordered = true
+is_ordered reply.Done = false
+is_ordered (reply.Data bytes) = false
+is_ordered reply.Clean = false
+is_ordered (reply.Fault fault schedule) = false
+is_ordered (reply.Refused why) = false
 
 -- what replies come to
 abbrev pub end_of : List Reply → WideEnd
-end_of replies = record { faulted = list_any is_fault replies; refused = list_any is_refused replies }
+end_of replies = record { faulted = list_any is_fault replies; refused = list_any is_refused replies; ordered = list_any is_ordered replies }
 
--- no launch faulted and no command was refused
+-- no launch faulted or was ordered, and no command was refused
 abbrev pub is_clean : WideEnd → Bool
-is_clean end = not (end.faulted || end.refused)
+is_clean end = not (end.faulted || end.refused || end.ordered)
 
 -- the status, as a run's
 abbrev pub status_of : Result WideEnd RunFault → ℕ

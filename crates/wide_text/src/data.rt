@@ -18,6 +18,8 @@ pub struct WideEnd {
     pub faulted: bool,
     /// A command was refused
     pub refused: bool,
+    /// A launch with `orders` was ordered
+    pub ordered: bool,
 }
 
 /// A buffer for all of whose bytes the reply to a launch holds.
@@ -66,7 +68,7 @@ pub struct WideLaunch {
 #[derive(Drop)]
 pub struct WideReport {
     pub launches: Vec<WideLaunch>,
-    /// Whether no reply is a fault or a refusal
+    /// Whether no reply is a fault, a refusal or `ordered`
     pub clean: bool,
     /// The lines of the writes and fills for all of whose bytes the replies hold
     pub free: Vec<usize>,

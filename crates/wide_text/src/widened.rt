@@ -9,7 +9,7 @@ ghost use Rattle.serde_json.specs.Written.{compact_text};
 ghost use Rattle.simfile.specs.Faults.{NoScript};
 ghost use Rattle.wide_text.specs.Members.{report_data};
 ghost use Rattle.wide_text.specs.Told.{lines_of};
-ghost use Rattle.wide_text.specs.Widened.{IsReport, IsTold, IsWidened, Unwidened, end_of, is_clean, is_fault, is_refused, status_of};
+ghost use Rattle.wide_text.specs.Widened.{IsReport, IsTold, IsWidened, Unwidened, end_of, is_clean, is_fault, is_ordered, is_refused, status_of};
 
 use crate::data::{Format, WideEnd, WideReport};
 use crate::json::json_of;
@@ -38,6 +38,13 @@ fn is_refused(reply: &Reply) -> bool
     matches!(reply, Reply::Refused(_))
 }
 
+/// Whether a reply is that of a launch that was ordered.
+fn is_ordered(reply: &Reply) -> bool
+    ensures { result ≡ is_ordered reply.now }
+{
+    matches!(reply, Reply::Ordered)
+}
+
 /// Whether one of these replies is a fault.
 fn has_fault(replies: &[Reply]) -> bool
     ensures { result ≡ list_any is_fault replies.now }
@@ -52,6 +59,13 @@ fn has_refusal(replies: &[Reply]) -> bool
     replies.iter().any(|reply| is_refused(reply))
 }
 
+/// Whether one of these replies is that of a launch that was ordered.
+fn has_ordered(replies: &[Reply]) -> bool
+    ensures { result ≡ list_any is_ordered replies.now }
+{
+    replies.iter().any(|reply| is_ordered(reply))
+}
+
 /// What replies come to.
 fn end_of(replies: &[Reply]) -> WideEnd
     ensures { result ≡ end_of replies.now }
@@ -59,14 +73,15 @@ fn end_of(replies: &[Reply]) -> WideEnd
     WideEnd {
         faulted: has_fault(replies),
         refused: has_refusal(replies),
+        ordered: has_ordered(replies),
     }
 }
 
-/// Whether no launch faulted and no command was refused.
+/// Whether no launch faulted or was ordered, and no command was refused.
 fn is_clean(end: WideEnd) -> bool
     ensures { result ≡ is_clean end }
 {
-    !(end.faulted || end.refused)
+    !(end.faulted || end.refused || end.ordered)
 }
 
 /// What is told of a script that was performed. An error is out of memory.

@@ -3,4 +3,4 @@ use Rattle.wide_scripts.proofs.OneBuild.{builds_are_one}
 use Rattle.wide_scripts.proofs.laws.runs_are_one.Goals as goal
 
 pub returns : goal.returns
-returns c = runs_are_one c.one_run.ensures c.clean_exactly.ensures (builds_are_one c.one_source.ensures c.typed_exactly.ensures)
+returns c = runs_are_one c.launches_once.ensures (builds_are_one c.one_source.ensures c.typed_exactly.ensures)
