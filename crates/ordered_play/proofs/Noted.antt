@@ -76,8 +76,8 @@ module _ {D : Type 0} (launch_of : D → Launch) (started_of : D → ℕ → Run
   pub not_made :
       (k : ℕ) (old : Watched D) (player : Player D) (yes : Bool) → Watches old s → yes ≡ false → IsPlayed l s (Item k) (At player) yes
       → IsMade l s k (Watches (record old { player = player })) None
-  not_made k old player true is no h = absurd (false≢true (sym no))
-  not_made k old player false is no h = (h.0, record { at = h.1; kept = is.kept })
+  not_made k old player true is off h = absurd (false≢true (sym off))
+  not_made k old player false is off h = (h.0, record { at = h.1; kept = is.kept })
 
   -- one that was made, of a log in which it isn't told
   pub made_untold :

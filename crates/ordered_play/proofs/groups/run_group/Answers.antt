@@ -59,7 +59,7 @@ unreachable-requires g c =
     let at : Gathers l c.args.group fits c.run_interval.new.runs l.group_size w.0 = subst (λ z. GathersOrReports l c.args.group fits c.run_interval.new.runs l.group_size w.0 z) c.in-None.is w.1 in
     let s = at.reached.state in
     release_held l c.args.group fits c.run_interval.new.runs w.0 c.requires.runnable c.requires.there at _ c.in_ok-waits.field-0 c.in_ok-play_release.field-0 new (ap (λ n. c.args.group * n) c.group_size.ensures.value) c.if-not-branch.false
-    (c.in_ok-waits.ensures.value s at.reached.holds) c.if-not-branch-2.true (c.in_ok-play_release.ensures.played l r s (c.waits.ensures.same s at.reached.holds))
+    (c.in_ok-waits.ensures.value s at.reached.holds) c.if-not-branch-2.true (c.in_ok-play_release.ensures l r s (c.waits.ensures.same s at.reached.holds))
 
 pub push-requires : goal.push-requires
 push-requires g c =
@@ -71,7 +71,7 @@ push-requires g c =
     let at : Gathers l c.args.group fits c.run_interval.new.runs l.group_size w.0 = subst (λ z. GathersOrReports l c.args.group fits c.run_interval.new.runs l.group_size w.0 z) c.in-None.is w.1 in
     let s = at.reached.state in
     release_room l c.args.group fits c.run_interval.new.runs w.0 c.requires.runnable c.requires.there at c.in_ok-play_release.field-0 new c.if-not-branch-2.false
-    (c.in_ok-play_release.ensures.played l r s (c.waits.ensures.same s at.reached.holds))
+    (c.in_ok-play_release.ensures l r s (c.waits.ensures.same s at.reached.holds))
 
 pub intervals-preserved : goal.intervals-preserved
 intervals-preserved g c =
@@ -83,7 +83,7 @@ intervals-preserved g c =
     let at : Gathers l c.args.group fits c.run_interval.new.runs l.group_size w.0 = subst (λ z. GathersOrReports l c.args.group fits c.run_interval.new.runs l.group_size w.0 z) c.in-None.is w.1 in
     let s = at.reached.state in
     release_step l c.args.group fits c.run_interval.new.runs w.0 c.requires.runnable c.requires.there at _ c.in_ok-waits.field-0 c.in_ok-play_release.field-0 new c.push.new.self (ap (λ n. c.args.group * n) c.group_size.ensures.value) c.if-not-branch.false
-    (c.in_ok-waits.ensures.value s at.reached.holds) c.if-not-branch-2.false (c.in_ok-play_release.ensures.played l r s (c.waits.ensures.same s at.reached.holds)) c.in_ok-push.ensures.added
+    (c.in_ok-waits.ensures.value s at.reached.holds) c.if-not-branch-2.false (c.in_ok-play_release.ensures l r s (c.waits.ensures.same s at.reached.holds)) c.in_ok-push.ensures.added
 
 pub intervals-smaller : goal.intervals-smaller
 intervals-smaller g c =
@@ -96,6 +96,6 @@ intervals-smaller g c =
     let s = at.reached.state in
     let room =
     release_room l c.args.group fits c.run_interval.new.runs w.0 c.requires.runnable c.requires.there at c.in_ok-play_release.field-0 new c.if-not-branch-2.false
-    (c.in_ok-play_release.ensures.played l r s (c.waits.ensures.same s at.reached.holds)) in
+    (c.in_ok-play_release.ensures l r s (c.waits.ensures.same s at.reached.holds)) in
     let more = pushed_longer c.run_interval.new.runs c.push.new.self _ c.in_ok-push.ensures.added in
     omega (arith, c.run_interval.ensures.grows, more, room)
