@@ -265,7 +265,7 @@ def line_of(script, lines, told, shown):
 
 
 def is_as_written(program, script):
-    """Whether a script is its own plain text, so that the lines of that one are its own."""
+    """Whether a script is its own plain text, whose lines explanations and what is widened tell."""
     with open(script, encoding="latin-1", newline="") as file:
         text = file.read()
     if text.split("\n")[0].split("#")[0].split() != ["clsim", "3"]:
@@ -276,7 +276,7 @@ def is_as_written(program, script):
 
 def widened(program, script, status):
     """For which bytes of its writes and fills a script has its replies, by `clsim widen`: the lines of these, and this
-    in words; None where it doesn't say, and of a script by hand, of which other lines are told."""
+    in words; None where it doesn't say, and of a script by hand."""
     if not is_as_written(program, script):
         return None
     words = ["./bin/clsim", "widen", script, "--format", "json", *program.options.limits]
@@ -302,7 +302,8 @@ def judge(program, key):
         first = shown
         shown = next((it for it in lines if it.startswith(f"{verdict} ")), first)
         line = line_of(script, lines, first, shown)
-        explanation = explanation_of(program, script, verdict, shown) if shown in lines else None
+        if shown in lines and is_as_written(program, script):
+            explanation = explanation_of(program, script, verdict, shown)
     found = {"key": key, "verdict": verdict, "status": status, "line": shown[:2000], "script_line": line,
              "seconds": round(seconds, 3), "mb": round(memory, 1), "mb_at_most": at_most, "host": HOST,
              "explanation": explanation}
