@@ -20,9 +20,10 @@ fi
 folder=$(mktemp -d) || exit 2
 trap 'rm -rf "$folder"' EXIT
 
-# Writes `LINE: REPLY` of the first reply that isn't ok, data or clean, and in a second line its command; of a bad line
-# the same; and ` REPLY` alone where no line is told. $1 is the script, $2 the status of its run.
-# Replies and commands are one to one, in order. The line of a version is none, nor are the lines of a source.
+# Writes `LINE: REPLY` of the first reply that isn't ok, data, clean or ordered, and in a second line its command; of a
+# bad line the same; and ` REPLY` alone where no line is told. $1 is the script, $2 the status of its run.
+# Replies and commands are one to one, in order. The line of a version is none, nor are the lines of a source, nor, in a
+# script by hand, empty lines and comments.
 first_reply() {
     unended=$(tail -c 1 "$1" 2>/dev/null | tr -d '\n' | wc -c)
     cat "$1" 2>/dev/null | LC_ALL=C awk -v status="$2" -v unended="$unended" '
@@ -39,24 +40,39 @@ first_reply() {
             shown = 1
             exit
         }
-        !script && reply == "" && !/^(ok|clean)$|^data / {
+        # The words of a line, with a space between each two.
+        function spaced(text) {
+            gsub(/[ \t\r]+/, " ", text)
+            gsub(/^ | $/, "", text)
+            return text
+        }
+        # The same without its comment.
+        function plain(text) {
+            sub(/#.*/, "", text)
+            return spaced(text)
+        }
+        !script && reply == "" && !/^(ok|clean|ordered)$|^data / {
             reply = $0
             answered = FNR
             if (/^clsim: line [0-9]+: bad line$/) bad = $3 + 0
         }
         !script { next }
         { line++ }
+        line == 1 && plain($0) == "clsim 3" { by_hand = 1; next }
         bad && line < bad { next }
         bad {
             reply = "bad line"
             text = $0
-            if (unended + 0 && (getline rest) <= 0) reply = "bad line, without its line feed"
+            if (unended + 0 && !by_hand && (getline rest) <= 0) reply = "bad line, without its line feed"
             show(text)
         }
         left > 0 { left--; next }
+        until != "" { if (spaced($0) == until) until = ""; next }
         line == 1 && $0 == "clsim 2" { next }
+        by_hand && plain($0) == "" { next }
         ++command == answered { show($0) }
         $1 == "program" { left = $3 + 0 }
+        by_hand && $1 == "program" && $3 == "until" { until = plain($4) }
         END { if (!shown) print " " (reply == "" ? "the program ended with status " status : reply) }
     ' "$folder/replies" script=1 - | LC_ALL=C tr '\000-\010\013-\037\177' '[?*]'
 }
@@ -105,6 +121,8 @@ for script in "$@"; do
     failed=1
     first=$(sed 1q "$folder/first")
     printf '%s:%s\n' "$script" "$first"
+    # (an explanation tells the lines of a script's plain text, which are those of its own but where it is by hand)
+    if "$CLSIM" plain "$script" 2>/dev/null | cmp -s - "$script" 2>/dev/null; then by_hand=''; else by_hand=1; fi
     # (the explanation is that of the first fault or refusal; of want of memory and of a bad line there is none)
     case $first in
         [0-9]*': fault '* | [0-9]*': refused '*)
@@ -112,11 +130,14 @@ for script in "$@"; do
             told=$("$CLSIM" explain "$script" $device 2>/dev/null) || told= ;;
         *) told= ;;
     esac
-    if [ -n "$told" ]; then printf '%s\n' "$told"; else sed 1d "$folder/first"; fi
+    if [ -z "$told" ] || [ -n "$by_hand" ]; then sed 1d "$folder/first"; fi
+    if [ -n "$told" ] && [ -n "$by_hand" ]; then echo "  in the lines of clsim plain $script:"; fi
+    if [ -n "$told" ]; then printf '%s\n' "$told"; fi
     [ -n "${SARIF:-}" ] || continue
-    if [ -z "$told" ]; then
+    if [ -z "$told" ] || [ -n "$by_hand" ]; then
         case $first in [0-9]*) printf '%s:%s\n' "$script" "$first" >>"$folder/explained" ;; esac
     fi
+    [ -z "$by_hand" ] || continue
     # shellcheck disable=SC2086
     told=$("$CLSIM" explain "$script" $device --format json 2>/dev/null)
     # (of a script that lacked memory or has a bad line there is none)

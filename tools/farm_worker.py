@@ -18,7 +18,7 @@ import signal
 import sys
 import time
 
-PASSED, FAULTY = "clean", "fault"
+PASSED, ORDERED, FAULTY = "clean", "ordered", "fault"
 # How long a program has run when its memory is looked at first, and how long is waited for each look behind it.
 FIRST_LOOK, NEXT_LOOK = 0.02, 0.1
 # The bytes of a key and a line feed, and how much of outputs is kept.
@@ -198,13 +198,13 @@ class Program:
 
 
 def verdict_of(status, lines):
-    """The verdict on a script, by the status of its run and its replies."""
+    """The verdict on a script, by the status of its run and its replies, which of a clean one needn't be given."""
     if status is None:
         return "timeout"
     if status < 0:
         return "killed"
     if status == 0:
-        return PASSED
+        return ORDERED if ORDERED in lines else PASSED
     if status == 1 and any(line.startswith("fault ") for line in lines):
         return FAULTY
     if status == 2:
@@ -232,6 +232,26 @@ def number_of(refusal):
     return str(refusal["fault"]["number"]) if refusal["fault"]["kind"] == "command" else "10"
 
 
+def commands_of(text):
+    """The number of the line of each command of a script, also of one that is written by hand."""
+    lines, number = text.split("\n"), 1
+    by_hand = lines[0].split("#")[0].split() == ["clsim", "3"]
+    if by_hand or lines[0] == "clsim 2":
+        number = 2
+    while number <= len(lines):
+        line = lines[number - 1]
+        words = line.split("#")[0].split() if by_hand else line.split(" ")
+        if words or not by_hand:
+            yield number
+        number += 1
+        if words[:1] == ["program"] and words[2:3]:
+            if words[2].isdecimal():
+                number += int(words[2])
+            elif words[2] == "until":
+                ends = (at for at in range(number, len(lines) + 1) if lines[at - 1].split() == words[3:])
+                number = next(ends, len(lines)) + 1
+
+
 def line_of(script, lines, told, shown):
     """The line of the script whose command got the reply that is shown, or that is a bad line; None of others."""
     words = told.split(": ")
@@ -240,26 +260,25 @@ def line_of(script, lines, told, shown):
     if shown not in lines:
         return None
     with open(script, encoding="latin-1", newline="") as file:
-        text = file.read().split("\n")
-    command, left = lines.index(shown) + 1, 0
-    for number, line in enumerate(text, 1):
-        if left > 0:
-            left -= 1
-            continue
-        if number == 1 and line == "clsim 2":
-            continue
-        command -= 1
-        if command == 0:
-            return number
-        words = line.split(" ")
-        if words[0] == "program" and words[2:3] and words[2].isdigit():
-            left = int(words[2])
-    return None
+        numbers = commands_of(file.read())
+    return next((number for at, number in enumerate(numbers) if at == lines.index(shown)), None)
+
+
+def is_as_written(program, script):
+    """Whether a script is its own plain text, whose lines explanations and what is widened tell."""
+    with open(script, encoding="latin-1", newline="") as file:
+        text = file.read()
+    if text.split("\n")[0].split("#")[0].split() != ["clsim", "3"]:
+        return True
+    plain, _, ended, _, _, _ = program.run(["./bin/clsim", "plain", script])
+    return ended == 0 and plain.encode() == text.encode("latin-1")
 
 
 def widened(program, script, status):
     """For which bytes of its writes and fills a script has its replies, by `clsim widen`: the lines of these, and this
-    in words; None where it doesn't say."""
+    in words; None where it doesn't say, and of a script by hand."""
+    if not is_as_written(program, script):
+        return None
     words = ["./bin/clsim", "widen", script, "--format", "json", *program.options.limits]
     text, _, ended, _, _, _ = program.run(words)
     try:
@@ -274,18 +293,21 @@ def judge(program, key):
     script = f"scripts/{key}.txt"
     words = ["./bin/clsim", "run", script, "--workers", str(program.options.workers), *program.options.device]
     said, told, status, seconds, memory, at_most = program.run(words)
-    lines = said.split("\n") if status != 0 else []
+    lines = said.split("\n") if status != 0 or f"\n{ORDERED}\n" in said else []
     verdict = verdict_of(status, lines)
     shown, line, explanation = told.strip().split("\n")[0], None, None
-    if verdict in (FAULTY, "refused", "bad"):
+    if verdict == ORDERED:
+        shown, line = ORDERED, line_of(script, lines, "", ORDERED)
+    elif verdict in (FAULTY, "refused", "bad"):
         first = shown
         shown = next((it for it in lines if it.startswith(f"{verdict} ")), first)
         line = line_of(script, lines, first, shown)
-        explanation = explanation_of(program, script, verdict, shown) if shown in lines else None
+        if shown in lines and is_as_written(program, script):
+            explanation = explanation_of(program, script, verdict, shown)
     found = {"key": key, "verdict": verdict, "status": status, "line": shown[:2000], "script_line": line,
              "seconds": round(seconds, 3), "mb": round(memory, 1), "mb_at_most": at_most, "host": HOST,
              "explanation": explanation}
-    if program.options.widens and verdict in (PASSED, FAULTY, "refused"):
+    if program.options.widens and verdict in (PASSED, ORDERED, FAULTY, "refused"):
         found["widened"] = widened(program, script, status)
     return found
 

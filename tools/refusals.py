@@ -163,7 +163,7 @@ class Piece:
 def commands_of(script):
     """The version line of a script, or nothing, and its commands, each with the lines of its source."""
     lines = script.splitlines(keepends=True)
-    head = lines.pop(0) if lines[:1] == [b"clsim 2\n"] else b""
+    head = lines.pop(0) if lines[:1] in ([b"clsim 2\n"], [b"clsim 3\n"]) else b""
     found = []
     while lines:
         count = int(lines[0].split(b" ")[2]) if lines[0].startswith(b"program ") else 0

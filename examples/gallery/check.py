@@ -5,9 +5,10 @@
 
 Each script NAME.txt here has its session NAME.expected, which tools/docs runs. Here Clsim isn't run: from the bytes
 that a script writes into its buffers, a function of this file works out by the usual means of Python (sorted, hashlib,
-sum..) what its `read` lines have to show. A script with a fault stands in FAULTS, with what each launch has to show;
-its data are the bytes before the launch. `--write` writes the sessions anew, and takes from PROGRAM nothing but the
-lines of faults. The last line is `N passed, M failed`; the status is 0 where M is 0, else 1.
+sum..) what its `read` lines have to show. A launch with `orders` has to show `ordered`. A script with a fault stands in
+FAULTS, with what each launch has to show; its data are the bytes before the launch, where no function works them out.
+`--write` writes the sessions anew, and takes from PROGRAM nothing but the lines of faults. The last line is `N passed,
+M failed`; the status is 0 where M is 0, else 1.
 """
 import functools
 import glob
@@ -21,12 +22,16 @@ import sys
 
 HERE = os.path.dirname(os.path.realpath(__file__))
 
+# The types of numbers in scripts by hand, and how many bytes each has.
+SIZES = {"char": 1, "uchar": 1, "short": 2, "ushort": 2, "int": 4, "uint": 4, "long": 8, "ulong": 8}
+
 # What each launch of a script with a fault shows: `clean`, or the number and name of the fault,
 # and words that its line has.
 FAULTS = {
     "binary_search_of_nothing": ["5 unset item 12 variable found"],
     "bitonic_sort_in_two_groups": ["1 race item buffer a"],
     "collatz_from_zero": ["8 budget item 0"],
+    "compaction_by_tickets_with_an_end_mark": ["1 race item 1 store item 3 store buffer kept byte 4"],
     "compaction_with_an_early_return": ["3 divergence item 0 barrier item 50 end"],
     "edit_distance_with_a_barrier_in_a_branch": ["3 divergence item 0 barrier"],
     "floyd_warshall_stores_all": ["1 race item buffer d"] * 8,
@@ -46,6 +51,7 @@ FAULTS = {
     "sum_tree_without_barrier": ["1 race item load store local 0 part"],
     "transfers_under_a_lock": ["2 order item fetch fetch buffer lock byte 0"],
     "transpose_by_the_wrong_width": ["4 bounds item store buffer turned"],
+    "union_find_with_a_plain_load": ["1 race item 3 fetch item 4 load buffer parent byte 36", "clean"],
     "work_queue_with_tickets": ["2 order item fetch fetch buffer next byte 0"],
 }
 
@@ -58,12 +64,13 @@ class Script:
             lines = file.read().removesuffix("\n").split("\n")
         self.commands, self.buffers, self.numbers = [], {}, {}
         while lines:
-            words = lines.pop(0).split()
-            if words[0] == "clsim":
+            # (scripts by hand have empty lines, comments, and sources up to a word)
+            words = lines.pop(0).partition("#")[0].split()
+            if words[:1] in ([], ["clsim"]):
                 continue
             self.commands.append(words)
             if words[0] == "program":
-                del lines[: int(words[2])]
+                del lines[: lines.index(words[3]) + 1 if words[2] == "until" else int(words[2])]
             self.take(words)
 
     def take(self, words):
@@ -71,10 +78,11 @@ class Script:
         if words[0] == "buffer":
             self.buffers[words[1]] = bytearray(int(words[2]))
         elif words[0] == "write" and not self.launches():
-            given = bytes.fromhex(words[3])
+            given = bytes_of(words[3:])
             self.buffers[words[1]][int(words[2]) : int(words[2]) + len(given)] = given
         elif words[0] == "fill" and not self.launches():
-            given = bytes.fromhex(words[4]) * (int(words[3]) // (len(words[4]) // 2))
+            pattern = bytes_of(words[4:])
+            given = pattern * (int(words[3]) // len(pattern))
             self.buffers[words[1]][int(words[2]) : int(words[2]) + len(given)] = given
         elif words[0] == "arg" and words[3] == "value" and not self.launches():
             self.numbers[int(words[2])] = int(words[4])
@@ -82,10 +90,22 @@ class Script:
     def launches(self):
         return sum(words[0] == "launch" for words in self.commands)
 
+    def passes(self):
+        """What each launch of a script without a fault shows: here the items of a launch with `orders` meet."""
+        return ["ordered" if words[-1] == "orders" else "clean" for words in self.commands if words[0] == "launch"]
+
     def ints(self, name):
         """The numbers of a buffer of int."""
         data = self.buffers[name]
         return [int.from_bytes(data[at : at + 4], "little", signed=True) for at in range(0, len(data), 4)]
+
+
+def bytes_of(words):
+    """The bytes that words of a script are: hexadecimal ones, or a type and numbers."""
+    if words[0] not in SIZES:
+        return bytes.fromhex(words[0])
+    size = SIZES[words[0]]
+    return b"".join((int(number) % (1 << 8 * size)).to_bytes(size, "little") for number in words[1:])
 
 
 def packed(numbers):
@@ -210,6 +230,26 @@ def compaction(script):
     return {"kept": packed(kept).ljust(200, b"\0"), "count": packed([len(kept)])}
 
 
+def compaction_by_tickets(script):
+    """By one order of the work-items, that of their numbers."""
+    kept = [number for number in script.ints("list") if number % 2 == 0]
+    return {"kept": packed(kept).ljust(68, b"\xff"), "count": packed([len(kept)])}
+
+
+def union_find(script):
+    """Sets that are merged, edge by edge."""
+    sets = {vertex: {vertex} for vertex in range(16)}
+    for one, other in zip(script.ints("one"), script.ints("other")):
+        merged = sets[one] | sets[other]
+        sets |= {vertex: merged for vertex in merged}
+    return {"lowest": packed(min(sets[vertex]) for vertex in range(16))}
+
+
+def union_find_with_a_plain_load(_):
+    """No edge is done, so each vertex stays alone."""
+    return {"lowest": packed(range(16))}
+
+
 def string_match(script):
     text, pattern = bytes(script.buffers["text"]), bytes(script.buffers["pattern"])
     found = [text.startswith(pattern, at) for at in range(len(text))]
@@ -319,16 +359,17 @@ def quotients(script):
 def session_of(name, script, written):
     """The session of a script: the lines that Python works out,
     and those of faults as they are in the lines of `written`."""
-    wanted = FAULTS.get(name, ["clean"] * script.launches())
-    buffers = script.buffers if name in FAULTS else globals()[name](script)
-    shown = iter(line for line in written if line == "clean" or line.startswith("fault "))
+    wanted = FAULTS.get(name, script.passes())
+    buffers = globals()[name](script) if name in globals() else script.buffers
+    shown = iter(line for line in written if line in ("clean", "ordered") or line.startswith("fault "))
     lines, launches = [f"$ clsim run examples/gallery/{name}.txt"], iter(wanted)
     for words in script.commands:
         if words[0] == "launch":
             expected, line = next(launches), next(shown, "fault")
             lines.append(line if is_shown(expected, line) else expected)
         elif words[0] == "read":
-            data = buffers[words[1]][int(words[2]) : int(words[2]) + int(words[3])]
+            begin, count = int(words[2]), int(words[-1]) * SIZES.get(words[3], 1)
+            data = buffers[words[1]][begin : begin + count]
             lines.append(f"data {data.hex()}")
         else:
             lines.append("ok")
