@@ -2,7 +2,8 @@
 `rows` gives the rows to tools/rows.
 
 A cut that is a script has the first replies of the whole one, one for each of its commands;
-any other has the number of its lowest bad line."""
+any other has the number of its lowest bad line. Those of version 3 are served, as `run` takes more there: a line
+without its line feed, for one. What is in front of a bad line is answered then."""
 
 import os
 import re
@@ -72,13 +73,16 @@ def rows():
     for row in read_text(os.path.join(HERE, "worked.txt")):
         if not row.command.startswith("clsim run FILE"):
             continue
+        served = row.text.startswith(b"clsim 3\n")
+        command = row.command.replace("run FILE", "serve") if served else row.command
         replies = row.output.splitlines(keepends=True)
         for cut in range(len(row.text)):
             # one worker is asked for, so that the row isn't tried with other numbers of them
             words = dict(title=f"{row.title}, cut at byte {cut}", text=row.text[:cut],
-                         command=row.command + " --workers 1")
+                         command=command + " --workers 1" + " < FILE" * served)
             commands, bad = read(row.text[:cut])
             if bad is not None:
-                yield dict(words, output=b"", error=b"clsim: line %d: bad line\n" % bad, status=2)
+                answered = replies[:commands] if served else []
+                yield dict(words, output=b"".join(answered), error=b"clsim: line %d: bad line\n" % bad, status=2)
             elif commands <= len(replies):
                 yield dict(words, output=b"".join(replies[:commands]), status=status_of(replies[:commands]))
