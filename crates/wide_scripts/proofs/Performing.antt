@@ -14,7 +14,7 @@ use Rattle.host_commands.specs.declared.command.Refusal.TheVariants.{OutOfMemory
 use Rattle.host_commands.specs.declared.command.Reply.{Reply}
 use Rattle.host_commands.specs.declared.command.Reply.TheVariants as reply
 use Rattle.device.specs.Kept.{IsCodeOf}
-use Rattle.device.specs.Machine.{Machine, Answers, IsLaunchRefusal, Step, first, kernel_of, row, setup_of}
+use Rattle.device.specs.Machine.{Machine, Answers, Step}
 use Rattle.device.specs.Prepared.{IsPrepared}
 use Rattle.regcode.specs.Listing.{Listing}
 use Rattle.widening.specs.declared.wide.Wide.{Wide}
@@ -57,12 +57,6 @@ launch_noted m launch code names arguments uniform found wide buffers nothing is
 pub prepared_noted : (m : Machine) (kernel : List ℕ) (range : Range) (orders : Bool) (launch : Launch) (n : Note) → IsPrepared m kernel range launch
     → IsNoteBy orders m (launches.setup_of launch) n → IsNoted m (command.Launch kernel range orders) reply.Done n
 prepared_noted m kernel range orders launch n prepared noted = inr (subst (λ (setup : Setup). IsNoteBy orders m setup n) prepared.setup noted)
-
--- of a launch that is refused for its row nothing is noted
-pub refused_noted : (m : Machine) (kernel : List ℕ) (range : Range) (orders : Bool) (why : Refusal) → IsLaunchRefusal m kernel range why → (why ≡ OutOfMemory → ⊥)
-    → IsNoted m (command.Launch kernel range orders) reply.Done note.Other
-refused_noted m kernel range orders why (inl refused) memory = inl (why, refused, refl)
-refused_noted m kernel range orders why (inr lacks) memory = absurd (memory lacks.1)
 
 -- what was noted before the reply is noted behind it, but of a buffer that wasn't made
 pub still_noted : (m : Machine) (c : Command) (r : Reply) (n : Note) → ((buffer : List ℕ) → n ≡ note.Made buffer → ⊥) → IsNoted m c reply.Done n → IsNoted m c r n
