@@ -1,5 +1,5 @@
 -- Runs over scripts that differ in bytes alone.
-use Rattle.std.proofs.Common.{◌≡◌, ℕ, Bool, true, List, [], ◌∷◌, drop, refl}
+use Rattle.std.proofs.Common.{ℕ, Bool, List, [], ◌∷◌, drop, refl}
 use Rattle.std.proofs.Math.Logic.{∥∥₁_elim, ∥∥₁_map}
 use Rattle.spaces.specs.Tables.{Table}
 use Rattle.host_commands.specs.declared.command.Command.{Command}

@@ -1,5 +1,5 @@
 -- What a machine answers to a command, another answers to one like it, whose buffers hold other bytes.
-use Rattle.std.proofs.Common.{◌≡◌, ◌⊎◌, inl, inr, ℕ, zero, suc, ◌+◌, ◌%◌, ◌==◌, Bool, true, false, not, ◌&&◌, ◌||◌, nat_le, nat_lt, Option, None, Some, is_some, Result, Ok, Err, List, [], ◌∷◌, ◌++◌, length, map, take, drop, replicate, slice_get, slice_index_or, refl, ap, ap₂, sym, ◌∙◌, subst, arith}
+use Rattle.std.proofs.Common.{◌≡◌, ◌⊎◌, inl, inr, ℕ, zero, suc, ◌+◌, ◌%◌, ◌==◌, Bool, true, false, not, ◌&&◌, ◌||◌, nat_le, nat_lt, Option, None, Some, is_some, Result, Ok, Err, List, [], ◌∷◌, ◌++◌, length, map, take, drop, replicate, slice_get, slice_index_or, refl, ap, ap₂, sym, ◌∙◌, subst}
 use Rattle.std.proofs.Math.Logic.{∥∥₁_map}
 use Rattle.std.proofs.lemmas.Bool.{false≢true, and_from, or_left, or_right, or_parts}
 use Rattle.std.proofs.lemmas.List.{length-map}
@@ -13,8 +13,6 @@ use Rattle.clmodel.specs.Outcome.{events_of}
 use Rattle.clmodel.specs.Run.{Memory, contents}
 use Rattle.clmodel.specs.Setup.{Setup, buffer_names, kernel_number}
 use Rattle.clmodel.specs.Tree.{Program}
-use Rattle.clmodel.specs.declared.fault.Fault.{Fault}
-use Rattle.clmodel.specs.declared.schedule.EventRun.{EventRun}
 use Rattle.clmodel.specs.declared.setup.Argument.{Argument}
 use Rattle.clmodel.specs.declared.setup.Argument.TheVariants as argument
 use Rattle.clmodel.specs.declared.setup.Range.{Range}
@@ -26,7 +24,7 @@ use Rattle.host_commands.specs.declared.command.BuildFault.{BuildFault}
 use Rattle.host_commands.specs.declared.command.Command.{Command}
 use Rattle.host_commands.specs.declared.command.Command.TheVariants as command
 use Rattle.host_commands.specs.declared.command.Refusal.{Refusal}
-use Rattle.host_commands.specs.declared.command.Refusal.TheVariants.{NameInUse, NoSuchName, BadSize, OutOfRange, TooManyBuffers, Overlap, NoSuchKernel, BadArgument, InUse, BuildFailed}
+use Rattle.host_commands.specs.declared.command.Refusal.TheVariants.{NameInUse, NoSuchName, BadSize, OutOfRange, TooManyBuffers, Overlap, NoSuchKernel, BadArgument, InUse}
 use Rattle.host_commands.specs.declared.command.Reply.{Reply}
 use Rattle.host_commands.specs.declared.command.Reply.TheVariants as reply
 use Rattle.device.specs.Machine.{Machine, Answers, Built, Does, IsOrderedReport, IsReported, Launches, LaunchesOrdered, OrderedWith, bytes_of, do_overlap, fits, first, has_kernel, has_kernels, is_argument, is_there, is_used, kernel_of, program_of, row, setup_of}

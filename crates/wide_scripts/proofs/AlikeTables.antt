@@ -1,5 +1,5 @@
 -- Tables of buffers that are one, but for the bytes of some.
-use Rattle.std.proofs.Common.{◌≡◌, ℕ, zero, suc, ◌+◌, ◌-◌, ◌%◌, min, Bool, true, false, not, cond, ◌&&◌, ◌||◌, Option, None, Some, is_some, List, [], ◌∷◌, ◌++◌, length, map, take, drop, get_or, slice_get, slice_index_or, refl, ap, ap₂, sym, ◌∙◌, subst, arith}
+use Rattle.std.proofs.Common.{◌≡◌, ℕ, zero, suc, ◌+◌, ◌-◌, ◌%◌, min, Bool, true, false, not, cond, ◌&&◌, ◌||◌, Some, is_some, List, [], ◌∷◌, ◌++◌, length, take, drop, get_or, slice_get, slice_index_or, refl, ap, ap₂, sym, ◌∙◌, subst, arith}
 use Rattle.std.proofs.lemmas.Bool.{false≢true, and_parts, and_from, or_left, or_right, or_parts}
 use Rattle.std.proofs.lemmas.List.{length-append, length-take, length-drop, length-map}
 use Rattle.std.specs.List.{list_any, range_with_len}

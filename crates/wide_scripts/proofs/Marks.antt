@@ -1,13 +1,13 @@
 -- Marks of buffers in a table, and walks along notes.
-use Rattle.std.proofs.Common.{◌≡◌, ◌⊎◌, inl, inr, ℕ, zero, suc, ◌+◌, ◌<◌, ◌≤◌, Bool, true, false, not, cond, ◌&&◌, ◌||◌, Option, None, Some, is_some, List, [], ◌∷◌, ◌++◌, length, drop, get_or, replicate, refl, ap, ap₂, sym, ◌∙◌, subst, arith, append_assoc}
-use Rattle.std.proofs.lemmas.Bool.{false≢true, and_parts, and_from, or_cases, or_left, or_right}
-use Rattle.std.proofs.lemmas.List.{append-nil, drop-drop, drop_all, drop_more, get_or-drop}
+use Rattle.std.proofs.Common.{◌≡◌, ◌⊎◌, inl, inr, ℕ, ◌+◌, ◌≤◌, Bool, true, false, not, cond, ◌&&◌, ◌||◌, Option, None, Some, is_some, List, [], ◌∷◌, ◌++◌, length, drop, get_or, replicate, refl, ap, sym, ◌∙◌, subst, arith, append_assoc}
+use Rattle.std.proofs.lemmas.Bool.{false≢true, and_parts, or_cases, or_right}
+use Rattle.std.proofs.lemmas.List.{append-nil, drop-drop, drop_all, get_or-drop}
 use Rattle.std.specs.List.{list_any}
 use Rattle.std.specs.Map.{set_value}
 use Rattle.std.specs.Option.{unwrap_or, option_map}
 use Rattle.spaces.specs.Tables.{Table, is, find}
 use Rattle.widening.specs.Widened.{is_free_at}
-use Rattle.wide_scripts.specs.Notes.{Includes, IsWalk, Taint, are_free, behind, is_free_name, marked, may_pass, may_read, no_taint}
+use Rattle.wide_scripts.specs.Notes.{Includes, IsWalk, Taint, are_free, behind, is_free_name, may_pass, may_read, no_taint}
 use Rattle.wide_scripts.specs.declared.note.Note.{Note}
 use Rattle.wide_scripts.specs.declared.note.Note.TheVariants as note
 use lib.Pointwise.{bytes_decides}

@@ -1,14 +1,11 @@
 -- A source builds to one thing.
-use Rattle.std.proofs.Common.{◌≡◌, ℕ, Result, Ok, Err, List, ap, sym, subst}
+use Rattle.std.proofs.Common.{◌≡◌, Result, Ok, Err, ap, sym, subst}
 use Rattle.clmodel.specs.Tree.{Program}
-use Rattle.clmodel.specs.Typing.{IsTypedWithin, IsTypeFault}
-use Rattle.clmodel.specs.declared.type_fault.TypeFault.{TypeFault}
-use Rattle.clsyntax.specs.Source.{IsOneSource, IsSource}
+use Rattle.clmodel.specs.Typing.{IsTypeFault}
+use Rattle.clsyntax.specs.Source.{IsOneSource}
 use Rattle.clsyntax_lex.specs.declared.token.SyntaxFault.{SyntaxFault}
 use Rattle.cltypes.specs.Answers.{IsTypedExactly}
-use Rattle.limits.specs.declared.Limits.{Limits}
 use Rattle.host_commands.specs.Builds.{Builds}
-use Rattle.host_commands.specs.declared.command.BuildFault.{BuildFault}
 use Rattle.host_commands.specs.declared.command.BuildFault.TheVariants as build_fault
 use Rattle.wide_scripts.proofs.OneAnswer.{BuildsAreOne}
 

@@ -1,4 +1,4 @@
-use Rattle.std.proofs.Common.{◌+◌, not, ◌||◌, ◌∷◌, drop, ap, sym, ◌∙◌, arith, refl}
+use Rattle.std.proofs.Common.{◌+◌, not, ◌||◌, ◌∷◌, drop, ap, sym, ◌∙◌, refl}
 use Rattle.std.proofs.lemmas.List.{drop_all, drop_more}
 use Rattle.wide_scripts.specs.Notes.{are_free, marked}
 use Rattle.wide_scripts.proofs.Marks.{one_let}
