@@ -67,7 +67,8 @@ fn is_race(reply: &Reply) -> bool {
     match reply {
         Reply::Fault { fault, .. } => match fault {
             Fault::Conflict {
-                clash: Clash::Race, ..
+                clash: Clash::Race,
+                ..
             } => true,
             _ => false,
         },

@@ -21,9 +21,7 @@ launch k 4 1 orders
 ";
 
 /// What buffer a holds after it: the places are drawn in the order of the items.
-const DRAWN: [u8; 20] = [
-    4, 0, 0, 0, 7, 0, 0, 0, 8, 0, 0, 0, 9, 0, 0, 0, 10, 0, 0, 0,
-];
+const DRAWN: [u8; 20] = [4, 0, 0, 0, 7, 0, 0, 0, 8, 0, 0, 0, 9, 0, 0, 0, 10, 0, 0, 0];
 
 /// Whether a reply is that of a launch whose ordered run came to its end.
 fn is_ordered(reply: &Reply) -> bool {
