@@ -57,9 +57,7 @@ void check_settings(void) {
 // With CLSIM_STATUS=N the process ends with status N where a launch faulted, whatever it answers itself.
 __attribute__((destructor)) static void end_process(void) {
     tell_never_done();
-    if (ordered)
-        tell("%u launch%s ordered: what %s left is of one order of work-items", ordered, ordered == 1 ? " was" : "es were",
-             ordered == 1 ? "it" : "they");
+    if (ordered) tell("%u launch%s ordered", ordered, ordered == 1 ? " was" : "es were");
     if (!faults) return;
     tell("%u launch%s faulted", faults, faults == 1 ? "" : "es");
     if (status_setting(-1) < 0) return;
