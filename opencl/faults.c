@@ -45,8 +45,7 @@ void check_settings(void) {
         tell("CLSIM_LIMITS is profile or large, and not %s", limits);
     const char *orders = setting("CLSIM_ORDERS");
     orders_choice choice;
-    if (orders && !is_orders_word(orders, &choice))
-        tell("CLSIM_ORDERS is always, auto or never, and not %s", orders);
+    if (orders && !is_orders_word(orders, &choice)) tell("CLSIM_ORDERS is always, auto or never, and not %s", orders);
     size_t group = limits_of_device()->group, ticks = limits_of_device()->ticks;
     if (setting("CLSIM_LOCAL") && number_setting("CLSIM_LOCAL", 1, (long)group, 0) == 0)
         tell("CLSIM_LOCAL is a number from 1 to %zu, and not %s", group, setting("CLSIM_LOCAL"));

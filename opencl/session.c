@@ -223,8 +223,11 @@ bool is_orders_word(const char *word, orders_choice *choice) {
     static const struct {
         const char *word;
         orders_choice choice;
-    } all[] = {{"never", ORDERS_NEVER}, {"0", ORDERS_NEVER},  {"auto", ORDERS_AUTO},
-               {"always", ORDERS_ALWAYS}, {"1", ORDERS_ALWAYS}};
+    } all[] = {{"never", ORDERS_NEVER},
+               {"0", ORDERS_NEVER},
+               {"auto", ORDERS_AUTO},
+               {"always", ORDERS_ALWAYS},
+               {"1", ORDERS_ALWAYS}};
     for (size_t i = 0; i < sizeof all / sizeof *all; i++)
         if (!strcmp(word, all[i].word)) {
             *choice = all[i].choice;
@@ -447,17 +450,17 @@ static bool begin_version(session *s, const char *line) {
 static int begin_script(session *s) {
     static const char second[] = "clsim 2\n", third[] = "clsim 3\n";
     static bool is_told;
+    bool asks = orders_wanted() != ORDERS_NEVER;
     int fault = 0;
-    s->has_orders = orders_wanted() != ORDERS_NEVER && begin_version(s, third);
-    if (orders_wanted() != ORDERS_NEVER && !s->has_orders) {
+    s->has_orders = asks && begin_version(s, third);
+    if (asks && !s->has_orders) {
         close_device(s);
         fault = open_device(s);
         if (!fault && begin_version(s, second) && !is_told) {
-            tell("this clsim has no launches with orders: a launch whose result depends on the order of its items is a "
-                 "fault");
+            tell("this clsim has no launches with orders: a result that depends on the order of work-items is a fault");
             is_told = true;
         }
-    } else if (!s->has_orders && send(s->fd, second, sizeof second - 1, MSG_NOSIGNAL) < 0) lose(s, strerror(errno));
+    } else if (!asks && send(s->fd, second, sizeof second - 1, MSG_NOSIGNAL) < 0) lose(s, strerror(errno));
     if (!fault && s->record) fputs(s->has_orders ? third : second, s->record);
     return fault;
 }
