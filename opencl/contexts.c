@@ -1,4 +1,5 @@
 #define _GNU_SOURCE
+#include "ordered.h"
 #include "widening.h"
 #include <errno.h>
 #include <stdlib.h>
@@ -15,6 +16,7 @@ void leave_context(cl_context c) {
 void drop_context(cl_context c) {
     if (c->references || c->uses) return;
     tell_widened(c);
+    tell_ordered_launches(c);
     session_close(c->session);
     free(c->properties);
     free_object(c);

@@ -9,7 +9,7 @@
 #include <string.h>
 
 // (an explanation of version 3 is written as one, and a fault without one as the version that the scripts beside read)
-enum { VERSION = 2, MOST_TEXTS = 64, MOST_MARKED = 48 };
+enum { VERSION = 2, MOST_TEXTS = 64, MOST_MARKED = 48, ORDER_FAULT = 2 };
 
 // What is being written.
 typedef struct {
@@ -238,7 +238,7 @@ static void write_launch(writer *w) {
     write_sizes(w, "global_size", s->global);
     write_sizes(w, "local_size", s->local);
     write_sizes(w, "offset", s->offset);
-    addf(w->to, ",\"uniform\":%s", s->uniform ? "true" : "false");
+    addf(w->to, ",\"uniform\":%s,\"orders\":%s", s->uniform ? "true" : "false", s->orders ? "true" : "false");
     begin_member(w, ",", "budget");
     if (budget.at) write_raw(w, budget);
     else add(w->to, "null");
@@ -251,12 +251,14 @@ static void write_fault(writer *w) {
     unsigned number = 0;
     char name[32] = "";
     sscanf(reply, "fault %u %31s", &number, name);
-    addf(w->to, "{\"number\":%u", number);
+    addf(w->to, "{\"number\":%u", number || !w->fault->is_ordered ? number : ORDER_FAULT);
     begin_member(w, ",", "name");
-    write_string(w, held ? "flags" : name);
+    write_string(w, held ? "flags" : w->fault->is_ordered ? "ordered" : name);
     begin_member(w, ",", "line");
-    if (held) write_string(w, held);
-    else write_bytes(w, reply, schedule ? (size_t)(schedule - reply) : strlen(reply));
+    int n = schedule ? (int)(schedule - reply) : (int)strlen(reply);
+    text line = {.arena = w->arena};
+    addf(&line, "%s%.*s", w->fault->is_ordered && number ? "ordered: " : "", n, reply);
+    write_string(w, held ? held : line.at);
     add(w->to, "}");
 }
 
@@ -338,6 +340,8 @@ static void write_reasons(writer *w, json list) {
         write_reason(w, r);
         is_first = false;
     }
+    if (w->fault->is_ordered)
+        addf(w->to, "%s{\"kind\":\"ordered\",\"text\":\"%s\"}", is_first ? "" : ",", ORDERED_WORDS);
     if (w->fault->held_reply)
         add(w->to, "{\"kind\":\"flags\",\"text\":\"such an access of a buffer with this flag is undefined (OpenCL 1.2, "
                    "table 5.3)\"}");

@@ -12,7 +12,10 @@ typedef struct {
     const char *reply;      // the device's line
     json explanation;       // of `clsim explain`; it isn't there where the fault isn't explained
     const char *held_reply; // of a fault that is one by the flags of its buffer: its line in front of its schedule
+    bool is_ordered;        // the launch is no fault, but ordered: the line is that without the word `orders`, if known
 } told_fault;
+// What is said of a launch that is ordered.
+#define ORDERED_WORDS "its result depends on the order of its work-items; it goes on with the bytes of one order"
 
 // Writes it to the end of the file that CLSIM_JSON names. Nothing without that setting.
 void write_explanation(const told_fault *f);

@@ -18,7 +18,7 @@ enum {
     MAX_EXPLAINED_BYTES = 32 << 20
 };
 
-static unsigned faults;
+static unsigned faults, ordered; // launches of the process
 
 // ---- settings ----
 
@@ -43,6 +43,9 @@ void check_settings(void) {
     const char *limits = setting("CLSIM_LIMITS");
     if (limits && strcmp(limits, "profile") && strcmp(limits, "large"))
         tell("CLSIM_LIMITS is profile or large, and not %s", limits);
+    const char *orders = setting("CLSIM_ORDERS");
+    orders_choice choice;
+    if (orders && !is_orders_word(orders, &choice)) tell("CLSIM_ORDERS is always, auto or never, and not %s", orders);
     size_t group = limits_of_device()->group, ticks = limits_of_device()->ticks;
     if (setting("CLSIM_LOCAL") && number_setting("CLSIM_LOCAL", 1, (long)group, 0) == 0)
         tell("CLSIM_LOCAL is a number from 1 to %zu, and not %s", group, setting("CLSIM_LOCAL"));
@@ -53,6 +56,7 @@ void check_settings(void) {
 // With CLSIM_STATUS=N the process ends with status N where a launch faulted, whatever it answers itself.
 __attribute__((destructor)) static void end_process(void) {
     tell_never_done();
+    if (ordered) tell("%u launch%s ordered", ordered, ordered == 1 ? " was" : "es were");
     if (!faults) return;
     tell("%u launch%s faulted", faults, faults == 1 ? "" : "es");
     if (status_setting(-1) < 0) return;
@@ -268,19 +272,20 @@ static void put_words(char *room, size_t n, unsigned fault, const char *first, c
 }
 
 // The first line: `fault 1 race: work-item 0 loads, and work-item 1 stores, the same bytes, in kernel f`.
-static void tell_words(cl_kernel k, const char *reply, bool is_held) {
+static void tell_words(cl_kernel k, const char *reply, bool is_held, bool is_ordered) {
     char words[256] = "";
     const char *first = strstr(reply, " item "), *second = first ? strstr(first + 1, " item ") : NULL;
-    unsigned fault = (unsigned)strtoul(reply + 6, NULL, 10);
     if (!first) {
-        tell("%s", reply);
+        tell("%s%s%s", reply, is_ordered ? ": a launch of kernel " : "", is_ordered ? k->form->name : "");
         return;
     }
+    unsigned fault = (unsigned)strtoul(reply + 6, NULL, 10);
     if (is_held) {
         size_t at = put_deed(words, sizeof words, first + 6);
         snprintf(words + at, sizeof words - at, ", which the flags of the buffer forbid");
     } else put_words(words, sizeof words, fault, first + 6, second ? second + 6 : first + 6);
     if (is_held) tell("fault flags: %s, in kernel %s", words, k->form->name);
+    else if (is_ordered) tell("ordered: %s, in kernel %s", words, k->form->name);
     else tell("%.*s: %s, in kernel %s", (int)(first - reply), reply, words, k->form->name);
 }
 
@@ -376,7 +381,7 @@ static void add_sizes(text *t, const launch_sizes *s) {
         sizes_text(room, sizeof room, s->dimensions, lists[i]);
         addf(t, " %s", room);
     }
-    addf(t, "%s\n", s->uniform ? " uniform" : "");
+    addf(t, "%s%s\n", s->uniform ? " uniform" : "", s->orders ? " orders" : "");
 }
 
 // A piece of a buffer's bytes with room for its digits.
@@ -431,7 +436,7 @@ static bool add_buffers(text *t, cl_kernel k) {
 static bool add_script(text *t, cl_kernel k, const launch_sizes *s) {
     const kernel_form *form = k->form;
     const prepared *source = k->source;
-    add(t, "clsim 2\n");
+    addf(t, "clsim %d\n", s->orders ? 3 : 2);
     if (!add_buffers(t, k)) return false;
     addf(t, "program p%u %u\n", k->program_number, form->lines);
     add_bytes(t, source->text + form->begin, form->length);
@@ -605,36 +610,55 @@ static char *held_line(const char *line) {
     return held;
 }
 
-// Tells what a fault's line, which goes with the next command, means to the client: in words, where it is in the
-// source, in which launch, memory and ids, why, and the line itself.
-static void tell_fault(cl_kernel k, const char *reply, const launch_sizes *s) {
-    char *line = strdup(reply);
+void keep_fault(kept_fault *f, cl_kernel k, const char *reply, const launch_sizes *s) {
+    *f = (kept_fault){strdup(reply), NULL};
+    if (f->line) f->explanation = explanation_of(k, s);
+    else tell("%.*s", (int)shown_length(reply), reply);
+}
+
+void drop_fault(kept_fault *f) {
+    free(f->explanation);
+    free(f->line);
+}
+
+// Tells what a fault's line means to the client: in words, where it is in the source, in which launch, memory and ids,
+// why, what then, and the line itself.
+static void tell_line_of(cl_kernel k, const char *line, const char *explanation, const launch_sizes *s,
+                         bool is_ordered) {
     memory_place place;
-    if (!line) {
-        tell("%.*s", (int)shown_length(reply), reply);
-        return;
-    }
     bool has_place = read_place(line, &place), is_held = has_place && is_held_back(&place);
-    tell_words(k, line, is_held);
-    char *explanation = explanation_of(k, s);
+    tell_words(k, line, is_held, is_ordered);
     json whole = json_text(explanation ? explanation : "", explanation ? strlen(explanation) : 0),
          items = json_member(whole, "items");
     for (json i = json_first(items); i.at; i = json_next(items, i)) tell_spot(k, has_place, whole, i);
     tell_launch(k, line, s, has_place ? &place : NULL, is_held);
     if (!is_held) tell_reasons(k->source, k->form, whole);
     else tell("  why: such an access of a buffer with this flag is undefined (OpenCL 1.2, table 5.3)");
+    if (is_ordered) tell("  " ORDERED_WORDS);
     tell_reply(line, is_held ? &place : NULL);
     char *held = is_held ? held_line(line) : NULL;
-    write_explanation(&(told_fault){k, s, line, whole, held});
+    write_explanation(&(told_fault){k, s, line, whole, held, is_ordered});
     free(held);
-    free(explanation);
-    call_back(k->context, line);
-    free(line);
 }
 
-void report_fault(cl_kernel k, const char *reply, const launch_sizes *s) {
+void tell_fault(cl_kernel k, const kept_fault *f, const launch_sizes *s) {
+    if (!f->line) return;
+    tell_line_of(k, f->line, f->explanation, s, false);
+    call_back(k->context, f->line);
+}
+
+void tell_ordered(cl_kernel k, const kept_fault *f, const launch_sizes *s) {
+    bool is_known = f && f->line;
+    tell_line_of(k, is_known ? f->line : "ordered", is_known ? f->explanation : NULL, s, true);
+}
+
+void count_ordered(void) {
+    ordered++;
+    if (!setting("CLSIM_ORDERS")) faults++;
+}
+
+void count_fault(void) {
     faults++;
-    tell_fault(k, reply, s);
     const char *then = setting("CLSIM_ON_FAULT");
     bool aborts = then && !strcmp(then, "abort"), exits = then && !strcmp(then, "exit");
     if (!aborts && !exits) return;

@@ -1,3 +1,4 @@
+#include "ordered.h"
 #include "widening.h"
 #include <stdint.h>
 #include <stdio.h>
@@ -72,44 +73,68 @@ static cl_int take_sizes(cl_kernel k, launch_sizes *s, const size_t *offset, con
     return CL_INVALID_GLOBAL_WORK_SIZE;
 }
 
+// Asks for a launch. The line of the reply, NULL where the device is gone.
 static const char *ask_launch(cl_kernel k, const launch_sizes *s) {
     char global[80], local[80], offset[80];
     sizes_text(global, sizeof global, s->dimensions, s->global);
     sizes_text(local, sizeof local, s->dimensions, s->local);
     sizes_text(offset, sizeof offset, s->dimensions, s->offset);
-    k->context->launches++;
-    return session_askf(k->context->session, "launch k%u %s %s %s%s\n", k->number, global, local, offset,
-                        s->uniform ? " uniform" : "");
+    const char *reply = session_askf(k->context->session, "launch k%u %s %s %s%s%s\n", k->number, global, local, offset,
+                                     s->uniform ? " uniform" : "", s->orders ? " orders" : "");
+    if (reply && strncmp(reply, "refused ", 8)) note_launch(k, reply);
+    return reply;
 }
 
 // What a launch that faults answers. It is none of the three errors that stand for want of memory: pyopencl launches
 // again after those.
 #define FAULTED CL_INVALID_OPERATION
 
-// Does a launch, by the arguments that its kernel has now.
-static cl_int do_launch(command *c) {
-    cl_kernel k = c->kernel, launched;
-    cl_int fault = launched_kernel(k, &launched);
-    if (!fault) fault = copy_parts(k, launched, false);
-    if (!fault) fault = begin_printing(launched, &c->sizes);
-    if (fault) return fault;
-    const char *reply = ask_launch(launched, &c->sizes);
-    if (!reply) return CL_DEVICE_NOT_AVAILABLE;
-    bool is_clean = !strcmp(reply, "clean"), is_fault = !strncmp(reply, "fault ", 6);
-    if (is_clean || is_fault) note_launch(launched, reply);
-    if (is_clean) {
-        fault = copy_parts(k, launched, true);
-        return fault ? fault : end_printing(launched, &c->sizes);
-    }
-    if (!is_fault) {
-        refuse(k->context, "kernel %s: %s", k->form->name, reply);
-        return error_of(reply);
-    }
-    report_fault(launched, reply, &c->sizes);
+// The end of a launch that wasn't clean or ordered. Where it was made once more, `order` is its fault before; that is
+// its fault still where nothing is known of the second time.
+static cl_int end_faulty(command *c, cl_kernel launched, const char *reply, const kept_fault *order) {
+    bool is_fault = reply && !strncmp(reply, "fault ", 6);
+    kept_fault last = {NULL, NULL};
+    launch_sizes before = c->sizes;
+    before.orders = false;
+    if (reply && !is_fault) refuse(launched->context, "kernel %s: %s", launched->form->name, reply);
+    if (!is_fault && !order) return reply ? error_of(reply) : CL_DEVICE_NOT_AVAILABLE;
+    if (is_fault) keep_fault(&last, launched, reply, &c->sizes);
+    if (order) tell_fault(launched, order, &before);
+    tell_fault(launched, &last, &c->sizes);
+    drop_fault(&last);
+    count_fault();
     const char *then = setting("CLSIM_ON_FAULT");
     if (!then || strcmp(then, "go")) return FAULTED;
     c->went = FAULTED;
     return CL_SUCCESS;
+}
+
+// The end of a launch by its last reply.
+static cl_int end_launch(command *c, cl_kernel launched, const char *reply, const kept_fault *order) {
+    bool is_ordered = reply && !strcmp(reply, "ordered");
+    if (is_ordered && note_ordered(c->kernel)) tell_ordered(launched, order, &c->sizes);
+    if (!is_ordered && (!reply || strcmp(reply, "clean"))) return end_faulty(c, launched, reply, order);
+    cl_int fault = copy_parts(c->kernel, launched, true);
+    return fault ? fault : end_printing(launched, &c->sizes);
+}
+
+// Does a launch, by the arguments that its kernel has now.
+static cl_int do_launch(command *c) {
+    cl_kernel k = c->kernel, launched;
+    kept_fault order;
+    cl_int fault = launched_kernel(k, &launched);
+    if (!fault) fault = copy_parts(k, launched, false);
+    if (!fault) fault = begin_printing(launched, &c->sizes);
+    if (fault) return fault;
+    k->context->launches++;
+    c->sizes.orders = begins_with_orders(k);
+    const char *reply = ask_launch(launched, &c->sizes);
+    if (!reply || !is_made_again(k, reply)) return end_launch(c, launched, reply, NULL);
+    keep_fault(&order, launched, reply, &c->sizes);
+    c->sizes.orders = true;
+    fault = end_launch(c, launched, ask_launch(launched, &c->sizes), &order);
+    drop_fault(&order);
+    return fault;
 }
 
 // Launches a kernel by the call that the type of its event names.

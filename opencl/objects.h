@@ -19,6 +19,7 @@
 
 typedef struct kept_source kept_source;
 typedef struct noted_launch noted_launch;
+typedef struct ordered_kernel ordered_kernel;
 
 typedef enum { CONTEXT = 1, QUEUE, MEMORY, PROGRAM, KERNEL, EVENT } object_kind;
 
@@ -51,6 +52,7 @@ struct _cl_context {
     noted_launch *noted, **noted_end; // its launches
     kept_source *sources;             // that they were made by
     bool lost_launches;               // memory was refused for one
+    ordered_kernel *ordered;          // with launches that were ordered (ordered.c)
     // of its commands
     unsigned commands;                  // how many were enqueued
     unsigned waiting;                   // how many of them wait
@@ -240,7 +242,7 @@ cl_ulong now(void); // nanoseconds
 typedef struct {
     cl_uint dimensions;
     size_t global[3], local[3], offset[3];
-    bool uniform;
+    bool uniform, orders;
 } launch_sizes;
 
 // That a command waits for an event.
@@ -409,6 +411,18 @@ cl_ulong local_bytes(cl_kernel k, const local_object *l);
 void sizes_text(char *room, size_t n, cl_uint dimensions, const size_t *sizes);
 // Tells each setting whose value isn't known; it is as if it weren't set.
 void check_settings(void);
-// Tells a fault in the client's terms, and does what CLSIM_ON_FAULT asks for.
-void report_fault(cl_kernel k, const char *reply, const launch_sizes *sizes);
+// A fault's line with its explanation, kept over what changes the buffers or asks the device. Both may be NULL.
+typedef struct {
+    char *line, *explanation;
+} kept_fault;
+void keep_fault(kept_fault *f, cl_kernel k, const char *reply, const launch_sizes *sizes);
+void drop_fault(kept_fault *f);
+// Tells a fault in the client's terms. A launch that is ordered is told as such, with the fault that it was without the
+// word `orders`; where that isn't known it is NULL.
+void tell_fault(cl_kernel k, const kept_fault *f, const launch_sizes *sizes);
+void tell_ordered(cl_kernel k, const kept_fault *f, const launch_sizes *sizes);
+// Counts a launch that faulted, and does what CLSIM_ON_FAULT asks for.
+void count_fault(void);
+// Counts a launch that was ordered: as one that faulted, too, unless CLSIM_ORDERS says that it may be.
+void count_ordered(void);
 #endif

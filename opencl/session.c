@@ -24,6 +24,7 @@ struct session {
     int fd;
     int life; // whose other end the child has: where this process is gone, the kernel ends the child
     bool gone, recording;
+    bool has_orders;       // it is of version 3, in which a launch may have the word `orders`
     bool looks;            // whether the child may answer while this thread looks for the reply
     unsigned misses, skip; // how many looks in a row found nothing, and how many replies aren't looked for therefore
     char *in;              // what came of a reply
@@ -218,6 +219,30 @@ static bool serve_command(char *room, size_t n) {
     return put > 0 && (size_t)put < n;
 }
 
+bool is_orders_word(const char *word, orders_choice *choice) {
+    static const struct {
+        const char *word;
+        orders_choice choice;
+    } all[] = {{"never", ORDERS_NEVER},
+               {"0", ORDERS_NEVER},
+               {"auto", ORDERS_AUTO},
+               {"always", ORDERS_ALWAYS},
+               {"1", ORDERS_ALWAYS}};
+    for (size_t i = 0; i < sizeof all / sizeof *all; i++)
+        if (!strcmp(word, all[i].word)) {
+            *choice = all[i].choice;
+            return true;
+        }
+    return false;
+}
+
+orders_choice orders_wanted(void) {
+    const char *word = setting("CLSIM_ORDERS"), *then = setting("CLSIM_ON_FAULT");
+    orders_choice choice = then && !strcmp(then, "go") ? ORDERS_AUTO : ORDERS_NEVER;
+    if (word) is_orders_word(word, &choice);
+    return choice;
+}
+
 bool widens(void) {
     const char *wanted = setting("CLSIM_WIDEN");
     return wanted && strcmp(wanted, "0");
@@ -250,63 +275,6 @@ static const char *lose(session *s, const char *why) {
 static bool has_processors(void) {
     cpu_set_t all;
     return !sched_getaffinity(0, sizeof all, &all) && CPU_COUNT(&all) > 1;
-}
-
-// Gives up a session that couldn't be opened, with an error's number.
-static session *leave(session *s, int fault) {
-    if (s->life >= 0) close(s->life);
-    free(s->in);
-    free(s);
-    errno = fault;
-    return NULL;
-}
-
-session *session_open(void) {
-    static const char version[] = "clsim 2\n";
-    char room[COMMAND_ROOM], *words[MAX_WORDS];
-    int ends[2], held = -1;
-    session *s = calloc(1, sizeof *s);
-    if (!s) return NULL;
-    s->life = -1;
-    s->in = malloc(s->room = REPLY_ROOM);
-    if (!s->in || socketpair(AF_UNIX, SOCK_STREAM | SOCK_CLOEXEC, 0, ends)) return leave(s, errno);
-    if (!serve_command(room, sizeof room)) *room = 0; // (no word of it can be started)
-    split_words(room, words);
-    s->life = open_life(&held);
-    int fault = s->life < 0 ? errno : start(words, ends[1], held, &s->child);
-    if (fault == ENOENT && !setting("CLSIM_SERVE") && take_installed() && serve_command(room, sizeof room)) {
-        split_words(room, words);
-        fault = start(words, ends[1], held, &s->child);
-    }
-    close(ends[1]);
-    if (!fault) tie_life(held, s->child);
-    if (held >= 0) close(held);
-    if (fault) {
-        bool is_named = fault != ENOENT || setting("CLSIM_SERVE");
-        tell("cannot start %s: %s%s", words[0] ? words[0] : "the simulator", strerror(fault),
-             is_named ? "" : " (it is looked for on the PATH; CLSIM_SERVE may name it)");
-        close(ends[0]);
-        return leave(s, fault);
-    }
-    s->fd = ends[0];
-    s->looks = has_processors();
-    s->owner = getpid();
-    s->recording = true;
-    s->record = open_record();
-    if (s->record) fputs(version, s->record);
-    if (send(s->fd, version, sizeof version - 1, MSG_NOSIGNAL) < 0) lose(s, strerror(errno));
-    return s;
-}
-
-void session_close(session *s) {
-    int status;
-    close(s->fd);
-    if (getpid() == s->owner)
-        while (waitpid(s->child, &status, 0) < 0 && errno == EINTR) {}
-    close(s->life);
-    if (s->record) fclose(s->record);
-    free(s->in);
-    free(s);
 }
 
 // ---- commands and replies ----
@@ -355,6 +323,7 @@ static bool grow(session *s) {
 
 // A reply that is longer than there is memory for is read to its end, and is then as one that refuses for want of
 // memory: one so long holds data or a fault's schedule, and neither a read nor a launch with a fault changes anything.
+// NULL where none came: errno says why, and is 0 where the child has ended.
 static const char *read_line(session *s) {
     size_t seen = 0;
     bool fits = true;
@@ -368,7 +337,8 @@ static const char *read_line(session *s) {
         seen = s->end;
         ssize_t got = receive(s);
         if (got < 0 && errno == EINTR) continue;
-        if (got <= 0) return lose(s, got ? strerror(errno) : "it has ended");
+        if (!got) errno = 0;
+        if (got <= 0) return NULL;
         s->end += (size_t)got;
     }
 }
@@ -381,19 +351,25 @@ static void record(session *s, const char *command, size_t length) {
     s->record = NULL;
 }
 
-const char *session_ask(session *s, const char *command, size_t length) {
-    if (s->gone) return NULL;
-    if (getpid() != s->owner) return lose(s, "a forked process can't use it");
-    record(s, command, length);
+// Sends a command and reads its reply; NULL as there.
+static const char *exchange(session *s, const char *command, size_t length) {
     s->end = 0; // the reply before was one line, and nothing came behind it
     while (length) {
         ssize_t sent = send(s->fd, command, length, MSG_NOSIGNAL);
         if (sent < 0 && errno == EINTR) continue;
-        if (sent < 0) return lose(s, strerror(errno));
+        if (sent < 0) return NULL;
         command += sent;
         length -= (size_t)sent;
     }
     return read_line(s);
+}
+
+const char *session_ask(session *s, const char *command, size_t length) {
+    if (s->gone) return NULL;
+    if (getpid() != s->owner) return lose(s, "a forked process can't use it");
+    record(s, command, length);
+    const char *reply = exchange(s, command, length);
+    return reply ? reply : lose(s, errno ? strerror(errno) : "it has ended");
 }
 
 const char *session_askf(session *s, const char *format, ...) {
@@ -407,6 +383,109 @@ const char *session_askf(session *s, const char *format, ...) {
 }
 
 void session_record(session *s, bool on) { s->recording = on; }
+
+bool session_has_orders(const session *s) { return s->has_orders; }
+
+// ---- sessions ----
+
+// Gives up a session that couldn't be opened, with an error's number.
+static session *leave(session *s, int fault) {
+    free(s->in);
+    free(s);
+    errno = fault;
+    return NULL;
+}
+
+// Starts the command of a device, or the program that is installed beside this library. What was started is in `words`,
+// whose text is in `room`. An error's number, or 0.
+static int start_device(session *s, int both, int held, char *room, char **words) {
+    if (!serve_command(room, COMMAND_ROOM)) *room = 0; // (no word of it can be started)
+    split_words(room, words);
+    int fault = start(words, both, held, &s->child);
+    if (fault != ENOENT || setting("CLSIM_SERVE") || !take_installed() || !serve_command(room, COMMAND_ROOM))
+        return fault;
+    split_words(room, words);
+    return start(words, both, held, &s->child);
+}
+
+// Starts the device of a session. An error's number, or 0.
+static int open_device(session *s) {
+    char room[COMMAND_ROOM], *words[MAX_WORDS];
+    int ends[2], held = -1;
+    if (socketpair(AF_UNIX, SOCK_STREAM | SOCK_CLOEXEC, 0, ends)) return errno;
+    s->life = open_life(&held);
+    *words = NULL;
+    int fault = s->life < 0 ? errno : start_device(s, ends[1], held, room, words);
+    close(ends[1]);
+    if (!fault) tie_life(held, s->child);
+    if (held >= 0) close(held);
+    s->fd = ends[0];
+    if (!fault) return 0;
+    bool is_named = fault != ENOENT || setting("CLSIM_SERVE");
+    tell("cannot start %s: %s%s", words[0] ? words[0] : "the simulator", strerror(fault),
+         is_named ? "" : " (it is looked for on the PATH; CLSIM_SERVE may name it)");
+    close(s->fd);
+    if (s->life >= 0) close(s->life);
+    return fault;
+}
+
+static void close_device(session *s) {
+    int status;
+    close(s->fd);
+    if (getpid() == s->owner)
+        while (waitpid(s->child, &status, 0) < 0 && errno == EINTR) {}
+    close(s->life);
+}
+
+// Begins a script of a version, by its first line, and asks for the bytes of a buffer that isn't there. A device that
+// doesn't know the version ends at that.
+static bool begin_version(session *s, const char *line) {
+    char command[64];
+    int n = snprintf(command, sizeof command, "%sread b0 0 1\n", line);
+    return exchange(s, command, (size_t)n) != NULL;
+}
+
+// Begins the script of a session. Where launches may need the word `orders`, it is of version 3, and, of a device that
+// doesn't know that, of version 2. An error's number, or 0.
+static int begin_script(session *s) {
+    static const char second[] = "clsim 2\n", third[] = "clsim 3\n";
+    static bool is_told;
+    bool asks = orders_wanted() != ORDERS_NEVER;
+    int fault = 0;
+    s->has_orders = asks && begin_version(s, third);
+    if (asks && !s->has_orders) {
+        close_device(s);
+        fault = open_device(s);
+        if (!fault && begin_version(s, second) && !is_told) {
+            tell("this clsim has no launches with orders: a result that depends on the order of work-items is a fault");
+            is_told = true;
+        }
+    } else if (!asks && send(s->fd, second, sizeof second - 1, MSG_NOSIGNAL) < 0) lose(s, strerror(errno));
+    if (!fault && s->record) fputs(s->has_orders ? third : second, s->record);
+    return fault;
+}
+
+session *session_open(void) {
+    session *s = calloc(1, sizeof *s);
+    if (!s) return NULL;
+    s->in = malloc(s->room = REPLY_ROOM);
+    int fault = s->in ? open_device(s) : errno;
+    if (fault) return leave(s, fault);
+    s->looks = has_processors();
+    s->owner = getpid();
+    s->recording = true;
+    s->record = open_record();
+    fault = begin_script(s);
+    if (fault && s->record) fclose(s->record);
+    return fault ? leave(s, fault) : s;
+}
+
+void session_close(session *s) {
+    close_device(s);
+    if (s->record) fclose(s->record);
+    free(s->in);
+    free(s);
+}
 
 // ---- explanations ----
 

@@ -18,6 +18,20 @@ const char *session_askf(session *s, const char *format, ...) __attribute__((for
 // Whether commands go into the recorded script. A command that changes nothing may be left out.
 void session_record(session *s, bool on);
 
+// Whether a launch of it may have the word `orders`. A device is asked for that only where it may be wanted.
+bool session_has_orders(const session *s);
+
+// What becomes of a launch whose result depends on the order of its items (CLSIM_ORDERS).
+typedef enum {
+    ORDERS_NEVER, // it is a fault as any other
+    ORDERS_AUTO,  // it is made once more with the word `orders`
+    ORDERS_ALWAYS // each launch has the word
+} orders_choice;
+// What a word asks for; false where it is none.
+bool is_orders_word(const char *word, orders_choice *choice);
+// What the setting asks for. Without it AUTO where CLSIM_ON_FAULT is `go`, else NEVER.
+orders_choice orders_wanted(void);
+
 // Runs `clsim explain` on a script. What it wrote on standard output, NULL where it didn't explain; the caller frees
 // it.
 char *explain_script(const char *script, size_t length);

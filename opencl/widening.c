@@ -19,11 +19,16 @@ struct noted_launch {
     unsigned number; // in the context
     const kept_source *source;
     const kernel_form *form;
-    bool is_faulty;
+    const char *verdict;
     unsigned *buffers; // the number of the buffer that each argument was, 0 for none
 };
 
 // ---- notes ----
+
+// What is told of a launch by its reply.
+static const char *verdict_of(const char *reply) {
+    return !strcmp(reply, "clean") ? "clean" : !strcmp(reply, "ordered") ? "ordered" : "the same fault";
+}
 
 static kept_source *source_of(cl_kernel k) {
     cl_context c = k->context;
@@ -52,7 +57,7 @@ void note_launch(cl_kernel k, const char *reply) {
     }
     for (unsigned i = 0; i < form->count; i++)
         if (k->arguments[i].memory) buffers[i] = given_number(k, i, k->arguments[i].memory);
-    *l = (noted_launch){NULL, c->launches, s, form, !strncmp(reply, "fault ", 6), buffers};
+    *l = (noted_launch){NULL, c->launches, s, form, verdict_of(reply), buffers};
     *c->noted_end = l;
     c->noted_end = &l->next;
 }
@@ -128,8 +133,7 @@ static void tell_launch(const noted_launch *l, json launch) {
     json holds = json_member(launch, "holds_for"), deciding = json_member(launch, "deciding");
     json buffers = json_member(holds, "buffers"), arguments = json_member(holds, "arguments");
     char behind[640];
-    tell("widened launch %u of its context, kernel %s: %s", l->number, l->form->name,
-         l->is_faulty ? "the same fault" : "clean");
+    tell("widened launch %u of its context, kernel %s: %s", l->number, l->form->name, l->verdict);
     for (json b = json_first(buffers); b.at; b = json_next(buffers, b))
         tell_buffer(l, json_member(b, "name"), "for all bytes of", "");
     for (json a = json_first(arguments); a.at; a = json_next(arguments, a))

@@ -261,13 +261,11 @@ static bool launch(run *r) {
     tell_errors();
     cl_int fault = clEnqueueNDRangeKernel(r->queue, r->kernel.kernel, q->dimensions, q->offset, q->global,
                                           q->has_local ? q->local : NULL, 0, NULL, NULL);
-    if (fault == CL_INVALID_OPERATION) {
-        if (!tell_verdict()) stop("the launch answers %d, and it isn't known why", fault);
-        return true;
-    }
-    tell_errors();
+    verdict told = tell_verdict();
+    if (fault == CL_INVALID_OPERATION && told == FAULT_VERDICT) return true;
+    if (fault == CL_INVALID_OPERATION) stop("the launch answers %d, and it isn't known why", fault);
     if (fault) stop("%s (error %d)", meaning_of(fault), fault);
-    puts("clean");
+    if (told != ORDERED_VERDICT) puts("clean");
     return false;
 }
 
@@ -325,7 +323,7 @@ static int judge(run *r, int count, char **words) {
     request *q = &r->request;
     q->arena = r->arena;
     read_command(q, count, words);
-    set_driver(r->arena, q->script);
+    set_driver(r->arena, q->script, q->has_orders);
     const char *source = read_file(r->arena, q->file, NULL, &length);
     keep_lines(q->file);
     open_device(r);

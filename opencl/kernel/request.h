@@ -49,7 +49,7 @@ typedef struct {
     text options;                                // of the build
     unsigned dimensions;                         // 0 where there is no global size
     size_t global[3], local[3], offset[3];
-    bool has_local;
+    bool has_local, has_orders;
     given *arguments;
     size_t argument_count, argument_room;
     wanted_dump *dumps;

@@ -91,15 +91,24 @@ static const char *behind_head(const char *line) {
     return strncmp(line, driver_head, n) ? line : line + n;
 }
 
-void tell_errors(void) {
-    char *lines = new_lines();
+static bool begins_with(const char *line, const char *word) { return !strncmp(line, word, strlen(word)); }
+
+// (which launches of a context were ordered is known: there is but one)
+static void tell_lines(const char *lines) {
     for (const char *at = lines; at && *at;) {
         size_t n = strcspn(at, "\n");
         const char *line = behind_head(at);
-        fprintf(stderr, "%s: ", command);
-        put_named(stderr, line, n - (size_t)(line - at));
+        if (!begins_with(line, "ordered launches ")) {
+            fprintf(stderr, "%s: ", command);
+            put_named(stderr, line, n - (size_t)(line - at));
+        }
         at += n + (at[n] != 0);
     }
+}
+
+void tell_errors(void) {
+    char *lines = new_lines();
+    tell_lines(lines);
     free(lines);
 }
 
@@ -117,11 +126,17 @@ void tell_log(const char *log, const char *in_front) {
 
 // ---- the verdict ----
 
-bool tell_verdict(void) {
+static verdict verdict_of(const char *lines) {
+    const char *line = lines ? behind_head(lines) : "";
+    return begins_with(line, "fault ") ? FAULT_VERDICT : begins_with(line, "ordered: ") ? ORDERED_VERDICT : NO_VERDICT;
+}
+
+verdict tell_verdict(void) {
     static const char launch[] = ", launch 1 of its context";
     char *lines = new_lines();
-    bool is_fault = lines && !strncmp(behind_head(lines), "fault ", 6);
-    for (char *at = lines; at && *at;) {
+    verdict found = verdict_of(lines);
+    if (found == NO_VERDICT) tell_lines(lines);
+    for (char *at = lines; found != NO_VERDICT && at && *at;) {
         size_t n = strcspn(at, "\n"), next = n + (at[n] != 0);
         char *line = at + (behind_head(at) - at), *cut = memmem(at, n, launch, sizeof launch - 1);
         n -= (size_t)(line - at);
@@ -133,5 +148,5 @@ bool tell_verdict(void) {
         put_named(stdout, line, n);
     }
     free(lines);
-    return is_fault;
+    return found;
 }

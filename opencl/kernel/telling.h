@@ -16,8 +16,10 @@ void keep_lines(const char *path);
 void tell_errors(void);
 // Whether it said at any time that it lost a part of the script.
 bool is_script_lost(void);
-// Tells on standard output what it said of a launch that faulted. False where it didn't say of a fault.
-bool tell_verdict(void);
+// What the driver says of a launch. Of one that is clean it says nothing.
+typedef enum { NO_VERDICT, FAULT_VERDICT, ORDERED_VERDICT } verdict;
+// Tells on standard output what it said of a launch. Where it didn't say of a verdict, it is told as errors are.
+verdict tell_verdict(void);
 // Tells the log of a build on standard error, each line with words in front.
 void tell_log(const char *log, const char *in_front);
 #endif

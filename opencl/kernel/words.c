@@ -13,7 +13,8 @@ static const char usage[] =
     "Judges one launch of a kernel as it stands in its file, without a host program.\n"
     "\n"
     "FILE.cl alone lists its kernels with their parameters, and says what is missing. FILE.sim is a file as\n"
-    "oclgrind-kernel takes it. The status is 0 where the launch is clean, 1 where it has a fault, and else 2.\n"
+    "oclgrind-kernel takes it. The status is 0 where the launch is clean or ordered, 1 where it has a fault, and\n"
+    "else 2.\n"
     "\n"
     "Options:\n"
     "  --global SIZES          how many work-items there are in each dimension: 1024, or 64,64\n"
@@ -23,6 +24,7 @@ static const char usage[] =
     "  --dump NAME             shows what the launch leaves in an argument; NAME=PATH writes its bytes into a file\n"
     "  --script PATH           writes the script that `clsim run --limits large` judges again\n"
     "  --uniform               the launch is uniform: two stores of one value don't conflict\n"
+    "  --orders                its result may depend on the order of its work-items: `ordered` is no fault\n"
     "  --workers N             N workers run the groups of the launch (1 to 16)\n"
     "  --budget N              the most ticks of a work-item (1 to 1000000000; by profile to 1000000)\n"
     "  --limits profile|large  what the device allows: large without this option\n"
@@ -173,6 +175,10 @@ static int read_long(request *r, size_counts *counts, int left, char **words) {
     const char *option = copy_text(r->arena, *words, n), *value = (*words)[n] ? *words + n + 1 : NULL;
     if (!strcmp(*words, "--uniform")) {
         setenv("CLSIM_UNIFORM", "1", 1);
+        return 1;
+    }
+    if (!strcmp(*words, "--orders")) {
+        r->has_orders = true;
         return 1;
     }
     if (!takes_value(option)) stop("there is no option %s: clsim-kernel --help lists them", *words);

@@ -53,13 +53,13 @@ arg k 1 buffer b
 launch k 2 2
 """
 OPTIONS = [(["--uniform"], "CLSIM_UNIFORM=1"), (["--widen"], "CLSIM_WIDEN=1"), (["--check-api"], "CLSIM_CHECK_API=1"),
-           (["--on-fault", "go"], "CLSIM_ON_FAULT=go"), (["--script", "a b"], "CLSIM_SCRIPT=a b"),
-           (["--log", "l"], "CLSIM_LOG=l"), (["--workers", "3"], "CLSIM_WORKERS=3"),
-           (["--budget", "9"], "CLSIM_BUDGET=9"), (["--budget", "1000000000"], "CLSIM_BUDGET=1000000000"),
+           (["--orders"], "CLSIM_ORDERS=always"), (["--on-fault", "go"], "CLSIM_ON_FAULT=go"),
+           (["--script", "a b"], "CLSIM_SCRIPT=a b"), (["--log", "l"], "CLSIM_LOG=l"),
+           (["--workers", "3"], "CLSIM_WORKERS=3"), (["--budget", "9"], "CLSIM_BUDGET=9"),
+           (["--budget", "1000000000"], "CLSIM_BUDGET=1000000000"),
            (["--limits", "profile", "--budget", "1000000"], "CLSIM_BUDGET=1000000"),
-           (["--local", "7"], "CLSIM_LOCAL=7"),
-           (["--limits", "profile"], "CLSIM_LIMITS=profile")]
-WRONG = [(["--sarif"], "--sarif takes a value"), (["--orders"], "there is no option --orders"),
+           (["--local", "7"], "CLSIM_LOCAL=7"), (["--limits", "profile"], "CLSIM_LIMITS=profile")]
+WRONG = [(["--sarif"], "--sarif takes a value"), (["--order"], "there is no option --order:"),
          (["--limits", "x", "true"], "--limits takes profile or large, and not x"),
          (["--workers", "17", "true"], "--workers takes a number from 1 to 16, and not 17"),
          (["--workers", "two", "true"], "--workers takes a number from 1 to 16, and not two"),

@@ -27,7 +27,10 @@ RULES = {
     "divide_overflow": "A division whose quotient does not fit its type",
     "budget": "A work-item that uses up its budget of accesses, barriers and turns of loops",
     "flags": "An access that the flags of its buffer forbid",
+    "ordered": "A launch that goes on with the bytes of one order of its work-items, on which its result depends",
 }
+# what is no fault
+WARNINGS = ["ordered"]
 
 # of a source that doesn't build: the faults that `clsim check` names
 REFUSALS = {
@@ -177,7 +180,7 @@ def result(whole):
         places = [location(whole, files, line, "the launch")]
     found = {
         "ruleId": "clsim/" + whole["fault"]["name"],
-        "level": "error",
+        "level": "warning" if whole["fault"]["name"] in WARNINGS else "error",
         "message": {"text": "; ".join([whole["fault"]["line"], *argument_texts(whole), *reason_texts(whole)])},
         "locations": places[:1],
         "partialFingerprints": {"clsim/v1": fingerprint(whole, [spot for _, spot in spots])},
