@@ -48,7 +48,7 @@ def recorded(bench, path):
 
 def asked_for(bench, name):
     """Each launch has the word: it is told once, and each reply is `ordered`."""
-    script = bench.path("orders_always")
+    script = bench.path(f"orders_always_{name}")
     for word in ("always", "1"):
         told = bench.run([bench.path("ordered"), name], CLSIM_ORDERS=word, CLSIM_SCRIPT=script, CLSIM_STATUS="9")
         want("they are right" in told and answers(told) == 2 * LAUNCHES * [0] and not faults_in(told), told)
@@ -63,7 +63,7 @@ def asked_for(bench, name):
 def by_itself(bench, name, explains):
     """Only what is a fault order otherwise is made once more. It is told once, with its places; the later launches of
     the kernel have the word from the start. Where it isn't asked for, each such launch counts as one with a fault."""
-    script = bench.path("orders_auto")
+    script = bench.path(f"orders_auto_{name}")
     for settings, status in [({"CLSIM_ORDERS": "auto"}, 0), ({"CLSIM_ON_FAULT": "go"}, 9),
                              ({"CLSIM_ORDERS": "auto", "CLSIM_ON_FAULT": "exit"}, 0)]:
         told = bench.run([bench.path("ordered"), name], status, CLSIM_SCRIPT=script, CLSIM_STATUS="9", **settings)
@@ -83,7 +83,7 @@ def by_itself(bench, name, explains):
 
 def not_asked_for(bench, name):
     """Without the setting, and by `never`, it is a fault as any other; the script is of version 2."""
-    script = bench.path("orders_never")
+    script = bench.path(f"orders_never_{name}")
     for settings, answer in [({}, [-59] * LAUNCHES), ({"CLSIM_ORDERS": "never"}, [-59] * LAUNCHES),
                              ({"CLSIM_ORDERS": "0", "CLSIM_ON_FAULT": "go"}, [0, -59] * LAUNCHES)]:
         told = bench.run([bench.path("ordered"), name], 9, CLSIM_SCRIPT=script, CLSIM_STATUS="9", CLSIM_EXPLAIN="",
