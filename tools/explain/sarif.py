@@ -110,8 +110,8 @@ def location(whole, files, place, words=None):
 
 
 def flows(whole, files):
-    """The steps of the schedule, a thread flow for each work-item; the order of events is that of the schedule. The
-    accesses of a fault are among them, also where they come behind those that are told."""
+    """The steps of the schedule that are told, a thread flow for each work-item; the order of events is that of the
+    schedule. The accesses of a fault are among them, also where the steps only count them."""
     threads = {}
     for number, step in events_of(whole).items():
         if "item" in step and step["place"]:

@@ -175,6 +175,7 @@ fn options_of(wish: ExplainWish) -> ExplainOptions
         configuration: wish.configuration,
         as_given: wish.as_given,
         all: wish.all,
+        steps: wish.steps,
     }
 }
 

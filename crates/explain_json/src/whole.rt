@@ -14,7 +14,7 @@ use serde_json::Value;
 use std::alloc::{AllocError, Global};
 
 /// The version of the members' names and meanings, also of those of a refusal. A member more doesn't change it.
-pub(crate) const VERSION: u32 = 2;
+pub(crate) const VERSION: u32 = 3;
 
 impl ToJson for LaunchFacts {
     ghost json = { launch_data };
@@ -56,7 +56,6 @@ pub fn value_of(alloc: Global, whole: &Explanation) -> Result<Value, AllocError>
     Object::new(alloc)
         .with_value("why", Ok(why))
         .with("version", &VERSION)
-        .with("steps_left", &whole.steps_left)
         .with("steps", &whole.steps)
         .with("script", &whole.script)
         .with("schedule", &whole.schedule)

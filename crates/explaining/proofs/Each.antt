@@ -1,5 +1,5 @@
 -- Each reply of a script that is a fault or a refusal, told.
-use Rattle.std.proofs.Common.{◌≡◌, ◌+◌, ◌++◌, ◌∷◌, [], ◌∙◌, ℕ, suc, Bool, true, false, ◌⊎◌, List, Some, length, codes, inl, inr, refl, sym, ap, subst, append_assoc, arith}
+use Rattle.std.proofs.Common.{◌≡◌, ◌++◌, ◌∷◌, [], ◌∙◌, ℕ, Bool, true, false, ◌⊎◌, List, Some, length, codes, inl, inr, refl, sym, ap, subst, append_assoc}
 use Rattle.std.specs.Prelude.{MatchBool, slice_get}
 use Rattle.std.proofs.lemmas.Bool.{false≢true}
 use Rattle.std.proofs.lemmas.List.{append-nil}
@@ -16,7 +16,7 @@ use Rattle.simfile.specs.Script.{IsScript}
 use Rattle.explaining.proofs.Performing.{cleanly_more, first_behind, get_behind}
 use Rattle.explaining.specs.Every.{IsEndAdded, TellsCommand}
 use Rattle.explaining.specs.Explaining.{Found}
-use Rattle.explaining.specs.Leading.{EndsAt, HadMemory, IsFirst, IsMet, RepliesAt, StandsBehind, goes_on}
+use Rattle.explaining.specs.Leading.{EndsAt, HadMemory, IsFirst, IsMet, RepliesAt, StandsBehind, goes_on, is_done}
 use Rattle.explaining.specs.Whole.{IsHeaded, SaysAll, TellsAny, TellsEach, TellsEnd, TellsReply, heading}
 use Rattle.explaining.specs.declared.facts.ExplainOptions.{ExplainOptions}
 use Rattle.explaining.specs.declared.walks.Walked.{Walked}
@@ -50,29 +50,30 @@ stands_at commands before new c ticket r w ends at step = go w ends
 
 -- what is told of the end of a walk is told of the reply
 tells_reply :
-    (options : ExplainOptions) (script : List ℕ) (commands : List Command) (m : Machine) (ticket : ℕ) (r : Reply) (w : Walked) (text : List ℕ) → EndsAt ticket r w
-    → TellsEnd options script commands m w text → TellsReply options script commands m ticket r text
-tells_reply options script commands m ticket r walked.Clean text h tells = absurd h
-tells_reply options script commands m ticket r (walked.Faulted case) text (same, is) tells =
-    subst (λ (a : Reply). TellsReply options script commands m ticket a text) (sym is)
-    (subst (λ n. TellsReply options script commands m n (reply.Fault case.fault case.schedule) text) same tells)
-tells_reply options script commands m ticket r (walked.Unbuilt build) text (same, is) tells =
-    subst (λ (a : Reply). TellsReply options script commands m ticket a text) (sym is)
-    (subst (λ n. TellsReply options script commands m n (reply.Refused (refusal.BuildFailed build.fault)) text) same tells)
-tells_reply options script commands m ticket r (walked.Refused case) text (same, is) tells =
-    subst (λ (a : Reply). TellsReply options script commands m ticket a text) (sym is)
-    (subst (λ n. TellsReply options script commands m n (reply.Refused case.refusal) text) same tells)
+    (options : ExplainOptions) (script : List ℕ) (commands : List Command) (done : List Bool) (m : Machine) (ticket : ℕ) (r : Reply) (w : Walked) (text : List ℕ) → EndsAt ticket r w
+    → TellsEnd options script commands done m w text → TellsReply options script commands done m ticket r text
+tells_reply options script commands done m ticket r walked.Clean text h tells = absurd h
+tells_reply options script commands done m ticket r (walked.Faulted case) text (same, is) tells =
+    subst (λ (a : Reply). TellsReply options script commands done m ticket a text) (sym is)
+    (subst (λ n. TellsReply options script commands done m n (reply.Fault case.fault case.schedule) text) same tells)
+tells_reply options script commands done m ticket r (walked.Unbuilt build) text (same, is) tells =
+    subst (λ (a : Reply). TellsReply options script commands done m ticket a text) (sym is)
+    (subst (λ n. TellsReply options script commands done m n (reply.Refused (refusal.BuildFailed build.fault)) text) same tells)
+tells_reply options script commands done m ticket r (walked.Refused case) text (same, is) tells =
+    subst (λ (a : Reply). TellsReply options script commands done m ticket a text) (sym is)
+    (subst (λ n. TellsReply options script commands done m n (reply.Refused case.refusal) text) same tells)
 
 -- of a reply that goes on nothing is told
 pub goes_told :
-    (options : ExplainOptions) (script : List ℕ) (commands : List Command) (ticket : ℕ) (old : Machine) (c : Command) (new : Machine) (r : Reply) (text : List ℕ) (met : Bool) → Step old c r new
-    → HadMemory r → goes_on r ≡ true → TellsCommand options script commands ticket old c new text text met met
-goes_told options script commands ticket old c new r text met step memory on = record {
+    (options : ExplainOptions) (script : List ℕ) (commands : List Command) (done all : List Bool) (old : Machine) (c : Command) (new : Machine) (r : Reply) (text : List ℕ) (met : Bool)
+    → Step old c r new → HadMemory r → all ≡ done ++ is_done r ∷ [] → goes_on r ≡ true → TellsCommand options script commands done old c new all text text met met
+goes_told options script commands done all old c new r text met step memory noted on = record {
   answer = r;
   replied = step;
   memory = memory;
+  noted = noted;
   part = [];
-  tells = subst (λ b. MatchBool b (◌≡◌ {A = List ℕ} [] []) (IsHeaded options script commands new ticket r [])) (sym on) refl;
+  tells = subst (λ b. MatchBool b (◌≡◌ {A = List ℕ} [] []) (IsHeaded options script commands all new (length done) r [])) (sym on) refl;
   added = sym (append-nil text);
   stays = λ e. refl;
   turns = λ e. absurd (false≢true (sym e ∙ on));
@@ -80,15 +81,16 @@ goes_told options script commands ticket old c new r text met step memory on = r
 
 -- and of another one what is told of the end of a walk
 pub end_told :
-    (options : ExplainOptions) (script : List ℕ) (commands : List Command) (ticket at : ℕ) (old : Machine) (c : Command) (new : Machine) (r : Reply) (w : Walked) (before after : List ℕ) (met : Bool)
-    → Step old c r new → HadMemory r → ticket ≡ at → EndsAt ticket r w → IsEndAdded options script commands new ticket w before after
-    → TellsCommand options script commands at old c new before after met true
-end_told options script commands ticket at old c new r w before after met step memory same ends told = record {
+    (options : ExplainOptions) (script : List ℕ) (commands : List Command) (done all : List Bool) (ticket : ℕ) (old : Machine) (c : Command) (new : Machine) (r : Reply) (w : Walked) (before after : List ℕ) (met : Bool)
+    → Step old c r new → HadMemory r → all ≡ done ++ is_done r ∷ [] → ticket ≡ length done → EndsAt ticket r w → IsEndAdded options script commands all new ticket w before after
+    → TellsCommand options script commands done old c new all before after met true
+end_told options script commands done all ticket old c new r w before after met step memory noted same ends told = record {
   answer = r;
   replied = step;
   memory = memory;
+  noted = noted;
   part = part;
-  tells = subst (λ n. TellsAny options script commands new n r part) same any;
+  tells = subst (λ n. TellsAny options script commands all new n r part) same any;
   added = told.added;
   stays = λ e. absurd (false≢true (sym (ends_false ticket r w ends) ∙ e));
   turns = λ e. refl;
@@ -97,56 +99,55 @@ end_told options script commands ticket at old c new r w before after met step m
     part : List ℕ
     part = heading options.format ticket told.place.line ++ told.own
 
-    headed : IsHeaded options script commands new ticket r part
-    headed = record { place = told.place; stands = told.stands; own = told.own; tells = tells_reply options script commands new ticket r w told.own ends told.tells; whole = refl }
+    headed : IsHeaded options script commands all new ticket r part
+    headed = record { place = told.place; stands = told.stands; own = told.own; tells = tells_reply options script commands all new ticket r w told.own ends told.tells; whole = refl }
 
-    any : TellsAny options script commands new ticket r part
-    any = subst (λ b. MatchBool b (part ≡ []) (IsHeaded options script commands new ticket r part)) (sym (ends_false ticket r w ends)) headed
+    any : TellsAny options script commands all new ticket r part
+    any = subst (λ b. MatchBool b (part ≡ []) (IsHeaded options script commands all new ticket r part)) (sym (ends_false ticket r w ends)) headed
 
 -- one command more is told
 pub each_more :
-    (options : ExplainOptions) (script : List ℕ) (commands : List Command) (n : ℕ) (old now new : Machine) (done : List Command) (c : Command) (r : Reply) (at : ℕ) (text part whole : List ℕ)
-    → TellsEach options script commands n old done now text → Step now c r new → HadMemory r → at ≡ n + length done → TellsAny options script commands new at r part → whole ≡ text ++ part
-    → TellsEach options script commands n old (done ++ c ∷ []) new whole
-each_more options script commands n old now new [] c r at text part whole (same, empty) step memory counted tells added =
-    let here : at ≡ n = omega (arith, counted) in (
-      new,
-      r,
-      part,
-      [],
-      subst (λ m. Step m c r new) same step,
-      memory,
-      subst (λ k. TellsAny options script commands new k r part) here tells,
-      (refl, refl),
-      added ∙ ap (λ t. t ++ part) empty ∙ sym (append-nil part),
-    )
-each_more options script commands n old now new (d ∷ done) c r at text part whole (mid, s, first, rest, did, had, any, more, split) step memory counted tells added =
-    let behind : at ≡ suc n + length done = omega (arith, counted) in (
-      mid,
-      s,
-      first,
-      rest ++ part,
-      did,
-      had,
-      any,
-      each_more options script commands (suc n) mid now new done c r at rest part (rest ++ part) more step memory behind tells refl,
-      added ∙ ap (λ t. t ++ part) split ∙ append_assoc first rest part,
-    )
+    (options : ExplainOptions) (script : List ℕ) (commands : List Command) (first_done : List Bool) (old now new : Machine) (done : List Command) (c : Command) (r : Reply) (all : List Bool) (text part whole : List ℕ)
+    → TellsEach options script commands first_done old done now all text → Step now c r new → HadMemory r → TellsAny options script commands (all ++ is_done r ∷ []) new (length all) r part
+    → whole ≡ text ++ part → TellsEach options script commands first_done old (done ++ c ∷ []) new (all ++ is_done r ∷ []) whole
+each_more options script commands first_done old now new [] c r all text part whole (same, kept, empty) step memory tells added = (
+  new,
+  r,
+  part,
+  [],
+  subst (λ m. Step m c r new) same step,
+  memory,
+  subst (λ (l : List Bool). TellsAny options script commands (l ++ is_done r ∷ []) new (length l) r part) kept tells,
+  (refl, ap (λ l. l ++ is_done r ∷ []) kept, refl),
+  added ∙ ap (λ t. t ++ part) empty ∙ sym (append-nil part),
+)
+each_more options script commands first_done old now new (d ∷ done) c r all text part whole (mid, s, first, rest, did, had, any, more, split) step memory tells added = (
+  mid,
+  s,
+  first,
+  rest ++ part,
+  did,
+  had,
+  any,
+  each_more options script commands (first_done ++ is_done s ∷ []) mid now new done c r all rest part (rest ++ part) more step memory tells refl,
+  added ∙ ap (λ t. t ++ part) split ∙ append_assoc first rest part,
+)
 
--- a command is told behind those that were done
+-- a command is told behind others
 pub command_more :
-    (options : ExplainOptions) (script : List ℕ) (commands : List Command) (old now new : Machine) (done : List Command) (c : Command) (at : ℕ) (text whole : List ℕ) (met met' : Bool)
-    → TellsEach options script commands 0 old done now text → at ≡ length done → TellsCommand options script commands at now c new text whole met met'
-    → TellsEach options script commands 0 old (done ++ c ∷ []) new whole
-command_more options script commands old now new done c at text whole met met' each counted told =
-    let here : at ≡ 0 + length done = omega (arith, counted) in
-    each_more options script commands 0 old now new done c told.answer at text told.part whole each told.replied told.memory here told.tells told.added
+    (options : ExplainOptions) (script : List ℕ) (commands : List Command) (old now new : Machine) (done : List Command) (c : Command) (flags all : List Bool) (text whole : List ℕ) (met met' : Bool)
+    → TellsEach options script commands [] old done now flags text → TellsCommand options script commands flags now c new all text whole met met'
+    → TellsEach options script commands [] old (done ++ c ∷ []) new all whole
+command_more options script commands old now new done c flags all text whole met met' each told =
+    subst (λ (l : List Bool). TellsEach options script commands [] old (done ++ c ∷ []) new l whole) (sym told.noted)
+    (each_more options script commands [] old now new done c told.answer flags text told.part whole each told.replied told.memory
+    (subst (λ (l : List Bool). TellsAny options script commands l new (length flags) told.answer told.part) told.noted told.tells) told.added)
 
 -- and whether a fault or a refusal was met
 pub met_more :
-    (options : ExplainOptions) (script : List ℕ) (all : List Command) (old now new : Machine) (commands done rest : List Command) (c : Command) (at : ℕ) (text whole : List ℕ) (met met' : Bool)
-    → commands ≡ done ++ c ∷ rest → IsMet old commands done now met → TellsCommand options script all at now c new text whole met met' → IsMet old commands (done ++ c ∷ []) new met'
-met_more options script all old now new commands done rest c at text whole met met' split so_far told = go (goes_on told.answer) refl met so_far told.stays
+    (options : ExplainOptions) (script : List ℕ) (all : List Command) (old now new : Machine) (commands done rest : List Command) (c : Command) (flags flags' : List Bool) (text whole : List ℕ) (met met' : Bool)
+    → commands ≡ done ++ c ∷ rest → IsMet old commands done now met → TellsCommand options script all flags now c new flags' text whole met met' → IsMet old commands (done ++ c ∷ []) new met'
+met_more options script all old now new commands done rest c flags flags' text whole met met' split so_far told = go (goes_on told.answer) refl met so_far told.stays
   where
     go : (b : Bool) → goes_on told.answer ≡ b → (met : Bool) → IsMet old commands done now met → (goes_on told.answer ≡ true → met' ≡ met) → IsMet old commands (done ++ c ∷ []) new met'
     go true e true h stays = subst (IsMet old commands (done ++ c ∷ []) new) (sym (stays e)) h
@@ -184,16 +185,22 @@ found_all configuration script commands same first m met answer is equal opened 
     (found configuration script commands m met is (subst (λ (s : Machine). IsMet s commands commands m met) opened (subst (λ (l : List Command). IsMet first l l m met) equal h)))
 
 pub says_all :
-    (options : ExplainOptions) (script : List ℕ) (commands same : List Command) (first m : Machine) (met answer : Bool) (told text : List ℕ) → IsScript script commands → same ≡ commands
-    → first ≡ opening options.configuration → TellsEach options script commands 0 first same m told → answer ≡ met → (met ≡ true → text ≡ told) → (met ≡ false → text ≡ codes "clean\n")
-    → SaysAll options script answer text
-says_all options script commands same first m met answer told text is equal opened each answered some none = subst (λ y. SaysAll options script y text) (sym answered) (go met some none)
+    (options : ExplainOptions) (script : List ℕ) (commands same : List Command) (done : List Bool) (first m : Machine) (met answer : Bool) (told text : List ℕ) → IsScript script commands
+    → same ≡ commands → first ≡ opening options.configuration → TellsEach options script commands [] first same m done told → answer ≡ met → (met ≡ true → text ≡ told)
+    → (met ≡ false → text ≡ codes "clean\n") → SaysAll options script answer text
+says_all options script commands same done first m met answer told text is equal opened each answered some none = subst (λ y. SaysAll options script y text) (sym answered) (go met some none)
   where
-    here : TellsEach options script commands 0 (opening options.configuration) commands m told
+    here : TellsEach options script commands [] (opening options.configuration) commands m done told
     here =
-        subst (λ (s : Machine). TellsEach options script commands 0 s commands m told) opened (subst (λ (l : List Command). TellsEach options script commands 0 first l m told) equal each)
+        subst (λ (s : Machine). TellsEach options script commands [] s commands m done told) opened
+        (subst (λ (l : List Command). TellsEach options script commands [] first l m done told) equal each)
 
     go : (b : Bool) → (b ≡ true → text ≡ told) → (b ≡ false → text ≡ codes "clean\n") → SaysAll options script b text
-    go true some none =
-        record { commands = commands; machine = m; is = is; each = subst (λ (t : List ℕ). TellsEach options script commands 0 (opening options.configuration) commands m t) (sym (some refl)) here }
+    go true some none = record {
+      commands = commands;
+      machine = m;
+      done = done;
+      is = is;
+      each = subst (λ (t : List ℕ). TellsEach options script commands [] (opening options.configuration) commands m done t) (sym (some refl)) here;
+    }
     go false some none = none refl

@@ -9,7 +9,8 @@ use Rattle.host_commands.specs.declared.command.Reply.TheVariants as reply
 use Rattle.simfile.specs.Faults.{NoScript}
 use Rattle.simfile.specs.Script.{IsScript}
 use Rattle.explaining.proofs.Faulting.{faults, told_unless}
-use Rattle.explaining.specs.Explaining.{Found, Untold}
+use Rattle.telling.specs.Judged.{Untold}
+use Rattle.explaining.specs.Explaining.{Found}
 use Rattle.explaining.specs.Leading.{IsFirst, RepliesAt, StandsBehind, WalkedTo, is_end}
 use Rattle.simfile.specs.declared.faults.RunFault.{RunFault}
 use Rattle.explaining.specs.declared.walks.Case.{Case}

@@ -1,5 +1,5 @@
 -- Commands that are performed one after another, up to one whose reply is to be explained (own).
-use Rattle.std.specs.Prelude.{◌≡◌, ℕ, Bool, true, false, ⊤, Some, List, [], ◌∷◌, take, slice_get}
+use Rattle.std.specs.Prelude.{◌≡◌, ℕ, Bool, true, false, ⊤, Some, List, [], ◌∷◌, ◌++◌, replicate, take, slice_get}
 use Rattle.device.specs.Machine.{Machine, Step}
 use Rattle.host_commands.specs.declared.command.Command.{Command}
 use Rattle.host_commands.specs.declared.command.Refusal.TheVariants as refusal
@@ -12,10 +12,20 @@ use Rattle.explaining.specs.declared.walks.Walked.TheVariants as walked
 abbrev pub HadMemory : Reply → Type 0
 HadMemory r = r ≡ reply.Refused refusal.OutOfMemory → ⊥
 
--- the commands lead from a machine to another, and none is refused for want of memory
-abbrev pub Leads : Machine → List Command → Machine → Type 0
-Leads old [] new = new ≡ old
-Leads old (c ∷ cs) new = (mid : Machine) × (r : Reply) × Step old c r mid × HadMemory r × Leads mid cs new
+-- whether a command was done that has this reply, and not refused
+abbrev pub is_done : Reply → Bool
+is_done reply.Done = true
+is_done (reply.Data bytes) = true
+is_done reply.Clean = true
+is_done reply.Ordered = true
+is_done (reply.Fault f runs) = true
+is_done (reply.Refused r) = false
+
+-- The commands lead from a machine to another, and none is refused for want of memory. By its reply each was done, or
+-- not.
+abbrev pub Leads : Machine → List Command → Machine → List Bool → Type 0
+Leads old [] new done = (new ≡ old) × (done ≡ [])
+Leads old (c ∷ cs) new done = (mid : Machine) × (r : Reply) × (rest : List Bool) × Step old c r mid × HadMemory r × Leads mid cs new rest × (done ≡ is_done r ∷ rest)
 
 -- whether a reply is neither a fault nor a refusal
 abbrev pub goes_on : Reply → Bool
@@ -52,6 +62,17 @@ WalkedTo old commands new walked.Clean = LeadsCleanly old commands new
 WalkedTo old commands new (walked.Faulted case) = IsFirst old commands new case.ticket (reply.Fault case.fault case.schedule)
 WalkedTo old commands new (walked.Unbuilt build) = IsFirst old commands new build.ticket (reply.Refused (refusal.BuildFailed build.fault))
 WalkedTo old commands new (walked.Refused case) = IsFirst old commands new case.ticket (reply.Refused case.refusal)
+
+-- whether each command was done up to the one of a number, which has this reply: those before it were
+abbrev pub done_to : ℕ → Reply → List Bool
+done_to ticket r = replicate ticket true ++ is_done r ∷ []
+
+-- the same of what a walk ends at
+abbrev pub IsNoted : Walked → List Bool → Type 0
+IsNoted walked.Clean done = ⊤
+IsNoted (walked.Faulted case) done = done ≡ done_to case.ticket (reply.Fault case.fault case.schedule)
+IsNoted (walked.Unbuilt build) done = done ≡ done_to build.ticket (reply.Refused (refusal.BuildFailed build.fault))
+IsNoted (walked.Refused case) done = done ≡ done_to case.ticket (reply.Refused case.refusal)
 
 -- the command of a number gets this reply, behind which a machine is this one
 pub record RepliesAt (commands : List Command) (new : Machine) (ticket : ℕ) (r : Reply) : Type 0 where

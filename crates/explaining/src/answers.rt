@@ -6,12 +6,12 @@ ghost use Rattle.byte_io.specs.Sink.{Puts};
 ghost use Rattle.explaining.specs.Whole.{AnswersTo, IsTextOf};
 
 use crate::facts::Format;
-use crate::told::ExplainedCase;
 use byte_io::{Write, WriteFailed};
 use explain_json::json_of;
 use explain_text::text_of;
 use explanation::Explanation;
 use std::alloc::{AllocError, Global};
+use telling::ExplainedCase;
 
 /// A text, and whether it explains something.
 #[derive(Drop)]

@@ -1,7 +1,7 @@
 //! What a walk over the commands of a script ended at, told.
 #![tactic(auto)]
 
-ghost use Rattle.std.specs.Prelude.{◌≡◌, IfOk, IfErr, string_bytes};
+ghost use Rattle.std.specs.Prelude.{IfOk, IfErr, string_bytes};
 ghost use Rattle.device.specs.Machine.{machine_of};
 ghost use Rattle.host_commands.specs.declared.command.Reply.TheVariants as reply;
 ghost use Rattle.simfile.specs.Faults.{NoScript};
@@ -11,8 +11,8 @@ ghost use Rattle.explaining.specs.Whole.{TellsEnd, TellsFaulted};
 
 use crate::answers::answer_of;
 use crate::building::explain_unbuilt;
+use crate::cases::{PerformedScript, explain_case};
 use crate::refusing::explain_refused;
-use crate::told::{PerformedScript, explain_case};
 use crate::walks::{Case, Unbuilt, Walked};
 use device::Device;
 use simfile::faults::RunFault;
@@ -27,7 +27,7 @@ fn fault_text(
 ) -> Result<String, RunFault>
     requires placed { AreAt performed.now.given.script.now performed.now.commands.now performed.now.places.now }
     requires replied { RepliesAt performed.now.commands.now (machine_of device.now) case.ticket (reply.Fault case.fault case.schedule) }
-    ensures tells { IfOk result (λ text. TellsFaulted performed.now.options performed.now.given.script.now performed.now.commands.now (machine_of device.now) case.ticket case.fault case.schedule (string_bytes text)) }
+    ensures tells { IfOk result (λ text. TellsFaulted performed.now.options performed.now.given.script.now performed.now.commands.now performed.now.done.now (machine_of device.now) case.ticket case.fault case.schedule (string_bytes text)) }
     ensures failed { IfErr result (NoScript performed.now.given.script.now) }
 {
     let (ticket, fault) = (case.ticket, case.fault);
@@ -61,7 +61,7 @@ pub(crate) fn end_text(
 ) -> Result<String, RunFault>
     requires placed { AreAt performed.now.given.script.now performed.now.commands.now performed.now.places.now }
     requires ended { StandsBehind performed.now.commands.now (machine_of device.now) end }
-    ensures tells { IfOk result (λ text. TellsEnd performed.now.options performed.now.given.script.now performed.now.commands.now (machine_of device.now) end (string_bytes text)) }
+    ensures tells { IfOk result (λ text. TellsEnd performed.now.options performed.now.given.script.now performed.now.commands.now performed.now.done.now (machine_of device.now) end (string_bytes text)) }
     ensures failed { IfErr result (NoScript performed.now.given.script.now) }
 {
     match end {

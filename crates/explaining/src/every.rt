@@ -1,7 +1,7 @@
 //! Every fault and every refusal of a script, told one behind another.
 #![tactic(auto)]
 
-ghost use Rattle.std.specs.Prelude.{◌≡◌, ◌+◌, ◌<◌, ◌++◌, Some, true, false, codes, decimal, length, IfOk, IfErr, OnOk, slice_get, string_bytes};
+ghost use Rattle.std.specs.Prelude.{◌≡◌, ◌+◌, ◌<◌, [], ◌++◌, Bool, List, Some, true, false, codes, decimal, length, IfOk, IfErr, OnOk, slice_get, string_bytes};
 ghost use Rattle.device.specs.Machine.{machine_of};
 ghost use Rattle.simfile.specs.Faults.{NoScript};
 ghost use Rattle.simfile.specs.Places.{AreAt};
@@ -12,9 +12,9 @@ ghost use Rattle.explaining.specs.Leading.{IsMet, StandsBehind};
 ghost use Rattle.explaining.specs.Whole.{SaysAll, TellsEach, heading};
 
 use crate::answers::{Answer, word_answer};
+use crate::cases::PerformedScript;
 use crate::ends::end_text;
 use crate::facts::{ExplainOptions, Format, Given};
-use crate::told::{PerformedScript, place_of};
 use crate::walks::{Walked, end_of, perform};
 use device::{Command, Device};
 use simfile::copies::copies_of;
@@ -22,6 +22,7 @@ use simfile::faults::RunFault;
 use simfile::script::CommandPlace;
 use std::alloc::{AllocError, Global};
 use std::fmt::Write;
+use telling::place_of;
 
 /// A script that was read: what is given of it, how it is told, and its commands with their places.
 #[derive(Clone, Copy)]
@@ -85,7 +86,7 @@ fn push_end(
     requires placed { AreAt performed.now.given.script.now performed.now.commands.now performed.now.places.now }
     requires within { ticket < length performed.now.commands.now }
     requires ended { StandsBehind performed.now.commands.now (machine_of device.now) end }
-    ensures told { OnOk result (IsEndAdded performed.now.options performed.now.given.script.now performed.now.commands.now (machine_of device.now) ticket end (string_bytes out.old) (string_bytes out.new)) }
+    ensures told { OnOk result (IsEndAdded performed.now.options performed.now.given.script.now performed.now.commands.now performed.now.done.now (machine_of device.now) ticket end (string_bytes out.old) (string_bytes out.new)) }
     ensures failed { IfErr result (NoScript performed.now.given.script.now) }
 {
     let text = end_text(alloc, device, performed, end)?;
@@ -113,8 +114,8 @@ fn tell_command(
 ) -> Result<bool, RunFault>
     requires placed { AreAt script.now.given.script.now script.now.commands.now script.now.places.now }
     requires next { slice_get script.now.commands.now (length done.old.items) ≡ Some command }
-    ensures told { IfOk result (TellsCommand script.now.options script.now.given.script.now script.now.commands.now (length done.old.items) (machine_of device.old) command (machine_of device.new)
-        (string_bytes out.old) (string_bytes out.new) met) }
+    ensures told { IfOk result (TellsCommand script.now.options script.now.given.script.now script.now.commands.now done.old.items (machine_of device.old) command (machine_of device.new)
+        done.new.items (string_bytes out.old) (string_bytes out.new) met) }
     ensures counted { OnOk result (length done.new.items ≡ length done.old.items + 1) }
     ensures failed { IfErr result (NoScript script.now.given.script.now) }
 {
@@ -143,7 +144,7 @@ fn tell_commands(
 ) -> Result<Answer, RunFault>
     requires placed { AreAt script.now.given.script.now script.now.commands.now script.now.places.now }
     requires same { same.items ≡ script.now.commands.now }
-    ensures each { IfOk result (λ answer. TellsEach script.now.options script.now.given.script.now script.now.commands.now 0 (machine_of device.old) same.items (machine_of device.new) (string_bytes answer.text)) }
+    ensures each { IfOk result (λ answer. (done : List Bool) × TellsEach script.now.options script.now.given.script.now script.now.commands.now [] (machine_of device.old) same.items (machine_of device.new) done (string_bytes answer.text)) }
     ensures met { IfOk result (λ answer. IsMet (machine_of device.old) same.items same.items (machine_of device.new) answer.yes) }
     ensures failed { IfErr result (NoScript script.now.given.script.now) }
 {

@@ -113,8 +113,6 @@ pub struct Explanation {
     /// Why it comes about
     pub why: Vec<Reason>,
     pub schedule: ScheduleFacts,
-    /// The first events of the short schedule, 1,000 at most
+    /// The events of the short schedule, in their order, each told or counted
     pub steps: Vec<ToldEvent>,
-    /// How many more events it has
-    pub steps_left: u64,
 }
