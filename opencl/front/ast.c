@@ -291,9 +291,22 @@ static text named_source(arena *a, const char *source) {
     return named;
 }
 
+// The length of a text without its last line, where that is empty or says where the next one stands.
+static size_t without_last_mark(const whole *w, size_t length) {
+    size_t begin = length ? length - 1 : 0;
+    if (!length || w->at[begin] != '\n') return length;
+    while (begin && w->at[begin - 1] != '\n') begin--;
+    return length - begin == 1 || (length - begin > 2 && !memcmp(w->at + begin, "# ", 2)) ? begin : length;
+}
+
+// (clang 13 writes such lines behind a pragma)
 static bool ends_as_source(const whole *w) {
-    size_t n = sizeof last_line - 1;
-    return w->length >= n && !memcmp(w->at + w->length - n, last_line, n);
+    size_t n = sizeof last_line - 1, length = w->length;
+    for (size_t before = 0; length != before;) {
+        before = length;
+        length = without_last_mark(w, length);
+    }
+    return length >= n && !memcmp(w->at + length - n, last_line, n);
 }
 
 // OpenCL 1.2, 6.12.7: clang knows these only where it takes arithmetic of half.

@@ -66,6 +66,8 @@ esac
 printf '%s\\n' "$text" | exec {clang} "$@"
 """
 PLAIN_DUMP, PLAIN_TEXT = 'printf "%s\\n" "$REAL"', 'printf "%s\\n" "$text" | {clang} "$@"'
+# as clang 13 writes it behind a pragma
+MARKED_TEXT = PLAIN_TEXT + '; printf "# 9 \\"source\\"\\n\\n"'
 
 
 def own_processes(mark):
@@ -127,8 +129,10 @@ def main():
         bench = Bench(folder, os.path.abspath(tree), clang)
         cases = [(name, bench.fake, dump, PLAIN_TEXT, told) for name, (dump, told) in DUMPS.items()]
         cases += [(name, bench.fake, PLAIN_DUMP, text, told) for name, (text, told) in TEXTS.items()]
-        status, log, _, stays = bench.read(bench.fake(PLAIN_DUMP, PLAIN_TEXT), ENOUGH)
-        found = "" if status == 0 and not stays else f"the plain one: status {status}\n{log}"
+        found = ""
+        for name, text in [("the plain one", PLAIN_TEXT), ("one with a place behind its end", MARKED_TEXT)]:
+            status, log, _, stays = bench.read(bench.fake(PLAIN_DUMP, text), ENOUGH)
+            found = found or ("" if status == 0 and not stays else f"{name}: status {status}\n{log}")
         for name, fake, dump, text, told in cases:
             found = found or wrong(bench, name, fake(dump, text), told)
         old = bench.fake(PLAIN_DUMP, PLAIN_TEXT)
