@@ -80,8 +80,8 @@ rejected jump:0 end | 0 1
 rejected jump:1 end | 0 0
 verified jump_if_zero:0 end | 0 0
 rejected jump_if_zero:1 end | 0 0
-verified jump:1 end end | 0 8 0
-rejected jump:1 end end | 0 9 0
+verified jump:1 end end | 0 32 0
+rejected jump:1 end end | 0 33 0
 verified enter:0 end | 0 1
 rejected enter:0 end | 0 2
 rejected enter:1 end | 0 0
@@ -93,8 +93,8 @@ rejected enter:0 turn:0 back:1 | 0 1 0
 rejected enter:0 turn:0 back:2 | 0 1 1
 rejected enter:0 turn:0 back:3 | 0 1 1
 rejected turn:0 end | 0 0
-verified enter:0 enter:1 enter:2 enter:3 enter:4 enter:5 enter:6 enter:7 enter:7 end | 0 1 2 3 4 5 6 7 8 8
-rejected enter:0 enter:1 enter:2 enter:3 enter:4 enter:5 enter:6 enter:7 enter:8 end | 0 1 2 3 4 5 6 7 8 8
+verified enter:0 enter:1 enter:2 enter:3 enter:4 enter:5 enter:6 enter:7 enter:8 enter:9 enter:10 enter:11 enter:12 enter:13 enter:14 enter:15 enter:16 enter:17 enter:18 enter:19 enter:20 enter:21 enter:22 enter:23 enter:24 enter:25 enter:26 enter:27 enter:28 enter:29 enter:30 enter:31 enter:31 end | 0 1 2 3 4 5 6 7 8 9 10 11 12 13 14 15 16 17 18 19 20 21 22 23 24 25 26 27 28 29 30 31 32 32
+rejected enter:0 enter:1 enter:2 enter:3 enter:4 enter:5 enter:6 enter:7 enter:8 enter:9 enter:10 enter:11 enter:12 enter:13 enter:14 enter:15 enter:16 enter:17 enter:18 enter:19 enter:20 enter:21 enter:22 enter:23 enter:24 enter:25 enter:26 enter:27 enter:28 enter:29 enter:30 enter:31 enter:32 end | 0 1 2 3 4 5 6 7 8 9 10 11 12 13 14 15 16 17 18 19 20 21 22 23 24 25 26 27 28 29 30 31 32 32
 ";
 
 /// The instruction of a word of the table.
