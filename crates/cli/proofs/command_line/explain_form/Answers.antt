@@ -7,4 +7,4 @@ returns c =
     let whole = c.configured.ensures (codes "explain") explained c.explained.ensures in
     let given = c.with.ensures (codes "explain") (explained ++ configured) as_given whole c.flag-as_given.ensures in
     let flagged = c.with-flagged.ensures (codes "explain") ((explained ++ configured) ++ as_given ∷ []) all given c.flag-all.ensures in
-    c.with-2.ensures (codes "explain") (((explained ++ configured) ++ as_given ∷ []) ++ all ∷ []) steps flagged c.number.ensures
+    c.with-2.ensures (codes "explain") (((explained ++ configured) ++ as_given ∷ []) ++ all ∷ []) steps flagged c.number-steps.ensures
