@@ -1,6 +1,3 @@
 mod Mattering
 mod Nearest
 mod Passing
-mod ByteSets
-mod Events
-mod StepRows

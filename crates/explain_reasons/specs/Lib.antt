@@ -1,8 +1,3 @@
-pub mod Chosen
-pub mod Bytes
-pub mod Choosing
-pub mod Steps
-pub mod StepLists
 pub mod Between
 pub mod Stored
 pub mod Counted
