@@ -18,7 +18,7 @@ use Rattle.explain_items.specs.Deeds.{HaveEvents, deed_of, told_deeds}
 use Rattle.explain_items.specs.Named.{AreTold, told_items}
 use Rattle.explain_items.specs.declared.context.Context.{Context}
 use Rattle.explain_reasons.specs.Reasons.{AreReasons}
-use Rattle.explain_reasons.specs.Steps.{AreSteps}
+use Rattle.explain_steps.specs.Steps.{AreSteps}
 use Rattle.explanation.specs.declared.told.Explanation.{Explanation}
 use Rattle.explanation.specs.declared.told.FaultFacts.{FaultFacts}
 use Rattle.explanation.specs.declared.told.LaunchFacts.{LaunchFacts}

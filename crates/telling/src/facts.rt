@@ -7,7 +7,7 @@ ghost use Rattle.clmodel.specs.Setup.{group_items};
 ghost use Rattle.explain_items.specs.Deeds.{HaveEvents, deed_of, told_deeds};
 ghost use Rattle.explain_items.specs.Named.{AreToldInside, told_items};
 ghost use Rattle.explain_reasons.specs.Reasons.{AreReasons};
-ghost use Rattle.explain_reasons.specs.Steps.{AreSteps};
+ghost use Rattle.explain_steps.specs.Steps.{AreSteps};
 ghost use Rattle.item_step.specs.Launches.{setup_of};
 ghost use Rattle.spaces.specs.Buffers.{bytes_in};
 ghost use Rattle.telling.specs.Told.{AreNamed, IsSize, TellsFault, TellsLaunch, TellsNames, TellsObject, TellsPlayed, most_steps, place_in, schedule_words};
@@ -16,7 +16,8 @@ use clmodel::fault::{Fault, Location};
 use clmodel::setup::Range;
 use clmodel::text::Name;
 use explain_items::{Context, named_items};
-use explain_reasons::{MOST_STEPS, array_of, items_in, reasons_of, steps_of};
+use explain_reasons::{array_of, reasons_of};
+use explain_steps::{MOST_STEPS, items_in, steps_of};
 use explanation::{
     Explanation, FaultFacts, LaunchFacts, Memory, NamedItem, ParameterFacts, Reason, ScheduleFacts,
     ToldEvent,
