@@ -4,6 +4,7 @@ use Rattle.clmodel.specs.declared.schedule.Event.{Event}
 use Rattle.fault_play.specs.declared.played.Touch.{Touch}
 use Rattle.explain_steps.specs.Bytes.{Holds}
 use Rattle.explain_steps.specs.Chosen.{IsAwaited, IsWanted, is_theirs}
+use Rattle.explain_steps.proofs.ByteSets.{skipped_held}
 use Rattle.explain_steps.proofs.Events.{others_wanted}
 use Rattle.explain_steps.proofs.chosen.is_wanted.Goals as goal
 
@@ -28,3 +29,9 @@ returns-else-is_theirs-clause-wanted c =
     let other : is_theirs f mark.event ≡ false = ap (λ (x : Event). is_theirs f x) e ∙ sym c.is_theirs-is_theirs.ensures ∙ c.if-is_theirs.false in
     subst (λ (o : Option (Bor Touch)). Decides c.in_ok-is_given-in-Some.is_given (IsWanted f mark (option_copied o) later)) (sym c.in-Some.is)
     (others_wanted f mark c.in-Some.touch.now later c.in_ok-is_given-in-Some.is_given other (c.in_ok-is_given-in-Some.ensures.given f later h))
+
+pub returns-in-None-clause-held : goal.returns-in-None-clause-held
+returns-in-None-clause-held c =
+    λ mark later e h.
+    let f = c.args.followed in
+    subst (λ (o : Option (Bor Touch)). Holds c.args.awaited.now (IsAwaited f ((mark, option_copied o) ∷ later))) (sym c.in-None.is) (skipped_held f mark later c.args.awaited.now h)
