@@ -1,4 +1,5 @@
 pub mod Searches
 pub mod Accesses
 pub mod Turns
+pub mod Noted
 pub mod Going

@@ -2,3 +2,4 @@ pub mod Races
 pub mod Stepping
 pub mod Groups
 pub mod Outcomes
+pub mod Watched

@@ -5,16 +5,16 @@ ghost use Rattle.clmodel.specs.Run.{State, next_action, same_stop};
 ghost use Rattle.clmodel.specs.declared.action.Stop.{Stop as TheStop};
 ghost use Rattle.clmodel.specs.declared.fault.Fault.TheVariants as faults;
 ghost use Rattle.launches.specs.Groups.{IsRunnable};
-ghost use Rattle.replay.specs.States.{IsAt};
+ghost use Rattle.ordered_play.specs.Watched.{IsWatched};
 ghost use Rattle.ordered_play.specs.Groups.{Gathers, GathersOrReports, Reached, ReachedOrReports, is_barrier};
 
 use crate::stepping::{Stepped, step_item};
+use crate::watching::Watched;
 use clmodel::action::{Action, Stop};
 use clmodel::fault::Fault;
 use clmodel::schedule::Event;
 use group_run::Runs;
 use launches::{Runnable, same_stop};
-use replay::Player;
 use std::alloc::{AllocError, Global};
 use std::mem::replace;
 
@@ -45,7 +45,7 @@ fn stop_at(first: u32, item: u32, stop: Stop, leading: &mut Option<Stop>) -> Opt
 fn run_item<D: Runnable>(
     alloc: Global,
     launch: &D,
-    player: &mut Player<'_, D>,
+    watched: &mut Watched<'_, D>,
     group: u32,
     k: u32,
     leading: &mut Option<Stop>,
@@ -54,14 +54,14 @@ fn run_item<D: Runnable>(
     requires runnable { IsRunnable (D.launch launch.now) }
     requires inside { k < (D.launch launch.now).group_size }
     requires there { group * (D.launch launch.now).group_size < (D.launch launch.now).items }
-    requires gathers { Gathers (D.launch launch.now) group (IsAt D.launch D.started (D.launch launch.now) (D.started launch.now) player.old) runs.old k leading.old }
+    requires gathers { Gathers (D.launch launch.now) group (IsWatched D.launch D.started (D.launch launch.now) (D.started launch.now) watched.old) runs.old k leading.old }
     ensures grows { length runs.old ≤ length runs.new }
-    ensures ran { IfOk result (GathersOrReports (D.launch launch.now) group (IsAt D.launch D.started (D.launch launch.now) (D.started launch.now) player.new) runs.new (k + 1) leading.new) }
+    ensures ran { IfOk result (GathersOrReports (D.launch launch.now) group (IsWatched D.launch D.started (D.launch launch.now) (D.started launch.now) watched.new) runs.new (k + 1) leading.new) }
 {
     let first = group * launch.group_size();
     let item = first + k;
     'steps: loop {
-        match step_item(alloc, launch, player, item)? {
+        match step_item(alloc, launch, watched, item)? {
             Stepped::Made => runs.push(Event::Item(item))?,
             Stepped::Races(fault) => {
                 runs.push(Event::Item(item))?;
@@ -77,19 +77,19 @@ fn run_item<D: Runnable>(
 fn run_interval<D: Runnable>(
     alloc: Global,
     launch: &D,
-    player: &mut Player<'_, D>,
+    watched: &mut Watched<'_, D>,
     group: u32,
     runs: &mut Runs,
 ) -> Result<Option<Fault>, AllocError>
     requires runnable { IsRunnable (D.launch launch.now) }
     requires there { group * (D.launch launch.now).group_size < (D.launch launch.now).items }
-    requires reached { Reached (D.launch launch.now) group (IsAt D.launch D.started (D.launch launch.now) (D.started launch.now) player.old) runs.old }
+    requires reached { Reached (D.launch launch.now) group (IsWatched D.launch D.started (D.launch launch.now) (D.started launch.now) watched.old) runs.old }
     ensures grows { length runs.old ≤ length runs.new }
-    ensures ran { IfOk result (λ report. (leading : Option TheStop) × GathersOrReports (D.launch launch.now) group (IsAt D.launch D.started (D.launch launch.now) (D.started launch.now) player.new) runs.new (D.launch launch.now).group_size leading report) }
+    ensures ran { IfOk result (λ report. (leading : Option TheStop) × GathersOrReports (D.launch launch.now) group (IsWatched D.launch D.started (D.launch launch.now) (D.started launch.now) watched.new) runs.new (D.launch launch.now).group_size leading report) }
 {
     let mut leading = None;
     for k in 0..launch.group_size() {
-        match run_item(alloc, launch, player, group, k, &mut leading, runs)? {
+        match run_item(alloc, launch, watched, group, k, &mut leading, runs)? {
             None => {}
             Some(fault) => return Ok(Some(fault)),
         }
@@ -108,12 +108,16 @@ fn is_barrier(action: &Action) -> bool
 }
 
 /// Whether an item waits at a barrier (OpenCL 1.2, section 6.12.8). An error is out of memory.
-fn waits<D: Runnable>(launch: &D, player: &mut Player<'_, D>, item: u32) -> Result<bool, AllocError>
-    requires { (state : State) × IsAt D.launch D.started (D.launch launch.now) (D.started launch.now) player.old state × (item < (D.launch launch.now).items) }
-    ensures same { (state : State) → IsAt D.launch D.started (D.launch launch.now) (D.started launch.now) player.old state → IsAt D.launch D.started (D.launch launch.now) (D.started launch.now) player.new state }
-    ensures value { IfOk result (λ yes. (state : State) → IsAt D.launch D.started (D.launch launch.now) (D.started launch.now) player.old state → is_barrier (next_action (D.launch launch.now) state item) ≡ yes) }
+fn waits<D: Runnable>(
+    launch: &D,
+    watched: &mut Watched<'_, D>,
+    item: u32,
+) -> Result<bool, AllocError>
+    requires { (state : State) × IsWatched D.launch D.started (D.launch launch.now) (D.started launch.now) watched.old state × (item < (D.launch launch.now).items) }
+    ensures same { (state : State) → IsWatched D.launch D.started (D.launch launch.now) (D.started launch.now) watched.old state → IsWatched D.launch D.started (D.launch launch.now) (D.started launch.now) watched.new state }
+    ensures value { IfOk result (λ yes. (state : State) → IsWatched D.launch D.started (D.launch launch.now) (D.started launch.now) watched.old state → is_barrier (next_action (D.launch launch.now) state item) ≡ yes) }
 {
-    match player.action(item)? {
+    match watched.action(item)? {
         Some(action) => Ok(is_barrier(&action)),
         None => unreachable!(),
     }
@@ -123,26 +127,26 @@ fn waits<D: Runnable>(launch: &D, player: &mut Player<'_, D>, item: u32) -> Resu
 fn run_group<D: Runnable>(
     alloc: Global,
     launch: &D,
-    player: &mut Player<'_, D>,
+    watched: &mut Watched<'_, D>,
     group: u32,
     runs: &mut Runs,
 ) -> Result<Option<Fault>, AllocError>
     requires runnable { IsRunnable (D.launch launch.now) }
     requires there { group * (D.launch launch.now).group_size < (D.launch launch.now).items }
-    requires reached { Reached (D.launch launch.now) group (IsAt D.launch D.started (D.launch launch.now) (D.started launch.now) player.old) runs.old }
-    ensures { IfOk result (ReachedOrReports (D.launch launch.now) (group + 1) (IsAt D.launch D.started (D.launch launch.now) (D.started launch.now) player.new) runs.new) }
+    requires reached { Reached (D.launch launch.now) group (IsWatched D.launch D.started (D.launch launch.now) (D.started launch.now) watched.old) runs.old }
+    ensures { IfOk result (ReachedOrReports (D.launch launch.now) (group + 1) (IsWatched D.launch D.started (D.launch launch.now) (D.started launch.now) watched.new) runs.new) }
 {
     let first = group * launch.group_size();
     'intervals: loop {
-        match run_interval(alloc, launch, player, group, runs)? {
+        match run_interval(alloc, launch, watched, group, runs)? {
             None => {}
             Some(fault) => return Ok(Some(fault)),
         }
         // All items are at one stop; where it is no barrier, they have ended.
-        if !waits(launch, player, first)? {
+        if !waits(launch, watched, first)? {
             return Ok(None);
         }
-        if !player.play_release(group)? {
+        if !watched.play_release(group)? {
             unreachable!();
         }
         runs.push(Event::Release(group))?;
@@ -154,17 +158,17 @@ fn run_group<D: Runnable>(
 pub fn run_groups<D: Runnable>(
     alloc: Global,
     launch: &D,
-    player: &mut Player<'_, D>,
+    watched: &mut Watched<'_, D>,
     groups: u32,
     runs: &mut Runs,
 ) -> Result<Option<Fault>, AllocError>
     requires runnable { IsRunnable (D.launch launch.now) }
     requires counted { groups * (D.launch launch.now).group_size ≡ (D.launch launch.now).items }
-    requires reached { Reached (D.launch launch.now) 0 (IsAt D.launch D.started (D.launch launch.now) (D.started launch.now) player.old) runs.old }
-    ensures { IfOk result (ReachedOrReports (D.launch launch.now) groups (IsAt D.launch D.started (D.launch launch.now) (D.started launch.now) player.new) runs.new) }
+    requires reached { Reached (D.launch launch.now) 0 (IsWatched D.launch D.started (D.launch launch.now) (D.started launch.now) watched.old) runs.old }
+    ensures { IfOk result (ReachedOrReports (D.launch launch.now) groups (IsWatched D.launch D.started (D.launch launch.now) (D.started launch.now) watched.new) runs.new) }
 {
     for group in 0..groups {
-        match run_group(alloc, launch, player, group, runs)? {
+        match run_group(alloc, launch, watched, group, runs)? {
             None => {}
             Some(fault) => return Ok(Some(fault)),
         }

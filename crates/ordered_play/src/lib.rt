@@ -16,7 +16,9 @@ mod groups;
 mod ordered;
 mod races;
 mod stepping;
+mod watching;
 
 pub use ordered::{OrderedEnd, run_ordered};
 pub use races::newest_race;
 pub use stepping::{Stepped, step_item};
+pub use watching::Watched;

@@ -8,6 +8,7 @@ ghost use Rattle.spaces.specs.Buffers.{bytes_in};
 ghost use Rattle.ordered_play.specs.Outcomes.{IsOrderedEnd};
 
 use crate::groups::run_groups;
+use crate::watching::Watched;
 use clmodel::fault::Fault;
 use clmodel::schedule::Schedule;
 use group_run::Runs;
@@ -15,7 +16,7 @@ use item_step::Launch;
 use launches::laws::setups_are_runnable;
 use launches::{LoadedLaunch, group_count};
 use ordered_runs::laws::report_is_reached;
-use replay::{Player, copies};
+use replay::copies;
 use spaces::{Buffers, Plain};
 use std::alloc::{AllocError, Global};
 
@@ -29,8 +30,8 @@ pub enum OrderedEnd {
 }
 
 /// The ordered run of a launch of any number of work-groups (OpenCL 1.2, sections 3.2 and 5.8): one group after another
-/// over one memory, where conflicts of kind order are no report. The buffers that it is given stay as they are. It
-/// takes a search among all earlier accesses for each one. An error is out of memory.
+/// over one memory, where conflicts of kind order are no report. The buffers that it is given stay as they are. An
+/// access is searched for among all earlier ones only where the filter doesn't let it by. An error is out of memory.
 pub fn run_ordered(
     alloc: Global,
     launch: &Launch<'_>,
@@ -44,12 +45,12 @@ pub fn run_ordered(
     let loaded = LoadedLaunch::new(alloc, launch, buffers);
     let groups = group_count(launch);
     let memory = copies(alloc, launch.buffer_names(), buffers)?;
-    let mut player = Player::new(alloc, &loaded, groups, memory)?;
+    let mut watched = Watched::new(alloc, &loaded, groups, memory)?;
     let mut runs = Runs::new(alloc);
-    let report = run_groups(alloc, &loaded, &mut player, groups, &mut runs)?;
+    let report = run_groups(alloc, &loaded, &mut watched, groups, &mut runs)?;
     let schedule = runs.into_schedule();
     match report {
-        None => Ok(OrderedEnd::Ended(schedule, player.into_buffers())),
+        None => Ok(OrderedEnd::Ended(schedule, watched.into_buffers())),
         Some(fault) => Ok(OrderedEnd::Faulted(fault, schedule)),
     }
 }

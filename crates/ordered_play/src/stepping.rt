@@ -1,21 +1,22 @@
 //! One item's turn.
 
-ghost use Rattle.std.specs.Prelude.{◌≡◌, ◌∷◌, ◌+◌, ◌<◌, ◌≤◌, ◌^◌, if◌then◌else◌, List, None, IfOk};
+ghost use Rattle.std.specs.Prelude.{◌≡◌, ◌∷◌, ◌+◌, ◌<◌, ◌≤◌, ◌^◌, if◌then◌else◌, List, None, true, IfOk};
 ghost use Rattle.clmodel.specs.Cells.{byte_count, lowest_unset, reads, size_of};
 ghost use Rattle.clmodel.specs.Launch.{bytes_of, group_of, region_of};
 ghost use Rattle.clmodel.specs.Run.{State, next_action};
 ghost use Rattle.clmodel.specs.declared.access.Access.{Access as TheAccess};
 ghost use Rattle.clmodel.specs.declared.action.Action.TheVariants as actions;
-ghost use Rattle.replay.specs.States.{IsAt};
+ghost use Rattle.ordered_runs.specs.Ordered.{newest_race};
 ghost use Rattle.ordered_play.specs.Stepping.{IsJudged, IsStepped};
+ghost use Rattle.ordered_play.specs.Watched.{IsWatched};
 
 use crate::races::newest_race;
+use crate::watching::Watched;
 use clmodel::access::{Object, Operation};
 use clmodel::action::{Action, Stop};
 use clmodel::fault::Fault;
 use group_run::{bounds_fault, conflict_fault, fault_of, unset_fault};
 use launches::Runnable;
-use replay::Player;
 use std::alloc::{AllocError, Global};
 
 /// What came of an item's turn.
@@ -44,31 +45,40 @@ fn reads(operation: Operation) -> bool
 /// The lowest unset byte that an operation reads of those from `first` on, which the object has.
 fn unset_of<D: Runnable>(
     launch: &D,
-    player: &Player<'_, D>,
+    watched: &Watched<'_, D>,
     item: u32,
     object: Object,
     first: u64,
     operation: Operation,
 ) -> Option<u64>
-    requires { (state : State) × IsAt D.launch D.started (D.launch launch.now) (D.started launch.now) player.now state × (item < (D.launch launch.now).items)
+    requires { (state : State) × IsWatched D.launch D.started (D.launch launch.now) (D.started launch.now) watched.now state × (item < (D.launch launch.now).items)
         × (first + size_of operation ≤ bytes_of (D.launch launch.now) (region_of (group_of (D.launch launch.now) item) object)) }
-    ensures { (state : State) → IsAt D.launch D.started (D.launch launch.now) (D.started launch.now) player.now state
+    ensures { (state : State) → IsWatched D.launch D.started (D.launch launch.now) (D.started launch.now) watched.now state
         → result ≡ (if reads operation then lowest_unset (state.memory (region_of (group_of (D.launch launch.now) item) object)) first (size_of operation) else None) }
 {
     if reads(operation) {
-        player.unset_byte(item, object, first, operation)
+        watched.player.unset_byte(item, object, first, operation)
     } else {
         None
     }
 }
 
-/// What came of an access that was made, by the race of the newest access. An error is out of memory.
-fn judge<D: Runnable>(launch: &D, player: &Player<'_, D>) -> Result<Stepped, AllocError>
-    requires { (state : State) × IsAt D.launch D.started (D.launch launch.now) (D.started launch.now) player.now state
+/// What came of an access that was made, by the race of the newest access; with `quiet` it has none. An error is out of
+/// memory.
+fn judge<D: Runnable>(
+    launch: &D,
+    watched: &Watched<'_, D>,
+    quiet: bool,
+) -> Result<Stepped, AllocError>
+    requires calm { (state : State) → IsWatched D.launch D.started (D.launch launch.now) (D.started launch.now) watched.now state → quiet ≡ true → newest_race (D.launch launch.now) state.log ≡ None }
+    requires at { (state : State) × IsWatched D.launch D.started (D.launch launch.now) (D.started launch.now) watched.now state
         × ((x : TheAccess) (earlier : List TheAccess) → state.log ≡ x ∷ earlier → x.first + byte_count x.width < 2 ^ 64) }
-    ensures { IfOk result (λ stepped. (state : State) → IsAt D.launch D.started (D.launch launch.now) (D.started launch.now) player.now state → IsJudged (D.launch launch.now) state stepped) }
+    ensures { IfOk result (λ stepped. (state : State) → IsWatched D.launch D.started (D.launch launch.now) (D.started launch.now) watched.now state → IsJudged (D.launch launch.now) state stepped) }
 {
-    match newest_race(launch, player.log()) {
+    if quiet {
+        return Ok(Stepped::Made);
+    }
+    match newest_race(launch, watched.player.log()) {
         Some(race) => Ok(Stepped::Races(conflict_fault(launch, &race)?)),
         None => Ok(Stepped::Made),
     }
@@ -78,32 +88,31 @@ fn judge<D: Runnable>(launch: &D, player: &Player<'_, D>) -> Result<Stepped, All
 fn access_item<D: Runnable>(
     alloc: Global,
     launch: &D,
-    player: &mut Player<'_, D>,
+    watched: &mut Watched<'_, D>,
     item: u32,
     object: Object,
     element: i64,
     operation: Operation,
 ) -> Result<Stepped, AllocError>
-    requires { (state : State) × IsAt D.launch D.started (D.launch launch.now) (D.started launch.now) player.old state × (item < (D.launch launch.now).items)
+    requires { (state : State) × IsWatched D.launch D.started (D.launch launch.now) (D.started launch.now) watched.old state × (item < (D.launch launch.now).items)
         × (next_action (D.launch launch.now) state item ≡ actions.Access object element operation) }
-    ensures { IfOk result (λ stepped. (state : State) → IsAt D.launch D.started (D.launch launch.now) (D.started launch.now) player.old state
+    ensures { IfOk result (λ stepped. (state : State) → IsWatched D.launch D.started (D.launch launch.now) (D.started launch.now) watched.old state
         → next_action (D.launch launch.now) state item ≡ actions.Access object element operation
-        → IsStepped (D.launch launch.now) state item (IsAt D.launch D.started (D.launch launch.now) (D.started launch.now) player.new) stepped) }
+        → IsStepped (D.launch launch.now) state item (IsWatched D.launch D.started (D.launch launch.now) (D.started launch.now) watched.new) stepped) }
 {
     let group = item / launch.group_size();
     let kind = operation.kind();
-    let Some(first) = player.first_byte(object, element, operation) else {
+    let Some(first) = watched.player.first_byte(object, element, operation) else {
         let fault = bounds_fault(alloc, launch, item, object, group, element, kind)?;
         return Ok(Stepped::Fails(Box::into_inner(fault)));
     };
-    if let Some(byte) = unset_of(launch, player, item, object, first, operation) {
+    if let Some(byte) = unset_of(launch, watched, item, object, first, operation) {
         let unset = unset_fault(alloc, launch, item, object, group, byte, kind)?;
         return Ok(Stepped::Fails(Box::into_inner(unset)));
     }
-    if player.play_item(item)? {
-        judge(launch, player)
-    } else {
-        unreachable!()
+    match watched.play_item(item)? {
+        Some(quiet) => judge(launch, watched, quiet),
+        None => unreachable!(),
     }
 }
 
@@ -112,21 +121,21 @@ fn access_item<D: Runnable>(
 pub fn step_item<D: Runnable>(
     alloc: Global,
     launch: &D,
-    player: &mut Player<'_, D>,
+    watched: &mut Watched<'_, D>,
     item: u32,
 ) -> Result<Stepped, AllocError>
-    requires { (state : State) × IsAt D.launch D.started (D.launch launch.now) (D.started launch.now) player.old state × (item < (D.launch launch.now).items) }
-    ensures { IfOk result (λ stepped. (state : State) → IsAt D.launch D.started (D.launch launch.now) (D.started launch.now) player.old state
-        → IsStepped (D.launch launch.now) state item (IsAt D.launch D.started (D.launch launch.now) (D.started launch.now) player.new) stepped) }
+    requires { (state : State) × IsWatched D.launch D.started (D.launch launch.now) (D.started launch.now) watched.old state × (item < (D.launch launch.now).items) }
+    ensures { IfOk result (λ stepped. (state : State) → IsWatched D.launch D.started (D.launch launch.now) (D.started launch.now) watched.old state
+        → IsStepped (D.launch launch.now) state item (IsWatched D.launch D.started (D.launch launch.now) (D.started launch.now) watched.new) stepped) }
 {
-    match player.action(item)? {
+    match watched.action(item)? {
         Some(
             Action::Access {
                 object,
                 element,
                 operation,
             },
-        ) => access_item(alloc, launch, player, item, object, element, operation),
+        ) => access_item(alloc, launch, watched, item, object, element, operation),
         Some(Action::Barrier { instance, .. }) => Ok(Stepped::Stops(Stop::At(instance))),
         Some(Action::End) => Ok(Stepped::Stops(Stop::Ended)),
         Some(Action::Fault(cause)) => Ok(Stepped::Fails(fault_of(launch, item, cause)?)),

@@ -10,7 +10,7 @@ use Rattle.item_step.specs.Running.{Running}
 use Rattle.launches.specs.Groups.{IsRunnable, filled}
 use Rattle.launches.specs.declared.loaded.LoadedLaunch.{LoadedLaunch}
 use Rattle.replay.proofs.Reaching.{map_map}
-use Rattle.replay.specs.States.{IsAt}
+use Rattle.ordered_play.specs.Watched.{IsWatched}
 use Rattle.spaces.specs.Buffers.{bytes_in}
 use Rattle.ordered_runs.specs.Ordered.{RunsOrdered, OrderedIntoFault, is_order}
 use Rattle.ordered_play.specs.Outcomes.{IsOrderedEnd}
@@ -46,7 +46,7 @@ pub run_groups-requires-clause-reached : goal.run_groups-requires-clause-reached
 run_groups-requires-clause-reached c =
     let l = of_loaded c.new-loaded.result in
     let r = of_starts c.new-loaded.result in
-    begins_launch l (IsAt {D = LoadedLaunch} of_loaded of_starts l r c.in_ok-player.player) _ c.new-runs.ensures c.in_ok-player.ensures
+    begins_launch l (IsWatched {D = LoadedLaunch} of_loaded of_starts l r c.in_ok-watched.watched) _ c.new-runs.ensures c.in_ok-watched.ensures
 
 pub returns-in-None : goal.returns-in-None
 returns-in-None c =
@@ -56,7 +56,7 @@ returns-in-None c =
     let runnable = subst IsRunnable (sym same) (c.setups_are_runnable.ensures (setup_of c.args.launch.now) (bytes_in c.args.buffers.now) c.group_count-groups.ensures.some c.requires) in
     let counted = subst (λ z. c.group_count-groups.result * z.group_size ≡ z.items) (sym same) c.group_count-groups.ensures.count in
     let w =
-    ends_launch l c.group_count-groups.result (IsAt {D = LoadedLaunch} of_loaded of_starts l r c.run_groups.new.player) c.run_groups.new.runs c.in_ok-report.report c.into_buffers.result.items runnable counted
+    ends_launch l c.group_count-groups.result (IsWatched {D = LoadedLaunch} of_loaded of_starts l r c.run_groups.new.watched) c.run_groups.new.runs c.in_ok-report.report c.into_buffers.result.items runnable counted
     c.in_ok-report.ensures c.in-None.is (λ s at. c.into_buffers.ensures l r s at) in
     subst (λ z. IsOrderedEnd z (Ended c.into_schedule-schedule.result c.into_buffers.result)) same
     (w.0, subst (λ es. RunsOrdered l es w.0) (sym c.into_schedule-schedule.ensures.events) w.1, w.2, c.into_schedule-schedule.ensures.merged)
@@ -68,7 +68,7 @@ returns-in-Some c =
     let r = of_starts c.new-loaded.result in
     let f = c.in-Some.fault in
     let w =
-    ends_reported l c.group_count-groups.result (IsAt {D = LoadedLaunch} of_loaded of_starts l r c.run_groups.new.player) c.run_groups.new.runs c.in_ok-report.report f c.report_is_reached.ensures
+    ends_reported l c.group_count-groups.result (IsWatched {D = LoadedLaunch} of_loaded of_starts l r c.run_groups.new.watched) c.run_groups.new.runs c.in_ok-report.report f c.report_is_reached.ensures
     c.in_ok-report.ensures c.in-Some.is in
     subst (λ z. IsOrderedEnd z (Faulted f c.into_schedule-schedule.result)) same
     (subst (λ es. ((end : State) × OrderedIntoFault l es end f) × Reaches l es f × (is_order f ≡ false) × IsMerged c.into_schedule-schedule.result) (sym c.into_schedule-schedule.ensures.events)

@@ -1,0 +1,3 @@
+pub mod Quiet
+pub mod Touching
+pub mod Noted
