@@ -1,9 +1,9 @@
-use Rattle.std.proofs.Common.{◌≡◌, ◌+◌, ◌-◌, ◌<◌, ◌∷◌, ℕ, Option, List, cond, count_by, drop, length, option_copied, slice_get, take, refl, sym, ap, ◌∙◌, subst, arith}
+use Rattle.std.proofs.Common.{◌≡◌, ◌+◌, ◌-◌, ◌<◌, ◌≤◌, ◌∷◌, Bool, ℕ, Option, List, cond, count_by, drop, length, option_copied, slice_get, take, refl, sym, ap, ◌∙◌, subst, arith}
 use Rattle.std.proofs.lemmas.List.{drop_all, take_all}
 use Rattle.fault_play.specs.PlayedOut.{is_access}
 use Rattle.fault_play.specs.declared.marks.Mark.{Mark}
 use Rattle.fault_play.specs.declared.played.Touch.{Touch}
-use Rattle.explain_steps.specs.Chosen.{access_of, events_made}
+use Rattle.explain_steps.specs.Chosen.{AreChosen, access_of, events_made}
 use Rattle.explain_steps.specs.Choosing.{IsChoice}
 use Rattle.explain_steps.proofs.Events.{count_next, events_from}
 use Rattle.explain_steps.proofs.chosen.told_events.Goals as goal
@@ -48,3 +48,24 @@ loop-left-preserved c =
           (subst (λ (k : ℕ). IsChoice f most ((mark, access_of mark.event (slice_get ts new)) ∷ events_made old (drop k xs) ts) c.go_back.new.self) (sym one)
           (subst (λ (o : Option Touch). IsChoice f most ((mark, o) ∷ events_made old (drop c.loop-left.left xs) ts) c.go_back.new.self) c.access_of.ensures told));
     }
+
+pub returns-clause-few : goal.returns-clause-few
+returns-clause-few c =
+    let choice = c.loop-left.invariant.choice in
+    subst (λ (l : List Bool). count_by (λ b. b) l ≤ c.args.most) (sym c.reverse.ensures.items) (subst (λ (n : ℕ). n ≤ c.args.most) choice.counted choice.few)
+
+pub returns-clause-chosen : goal.returns-clause-chosen
+returns-clause-chosen c =
+    let played = c.args.played.now in
+    let xs = c.as_slice-marks.result.now in
+    let ts = c.as_slice-touches.result.now in
+    let f = c.args.followed in
+    let most = c.args.most in
+    let told = c.reverse.new.self.items in
+    let none : c.loop-left.left ≡ 0 = omega (arith, c.loop-left-test.false) in
+    let begin : c.loop-left.accesses ≡ 0 = c.loop-left.invariant.counted ∙ ap (λ (k : ℕ). count_by (λ mark. is_access mark.event) (take k xs)) none in
+    let all = subst (λ (l : List Bool). AreChosen f most (events_made c.loop-left.accesses (drop c.loop-left.left xs) ts) l) (sym c.reverse.ensures.items) c.loop-left.invariant.choice.chosen in
+    let first = subst (λ (n : ℕ). AreChosen f most (events_made n (drop c.loop-left.left xs) ts) told) begin all in
+    let whole = subst (λ (k : ℕ). AreChosen f most (events_made 0 (drop k xs) ts) told) none first in
+    subst (λ (l : List Touch). AreChosen f most (events_made 0 played.marks.items l) told) c.as_slice-touches.ensures.value
+    (subst (λ (l : List Mark). AreChosen f most (events_made 0 l ts) told) c.as_slice-marks.ensures.value whole)
