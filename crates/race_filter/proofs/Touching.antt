@@ -1,36 +1,51 @@
 -- Accesses that share a byte touch one word.
-use Rattle.std.proofs.Common.{◌≡◌, ℕ, ◌+◌, ◌/◌, ◌%◌, ◌<◌, ◌≤◌, nat_le, Bool, true, false, ◌&&◌, ◌==◌, refl, sym, ap₂, ◌∙◌, arith}
+use Rattle.std.proofs.Common.{◌≡◌, ℕ, ◌+◌, ◌/◌, ◌%◌, ◌<◌, ◌≤◌, nat_le, Bool, true, false, ◌&&◌, ◌==◌, if◌then◌else◌, ◌⊎◌, inl, inr, refl, sym, ap, ap₂, ◌∙◌, arith}
 use Rattle.std.specs.Bool.{beq}
-use Rattle.std.proofs.lemmas.Bool.{and_from, and_parts, eq-eqb, eqb-true, false≢true, leb-true}
+use Rattle.std.proofs.lemmas.Bool.{and_parts, eqb-false, eqb-true, false≢true, leb-true}
 use Rattle.clmodel.specs.Cells.{byte_count, covers}
 use Rattle.clmodel.specs.Launch.{same_region, share}
 use Rattle.clmodel.specs.declared.access.Access.{Access}
 use Rattle.clmodel.specs.declared.access.Region.{Region}
 use Rattle.clmodel.specs.declared.access.Region.TheVariants as region
 use Rattle.clmodel.proofs.CellLaws.{covers_parts}
-use Rattle.race_filter.specs.Words.{is_on_one_word, first_word, same_word, word_in, word_of}
+use Rattle.clmodel.proofs.Steps.{decided}
+use Rattle.race_filter.specs.Words.{is_on_two_words, first_word, last_word, same_word, word_in}
 use Rattle.race_filter.specs.declared.word.Word.{Word}
 
--- each byte of an access is in its one word
-at_word : (first count byte : ℕ) → nat_le (first % 8 + count) 8 ≡ true → first ≤ byte → byte < first + count → byte / 8 ≡ first / 8
-at_word first count byte one a b = let w = leb-true (first % 8 + count) 8 one in omega (arith, w, a, b)
+-- each byte of an access is in its first word or in its last one
+pub at_ends : (x : Access) (byte : ℕ) → is_on_two_words x ≡ true → covers x.first (byte_count x.width) byte ≡ true → (byte / 4 ≡ first_word x) ⊎ (byte / 4 ≡ last_word x)
+at_ends x byte own h = go (nat_le (x.first % 4 + byte_count x.width) 4) refl
+  where
+    two : x.first % 4 + byte_count x.width ≤ 8
+    two = leb-true (x.first % 4 + byte_count x.width) 8 own
 
-in_region : (a b : Region) (p q : ℕ) → same_region a b ≡ true → p ≡ q → same_word (word_in a p) (word_in b q) ≡ true
-in_region (region.Buffer a) (region.Buffer b) p q h e = and_from (a == b) (p == q) h (eq-eqb p q e)
-in_region (region.Buffer a) (region.Local h b) p q r e = absurd (false≢true r)
-in_region (region.Local g a) (region.Buffer b) p q r e = absurd (false≢true r)
-in_region (region.Local g a) (region.Local h b) p q r e =
-    let s : ((g == h) ≡ true) × ((a == b) ≡ true) = and_parts (g == h) (a == b) r in
-    and_from (g == h) ((a == b) && (p == q)) s.0 (and_from (a == b) (p == q) s.1 (eq-eqb p q e))
+    inside : (x.first ≤ byte) × (byte < x.first + byte_count x.width)
+    inside = covers_parts x.first (byte_count x.width) byte h
 
-pub shares_word : (y x : Access) (byte : ℕ) → is_on_one_word y ≡ true → is_on_one_word x ≡ true → share y x byte ≡ true → same_word (word_of y) (word_of x) ≡ true
-shares_word y x byte one own h =
+    go : (b : Bool) → nat_le (x.first % 4 + byte_count x.width) 4 ≡ b → (byte / 4 ≡ first_word x) ⊎ (byte / 4 ≡ last_word x)
+    go true e = let one = leb-true (x.first % 4 + byte_count x.width) 4 e in inl (omega (arith, one, inside.0, inside.1))
+    go false e =
+        decided (byte / 4 == first_word x) (λ t. inl (eqb-true (byte / 4) (first_word x) t))
+        (λ f.
+        let other = eqb-false (byte / 4) (first_word x) f in
+        let next : byte / 4 ≡ first_word x + 1 = omega (arith, two, inside.0, inside.1, other) in
+        inr (next ∙ sym (ap (λ (b : Bool). if b then first_word x else first_word x + 1) e)))
+
+-- accesses that share a byte are in one object, and both cover it
+pub shared : (y x : Access) (byte : ℕ) → share y x byte ≡ true → (same_region y.region x.region ≡ true) × (covers y.first (byte_count y.width) byte ≡ true) × (covers x.first (byte_count x.width) byte ≡ true)
+shared y x byte h =
     let r : ((same_region y.region x.region && covers y.first (byte_count y.width) byte) ≡ true) × (covers x.first (byte_count x.width) byte ≡ true) = and_parts _ _ h in
     let s : (same_region y.region x.region ≡ true) × (covers y.first (byte_count y.width) byte ≡ true) = and_parts _ _ r.0 in
-    let a : (y.first ≤ byte) × (byte < y.first + byte_count y.width) = covers_parts y.first (byte_count y.width) byte s.1 in
-    let b : (x.first ≤ byte) × (byte < x.first + byte_count x.width) = covers_parts x.first (byte_count x.width) byte r.1 in
-    in_region y.region x.region (first_word y) (first_word x) s.0
-    (sym (at_word y.first (byte_count y.width) byte one a.0 a.1) ∙ at_word x.first (byte_count x.width) byte own b.0 b.1)
+    (s.0, s.1, r.1)
+
+-- a word of an object, by any name of the object
+pub one_region : (a b : Region) (word : ℕ) → same_region a b ≡ true → word_in a word ≡ word_in b word
+one_region (region.Buffer a) (region.Buffer b) word h = ap (λ (n : ℕ). record { is_local = false; group = 0; number = n; word = word }) (eqb-true a b h)
+one_region (region.Buffer a) (region.Local h b) word r = absurd (false≢true r)
+one_region (region.Local g a) (region.Buffer b) word r = absurd (false≢true r)
+one_region (region.Local g a) (region.Local h b) word r =
+    let s : ((g == h) ≡ true) × ((a == b) ≡ true) = and_parts (g == h) (a == b) r in
+    ap₂ (λ (k n : ℕ). record { is_local = true; group = k; number = n; word = word }) (eqb-true g h s.0) (eqb-true a b s.1)
 
 same_flag : (a b : Bool) → beq a b ≡ true → a ≡ b
 same_flag true true h = refl

@@ -1,12 +1,12 @@
-//! Words of 8 bytes.
+//! Words of 4 bytes.
 
 ghost use Rattle.std.specs.Prelude.{◌≡◌};
-ghost use Rattle.race_filter.specs.Words.{first_word, is_on_one_word, word_in, word_of};
+ghost use Rattle.race_filter.specs.Words.{first_word, is_on_two_words, last_word, word_in};
 
 use clmodel::access::{Access, Region};
 
 /// How many bytes a word has.
-const WORD: u64 = 8;
+const WORD: u64 = 4;
 
 /// A word of an object.
 #[derive(Clone, Copy, PartialEq, Eq, Hash)]
@@ -21,7 +21,7 @@ pub struct Word {
 }
 
 /// A word of an object, by its number.
-fn word_in(region: Region, word: u64) -> Word
+pub(crate) fn word_in(region: Region, word: u64) -> Word
     ensures { result ≡ word_in region word }
 {
     match region {
@@ -41,22 +41,26 @@ fn word_in(region: Region, word: u64) -> Word
 }
 
 /// The number of the word of an access's first byte.
-fn first_word(x: &Access) -> u64
+pub(crate) fn first_word(x: &Access) -> u64
     ensures { result ≡ first_word x.now }
 {
     x.first / WORD
 }
 
-/// The word that an access begins in.
-pub(crate) fn word_of(x: &Access) -> Word
-    ensures { result ≡ word_of x.now }
+/// The number of the word of its last byte, where it touches one word or two.
+pub(crate) fn last_word(x: &Access) -> u64
+    ensures { result ≡ last_word x.now }
 {
-    word_in(x.region, first_word(x))
+    if x.first % WORD + x.width.bytes() <= WORD {
+        first_word(x)
+    } else {
+        first_word(x) + 1
+    }
 }
 
-/// Whether an access touches one word. Each does that begins at a multiple of its width, as all of a kernel do.
-pub(crate) fn is_on_one_word(x: &Access) -> bool
-    ensures { result ≡ is_on_one_word x.now }
+/// Whether an access touches one word or two. Each does that begins at a multiple of its width, as all of a kernel do.
+pub(crate) fn is_on_two_words(x: &Access) -> bool
+    ensures { result ≡ is_on_two_words x.now }
 {
-    x.first % WORD + x.width.bytes() <= WORD
+    x.first % WORD + x.width.bytes() <= 2 * WORD
 }
