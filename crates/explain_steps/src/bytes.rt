@@ -74,6 +74,13 @@ fn key_of(place: usize, first: u64, offset: u64) -> ByteKey
     }
 }
 
+/// Whether one of the two holds.
+fn either(one: bool, other: bool) -> bool
+    ensures { result ≡ (one || other) }
+{
+    one || other
+}
+
 /// Takes bytes of an object out. Answers whether one of them was there.
 fn take_bytes(keys: &mut HashSet<ByteKey>, place: usize, first: u64, count: u64) -> bool
     ensures left { (key : Key) → has_key keys.new key ≡ (has_key keys.old key && not (is_among place first count key)) }
@@ -82,7 +89,7 @@ fn take_bytes(keys: &mut HashSet<ByteKey>, place: usize, first: u64, count: u64)
     let mut taken = false;
     for offset in 0..count {
         let was_there = keys.remove(&key_of(place, first, offset));
-        taken = taken || was_there;
+        taken = either(taken, was_there);
     }
     taken
 }
