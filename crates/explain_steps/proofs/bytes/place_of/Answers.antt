@@ -16,6 +16,18 @@ loop-place-preserved c =
     slice_get-map (λ (p : Bor Location). p.now) xs i ∙ ap (option_map (λ (p : Bor Location). p.now)) (slice_get_read xs (length xs) i r refl c.loop-place-test.true c.index-places-place.is) in
     not_found_more (map (λ (p : Bor Location). p.now) xs) c.args.location.now i r.now here (λ e. false≢true (sym c.if-same_location.false ∙ c.same_location.ensures.1 e)) c.loop-place.invariant
 
+pub returns-then-same_location : goal.returns-then-same_location
+returns-then-same_location c =
+    let xs = c.args.places.now in
+    let i = c.loop-place.place in
+    let r = c.index-places-place.result in
+    let here : slice_get (map (λ (p : Bor Location). p.now) xs) i ≡ Some r.now =
+    slice_get-map (λ (p : Bor Location). p.now) xs i ∙ ap (option_map (λ (p : Bor Location). p.now)) (slice_get_read xs (length xs) i r refl c.loop-place-test.true c.index-places-place.is) in
+    record {
+      at = here ∙ ap (λ (p : Location). Some p) (c.same_location.ensures.0 c.if-same_location.true);
+      first = c.loop-place.invariant;
+    }
+
 pub returns : goal.returns
 returns c =
     λ number here.
