@@ -16,6 +16,11 @@ use Rattle.explain_steps.specs.StepLists.{AreKnown, is_known}
 use Rattle.explain_steps.specs.declared.chosen.Choice.{Choice}
 use Rattle.explain_steps.specs.declared.chosen.Followed.{Followed}
 
+-- an event makes one access at most
+pub one_at_most : (b : Bool) → cond b 1 0 ≤ 1
+one_at_most true = omega arith
+one_at_most false = omega arith
+
 -- the events with one more
 pub events_more :
     (n : ℕ) (xs : List Mark) (x : Mark) (touches : List Touch)

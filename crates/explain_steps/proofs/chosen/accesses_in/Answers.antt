@@ -2,7 +2,7 @@ use Rattle.std.proofs.Common.{◌≡◌, ◌+◌, ◌<◌, ◌≤◌, ℕ, List,
 use Rattle.std.proofs.lemmas.List.{take_all}
 use Rattle.fault_play.specs.PlayedOut.{is_access}
 use Rattle.fault_play.specs.declared.marks.Mark.{Mark}
-use Rattle.explain_steps.proofs.Events.{count_next}
+use Rattle.explain_steps.proofs.Events.{count_next, one_at_most}
 use Rattle.explain_steps.proofs.chosen.accesses_in.Goals as goal
 
 pub loop-number-preserved : goal.loop-number-preserved
@@ -11,7 +11,7 @@ loop-number-preserved c =
     let i = c.loop-number.number in
     let mark = c.index-marks-number.result in
     let within : i < length xs = c.loop-number-test.true in
-    let one : cond (is_access mark.event) 1 0 ≤ 1 = search (arith) in
+    let one : cond (is_access mark.event) 1 0 ≤ 1 = one_at_most (is_access mark.event) in
     let next : c.with_event-accesses.result ≡ c.loop-number.accesses + cond (is_access mark.event) 1 0 =
     c.with_event-accesses.ensures (omega (arith, c.loop-number.invariant.few, within)) in
     record {

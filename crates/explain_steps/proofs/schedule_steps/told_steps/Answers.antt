@@ -8,7 +8,7 @@ use Rattle.fault_play.specs.declared.played.Touch.{Touch}
 use Rattle.explain_steps.specs.Chosen.{access_of, events_made}
 use Rattle.explain_steps.specs.StepLists.{AreKnown, is_known, shown_of}
 use Rattle.explain_steps.specs.Steps.{IsEntry, entries}
-use Rattle.explain_steps.proofs.Events.{count_next, events_next, known_next, take_next}
+use Rattle.explain_steps.proofs.Events.{count_next, events_next, known_next, one_at_most, take_next}
 use Rattle.explain_steps.proofs.StepRows.{flags_more, told_more}
 use Rattle.explain_steps.proofs.schedule_steps.told_steps.Goals as goal
 
@@ -47,7 +47,7 @@ loop-number-preserved c =
     let within : i < length xs = c.loop-number-test.true in
     let many : length flags ≡ length xs = c.requires.long ∙ ap length (sym c.as_slice-marks.ensures.value) in
     let inside : i < length flags = omega (arith, within, many) in
-    let one : cond (is_access mark.event) 1 0 ≤ 1 = search (arith) in
+    let one : cond (is_access mark.event) 1 0 ≤ 1 = one_at_most (is_access mark.event) in
     let next : after ≡ before + cond (is_access mark.event) 1 0 = c.with_event-accesses.ensures (omega (arith, c.loop-number.invariant.few, within)) in
     let counted = count_next xs i mark within c.index-marks-number.is in
     let events = events_next xs ts i before mark within c.index-marks-number.is c.loop-number.invariant.counted in
