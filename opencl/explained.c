@@ -8,8 +8,8 @@
 #include <stdio.h>
 #include <string.h>
 
-// (an explanation of version 3 is written as one, and a fault without one as the version that the scripts beside read)
-enum { VERSION = 2, MOST_TEXTS = 64, MOST_MARKED = 48, ORDER_FAULT = 2 };
+// (an explanation of version 2 is written as one; a fault without one as the version that the scripts beside read)
+enum { VERSION = 3, MOST_TEXTS = 64, MOST_MARKED = 48, ORDER_FAULT = 2 };
 
 // What is being written.
 typedef struct {

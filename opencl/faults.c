@@ -46,6 +46,9 @@ void check_settings(void) {
     const char *orders = setting("CLSIM_ORDERS");
     orders_choice choice;
     if (orders && !is_orders_word(orders, &choice)) tell("CLSIM_ORDERS is always, auto or never, and not %s", orders);
+    const char *unset = setting("CLSIM_UNSET");
+    if (unset && strcmp(unset, "zero") && strcmp(unset, "fault"))
+        tell("CLSIM_UNSET is fault or zero, and not %s", unset);
     size_t group = limits_of_device()->group, ticks = limits_of_device()->ticks;
     if (setting("CLSIM_LOCAL") && number_setting("CLSIM_LOCAL", 1, (long)group, 0) == 0)
         tell("CLSIM_LOCAL is a number from 1 to %zu, and not %s", group, setting("CLSIM_LOCAL"));

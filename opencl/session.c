@@ -248,6 +248,11 @@ bool widens(void) {
     return wanted && strcmp(wanted, "0");
 }
 
+bool zeroes_unset(void) {
+    const char *wanted = setting("CLSIM_UNSET");
+    return wanted && !strcmp(wanted, "zero");
+}
+
 // The recorded script: a file, or where only `clsim widen` needs it, memory.
 static FILE *open_record(void) {
     static int number;

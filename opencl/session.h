@@ -38,6 +38,8 @@ char *explain_script(const char *script, size_t length);
 
 // Whether `clsim widen` is asked for (CLSIM_WIDEN).
 bool widens(void);
+// Whether private variables that are declared without a value are 0 (CLSIM_UNSET).
+bool zeroes_unset(void);
 // Runs `clsim widen` on all commands of a session so far. What it wrote, NULL where it didn't; the caller frees it.
 char *widen_session(session *s);
 

@@ -114,7 +114,7 @@ static void body_with_returns(translator *t, const node *function, object *resul
     const char *flag = temporary_name(t);
     *l = (label){.is_left = flag, .is_not_left = format(t, "!%s", flag)};
     take_out_leaving(t, &body, l);
-    if (result) write_declarations(t, result);
+    if (result) write_declarations(t, result, "");
     if (l->is_tested) {
         emit(t, "int %s=0;", flag);
         l->leave = format(t, "%s=1;", flag);

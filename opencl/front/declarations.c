@@ -1,4 +1,5 @@
 // Variables of functions.
+#include "../session.h"
 #include "front.h"
 
 static object *variable_object(translator *t, const node *n) {
@@ -86,7 +87,7 @@ void declare_given(translator *t, object *o, const type *type, const char *name,
     new_variable(t, o, type, name, at);
     if (is_number) learn_leaf(t, o, 0, (unsigned)type->size, 1u << core_type(type));
     if ((is_number || type->kind == VECTOR_TYPE) && declare_with(t, o, &v, type)) return;
-    write_declarations(t, o);
+    write_declarations(t, o, "");
     put(t, whole(pointer_to(t, o), type), v, at);
 }
 
@@ -117,11 +118,19 @@ static void give_initial(translator *t, object *o, const node *n) {
     }
 }
 
+// Declares a variable that nothing is given, or not yet.
+static void declare_empty(translator *t, object *o, const node *n) {
+    bool is_zero = !n->part_count && zeroes_unset();
+    if (is_zero) add_note(t, "CLSIM_UNSET: variables that are declared without a value are 0");
+    new_variable(t, o, n->type, n->name, &n->place);
+    write_declarations(t, o, is_zero ? "=0" : "");
+}
+
 void declare_in_front_of(translator *t, const node *n) {
     if (n->type->space == LOCAL_SPACE) declare_local(t, n, true);
     if (n->type->space != PRIVATE_SPACE || n->is_static || variable_object(t, n)->pass == t->pass_number) return;
     t->is_modified[n->number] = true;
-    declare(t, variable_object(t, n), n->type, n->name, &n->place);
+    declare_empty(t, variable_object(t, n), n);
 }
 
 static void declare_private(translator *t, object *o, const node *n) {
@@ -131,7 +140,7 @@ static void declare_private(translator *t, object *o, const node *n) {
     if (o->pass == t->pass_number) give_initial(t, o, n);
     else if (is_constant && is_one(type)) declare_constant(t, o, n);
     else if (!initial || (is_whole(type) && is_braces(initial))) {
-        declare(t, o, type, n->name, &n->place);
+        declare_empty(t, o, n);
         if (initial) initialize(t, pointer_to(t, o), type, initial, &n->place);
     } else {
         value v = given_value(t, evaluate_value(t, initial), type);

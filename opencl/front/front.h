@@ -410,7 +410,8 @@ pointer_leaf *learn_pointer(translator *t, object *o, uint64_t offset);
 object *new_object(translator *t, object *o, object_space space, const type *type, const char *name);
 // Gives a private object its variables.
 object *new_variable(translator *t, object *o, const type *type, const char *name, const place *at);
-void write_declarations(translator *t, object *o);
+// Declares the variables of a private object. `given` stands behind those of numbers: "", or a value as "=0".
+void write_declarations(translator *t, object *o, const char *given);
 object *declare(translator *t, object *o, const type *type, const char *name, const place *at);
 pointer pointer_to(translator *t, object *o);
 // The type of the elements of an array by whose types it is accessed.

@@ -98,7 +98,7 @@ static void take_value(translator *t, written_parameters *all, unsigned argument
     new_variable(t, o, type, p->name, &p->place);
     o->is_fixed = !t->is_modified[p->number] && (type->kind == INTEGER_TYPE || type->kind == FLOATING_TYPE);
     bool direct = is_numbers(o, numbers, count);
-    if (!direct) write_declarations(t, o);
+    if (!direct) write_declarations(t, o, "");
     for (unsigned i = 0; i < count; i++) {
         const number_place *n = &numbers[i];
         if (n->type->kind != INTEGER_TYPE && n->type->kind != FLOATING_TYPE)

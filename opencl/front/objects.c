@@ -232,18 +232,18 @@ static void write_pointer(translator *t, const pointer_leaf *p, const char *leng
     if (p->selector) emit(t, "int %s%s;", p->selector, length);
 }
 
-void write_declarations(translator *t, object *o) {
+void write_declarations(translator *t, object *o, const char *given) {
     unsigned long long count = o->is_array ? o->size / width_of(o->array_element) : 0;
     if (o->is_array) emit(t, "%s %s[%llu];", name_of(o->array_element), o->judged, count);
     for (unsigned i = 0; i < o->leaf_count; i++)
-        if (o->leaves[i].name) emit(t, "%s %s;", name_of(o->leaves[i].variable), o->leaves[i].name);
+        if (o->leaves[i].name) emit(t, "%s %s%s;", name_of(o->leaves[i].variable), o->leaves[i].name, given);
     for (unsigned i = 0; i < o->pointer_count; i++) write_pointer(t, &o->pointers[i], "");
     write_pointer(t, &o->any_pointer, format(t, "[%llu]", (unsigned long long)(o->size / 8)));
 }
 
 object *declare(translator *t, object *o, const type *type, const char *name, const place *at) {
     new_variable(t, o, type, name, at);
-    write_declarations(t, o);
+    write_declarations(t, o, "");
     return o;
 }
 

@@ -181,7 +181,7 @@ def not_explained(bench):
         want("fault 1 race" in told, told)
     told = json.loads(read(path))
     want((told["items"], told["memory"], told["why"], told["steps"]) == ([], None, [], []), told)
-    want(told["version"] == 2 and told["steps_left"] == 0, told)
+    want(told["version"] == 3 and "steps_left" not in told, told)
     want(told["fault"]["line"].startswith("fault 1 race item 0 load item 1 store buffer b1 byte 4"), told)
     [result] = json.loads(read(folder, "out.sarif"))["runs"][0]["results"]
     want(result["locations"][0]["physicalLocation"]["region"]["startLine"] == 5, result)

@@ -242,6 +242,11 @@ class Kernel:
             lines.append(f"out[g * 8 + {6 + n}] = {parts};")
         return lines + [self.nearly(at) for at in range(self.r.randint(0, NEAR))]
 
-    def source(self):
-        return (f"{HEAD}__kernel void f(__global ulong *out, __global double *near, __global const ulong *in) {{\n"
+    def source(self, name):
+        return (f"__kernel void {name}(__global ulong *out, __global double *near, __global const ulong *in) {{\n"
                 f"    {self.body}\n}}\n")
+
+
+def program(seeds):
+    """A source of the kernels of some seeds: `f_0`, `f_1` and so on."""
+    return HEAD + "".join(Kernel(seed).source(f"f_{n}") for n, seed in enumerate(seeds))

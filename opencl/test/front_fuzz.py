@@ -1,10 +1,11 @@
 """Random kernels of all constructs on Clsim's driver and on pocl: they have to leave the same bytes.
 
-    front_fuzz.py [--seed N] [--count N] [--keep FOLDER] [--seconds N]
+    front_fuzz.py [--seed N] [--count N] [--together N] [--keep FOLDER] [--seconds N]
 
-Both are found by the ICD loader (OCL_ICD_VENDORS names the folder of their vendor files). Each kernel that differs is
-told, and kept in the folder. A kernel that the driver refuses is counted by its reason. The last line is
-`N the same, M refused, K differ`; the status is 0 where none differs and no more than one of ten is refused.
+Both are found by the ICD loader (OCL_ICD_VENDORS names the folder of their vendor files). So many kernels are one
+program, since a program takes more of a compiler's time than a kernel: where one is refused, each is tried alone. Each
+kernel that differs is told, and kept in the folder. A kernel that the driver refuses is counted by its reason. The last
+line is `N the same, M refused, K differ`; the status is 0 where none differs and no more than one of ten is refused.
 """
 import argparse
 import collections
@@ -46,23 +47,51 @@ class Device:
         cl.enqueue_copy(self.queue, back, buffer)
         return back
 
-    def run(self, source, data, seed):
-        """The bytes that the kernel leaves; the struct gets bytes by chance."""
+    def built(self, source):
         try:
-            program = cl.Program(self.context, source).build(options=["-cl-opt-disable"])
+            return cl.Program(self.context, source).build(options=["-cl-opt-disable"])
         except cl.RuntimeError as error:
             raise Refused(str(error)) from error
-        size = np.zeros(1, dtype=np.uint32)
-        held = self.buffer(size)
-        program.measure(self.queue, (1,), (1,), held)
-        size = int(self.read(held, size)[0])
-        value = np.frombuffer(random.Random(seed).randbytes(size), dtype=np.uint8)
-        out = np.zeros(OUT, dtype=np.uint64)
-        buffers = [self.buffer(out), self.buffer(data)]
-        kernel = program.f
-        kernel.set_args(buffers[0], buffers[1], value)
+
+    def launch(self, program, n, *arguments):
+        kernel = cl.Kernel(program, f"f_{n}")
+        kernel.set_args(*arguments)
         cl.enqueue_nd_range_kernel(self.queue, kernel, (front_kernels.ITEMS,), (front_kernels.GROUP,))
-        return self.read(buffers[0], out)
+
+    def sizes(self, program, count):
+        """The sizes of the structs of a program's kernels."""
+        sizes = np.zeros(count, dtype=np.uint32)
+        held = self.buffer(sizes)
+        program.measure(self.queue, (1,), (1,), held)
+        return self.read(held, sizes)
+
+
+class Whole:
+    """Kernels on whole numbers."""
+
+    program = staticmethod(front_kernels.program)
+
+    def __init__(self, devices, programs, seeds):
+        self.devices, self.programs, self.seeds = devices, programs, seeds
+        self.sizes = [device.sizes(program, len(seeds)) for device, program in zip(devices, programs)]
+
+    def left(self, which, n, data):
+        """The bytes that a kernel leaves on a device; the struct gets bytes by chance."""
+        device, seed = self.devices[which], self.seeds[n]
+        value = np.frombuffer(random.Random(seed).randbytes(int(self.sizes[which][n])), dtype=np.uint8)
+        out = np.zeros(OUT, dtype=np.uint64)
+        held = device.buffer(out)
+        device.launch(self.programs[which], n, held, device.buffer(data), value)
+        return device.read(held, out)
+
+    def compare(self, n):
+        """`same`, or what differs."""
+        data = np.array([random.Random(self.seeds[n] + i).getrandbits(64) for i in range(IN)], dtype=np.uint64)
+        mine, other = self.left(0, n, data), self.left(1, n, data)
+        if np.array_equal(mine, other):
+            return "same"
+        at = int(np.nonzero(mine != other)[0][0])
+        return f"word {at}: {int(mine[at]):#x} and on pocl {int(other[at]):#x}"
 
 
 def reason(error):
@@ -71,51 +100,51 @@ def reason(error):
     return re.sub(r"'[^']*'|\d+", "_", found.group(1))[:100] if found else error[:200]
 
 
-def compare(devices, seed):
-    """`same`, or what differs."""
-    source = front_kernels.Kernel(seed).source()
-    data = np.array([random.Random(seed + n).getrandbits(64) for n in range(IN)], dtype=np.uint64)
-    mine = devices[0].run(source, data, seed)
-    other = devices[1].run(source, data, seed)
-    if np.array_equal(mine, other):
-        return "same"
-    at = int(np.nonzero(mine != other)[0][0])
-    return f"word {at}: {int(mine[at]):#x} and on pocl {int(other[at]):#x}"
-
-
-def judged(devices, seed):
-    """What comes of a seed: its class, and words."""
+def compared(kernels, n):
     try:
-        found = compare(devices, seed)
-    except Refused as refused:
-        return "refused", reason(str(refused))
+        found = kernels.compare(n)
     except cl.Error as error:
-        return "differ", str(error)[:500]
+        found = str(error)[:500]
     return ("same", "") if found == "same" else ("differ", found)
 
 
-def main():
+def judged(kind, devices, seeds):
+    """What comes of each seed: the seed, its class, and words."""
+    try:
+        programs = [device.built(kind.program(seeds)) for device in devices]
+        kernels = kind(devices, programs, seeds)
+    except (Refused, cl.Error) as error:
+        if len(seeds) > 1:
+            return [found for seed in seeds for found in judged(kind, devices, [seed])]
+        is_refused = isinstance(error, Refused)
+        return [(seeds[0], *(("refused", reason(str(error))) if is_refused else ("differ", str(error)[:500])))]
+    return [(seed, *compared(kernels, n)) for n, seed in enumerate(seeds)]
+
+
+def main(kind):
     parser = argparse.ArgumentParser()
     parser.add_argument("--seed", type=int, default=1)
     parser.add_argument("--count", type=int, default=200)
+    parser.add_argument("--together", type=int, default=10)
     parser.add_argument("--seconds", type=float, default=1e9)
     parser.add_argument("--keep")
     given = parser.parse_args()
     warnings.simplefilter("ignore")
     devices = [Device("Clsim"), Device("Portable")]
-    counts, reasons, begin = collections.Counter(), collections.Counter(), time.monotonic()
-    for seed in range(given.seed, given.seed + given.count):
+    counts, reasons = collections.Counter(), collections.Counter()
+    begin, end = time.monotonic(), given.seed + given.count
+    for first in range(given.seed, end, given.together):
         if time.monotonic() - begin > given.seconds:
             break
-        what, words = judged(devices, seed)
-        counts[what] += 1
-        if what == "refused":
-            reasons[words] += 1
-        if what == "differ":
-            print(f"seed {seed}: {words}", flush=True)
-        if what != "same" and given.keep:
-            with open(os.path.join(given.keep, f"{what}_{seed}.cl"), "w", encoding="ascii") as file:
-                file.write(front_kernels.Kernel(seed).source())
+        for seed, what, words in judged(kind, devices, list(range(first, min(end, first + given.together)))):
+            counts[what] += 1
+            if what == "refused":
+                reasons[words] += 1
+            if what == "differ":
+                print(f"seed {seed}: {words}", flush=True)
+            if what != "same" and given.keep:
+                with open(os.path.join(given.keep, f"{what}_{seed}.cl"), "w", encoding="ascii") as file:
+                    file.write(kind.program([seed]))
     for words, count in reasons.most_common():
         print(f"{count} refused: {words}")
     print(f"{counts['same']} the same, {counts['refused']} refused, {counts['differ']} differ")
@@ -123,4 +152,4 @@ def main():
 
 
 if __name__ == "__main__":
-    sys.exit(main())
+    sys.exit(main(Whole))

@@ -6,11 +6,14 @@ divisor is 0, no shift of a signed number to the left, no variable is read befor
 come to the same bytes.
 """
 import random
+import re
 
 TYPES = ["char", "uchar", "short", "ushort", "int", "uint", "long", "ulong"]
 WIDTH = {"char": 1, "uchar": 1, "short": 2, "ushort": 2, "int": 4, "uint": 4, "long": 8, "ulong": 8}
 OF_TWO = ["min", "max", "hadd", "rhadd", "add_sat", "sub_sat", "mul_hi", "rotate"]
 ITEMS, GROUP, WORDS = 8, 4, 16  # work-items, those of a group, and words of input for each
+# the names that a kernel's source declares for all of it
+NAMES = re.compile(r"\b(S|FIRST|SECOND|THIRD|table|pairs|MIX|AT|step|add|spread|swap|change|fun\d+|f)\b")
 
 
 def unsigned(t):
@@ -317,5 +320,12 @@ class Kernel:
     def source(self):
         body = self.kernel()
         head = "\n".join(self.head)
-        return (f"{head}\n__kernel void f(__global ulong *out, __global const ulong *in, S given) {{\n    {body}\n}}\n"
-                "__kernel void measure(__global uint *size) { *size = sizeof(S); }\n")
+        return f"{head}\n__kernel void f(__global ulong *out, __global const ulong *in, S given) {{\n    {body}\n}}\n"
+
+
+def program(seeds):
+    """A source of the kernels of some seeds, `f_0`, `f_1` and so on, and of `measure`, which tells their structs'
+    sizes."""
+    kernels = [NAMES.sub(rf"\1_{n}", Kernel(seed).source()) for n, seed in enumerate(seeds)]
+    sizes = " ".join(f"size[{n}] = sizeof(S_{n});" for n in range(len(kernels)))
+    return f"{''.join(kernels)}__kernel void measure(__global uint *size) {{ {sizes} }}\n"

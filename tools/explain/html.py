@@ -162,7 +162,7 @@ def rows_of(whole, events, numbers):
 def shown_rows(whole, events, most):
     """The rows of the picture, at most so many: all events, or those that show the fault, and how many are between."""
     numbers = by_worth(whole, events)
-    for count in range(min(most, len(numbers)), 0, -1):
+    for count in range(min(most, len(numbers)), -1, -1):
         rows = rows_of(whole, events, numbers[:count])
         if len(rows) <= most:
             return rows

@@ -3,9 +3,9 @@
 import json
 import sys
 
-VERSION = 2
+VERSION = 3
 # what `clsim explain --format json` writes where there is nothing to explain
-NOTHING = ("clean", "no", "ok")
+NOTHING = ("clean", "ordered", "no", "ok")
 
 
 class BadInput(Exception):
@@ -132,18 +132,19 @@ def memory_text(whole):
 
 
 def events_of(whole):
-    """The events that are told, by their numbers, and behind them the accesses of the named items that are told with
-    their places alone, since they come later: `value` and `left` of these are null."""
-    found, memory = dict(enumerate(whole["steps"], 1)), memory_text(whole)
-    for item in sorted(whole["items"], key=lambda item: item["event"] or 0):
+    """The events that are told, by their numbers, and with them the accesses of the named items that are only counted
+    among the steps, which are told with their places alone: `value` and `left` of these are null."""
+    found = {step["event"]: step for step in whole["steps"] if "omitted" not in step}
+    memory = memory_text(whole)
+    for item in whole["items"]:
         place = item["spot"]
-        if memory and place and (item["event"] or 0) > len(whole["steps"]):
+        if memory and place and item["event"] and item["event"] not in found:
             begin = place["column"] - 1
             text = place["text"].encode()[begin : begin + place["length"]].decode(errors="replace")
             found[item["event"]] = {"item": item["item"], "does": item["does"], "memory": memory, "bytes": None,
                                     "byte": whole["memory"]["byte"], "value": None, "left": None,
                                     "place": {**place, "text": text}}
-    return found
+    return dict(sorted(found.items()))
 
 
 def text_of(line):

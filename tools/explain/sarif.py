@@ -2,9 +2,9 @@
 """Turns explanations into SARIF 2.1.0: `clsim explain FILE --format json | tools/explain/sarif.py > results.sarif`.
 
 Reads the files that are named, or standard input, with an explanation a line, and writes one run with a result each.
-A line may also be the word `clean`, `no` or `ok`, which has no result, or one of examples/ci.sh: `FILE:LINE: REPLY` of
-a command that was refused or had a fault, `FILE:LINE: bad line`, and `FILE:LINE:COLUMN: error: TEXT` of a source that
-clang doesn't build. The status is 0, or 2 where the input is bad."""
+A line may also be the word `clean`, `ordered`, `no` or `ok`, which has no result, or one of examples/ci.sh:
+`FILE:LINE: REPLY` of a command that was refused or had a fault, `FILE:LINE: bad line`, and `FILE:LINE:COLUMN: error:
+TEXT` of a source that clang doesn't build. The status is 0, or 2 where the input is bad."""
 
 import json
 import re
@@ -110,8 +110,8 @@ def location(whole, files, place, words=None):
 
 
 def flows(whole, files):
-    """The steps of the schedule, a thread flow for each work-item; the order of events is that of the schedule. The
-    accesses of a fault are among them, also where they come behind those that are told."""
+    """The steps of the schedule that are told, a thread flow for each work-item; the order of events is that of the
+    schedule. The accesses of a fault are among them, also where the steps only count them."""
     threads = {}
     for number, step in events_of(whole).items():
         if "item" in step and step["place"]:

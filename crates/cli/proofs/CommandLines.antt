@@ -19,7 +19,7 @@ use Rattle.cli.specs.declared.command_line.Invocation.{Invocation}
 use Rattle.cli.specs.declared.command_line.Invocation.TheVariants as invocation
 use Rattle.limits.specs.declared.Configuration.{Configuration}
 use Rattle.limits.specs.declared.Limits.{Limits}
-use Rattle.cli.specs.CommandLine.{AreForms, IsArgument, IsForm, all_forms, alone, flag, form_of, needed, number, option, program, program_of, some_schedule, AreLimits, GivesBudget, GivesConfiguration, GivesFormat, GivesLimits, GivesWorkers, IsFormat, IsNumber, AsksBy, IsRefused, Reads, Holds}
+use Rattle.cli.specs.CommandLine.{AreForms, IsArgument, IsForm, all_forms, alone, flag, form_of, needed, number, option, program, program_of, some_schedule, AreLimits, GivesBudget, GivesConfiguration, GivesFormat, GivesLimits, GivesSteps, GivesWorkers, IsCount, IsFormat, IsNumber, AsksBy, IsRefused, Reads, Holds}
 
 -- what holds of the value that was made
 pub of_made : {T E : Type 0} (P : T → Type 0) (made : Result T E) (x : T) → made ≡ Ok x → IfOk made P → P x
@@ -109,6 +109,23 @@ not_read absent most G None e few none reads only n is =
     let bad = none refl in
     cc
 not_read absent most G (Some t) e few none reads only n is = only t (Err e) (reads t refl) (is.0, omega (arith, is.1, is.3, few))
+
+-- no count was read where the option isn't there
+pub no_count : (most : ℕ) (o : Option Text) → IsNumber 0 most o 0 → IsCount most o None
+no_count most None is = refl
+no_count most (Some text) is = absurd (omega (arith, is.2))
+
+-- a number that was read is the option's count
+pub counted : (most : ℕ) (o : Option Text) (n : ℕ) → 1 ≤ n → IsNumber 0 most o n → IsCount most o (Some n)
+counted most None n least is = absurd (omega (arith, least, is))
+counted most (Some text) n least is = is
+
+-- where the option's number is none, it has no count
+pub not_counted : (most : ℕ) (o : Option Text) → ((n : ℕ) → ¬ IsNumber 0 most o n) → (count : Option ℕ) → ¬ IsCount most o count
+not_counted most None nothing None is = nothing 0 refl
+not_counted most None nothing (Some n) is = cc
+not_counted most (Some text) nothing None is = is
+not_counted most (Some text) nothing (Some n) is = nothing n is
 
 -- the ticks that limits allow have 32 bits
 pub few_ticks : (ticks : ℕ) → ticks ≤ 1000000000 → ticks < 2 ^ 32
@@ -235,12 +252,13 @@ serve_parts rows (invocation.Plain script) is = differ is.0 refl
 
 pub explain_parts : (rows : List Row) (asked : Invocation) → AsksBy (codes "explain") rows asked
     → (script : Text) × (configuration : Configuration) × (json : Bool) × (first_of (codes "SCRIPT") rows ≡ Some script) × GivesConfiguration rows configuration × GivesFormat rows json
+    × (count : Option ℕ) × GivesSteps rows count
 explain_parts rows (invocation.Run path options numbered) is = differ is.0 refl
 explain_parts rows (invocation.Check path limits) is = differ is.0 refl
 explain_parts rows (invocation.Dump path name limits) is = differ is.0 refl
 explain_parts rows (invocation.Replay script schedule configuration) is = differ is.0 refl
 explain_parts rows (invocation.Serve options) is = differ is.0 refl
-explain_parts rows (invocation.Explain script schedule wish) is = (script.now, wish.configuration, wish.json, is.1.0, is.1.2, is.1.3)
+explain_parts rows (invocation.Explain script schedule wish) is = (script.now, wish.configuration, wish.json, is.1.0, is.1.2, is.1.3, wish.steps, is.1.6)
 explain_parts rows (invocation.Version json) is = differ is.0 refl
 explain_parts rows (invocation.Widen script json limits) is = differ is.0 refl
 explain_parts rows (invocation.Plain script) is = differ is.0 refl

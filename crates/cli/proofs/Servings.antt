@@ -19,7 +19,7 @@ use Rattle.byte_io.specs.Talk.{Event, Heard, Told, heard, told, hearing, Convers
 use Rattle.byte_io.proofs.Talks.{said_then, heard-append, told-append, heard-hearing, told-hearing}
 use Rattle.serving.specs.declared.server.Server.{Server}
 use Rattle.serving.specs.Hearing.{HearFails, NotHeard}
-use Rattle.serving.specs.Turns.{greeting, AreTurns}
+use Rattle.serving.specs.Turns.{greeting, FirstTellsNone, AreTurns}
 use Rattle.serving.specs.Serving.{Opened, NotOpened, HeardNone, HeardCommand, NoCommand, ToldReply, NotTold, HeardNext, up_to_most}
 use Rattle.serving.proofs.Sources.{fails_then}
 use Rattle.serving.proofs.Commands.{ends_then}
@@ -116,6 +116,18 @@ begun_by {server = server} {machine = machine} pieces h k = record {
   said = said_as (regroup (greeting server.version ++ h.turns) (Heard server.text.items) (hearing pieces)) (said_then h.said k);
 }
 
+-- the first line stays the first
+
+first_then : (es : List Event) (text : List ℕ) (more : List Event) → FirstTellsNone (es ++ Heard text ∷ []) → FirstTellsNone (es ++ Heard text ∷ more)
+first_then [] text more h = h
+first_then (Heard line ∷ es) text more h = h
+first_then (Told line ∷ es) text more h = h
+
+first_kept : (es : List Event) (text : List ℕ) (more fs : List Event) → FirstTellsNone (es ++ Heard text ∷ []) → FirstTellsNone ((es ++ Heard text ∷ more) ++ fs)
+first_kept [] text more fs h = h
+first_kept (Heard line ∷ es) text more fs h = h
+first_kept (Told line ∷ es) text more fs h = h
+
 -- a command was answered, and its reply told
 record Turned (old new : Conversation) (configuration : Configuration) (v : Version) (machine : Machine) (end : RunEnd) (count : ℕ) : Type 0 where
   commands : List Command
@@ -124,6 +136,7 @@ record Turned (old new : Conversation) (configuration : Configuration) (v : Vers
   are : AreTurns v commands replies turns
   plays : Plays (opening configuration) commands replies machine
   said : Said old new (greeting v ++ turns)
+  untold : v ≡ version.One → (es : List Event) → FirstTellsNone (turns ++ es)
   failures : new.failures ≡ old.failures
   lines : count ≡ up_to_most (line_feeds (heard (greeting v ++ turns)))
   counts : end ≡ end_of replies
@@ -146,6 +159,7 @@ turned {configuration = configuration} {server = server} {server' = server'} {se
   are = turns_more server.version h.commands h.replies h.turns c r (server.text.items ∷ k.pieces) h.are k.tells;
   plays = plays_more (opening configuration) machine after h.commands h.replies c r h.plays s;
   said = said_as (turn_events (greeting server.version) h.turns (Heard server.text.items) (hearing k.pieces) (Told (line r))) (said_then (said_then h.said k.said) t.said);
+  untold = λ is es. first_kept h.turns server.text.items (hearing k.pieces ++ Told (line r) ∷ []) es (h.untold is);
   failures = t.failures ∙ (k.failures ∙ h.failures);
   lines = lines_of_turn (greeting server.version) h.turns server.text.items k.pieces (line r) server.lines (server''.lines + line_feeds server''.text.items) h.lines
       (ap (λ n. n + line_feeds server''.text.items) (t.lines ∙ k.lines) ∙ ap (λ l. server.lines + line_feeds l) (ap (λ x. x.items) t.text ∙ k.text));
@@ -162,6 +176,7 @@ serves_first {old} {new} configuration {server} h = record {
   are = refl;
   plays = refl;
   said = said_as (ap (λ l. l ++ Heard server.text.items ∷ []) (sym (append-nil (greeting server.version)))) h.said;
+  untold = h.untold;
   ended = h.ended;
   failures = h.failures;
   lines = h.lines ∙ first_lines server.version;
@@ -188,6 +203,7 @@ serves_more {old} {now} {mid} {told_at} {new} {configuration} {server} {server'}
       are = subst (λ (v : Version). AreTurns v u.commands u.replies u.turns) (sym same) u.are;
       plays = u.plays;
       said = subst (λ (v : Version). Said old new (greeting v ++ u.turns ++ Heard last.text.items ∷ [])) (sym same) (said_then u.said n.said);
+      untold = λ one. u.untold (sym same ∙ one) (Heard last.text.items ∷ []);
       ended = λ e. ends_then old.rest told_at.rest new.rest (heard (greeting server.version ++ u.turns)) u.said.heard (n.ended e);
       failures = n.failures ∙ u.failures;
       lines = subst (λ (v : Version). last.lines ≡ up_to_most (line_feeds (heard (greeting v ++ u.turns)))) (sym same) (n.lines ∙ u.lines);
@@ -241,6 +257,7 @@ no_command {old} {now} new {configuration} (fault.Read by) h k = fails_hearing o
 no_command {old} {now} new {configuration} fault.OutOfMemory h k = fails_hearing old now new configuration fault.OutOfMemory h.failures (begun_by k.pieces h k.said) k.fails
 no_command new {server = server} (fault.BadLine n) h k = record {
   begun = begun_by k.pieces h k.said;
+  untold = λ is. first_then h.turns server.text.items (hearing k.pieces) (h.untold is);
   bad = k.bad;
   number = k.number ∙ (ap (λ m. up_to_most (m + 1)) h.lines ∙ most_most (line_feeds (heard (greeting server.version ++ h.turns))) 1);
   failures = k.failures ∙ h.failures;
@@ -309,7 +326,7 @@ all_read None b bytes h k = tt
 all_read (Some xs) None bytes h k = absurd h
 all_read (Some xs) (Some ys) bytes h k = sym (h ∙ (ap (λ l. bytes ++ l) k ∙ append-nil bytes))
 
-pub is_ran : (old new : Conversation) (configuration : Configuration) (outcome : RunEnd) → (s : Served old new configuration outcome) → length s.commands ≤ 4096 → old.sink.held ≡ [] → Ran old.rest configuration old.sink new.sink outcome
+pub is_ran : (old new : Conversation) (configuration : Configuration) (outcome : RunEnd) → (s : Served old new configuration outcome) → length s.commands ≤ 4096 → old.sink.held ≡ [] → Ran [] old.rest configuration old.sink new.sink outcome
 is_ran old new configuration outcome s few held =
     let events : List Event = greeting s.version ++ s.turns ++ Heard [] ∷ [] in
     let bytes : heard events ≡ head s.version ++ heard s.turns =

@@ -1,5 +1,5 @@
 -- A run, answer by answer.
-use Rattle.std.proofs.Common.{◌≡◌, List, [], ◌∷◌, ◌++◌, refl, ap, sym, ◌∙◌, subst, append_assoc}
+use Rattle.std.proofs.Common.{◌≡◌, ℕ, List, [], ◌∷◌, ◌++◌, refl, ap, sym, ◌∙◌, subst, append_assoc}
 use Rattle.std.proofs.lemmas.List.{append-nil}
 use Rattle.std.proofs.lemmas.Grind.{flat_map-append}
 use Rattle.std.specs.List.{fold}
@@ -9,33 +9,49 @@ use Rattle.host_commands.specs.declared.command.Reply.{Reply}
 use Rattle.cli.specs.declared.session.RunEnd.{RunEnd}
 use Rattle.byte_io.specs.Sink.{Sink, Wrote, Stopped}
 use Rattle.simfile.specs.Lines.{line, lines}
-use Rattle.cli.specs.Session.{Plays, one_end, end_of, Answered, Broken}
+use Rattle.cli.specs.Session.{Plays, one_end, end_of, front_of, behind, numbered, Answered, Broken}
 use Rattle.byte_io.proofs.Puts.{wrote_none, wrote_then, stopped_then}
 use Rattle.limits.specs.declared.Configuration.{Configuration}
 
--- a command was answered: the machine made a step, and the reply's line was written
-pub record AnswersOne (old : Machine) (command : Command) (new : Machine) (before after : Sink) (end next : RunEnd) : Type 0 where
+-- a command was answered: the machine made a step, and the reply's line was written behind the first number
+pub record AnswersOne (numbers : List ℕ) (old : Machine) (command : Command) (new : Machine) (before after : Sink) (end next : RunEnd) : Type 0 where
   pub answer : Reply
   pub step : Step old command answer new
-  pub wrote : Wrote before after (line answer)
+  pub wrote : Wrote before after (front_of numbers ++ line answer)
   pub counts : next ≡ one_end answer end
 
 -- a write failed at the answer to a command
-pub record BreaksOne (old : Machine) (command : Command) (before after : Sink) : Type 0 where
+pub record BreaksOne (numbers : List ℕ) (old : Machine) (command : Command) (before after : Sink) : Type 0 where
   pub answer : Reply
   pub last : Machine
   pub step : Step old command answer last
-  pub stopped : Stopped before after (line answer)
+  pub stopped : Stopped before after (front_of numbers ++ line answer)
+
+-- the numbers that are left behind the lines of replies
+abbrev pub left_of : List ℕ → List Reply → List ℕ
+left_of numbers [] = numbers
+left_of numbers (reply ∷ replies) = left_of (behind numbers) replies
 
 -- the commands so far were answered
-pub record HasAnswered (configuration : Configuration) (done : List Command) (now : Machine) (old new : Sink) (end : RunEnd) : Type 0 where
+pub record HasAnswered (numbers left : List ℕ) (configuration : Configuration) (done : List Command) (now : Machine) (old new : Sink) (end : RunEnd) : Type 0 where
   pub replies : List Reply
   pub plays : Plays (opening configuration) done replies now
-  pub wrote : Wrote old new (lines replies)
+  pub wrote : Wrote old new (numbered numbers replies)
+  pub leaves : left ≡ left_of numbers replies
   pub counts : end ≡ end_of replies
 
-pub answered_none : (configuration : Configuration) (now : Machine) (s : Sink) → now ≡ opening configuration → HasAnswered configuration [] now s s (end_of [])
-answered_none configuration now s e = record { replies = []; plays = e; wrote = wrote_none s; counts = refl }
+numbered_none : (ns : List ℕ) → numbered ns [] ≡ []
+numbered_none [] = refl
+numbered_none (n ∷ ns) = refl
+
+pub answered_none : (numbers : List ℕ) (configuration : Configuration) (now : Machine) (s : Sink) → now ≡ opening configuration → HasAnswered numbers numbers configuration [] now s s (end_of [])
+answered_none numbers configuration now s e = record {
+  replies = [];
+  plays = e;
+  wrote = subst (λ (l : List ℕ). Wrote s s l) (sym (numbered_none numbers)) (wrote_none s);
+  leaves = refl;
+  counts = refl;
+}
 
 pub plays_more : (old mid new : Machine) (cs : List Command) (rs : List Reply) (c : Command) (r : Reply) → Plays old cs rs mid → Step mid c r new → Plays old (cs ++ c ∷ []) (rs ++ r ∷ []) new
 plays_more old mid new [] [] c r h s = let P : Machine → Type 0 = λ m. Step m c r new in (new, subst P h s, refl)
@@ -46,46 +62,71 @@ plays_more old mid new (x ∷ cs) (y ∷ rs) c r h s = (h.0, h.1, plays_more h.0
 pub lines-more : (rs : List Reply) (r : Reply) → lines (rs ++ r ∷ []) ≡ lines rs ++ line r
 lines-more rs r = flat_map-append line rs (r ∷ []) ∙ ap (λ l. lines rs ++ l) (append-nil (line r))
 
+left_none : (rs : List Reply) → left_of [] rs ≡ []
+left_none [] = refl
+left_none (r ∷ rs) = left_none rs
+
+left_more : (ns : List ℕ) (rs : List Reply) (r : Reply) → left_of ns (rs ++ r ∷ []) ≡ behind (left_of ns rs)
+left_more ns [] r = refl
+left_more ns (x ∷ rs) r = left_more (behind ns) rs r
+
+-- one more line, behind the first number that is left
+numbered_more : (ns : List ℕ) (rs : List Reply) (r : Reply) → numbered ns (rs ++ r ∷ []) ≡ numbered ns rs ++ (front_of (left_of ns rs) ++ line r)
+numbered_more [] rs r = lines-more rs r ∙ ap (λ l. lines rs ++ (front_of l ++ line r)) (sym (left_none rs))
+numbered_more (n ∷ ns) [] r = ap (λ l. front_of (n ∷ ns) ++ l) (ap (λ l. line r ++ l) (numbered_none ns) ∙ append-nil (line r))
+numbered_more (n ∷ ns) (x ∷ rs) r =
+    let more : List ℕ = front_of (left_of ns rs) ++ line r in
+    ap (λ l. front_of (n ∷ ns) ++ (line x ++ l)) (numbered_more ns rs r)
+    ∙ (ap (λ l. front_of (n ∷ ns) ++ l) (sym (append_assoc (line x) (numbered ns rs) more)) ∙ sym (append_assoc (front_of (n ∷ ns)) (line x ++ numbered ns rs) more))
+
+pub numbered_then : (numbers : List ℕ) {left : List ℕ} (rs : List Reply) (r : Reply) → left ≡ left_of numbers rs → numbered numbers rs ++ (front_of left ++ line r) ≡ numbered numbers (rs ++ r ∷ [])
+numbered_then numbers {left} rs r leaves = ap (λ l. numbered numbers rs ++ (front_of l ++ line r)) leaves ∙ sym (numbered_more numbers rs r)
+
 pub fold-more : (rs : List Reply) (r : Reply) (e : RunEnd) → fold (λ end x. one_end x end) e (rs ++ r ∷ []) ≡ one_end r (fold (λ end x. one_end x end) e rs)
 fold-more [] r e = refl
 fold-more (x ∷ rs) r e = fold-more rs r (one_end x e)
 
-pub answered_more : {configuration : Configuration} {done : List Command} {now new : Machine} {old mid after : Sink} {end next : RunEnd} (c : Command) → HasAnswered configuration done now old mid end → AnswersOne now c new mid after end next → HasAnswered configuration (done ++ c ∷ []) new old after next
-answered_more {configuration} {done} {now} {new} {old} {mid} {after} {end} {next} c h a = record {
+pub answered_more : {numbers left : List ℕ} {configuration : Configuration} {done : List Command} {now new : Machine} {old mid after : Sink} {end next : RunEnd} (c : Command) (rest : List ℕ) → rest ≡ behind left
+    → HasAnswered numbers left configuration done now old mid end → AnswersOne left now c new mid after end next → HasAnswered numbers rest configuration (done ++ c ∷ []) new old after next
+answered_more {numbers} {left} {configuration} {done} {now} {new} {old} {mid} {after} {end} {next} c rest e h a = record {
   replies = h.replies ++ a.answer ∷ [];
   plays = plays_more (opening configuration) now new done h.replies c a.answer h.plays a.step;
-  wrote = rw (lines-more h.replies a.answer) (wrote_then h.wrote a.wrote);
+  wrote = subst (λ (l : List ℕ). Wrote old after l) (numbered_then numbers h.replies a.answer h.leaves) (wrote_then h.wrote a.wrote);
+  leaves = e ∙ (ap behind h.leaves ∙ sym (left_more numbers h.replies a.answer));
   counts = a.counts ∙ (ap (one_end a.answer) h.counts ∙ sym (fold-more h.replies a.answer (end_of [])));
 }
 
-pub broken_at : {configuration : Configuration} {done : List Command} {now : Machine} {old mid after : Sink} {end : RunEnd} (all left : List Command) (c : Command) → all ≡ done ++ c ∷ left → HasAnswered configuration done now old mid end → BreaksOne now c mid after → Broken configuration all old after
-broken_at {configuration} {done} {now} {old} {mid} {after} {end} all left c e h b = record {
+pub broken_at : {numbers left : List ℕ} {configuration : Configuration} {done : List Command} {now : Machine} {old mid after : Sink} {end : RunEnd} (all more : List Command) (c : Command) → all ≡ done ++ c ∷ more → HasAnswered numbers left configuration done now old mid end
+    → BreaksOne left now c mid after → Broken numbers configuration all old after
+broken_at {numbers} {left} {configuration} {done} {now} {old} {mid} {after} {end} all more c e h b = record {
   done = done ++ c ∷ [];
-  left = left;
+  left = more;
   replies = h.replies ++ b.answer ∷ [];
   last = b.last;
-  split = e ∙ sym (append_assoc done (c ∷ []) left);
+  split = e ∙ sym (append_assoc done (c ∷ []) more);
   plays = plays_more (opening configuration) now b.last done h.replies c b.answer h.plays b.step;
-  stopped = rw (lines-more h.replies b.answer) (stopped_then h.wrote b.stopped);
+  stopped = subst (λ (l : List ℕ). Stopped old after l) (numbered_then numbers h.replies b.answer h.leaves) (stopped_then h.wrote b.stopped);
 }
 
-pub answered_all : {configuration : Configuration} {done : List Command} {now : Machine} {old mid after : Sink} {end : RunEnd} (all : List Command) → all ≡ done → HasAnswered configuration done now old mid end → Wrote mid after [] → after.held ≡ [] → Answered configuration all old after end
-answered_all {configuration} {done} {now} {old} {mid} {after} {end} all e h w r = record {
+pub answered_all : {numbers left : List ℕ} {configuration : Configuration} {done : List Command} {now : Machine} {old mid after : Sink} {end : RunEnd} (all : List Command) → all ≡ done → HasAnswered numbers left configuration done now old mid end
+    → Wrote mid after [] → after.held ≡ [] → Answered numbers configuration all old after end
+answered_all {numbers} {left} {configuration} {done} {now} {old} {mid} {after} {end} all e h w r = record {
   replies = h.replies;
   last = now;
   plays = rw e h.plays;
-  wrote = let both : Wrote old after (lines h.replies ++ []) = wrote_then h.wrote w in rw append-nil at both;
+  wrote = subst (λ (l : List ℕ). Wrote old after l) (append-nil (numbered numbers h.replies)) (wrote_then h.wrote w);
   released = r;
   end = h.counts;
 }
 
-pub broken_last : {configuration : Configuration} {done : List Command} {now : Machine} {old mid after : Sink} {end : RunEnd} (all : List Command) → all ≡ done → HasAnswered configuration done now old mid end → Stopped mid after [] → Broken configuration all old after
-broken_last {configuration} {done} {now} {old} {mid} {after} {end} all e h w = record {
+pub broken_last : {numbers left : List ℕ} {configuration : Configuration} {done : List Command} {now : Machine} {old mid after : Sink} {end : RunEnd} (all : List Command) → all ≡ done → HasAnswered numbers left configuration done now old mid end
+    → Stopped mid after [] → Broken numbers configuration all old after
+broken_last {numbers} {left} {configuration} {done} {now} {old} {mid} {after} {end} all e h w = record {
   done = done;
   left = [];
   replies = h.replies;
   last = now;
   split = e ∙ sym (append-nil done);
   plays = h.plays;
-  stopped = let both : Stopped old after (lines h.replies ++ []) = stopped_then h.wrote w in rw append-nil at both;
+  stopped = subst (λ (l : List ℕ). Stopped old after l) (append-nil (numbered numbers h.replies)) (stopped_then h.wrote w);
 }

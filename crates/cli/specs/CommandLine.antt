@@ -96,6 +96,10 @@ as_given = flag (codes "as-given")
 abbrev pub all : Rule
 all = flag (codes "all")
 
+-- `--steps N`, a number from 1 to 1,000,000
+abbrev pub steps : Rule
+steps = number (codes "steps") 1000000
+
 -- what a device is made with: `--budget N` and `--limits LIMITS`
 abbrev pub configured : List Rule
 configured = budget ∷ limits ∷ []
@@ -132,9 +136,9 @@ serve_arguments = working
 abbrev pub explained : List Rule
 explained = script ∷ some_schedule ∷ format ∷ []
 
--- `explain SCRIPT [SCHEDULE] [--format text|json] [--budget N] [--limits LIMITS] [--as-given] [--all]`
+-- `explain SCRIPT [SCHEDULE] [--format text|json] [--budget N] [--limits LIMITS] [--as-given] [--all] [--steps N]`
 abbrev pub explain_arguments : List Rule
-explain_arguments = script ∷ some_schedule ∷ format ∷ budget ∷ limits ∷ as_given ∷ all ∷ []
+explain_arguments = script ∷ some_schedule ∷ format ∷ budget ∷ limits ∷ as_given ∷ all ∷ steps ∷ []
 
 -- `version [--format text|json]`
 abbrev pub version_arguments : List Rule
@@ -212,6 +216,16 @@ IsFormat (Some text) json = (text ≡ codes "text") × (json ≡ false) ⊎ (tex
 abbrev pub GivesFormat : List Row → Bool → Type 0
 GivesFormat rows json = IsFormat (first_of (codes "format") rows) json
 
+-- the number of an option, from 1 to the most, where the option is there
+abbrev pub IsCount : ℕ → Option Text → Option ℕ → Type 0
+IsCount most None count = count ≡ None
+IsCount most (Some text) None = ⊥
+IsCount most (Some text) (Some n) = IsNumber 0 most (Some text) n
+
+-- the number of `--steps`, where it is there
+abbrev pub GivesSteps : List Row → Option ℕ → Type 0
+GivesSteps rows count = IsCount 1000000 (one_of (codes "steps") rows) count
+
 -- whether a flag is there
 pub record IsFlag (found : Option Text) (given : Bool) : Type 0 where
   pub there : found ≡ Some (codes "true") → given ≡ true
@@ -220,6 +234,14 @@ pub record IsFlag (found : Option Text) (given : Bool) : Type 0 where
 
 abbrev pub GivesFlag : Text → List Row → Bool → Type 0
 GivesFlag name rows given = IsFlag (one_of name rows) given
+
+-- what is wrong with the values of a form: its limits where they are none, or else its format where it is none, or else
+-- its budget (own)
+pub record SaysWrong (rows : List Row) (text : Text) : Type 0 where
+  pub limits : ((limits : Limits) → ¬ GivesLimits rows limits) → text ≡ codes "the limits are profile or large"
+  pub format : (limits : Limits) → GivesLimits rows limits → ((json : Bool) → ¬ GivesFormat rows json) → text ≡ codes "the format is text or json"
+  pub budget : (limits : Limits) (json : Bool) → GivesLimits rows limits → GivesFormat rows json
+      → text ≡ codes "the budget is at most 1000000, and with --limits large at most 1000000000"
 
 -- the name of the form by which this is asked for
 abbrev pub form_name : Invocation → Text
@@ -250,6 +272,7 @@ Gives rows (invocation.Serve options) = GivesWorkers rows options.workers × Giv
 Gives rows (invocation.Explain script schedule wish) =
     (first_of (codes "SCRIPT") rows ≡ Some script.now) × (first_of (codes "SCHEDULE") rows ≡ option_map (λ s. s.now) schedule)
     × GivesConfiguration rows wish.configuration × GivesFormat rows wish.json × GivesFlag (codes "as-given") rows wish.as_given × GivesFlag (codes "all") rows wish.all
+    × GivesSteps rows wish.steps
 Gives rows (invocation.Version json) = GivesFormat rows json
 Gives rows (invocation.Widen script json limits) =
     (first_of (codes "SCRIPT") rows ≡ Some script.now) × GivesFormat rows json × GivesLimits rows limits

@@ -8,8 +8,9 @@ use Rattle.cli.specs.Session.{Plays, end_of}
 use Rattle.byte_io.specs.Talk.{Event, Heard, heard, Conversation, Said}
 use Rattle.serving.specs.declared.server.Server.{Server}
 use Rattle.serving.specs.Hearing.{EndsWith}
-use Rattle.serving.specs.Turns.{greeting, AreTurns}
+use Rattle.serving.specs.Turns.{greeting, FirstTellsNone, AreTurns}
 use Rattle.serving.specs.Serving.{up_to_most}
+use Rattle.simfile.specs.declared.lines.Version.TheVariants.{One}
 use Rattle.simfile.specs.Script.{line_feeds}
 use Rattle.limits.specs.declared.Configuration.{Configuration}
 
@@ -21,6 +22,7 @@ pub record Serves (old now : Conversation) (configuration : Configuration) (serv
   pub are : AreTurns server.version commands replies turns
   pub plays : Plays (opening configuration) commands replies machine
   pub said : Said old now (greeting server.version ++ turns ++ Heard server.text.items ∷ [])
+  pub untold : server.version ≡ One → FirstTellsNone (turns ++ Heard server.text.items ∷ [])
   pub ended : line_feeds server.text.items ≡ 0 → EndsWith old now
   pub failures : now.failures ≡ old.failures
   pub lines : server.lines ≡ up_to_most (line_feeds (heard (greeting server.version ++ turns)))

@@ -13,9 +13,10 @@ use Rattle.byte_io.specs.Pieces.{joined}
 use Rattle.byte_io.specs.Sink.{Stopped, CountsUp}
 use Rattle.byte_io.specs.Talk.{Event, Heard, heard, hearing, Conversation, Said}
 use Rattle.serving.specs.Hearing.{EndsWith}
-use Rattle.serving.specs.Turns.{greeting, AreTurns, IsBad}
+use Rattle.serving.specs.Turns.{greeting, FirstTellsNone, AreTurns, IsBad}
 use Rattle.serving.specs.Serving.{up_to_most}
 use Rattle.simfile.specs.declared.lines.Version.{Version}
+use Rattle.simfile.specs.declared.lines.Version.TheVariants.{One}
 use Rattle.simfile.specs.Script.{IsText, line_feeds}
 use Rattle.simfile.specs.Lines.{lines}
 use Rattle.limits.specs.declared.Configuration.{Configuration}
@@ -47,9 +48,11 @@ pub record Begun (old new : Conversation) (configuration : Configuration) : Type
   pub plays : Plays (opening configuration) commands replies last
   pub said : Said old new (greeting version ++ turns ++ hearing pieces)
 
--- what was heard last is a bad line, and its number is one more than that of the lines before it
+-- What was heard last is a bad line, and its number is one more than that of the lines before it. Of version 1, the
+-- first line that was heard tells no version.
 pub record Misheard (old new : Conversation) (configuration : Configuration) (n : ℕ) : Type 0 where
   pub begun : Begun old new configuration
+  pub untold : begun.version ≡ One → FirstTellsNone (begun.turns ++ hearing begun.pieces)
   pub bad : IsBad begun.version begun.pieces
   pub number : n ≡ up_to_most (line_feeds (heard (greeting begun.version ++ begun.turns)) + 1)
   pub failures : new.failures ≡ old.failures

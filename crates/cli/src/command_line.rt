@@ -3,7 +3,7 @@
 
 ghost use Rattle.std.specs.Prelude.{◌≡◌, ◌≤◌, List, [], ◌∷◌, ◌++◌, codes, map, Ok, IfOk, IfErr, IfSome};
 ghost use Rattle.clap.specs.Words.{Rule, Shape, Text, kind_of, found_of, rows_of, subcommand_rows_of};
-ghost use Rattle.cli.specs.CommandLine.{AreForms, IsArgument, IsForm, all_forms, form_of, needed, option, number, limits, some_schedule, format, flag, configured, working, explained, run_arguments, check_arguments, dump_arguments, replay_arguments, serve_arguments, explain_arguments, version_arguments, widen_arguments, plain_arguments, GivesWorkers, GivesLimits, GivesBudget, GivesConfiguration, GivesFormat, AsksBy, Reads, Holds, AsksFor, IsRefused};
+ghost use Rattle.cli.specs.CommandLine.{AreForms, IsArgument, IsForm, all_forms, form_of, needed, option, number, limits, some_schedule, format, flag, configured, working, explained, run_arguments, check_arguments, dump_arguments, replay_arguments, serve_arguments, explain_arguments, version_arguments, widen_arguments, plain_arguments, GivesWorkers, GivesLimits, GivesBudget, GivesConfiguration, GivesFormat, GivesSteps, SaysWrong, AsksBy, Reads, Holds, AsksFor, IsRefused};
 
 use crate::session::Options;
 use crate::wish::ExplainWish;
@@ -70,6 +70,9 @@ const MAX_BUDGET: u32 = 1_000_000_000;
 
 /// The most workers of a run.
 const MAX_WORKERS: u32 = 16;
+
+/// The most steps that an explanation may be asked for.
+const MAX_STEPS: u32 = 1_000_000;
 
 /// An argument that must be given, and what help says of it.
 #[tactic(auto, unfolding(crate::specs::CommandLine::needed))]
@@ -307,7 +310,8 @@ fn explained<'a>(alloc: Global) -> Result<Command<'a>, AllocError>
     )
 }
 
-/// The form `explain SCRIPT [SCHEDULE] [--format text|json] [--budget N] [--limits LIMITS] [--as-given] [--all]`.
+/// The form `explain SCRIPT [SCHEDULE] [--format text|json] [--budget N] [--limits LIMITS] [--as-given] [--all]
+/// [--steps N]`.
 fn explain_form<'a>(alloc: Global) -> Result<Command<'a>, AllocError>
     ensures { IfOk result (IsForm (codes "explain") explain_arguments) }
 {
@@ -321,7 +325,14 @@ fn explain_form<'a>(alloc: Global) -> Result<Command<'a>, AllocError>
         "all",
         "Explains each fault and each refused command of the script",
     );
-    with(with(configured(alloc, explained(alloc)), as_given), all)
+    let steps = number(
+        alloc,
+        "steps",
+        MAX_STEPS,
+        "The most steps of a way to a fault that are told, the last ones: 1000 without it",
+    );
+    let flagged = with(with(configured(alloc, explained(alloc)), as_given), all);
+    with(flagged, steps)
 }
 
 /// The form `version [--format text|json]`.
@@ -502,6 +513,18 @@ fn format_of(matches: &ArgMatches<'_>) -> Option<bool>
     None
 }
 
+/// How many steps are told at most, where the option is there, and `None` where its number is none.
+fn steps_of(explain: &ArgMatches<'_>) -> Option<Option<usize>>
+    ensures { Reads (GivesSteps (rows_of (found_of explain.now))) result }
+{
+    match explain.try_get_one::<u32>("steps") {
+        Ok(None) => Some(None),
+        Ok(Some(steps)) if steps >= 1 && steps <= MAX_STEPS => Some(Some(steps as usize)),
+        Ok(Some(_)) => None,
+        Err(_) => None,
+    }
+}
+
 /// What the matches of `explain` ask for.
 fn explain_of<'a>(explain: &ArgMatches<'a>) -> Option<Invocation<'a>>
     ensures { Reads (AsksBy (codes "explain") (rows_of (found_of explain.now))) result }
@@ -512,6 +535,7 @@ fn explain_of<'a>(explain: &ArgMatches<'a>) -> Option<Invocation<'a>>
     let json = format_of(explain)?;
     let as_given = explain.get_flag("as-given");
     let all = explain.get_flag("all");
+    let steps = steps_of(explain)?;
     Some(Invocation::Explain {
         script,
         schedule,
@@ -520,6 +544,7 @@ fn explain_of<'a>(explain: &ArgMatches<'a>) -> Option<Invocation<'a>>
             json,
             as_given,
             all,
+            steps,
         },
     })
 }
@@ -659,7 +684,9 @@ fn form_of<'a>(alloc: Global, name: &str) -> Result<Command<'a>, AllocError> {
 
 /// What is wrong with the values of a form that ask for nothing: its limits, or else its format, or else its budget,
 /// which is more than its limits allow.
-fn wrong_in(values: &ArgMatches<'_>) -> &'static str {
+fn wrong_in(values: &ArgMatches<'_>) -> &'static str
+    ensures { SaysWrong (rows_of (found_of values.now)) result.now }
+{
     if limits_of(values).is_none() {
         return "the limits are profile or large";
     }
@@ -705,7 +732,7 @@ fn command_by<'a>(
 /// - `clsim replay SCRIPT SCHEDULE [--limits LIMITS]`
 /// - `clsim serve [--workers N] [--budget N] [--limits LIMITS]`
 /// - `clsim explain SCRIPT [SCHEDULE] [--format text|json] [--budget N] [--limits LIMITS] [--as-given]
-///   [--all]`
+///   [--all] [--steps N]`
 /// - `clsim version [--format text|json]`
 /// - `clsim widen SCRIPT [--format text|json] [--limits LIMITS]`
 /// - `clsim plain SCRIPT`

@@ -96,5 +96,5 @@ pub fn serve<T: Threads + Wait + Sync, P: Peer>(
 /// bytes, and both come to the same end.
 pub fn served_is_ran()
     ensures { (old new : Conversation) (configuration : Configuration) (outcome : RunEnd) → (served : Served old new configuration outcome) → length served.commands ≤ 4096 →
-        old.sink.held ≡ [] → Ran old.rest configuration old.sink new.sink outcome }
+        old.sink.held ≡ [] → Ran [] old.rest configuration old.sink new.sink outcome }
 {}

@@ -23,5 +23,5 @@ pub use command_line::command;
 pub use dialogue::serve;
 pub use dumping::dump_file;
 pub use replaying::replay_files;
-pub use session::{run, status};
+pub use session::{run, run_numbered, status};
 pub use simfile::faults::{Reader, RunFault};

@@ -14,4 +14,6 @@ pub struct ExplainWish {
     pub as_given: bool,
     /// Whether each fault and each refused command of the script is told, and not the first one alone
     pub all: bool,
+    /// How many steps are told at most, from 1 to 1,000,000, where a number is given
+    pub steps: Option<usize>,
 }

@@ -74,6 +74,7 @@ pub record IsWished (wish : ExplainWish) (options : ExplainOptions) : Type 0 whe
   pub configuration : options.configuration ≡ wish.configuration
   pub as_given : options.as_given ≡ wish.as_given
   pub all : options.all ≡ wish.all
+  pub steps : options.steps ≡ wish.steps
 
 -- a reader wasn't read to its end, or no memory was left, and nothing was written
 abbrev pub Unread : Reader → ℕ → ℕ → Sink → Sink → RunFault → Type 0

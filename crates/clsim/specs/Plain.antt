@@ -1,13 +1,12 @@
 -- Scripts as plain texts (own).
 use Rattle.std.specs.Prelude.{◌≡◌, ◌⊎◌, ℕ, ⊤, Option, List, [], MatchOption}
 use Rattle.host_commands.specs.declared.command.Command.{Command}
-use Rattle.simfile.specs.Script.{IsScript}
 use Rattle.simfile.specs.declared.faults.Reader.TheVariants as reader
 use Rattle.simfile.specs.declared.faults.RunFault.{RunFault}
 use Rattle.simfile.specs.declared.faults.RunFault.TheVariants as fault
 use Rattle.byte_io.specs.Sink.{Sink, Stopped, Wrote}
 use Rattle.byte_io.specs.Source.{Are}
-use Rattle.written_scripts.specs.Written.{AreWrittenAt, IsBadWritten, IsOther}
+use Rattle.written_scripts.specs.Written.{AreWrittenAt, IsBadWritten, IsOther, IsPlainThird}
 use Rattle.written_scripts.specs.declared.files.NamedFile.{NamedFile}
 use Rattle.written_scripts.specs.declared.places.WrittenPlace.{WrittenPlace}
 use Rattle.clsim.specs.Files.{Unread}
@@ -15,13 +14,13 @@ use Rattle.clsim.specs.declared.written_file.NoPlainText.{NoPlainText}
 use Rattle.clsim.specs.declared.written_file.NoPlainText.TheVariants as no_text
 use Rattle.clsim.specs.declared.written_file.PlainText.{PlainText}
 
--- a text of the commands that a script of version 3 tells with its files, at these places
+-- a plain script of version 3 of the commands that a script of that version tells with its files, at these places
 pub record IsTurned (files : List NamedFile) (script text : List ℕ) (places : List WrittenPlace) : Type 0 where
   pub commands : List Command
   pub written : AreWrittenAt files script commands places
-  pub is : IsScript text commands
+  pub is : IsPlainThird text commands
 
--- the plain text of a script: where it is of version 3, a text of the same commands, which stand there at these places,
+-- the plain text of a script: where it is of version 3, one of the same commands, which stand there at these places,
 -- else the script itself
 abbrev pub IsPlainOf : List NamedFile → List ℕ → PlainText → Type 0
 IsPlainOf files script plain = MatchOption plain.places (IsOther script × (plain.text.items ≡ script)) (λ places. IsTurned files script plain.text.items places.items)

@@ -60,8 +60,8 @@ fn explain_texts<W: Write>(
 }
 
 /// Reads a script and explains its first fault, or its first command that is refused, or all of them; a source, which
-/// is a file whose name ends in `.cl`, is built alone. Writes the explanation and answers true, or the word `clean` or
-/// `ok` and answers false.
+/// is a file whose name ends in `.cl`, is built alone. Writes the explanation and answers true, or the word `clean`,
+/// `ordered` or `ok` and answers false.
 ///
 /// Faults are `Read(First)`, `BadLine`, `OutOfMemory`, and `Write`, after which a beginning of the text was written;
 /// after the others nothing was.

@@ -17,20 +17,18 @@ ghost use Rattle.wide_text.specs.Widened.{status_of as wide_status_of};
 mod explain_files;
 mod looks;
 mod named_file;
-mod numbered;
 mod passing;
 mod piped;
-mod telling;
+mod reporting;
 mod version;
 mod written_file;
 
 use crate::explain_files::{explain_schedule, explain_script};
 use crate::looks::Looks;
 use crate::named_file::{NamedFile, STANDARD_INPUT};
-use crate::numbered::Numbered;
 use crate::passing::pass;
 use crate::piped::Piped;
-use crate::telling::{Told, tell, tell_place, tell_script, told_of};
+use crate::reporting::{Told, tell, tell_place, tell_script, told_of};
 use crate::version::print_version;
 use crate::written_file::WrittenFile;
 use byte_io::{Input, Output, StreamPeer};
@@ -44,7 +42,7 @@ use cli::reading::bytes_of;
 use cli::replaying::{replay_files, replay_status};
 use cli::session::{Options, RunEnd};
 use cli::wish::ExplainWish;
-use cli::{run, status};
+use cli::{run, run_numbered, status};
 use explaining::{ExplainOptions, Format};
 use limits::{Configuration, Limits};
 use simfile::faults::{Reader, RunFault};
@@ -91,9 +89,16 @@ fn run_with_lines<R: Files + io::Input + Print + AllocGlobal + Threads + Wait + 
     let text = bytes_of(rt.alloc(), script, Reader::First)?;
     let lines = script.lines(rt.alloc(), text.as_slice())?;
     let mut reader = Input::new(text.as_slice());
-    let mut writer = Numbered::new(output_of(rt)?, lines);
-    let outcome = run(rt, rt.alloc(), &mut reader, &mut writer, options);
-    *gone = writer.into_inner().into_inner().is_gone();
+    let mut writer = output_of(rt)?;
+    let outcome = run_numbered(
+        rt,
+        rt.alloc(),
+        &mut reader,
+        lines.as_slice(),
+        &mut writer,
+        options,
+    );
+    *gone = writer.into_inner().is_gone();
     outcome
 }
 
@@ -175,6 +180,7 @@ fn options_of(wish: ExplainWish) -> ExplainOptions
         configuration: wish.configuration,
         as_given: wish.as_given,
         all: wish.all,
+        steps: wish.steps,
     }
 }
 

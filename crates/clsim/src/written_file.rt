@@ -6,7 +6,7 @@ ghost use Rattle.std.specs.Prelude.{◌≡◌, false, None, IfOk, IfErr};
 ghost use Rattle.clsim.specs.Plain.{IsPlainOf, Unturned};
 
 use crate::named_file::{NamedFile, STANDARD_INPUT, read_path};
-use crate::telling::{Place, Told, tell_plain};
+use crate::reporting::{Place, Told, tell_plain};
 use cli::{Read, ReadFault};
 use clmodel::text::Bytes;
 use simfile::faults::RunFault;

@@ -83,12 +83,13 @@ memory_depth m =
     omega arith
 
 step_depth : (s : ToldEvent) → depth (step_data s) ≤ 2
-step_depth (step.Release group code) = let place : depth (or_null code_data code) ≤ 1 = some code_data 1 code_depth code in omega arith
-step_depth (step.Item item does memory byte bytes value left code) =
+step_depth (step.Release event group code) = let place : depth (or_null code_data code) ≤ 1 = some code_data 1 code_depth code in omega arith
+step_depth (step.Item event item does memory byte bytes value left code) =
     let place : depth (or_null code_data code) ≤ 1 = some code_data 1 code_depth code in
     let found : depth (or_null value_data value) ≤ 0 = some value_data 0 (λ v. omega arith) value in
     let stays : depth (or_null value_data left) ≤ 0 = some value_data 0 (λ v. omega arith) left in
     omega arith
+step_depth (step.Omitted event events) = omega arith
 
 launch_depth : (l : LaunchFacts) → depth (launch_data l) ≤ 2
 launch_depth l =

@@ -60,8 +60,9 @@ memory_whole m =
     rw (number_or_null m.byte, number_or_null m.size, some element_data (λ e. refl) m.element, number_or_null (group_of m.kind), many parameter_data parameter_whole m.parameters.items)
 
 step_whole : (s : ToldEvent) → has_float (step_data s) ≡ false
-step_whole (step.Release group code) = rw (some code_data (λ c. refl) code)
-step_whole (step.Item item does memory byte bytes value left code) = rw (some code_data (λ c. refl) code, some value_data (λ v. refl) value, some value_data (λ v. refl) left)
+step_whole (step.Release event group code) = rw (some code_data (λ c. refl) code)
+step_whole (step.Item event item does memory byte bytes value left code) = rw (some code_data (λ c. refl) code, some value_data (λ v. refl) value, some value_data (λ v. refl) left)
+step_whole (step.Omitted event events) = refl
 
 launch_whole : (l : LaunchFacts) → has_float (launch_data l) ≡ false
 launch_whole l = rw (numbers l.global_size.items, numbers l.local_size.items, numbers l.offset.items)

@@ -1,4 +1,4 @@
--- A command that was refused, in JSON (RFC 8259; the members are this project's own, version 2). Members stand in the
+-- A command that was refused, in JSON (RFC 8259; the members are this project's own, version 3). Members stand in the
 -- order of their names. The sentence of a reason is told beside its members.
 use Rattle.std.specs.Prelude.{◌≡◌, ℕ, ℤ, String, Option, None, Some, List, codes}
 use Rattle.std.specs.declared.alloc.Global.{Global}
@@ -155,7 +155,7 @@ abbrev pub command_data : RefusedCommand → List ℕ → Data → Data
 command_data told title why =
     object (member (codes "command") (number_data told.command) (member (codes "fault") (command_fault_data told) (member (codes "hints") (array no_items)
     (member (codes "kind") (string (codes "refusal")) (member (codes "script") (text_data told.script) (member (codes "spot") (word_spot_data told.spot)
-    (member (codes "title") (string title) (member (codes "version") (number_data 2) (member (codes "why") why no_members)))))))))
+    (member (codes "title") (string title) (member (codes "version") (number_data 3) (member (codes "why") why no_members)))))))))
 
 -- the value of a command that was refused
 pub record IsCommandData (told : RefusedCommand) (d : Data) : Type 0 where

@@ -1,4 +1,4 @@
--- An explanation in JSON (RFC 8259; the members are this project's own, version 2). Members stand in the order of their
+-- An explanation in JSON (RFC 8259; the members are this project's own, version 3). Members stand in the order of their
 -- names.
 use Rattle.std.specs.Prelude.{ℕ, ℤ, String, Option, None, Some, List, map, codes, decimal, string_bytes}
 use Rattle.std.specs.Fmt.{signed_decimal}
@@ -143,12 +143,13 @@ abbrev pub value_data : ℕ → Data
 value_data value = string (decimal value)
 
 abbrev pub step_data : ToldEvent → Data
-step_data (step.Release group code) =
-    object (member (codes "place") (or_null code_data code) (member (codes "release") (number_data group) no_members))
-step_data (step.Item item does memory byte bytes value left code) =
+step_data (step.Release event group code) =
+    object (member (codes "event") (number_data event) (member (codes "place") (or_null code_data code) (member (codes "release") (number_data group) no_members)))
+step_data (step.Item event item does memory byte bytes value left code) =
     object (member (codes "byte") (number_data byte) (member (codes "bytes") (number_data bytes) (member (codes "does") (string (kind_text does))
-    (member (codes "item") (number_data item) (member (codes "left") (or_null value_data left) (member (codes "memory") (text_data memory)
-    (member (codes "place") (or_null code_data code) (member (codes "value") (or_null value_data value) no_members))))))))
+    (member (codes "event") (number_data event) (member (codes "item") (number_data item) (member (codes "left") (or_null value_data left) (member (codes "memory") (text_data memory)
+    (member (codes "place") (or_null code_data code) (member (codes "value") (or_null value_data value) no_members)))))))))
+step_data (step.Omitted event events) = object (member (codes "event") (number_data event) (member (codes "omitted") (number_data events) no_members))
 
 -- The whole.
 
@@ -156,8 +157,8 @@ abbrev pub launch_data : LaunchFacts → Data
 launch_data l =
     object (member (codes "budget") (number_data l.budget) (member (codes "command") (number_data l.command) (member (codes "function") (text_data l.function)
     (member (codes "global_size") (list_data number_data l.global_size.items) (member (codes "kernel") (text_data l.kernel) (member (codes "local_size") (list_data number_data l.local_size.items)
-    (member (codes "offset") (list_data number_data l.offset.items) (member (codes "program") (text_data l.program) (member (codes "script_line") (number_data l.script_line)
-    (member (codes "text") (text_data l.text) (member (codes "uniform") (boolean l.uniform) no_members)))))))))))
+    (member (codes "offset") (list_data number_data l.offset.items) (member (codes "orders") (boolean l.orders) (member (codes "program") (text_data l.program)
+    (member (codes "script_line") (number_data l.script_line) (member (codes "text") (text_data l.text) (member (codes "uniform") (boolean l.uniform) no_members))))))))))))
 
 abbrev pub fault_data : FaultFacts → Data
 fault_data f =
@@ -168,5 +169,5 @@ abbrev pub explanation_data : Explanation → Data → Data
 explanation_data e why =
     object (member (codes "fault") (fault_data e.fault) (member (codes "items") (list_data item_data e.items.items) (member (codes "launch") (launch_data e.launch)
     (member (codes "memory") (or_null memory_data e.memory) (member (codes "schedule") (schedule_data e.schedule) (member (codes "script") (text_data e.script)
-    (member (codes "steps") (list_data step_data e.steps.items) (member (codes "steps_left") (number_data e.steps_left) (member (codes "version") (number_data 2)
-    (member (codes "why") why no_members))))))))))
+    (member (codes "steps") (list_data step_data e.steps.items) (member (codes "version") (number_data 3)
+    (member (codes "why") why no_members)))))))))

@@ -1,4 +1,4 @@
--- A refusal in JSON (RFC 8259; the members are this project's own, version 2). Members stand in the order of their
+-- A refusal in JSON (RFC 8259; the members are this project's own, version 3). Members stand in the order of their
 -- names.
 use Rattle.std.specs.Prelude.{ℕ, Option, None, Some, List, codes, string_bytes, option_copied}
 use Rattle.serde_json.specs.Data.{Data, number, unsigned, string, array, object, member, no_members, item, no_items}
@@ -29,7 +29,7 @@ hints_data (Some hint) = array (item (string hint) no_items)
 abbrev pub refusal_data : List ℕ → Refusal → Data
 refusal_data name r =
     object (member (codes "fault") (fault_data r) (member (codes "hints") (hints_data (option_copied r.hint)) (member (codes "kind") (string (codes "refusal"))
-    (member (codes "script") (string name) (member (codes "spot") (spot_data r) (member (codes "title") (string r.title.now) (member (codes "version") (number_data 2) no_members)))))))
+    (member (codes "script") (string name) (member (codes "spot") (spot_data r) (member (codes "title") (string r.title.now) (member (codes "version") (number_data 3) no_members)))))))
 
 -- a line for the refusal of a fault of a source, which begins at a line of the file that is named
 pub record IsRefusedLine (name source : List ℕ) (first_line : ℕ) (fault : Refused) (json : List ℕ) : Type 0 where

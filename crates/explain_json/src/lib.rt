@@ -1,6 +1,6 @@
 //! An explanation as JSON, a source that doesn't build: its fault, where it lies, and what to write; and a command that
 //! was refused. It knows them as data alone. What it writes, by the kit's `serde_json`, is one line: the writer's text
-//! of the value that was made of the data, whose member `version` is 2. It reads back as this value. The sentences are
+//! of the value that was made of the data, whose member `version` is 3. It reads back as this value. The sentences are
 //! those of `explain_text`.
 #![tactic(auto)]
 

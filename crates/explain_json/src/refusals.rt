@@ -1,5 +1,5 @@
 //! A source that doesn't build, as JSON, by the kit's `serde_json`: its fault, where it lies, and what to write. What
-//! it writes is the writer's text of the value that was made of the refusal, whose member `version` is 2.
+//! it writes is the writer's text of the value that was made of the refusal, whose member `version` is 3.
 #![tactic(auto)]
 
 ghost use Rattle.std.specs.Prelude.{◌≡◌, string_bytes, option_copied, IfOk};

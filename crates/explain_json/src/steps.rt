@@ -42,13 +42,15 @@ impl ToJson for ToldEvent {
 
     fn to_json(&self, alloc: Global) -> Result<Value, AllocError> {
         match self {
-            ToldEvent::Release { group, code } => {
+            ToldEvent::Release { event, group, code } => {
                 Object::new(alloc)
                     .with("release", group)
                     .with("place", code)
+                    .with("event", event)
                     .finish()
             }
             ToldEvent::Item {
+                event,
                 item,
                 does,
                 memory,
@@ -64,9 +66,16 @@ impl ToJson for ToldEvent {
                     .with("memory", memory)
                     .with_value("left", text_or_null(alloc, *left))
                     .with("item", item)
+                    .with("event", event)
                     .with_text("does", kind_word(*does))
                     .with("bytes", bytes)
                     .with("byte", byte)
+                    .finish()
+            }
+            ToldEvent::Omitted { event, events } => {
+                Object::new(alloc)
+                    .with("omitted", events)
+                    .with("event", event)
                     .finish()
             }
         }

@@ -14,7 +14,7 @@ use serde_json::Value;
 use std::alloc::{AllocError, Global};
 
 /// The version of the members' names and meanings, also of those of a refusal. A member more doesn't change it.
-pub(crate) const VERSION: u32 = 2;
+pub(crate) const VERSION: u32 = 3;
 
 impl ToJson for LaunchFacts {
     ghost json = { launch_data };
@@ -25,6 +25,7 @@ impl ToJson for LaunchFacts {
             .with("text", &self.text)
             .with("script_line", &self.script_line)
             .with("program", &self.program)
+            .with("orders", &self.orders)
             .with("offset", &self.offset)
             .with("local_size", &self.local_size)
             .with("kernel", &self.kernel)
@@ -56,7 +57,6 @@ pub fn value_of(alloc: Global, whole: &Explanation) -> Result<Value, AllocError>
     Object::new(alloc)
         .with_value("why", Ok(why))
         .with("version", &VERSION)
-        .with("steps_left", &whole.steps_left)
         .with("steps", &whole.steps)
         .with("script", &whole.script)
         .with("schedule", &whole.schedule)

@@ -1,4 +1,3 @@
 mod Mattering
 mod Nearest
 mod Passing
-mod Told

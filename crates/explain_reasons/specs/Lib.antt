@@ -1,4 +1,3 @@
-pub mod Steps
 pub mod Between
 pub mod Stored
 pub mod Counted

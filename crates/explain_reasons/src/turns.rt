@@ -65,7 +65,10 @@ fn turned(
     Ok(found)
 }
 
-/// The loops round each place of the code where an item was seen, so that the source is walked once for each.
+/// The loops round each place of the code where an item was seen. Each such place takes a walk over the tree and over
+/// the source, once: `origins` finds the node of one number at a time, and `source_spots` counts lines from the begin
+/// of the source. So the time is that of the source times the places where the item was seen, however often it was
+/// there.
 #[derive(Drop)]
 struct KnownLoops {
     alloc: Global,

@@ -1,10 +1,12 @@
 -- The text of an explanation (own): its ids, places, sentences and schedule as they are told, and the numbers of its
 -- steps. The rest is worded in any way, in lines that have no line feed of their own.
-use Rattle.std.specs.Prelude.{◌≡◌, ◌≢◌, ◌⊎◌, ℕ, ◌==◌, ◌+◌, ◌-◌, ◌^◌, All, false, Option, None, Some, List, [], ◌∷◌, ◌++◌, length, codes, decimal, string_bytes, if◌then◌else◌}
+use Rattle.std.specs.Prelude.{◌≡◌, ◌≢◌, ◌⊎◌, ℕ, ◌<◌, ◌≤◌, ◌==◌, ◌+◌, ◌-◌, ◌^◌, All, false, Option, None, Some, List, [], ◌∷◌, ◌++◌, length, codes, decimal, slice_get, string_bytes, if◌then◌else◌}
 use Rattle.std.specs.Fmt.{format_spec, padded_integral}
 use Rattle.std.specs.List.{AllZip, flat_map}
 use Rattle.explanation.specs.declared.places.Spot.{Spot}
 use Rattle.explanation.specs.declared.reasons.Reason.{Reason}
+use Rattle.explanation.specs.declared.steps.ToldEvent.{ToldEvent}
+use Rattle.explanation.specs.declared.steps.ToldEvent.TheVariants as told
 use Rattle.explanation.specs.declared.told.Explanation.{Explanation}
 use Rattle.explanation.specs.declared.told.Ids.{Ids}
 use Rattle.explanation.specs.declared.told.Memory.{Memory}
@@ -103,43 +105,69 @@ pub record AreSentences (why : List Reason) (text : List ℕ) : Type 0 where
   pub each : AllZip IsWorded why sentences
   pub whole : text ≡ flat_map (λ sentence. codes "  why: " ++ sentence ++ codes "\n") sentences
 
--- a line of words behind a number of a step, which counts from 1
+-- a line of words behind the number of an event, which counts from 1
 abbrev pub numbered_line : ℕ → List ℕ → List ℕ
 numbered_line number words = codes "  " ++ padded_integral (format_spec 32 3 0 6 (2 ^ 64 - 1)) false [] (decimal number) ++ codes "  " ++ words ++ codes "\n"
 
--- a line that says how many more steps there are
+-- a line that says how many more events of an item there are, and one that says how many events are left out
 abbrev pub more_line : ℕ → List ℕ
 more_line count = codes "      ..  " ++ decimal count ++ codes " more\n"
 
--- a step that is told in words behind its number, or steps that are only counted
+abbrev pub left_out_line : ℕ → List ℕ
+left_out_line count = codes "      ..  " ++ decimal count ++ codes " left out\n"
+
+-- an event that is told in words behind its number, or events that are only counted
 pub data Shown : Type 0 where
   Step : ℕ → List ℕ → Shown
   More : ℕ → Shown
+  LeftOut : ℕ → Shown
 
 abbrev pub shown_line : Shown → List ℕ
 shown_line (Step number words) = numbered_line number words
 shown_line (More count) = more_line count
+shown_line (LeftOut count) = left_out_line count
 
--- the steps behind the first `from` ones up to the one of number `to`, in their order, each told or counted
-abbrev pub Covers : ℕ → List Shown → ℕ → Type 0
-Covers from [] to = from ≡ to
-Covers from (Step number words ∷ shown) to = (number ≡ from + 1) × IsOneLine words × Covers (from + 1) shown to
-Covers from (More count ∷ shown) to = Covers (from + count) shown to
+-- the number of a step's event, if it is one, and not events that are only counted
+abbrev pub number_of : ToldEvent → Option ℕ
+number_of (told.Item event item does memory byte bytes value left code) = Some event
+number_of (told.Release event group code) = Some event
+number_of (told.Omitted event events) = None
 
-pub record AreShown (from to : ℕ) (text : List ℕ) : Type 0 where
+-- the step at a place is the event of a number; is any one event; is so many events
+abbrev pub IsEvent : List ToldEvent → ℕ → ℕ → Type 0
+IsEvent steps at number = (step : ToldEvent) × (slice_get steps at ≡ Some step) × (number_of step ≡ Some number)
+
+abbrev pub AreEvents : List ToldEvent → ℕ → ℕ → Type 0
+AreEvents steps from to = (at : ℕ) → from ≤ at → at < to → (number : ℕ) × IsEvent steps at number
+
+abbrev pub AreLeftOut : List ToldEvent → ℕ → ℕ → Type 0
+AreLeftOut steps at count = (event : ℕ) × (slice_get steps at ≡ Some (told.Omitted event count))
+
+-- the steps from one place up to another, in their order, each told by its number or counted
+abbrev pub Covers : List ToldEvent → ℕ → List Shown → ℕ → Type 0
+Covers steps from [] to = from ≡ to
+Covers steps from (Step number words ∷ shown) to = IsEvent steps from number × IsOneLine words × Covers steps (from + 1) shown to
+Covers steps from (More count ∷ shown) to = AreEvents steps from (from + count) × Covers steps (from + count) shown to
+Covers steps from (LeftOut count ∷ shown) to = AreLeftOut steps from count × Covers steps (from + 1) shown to
+
+pub record AreShown (steps : List ToldEvent) (from to : ℕ) (text : List ℕ) : Type 0 where
   pub shown : List Shown
-  pub covers : Covers from shown to
+  pub covers : Covers steps from shown to
   pub whole : text ≡ flat_map shown_line shown
 
-abbrev pub AddsShown : ℕ → ℕ → List ℕ → List ℕ → Type 0
-AddsShown from to old new = (text : List ℕ) × AreShown from to text × (new ≡ old ++ text)
+abbrev pub AddsShown : List ToldEvent → ℕ → ℕ → List ℕ → List ℕ → Type 0
+AddsShown steps from to old new = (text : List ℕ) × AreShown steps from to text × (new ≡ old ++ text)
 
--- the steps of an explanation: a line about them, then each by its number from 1, or counted
+-- the line of an event is added
+abbrev pub AddsEvent : ℕ → List ℕ → List ℕ → Type 0
+AddsEvent number old new = (words : List ℕ) × IsOneLine words × (new ≡ old ++ numbered_line number words)
+
+-- the steps of an explanation: a line about them, then each told by its number or counted
 pub record AreSteps (e : Explanation) (text : List ℕ) : Type 0 where
   pub head : List ℕ
   pub steps : List ℕ
   pub heads : AreLines 1 head
-  pub are_shown : AreShown 0 (length e.steps.items + e.steps_left) steps
+  pub are_shown : AreShown e.steps.items 0 (length e.steps.items) steps
   pub whole : text ≡ head ++ steps
 
 -- the parameters whose argument the memory of a fault is

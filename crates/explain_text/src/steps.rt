@@ -1,8 +1,8 @@
 //! The steps of a schedule.
 #![tactic(auto)]
 
-ghost use Rattle.std.specs.Prelude.{◌≡◌, ◌+◌, ◌<◌, ◌≤◌, ℕ, ◌++◌, length, string_bytes, IfOk, OnOk};
-ghost use Rattle.explain_text.specs.Texts.{AddsShown, AreSteps, IsOneLine, more_line, numbered_line};
+ghost use Rattle.std.specs.Prelude.{◌≡◌, ◌+◌, ◌<◌, ◌≤◌, ◌++◌, length, string_bytes, IfOk, IfSome, IsSome, IsTrue, OnOk};
+ghost use Rattle.explain_text.specs.Texts.{AddsEvent, AddsShown, AreEvents, AreSteps, IsOneLine, left_out_line, more_line, number_of, numbered_line};
 
 use crate::lines::{one_line, push_line};
 use clmodel::access::AccessKind;
@@ -39,7 +39,7 @@ fn push_values(value: Option<u64>, left: Option<u64>, out: &mut String) -> Resul
 /// Adds a step in words.
 fn push_words(step: &ToldEvent, out: &mut String) -> Result<(), AllocError> {
     let place = match step {
-        ToldEvent::Release { group, code } => {
+        ToldEvent::Release { group, code, .. } => {
             write!(out, "---- group {group} passes its barrier ----")?;
             code
         }
@@ -48,16 +48,17 @@ fn push_words(step: &ToldEvent, out: &mut String) -> Result<(), AllocError> {
             does,
             memory,
             byte,
-            bytes: _,
             value,
             left,
             code,
+            ..
         } => {
             let (deed, memory) = (deed_word(*does), memory.as_str());
             write!(out, "item {item} {deed} {memory} byte {byte}")?;
             push_values(*value, *left, out)?;
             code
         }
+        ToldEvent::Omitted { .. } => return Ok(()),
     };
     if let Some(code) = place {
         push_code(code, out)?;
@@ -75,20 +76,41 @@ fn step_words(alloc: Global, step: &ToldEvent) -> Result<String, AllocError>
 }
 
 /// Adds a line of words behind a number.
-fn push_numbered(number: usize, words: &str, out: &mut String) -> Result<(), AllocError>
+fn push_numbered(number: u64, words: &str, out: &mut String) -> Result<(), AllocError>
     ensures { OnOk result (string_bytes out.new ≡ string_bytes out.old ++ numbered_line number words.now) }
 {
     write!(out, "  {number:>6}  {words}\n")
 }
 
-/// Adds a line that says how many more steps there are.
+/// Adds a line that says how many more events of an item there are.
 fn push_more(count: u64, out: &mut String) -> Result<(), AllocError>
     ensures { OnOk result (string_bytes out.new ≡ string_bytes out.old ++ more_line count) }
 {
     write!(out, "      ..  {count} more\n")
 }
 
-/// Adds the step at a place behind its number, which counts from 1.
+/// Adds a line that says how many events are left out.
+fn push_left_out(count: u64, out: &mut String) -> Result<(), AllocError>
+    ensures { OnOk result (string_bytes out.new ≡ string_bytes out.old ++ left_out_line count) }
+{
+    write!(out, "      ..  {count} left out\n")
+}
+
+/// Adds an event in words, behind its number.
+fn push_event(
+    alloc: Global,
+    event: u64,
+    step: &ToldEvent,
+    out: &mut String,
+) -> Result<(), AllocError>
+    ensures { OnOk result (AddsEvent event (string_bytes out.old) (string_bytes out.new)) }
+{
+    let words = step_words(alloc, step)?;
+    push_numbered(event, words.as_str(), out)?;
+    Ok(())
+}
+
+/// Adds the step at a place.
 fn push_step(
     alloc: Global,
     steps: &[ToldEvent],
@@ -96,45 +118,63 @@ fn push_step(
     out: &mut String,
 ) -> Result<(), AllocError>
     requires { at < length steps.now }
-    ensures { OnOk result (AddsShown at (at + 1) (string_bytes out.old) (string_bytes out.new)) }
+    ensures { OnOk result (AddsShown steps.now at (at + 1) (string_bytes out.old) (string_bytes out.new)) }
 {
-    let words = step_words(alloc, &steps[at])?;
-    push_numbered(at + 1, words.as_str(), out)?;
-    Ok(())
+    let step = &steps[at];
+    match step {
+        ToldEvent::Item { event, .. } => push_event(alloc, *event, step, out),
+        ToldEvent::Release { event, .. } => push_event(alloc, *event, step, out),
+        ToldEvent::Omitted { events, .. } => push_left_out(*events, out),
+    }
 }
 
 /// The item of a step, if it is one's.
-fn item_of(step: &ToldEvent) -> Option<u32> {
+fn item_of(step: &ToldEvent) -> Option<u32>
+    ensures { IfSome result (λ item. IsSome (number_of step.now)) }
+{
     match step {
         ToldEvent::Item { item, .. } => Some(*item),
-        ToldEvent::Release { .. } => None,
+        ToldEvent::Release { .. } | ToldEvent::Omitted { .. } => None,
+    }
+}
+
+/// Whether a step is one of an item.
+fn is_of(step: &ToldEvent, item: u32) -> bool
+    ensures { IsTrue result → IsSome (number_of step.now) }
+{
+    match item_of(step) {
+        Some(other) => other == item,
+        None => false,
     }
 }
 
 /// How many events of one item in a row are told one by one.
 const RUN: usize = 4;
 
-/// How many of the first steps are this item's.
-fn steps_of(steps: &[ToldEvent], item: u32) -> usize
-    ensures { result ≤ length steps.now }
+/// Where the steps end that are this item's, from a place on.
+fn end_of(steps: &[ToldEvent], from: usize, item: u32) -> usize
+    requires { from ≤ length steps.now }
+    ensures within { result ≤ length steps.now }
+    ensures events { AreEvents steps.now from result }
 {
-    for (number, step) in steps.iter().enumerate() {
-        if item_of(step) != Some(item) {
-            return number;
+    for at in from..steps.len() {
+        if !is_of(&steps[at], item) {
+            return at;
         }
     }
     steps.len()
 }
 
-/// How many steps from a place on are one item's, at least 1.
-fn run_length(steps: &[ToldEvent], from: usize) -> usize
+/// Where the run of steps ends that begins at a place: those of one item, or one step.
+fn run_end(steps: &[ToldEvent], from: usize) -> usize
     requires { from < length steps.now }
-    ensures some { 0 < result }
-    ensures within { from + result ≤ length steps.now }
+    ensures some { from < result }
+    ensures within { result ≤ length steps.now }
+    ensures events { from + 1 < result → AreEvents steps.now from result }
 {
     match item_of(&steps[from]) {
-        Some(item) => steps_of(&steps[from..], item).max(1),
-        None => 1,
+        Some(item) => end_of(steps, from, item).max(from + 1),
+        None => from + 1,
     }
 }
 
@@ -148,7 +188,7 @@ fn push_each(
 ) -> Result<(), AllocError>
     requires order { from ≤ end }
     requires within { end ≤ length steps.now }
-    ensures { OnOk result (AddsShown from end (string_bytes out.old) (string_bytes out.new)) }
+    ensures { OnOk result (AddsShown steps.now from end (string_bytes out.old) (string_bytes out.new)) }
 {
     for at in from..end {
         push_step(alloc, steps, at, out)?;
@@ -156,7 +196,7 @@ fn push_each(
     Ok(())
 }
 
-/// Adds the first and the last one of a long run of steps, and how many are between them.
+/// Adds the first and the last one of a long run of events, and how many are between them.
 fn push_folded(
     alloc: Global,
     steps: &[ToldEvent],
@@ -166,7 +206,8 @@ fn push_folded(
 ) -> Result<(), AllocError>
     requires long { from + 1 < end }
     requires within { end ≤ length steps.now }
-    ensures { OnOk result (AddsShown from end (string_bytes out.old) (string_bytes out.new)) }
+    requires events { AreEvents steps.now from end }
+    ensures { OnOk result (AddsShown steps.now from end (string_bytes out.old) (string_bytes out.new)) }
 {
     push_step(alloc, steps, from, out)?;
     push_more((end - from - 2) as u64, out)?;
@@ -184,7 +225,8 @@ fn push_run(
 ) -> Result<(), AllocError>
     requires order { from ≤ end }
     requires within { end ≤ length steps.now }
-    ensures { OnOk result (AddsShown from end (string_bytes out.old) (string_bytes out.new)) }
+    requires events { from + 1 < end → AreEvents steps.now from end }
+    ensures { OnOk result (AddsShown steps.now from end (string_bytes out.old) (string_bytes out.new)) }
 {
     if end - from <= RUN {
         push_each(alloc, steps, from, end, out)
@@ -195,25 +237,14 @@ fn push_run(
 
 /// Adds all steps, long runs of one item folded.
 fn push_runs(alloc: Global, steps: &[ToldEvent], out: &mut String) -> Result<(), AllocError>
-    ensures { OnOk result (AddsShown 0 (length steps.now) (string_bytes out.old) (string_bytes out.new)) }
+    ensures { OnOk result (AddsShown steps.now 0 (length steps.now) (string_bytes out.old) (string_bytes out.new)) }
 {
     let mut from = 0;
     while from < steps.len() {
-        let end = from + run_length(steps, from);
+        let end = run_end(steps, from);
         push_run(alloc, steps, from, end, out)?;
         from = end;
     }
-    Ok(())
-}
-
-/// Adds how many steps are left, if there are any.
-fn push_left(left: u64, out: &mut String) -> Result<(), AllocError>
-    ensures { (told : ℕ) → OnOk result (AddsShown told (told + left) (string_bytes out.old) (string_bytes out.new)) }
-{
-    if left == 0 {
-        return Ok(());
-    }
-    push_more(left, out)?;
     Ok(())
 }
 
@@ -247,6 +278,5 @@ pub(crate) fn steps_text(alloc: Global, whole: &Explanation) -> Result<String, A
     let mut out = String::new(alloc);
     push_line(alloc, line.as_str(), &mut out)?;
     push_runs(alloc, steps, &mut out)?;
-    push_left(whole.steps_left, &mut out)?;
     Ok(out)
 }

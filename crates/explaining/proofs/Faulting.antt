@@ -18,7 +18,7 @@ use Rattle.host_commands.specs.declared.command.Refusal.{Refusal}
 use Rattle.host_commands.specs.declared.command.Reply.{Reply}
 use Rattle.host_commands.specs.declared.command.Reply.TheVariants as reply
 use Rattle.simfile.specs.Faults.{NoScript}
-use Rattle.explaining.specs.Explaining.{NoLaunch, Refuses, Tells, Untold}
+use Rattle.telling.specs.Judged.{NoLaunch, Refuses, Tells, Untold}
 use Rattle.simfile.specs.declared.faults.RunFault.{RunFault}
 use Rattle.simfile.specs.declared.faults.RunFault.TheVariants as fault
 

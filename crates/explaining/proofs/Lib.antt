@@ -1,12 +1,8 @@
 pub mod Answering
 pub mod Each
 pub mod Faulting
-pub mod Inside
-pub mod Marking
 pub mod Performing
-pub mod Placing
 pub mod Refusals
 pub mod Schedules
-pub mod Telling
 pub mod Walking
 pub mod Writing

@@ -1,5 +1,5 @@
 -- Schedule files that are explained, on a device to which commands led.
-use Rattle.std.proofs.Common.{◌≡◌, ◌≤◌, ◌∙◌, ℕ, Option, None, Some, Result, Ok, Err, List, length, inl, inr, refl, sym, ap, subst}
+use Rattle.std.proofs.Common.{◌≡◌, ◌≤◌, ◌∙◌, ℕ, Bool, Option, None, Some, Result, Ok, Err, List, length, inl, inr, refl, sym, ap, subst}
 use Rattle.std.proofs.lemmas.Option.{slice_get_past}
 use Rattle.std.specs.Prelude.{take}
 use Rattle.std.specs.Option.{is_some}
@@ -12,42 +12,43 @@ use Rattle.host_commands.specs.declared.command.Command.TheVariants as command
 use Rattle.fault_lines.specs.ScheduleFile.{IsScheduleFile}
 use Rattle.simfile.specs.Faults.{NoScript}
 use Rattle.simfile.specs.Script.{IsScript}
-use Rattle.explaining.specs.Explaining.{Explained, IsTold, NoLaunch, Tells, Unexplained, Unled, Untold}
+use Rattle.telling.specs.Judged.{NoLaunch, Tells, Untold}
+use Rattle.explaining.specs.Explaining.{Explained, IsTold, Unexplained, Unled}
 use Rattle.explaining.specs.Leading.{Leads}
 use Rattle.simfile.specs.declared.faults.RunFault.{RunFault}
 use Rattle.simfile.specs.declared.faults.RunFault.TheVariants as fault
-use Rattle.explaining.specs.declared.told.ExplainedCase.{ExplainedCase}
+use Rattle.telling.specs.declared.told.ExplainedCase.{ExplainedCase}
 use Rattle.limits.specs.declared.Configuration.{Configuration}
 
 -- the commands that were performed are those before a ticket, on a new device
 pub led_there :
-    (configuration : Configuration) (commands before : List Command) (ticket : ℕ) (first new : Machine) → first ≡ opening configuration → before ≡ take ticket commands → Leads first before new
-    → Leads (opening configuration) (take ticket commands) new
-led_there configuration commands before ticket first new start same led =
-    subst (λ (m : Machine). Leads m (take ticket commands) new) start (subst (λ (l : List Command). Leads first l new) same led)
+    (configuration : Configuration) (commands before : List Command) (ticket : ℕ) (first new : Machine) (done : List Bool) → first ≡ opening configuration → before ≡ take ticket commands
+    → Leads first before new done → Leads (opening configuration) (take ticket commands) new done
+led_there configuration commands before ticket first new done start same led =
+    subst (λ (m : Machine). Leads m (take ticket commands) new done) start (subst (λ (l : List Command). Leads first l new done) same led)
 
 pub told_there :
-    (configuration : Configuration) (commands : List Command) (ticket : ℕ) (f : Fault) (runs : List EventRun) (m : Machine) (r : Result (Option ExplainedCase) RunFault) → Leads (opening configuration) (take ticket commands) m
+    (configuration : Configuration) (commands : List Command) (ticket : ℕ) (f : Fault) (runs : List EventRun) (m : Machine) (done : List Bool) (r : Result (Option ExplainedCase) RunFault) → Leads (opening configuration) (take ticket commands) m done
     → IfOk r (λ found. Tells m commands ticket f runs (is_some found)) → IfOk r (λ found. IsTold configuration commands ticket f runs (is_some found))
-told_there configuration commands ticket f runs m (Ok found) led tells = record { machine = m; led = led; tells = tells }
-told_there configuration commands ticket f runs m (Err why) led tells = tt
+told_there configuration commands ticket f runs m done (Ok found) led tells = record { machine = m; done = done; led = led; tells = tells }
+told_there configuration commands ticket f runs m done (Err why) led tells = tt
 
-untold : (configuration : Configuration) (commands : List Command) (ticket : ℕ) (m : Machine) → Leads (opening configuration) (take ticket commands) m → (why : RunFault)
+untold : (configuration : Configuration) (commands : List Command) (ticket : ℕ) (m : Machine) (done : List Bool) → Leads (opening configuration) (take ticket commands) m done → (why : RunFault)
     → Untold m commands ticket why → Unled configuration commands ticket why
-untold configuration commands ticket m led (fault.Read by) h = absurd h
-untold configuration commands ticket m led fault.Write h = absurd h
-untold configuration commands ticket m led (fault.BadLine n) h = absurd h
-untold configuration commands ticket m led fault.OutOfMemory h = tt
-untold configuration commands ticket m led fault.NoSuchKernel h = absurd h
-untold configuration commands ticket m led fault.BadSchedule h = absurd h
-untold configuration commands ticket m led (fault.NotALaunch named) h = h
-untold configuration commands ticket m led (fault.CommandRefused named) h = (h.0, record { machine = m; led = led; refuses = h.1 })
+untold configuration commands ticket m done led (fault.Read by) h = absurd h
+untold configuration commands ticket m done led fault.Write h = absurd h
+untold configuration commands ticket m done led (fault.BadLine n) h = absurd h
+untold configuration commands ticket m done led fault.OutOfMemory h = tt
+untold configuration commands ticket m done led fault.NoSuchKernel h = absurd h
+untold configuration commands ticket m done led fault.BadSchedule h = absurd h
+untold configuration commands ticket m done led (fault.NotALaunch named) h = h
+untold configuration commands ticket m done led (fault.CommandRefused named) h = (h.0, record { machine = m; done = done; led = led; refuses = h.1 })
 
 pub untold_there :
-    (configuration : Configuration) (commands : List Command) (ticket : ℕ) (m : Machine) (r : Result (Option ExplainedCase) RunFault) → Leads (opening configuration) (take ticket commands) m
+    (configuration : Configuration) (commands : List Command) (ticket : ℕ) (m : Machine) (done : List Bool) (r : Result (Option ExplainedCase) RunFault) → Leads (opening configuration) (take ticket commands) m done
     → IfErr r (Untold m commands ticket) → IfErr r (Unled configuration commands ticket)
-untold_there configuration commands ticket m (Ok found) led h = tt
-untold_there configuration commands ticket m (Err why) led h = untold configuration commands ticket m led why h
+untold_there configuration commands ticket m done (Ok found) led h = tt
+untold_there configuration commands ticket m done (Err why) led h = untold configuration commands ticket m done led why h
 
 -- a script that wasn't read
 pub no_script : (configuration : Configuration) (script schedule : List ℕ) (why : RunFault) → NoScript script why → Unexplained configuration script schedule why

@@ -9,7 +9,9 @@ use Rattle.host_commands.specs.declared.command.Reply.TheVariants as reply
 use Rattle.simfile.specs.Faults.{NoScript}
 use Rattle.simfile.specs.Script.{IsScript}
 use Rattle.explaining.proofs.Faulting.{faults, told_unless}
-use Rattle.explaining.specs.Explaining.{Found, Untold}
+use Rattle.explaining.proofs.Performing.{cleanly}
+use Rattle.telling.specs.Judged.{Untold}
+use Rattle.explaining.specs.Explaining.{Found}
 use Rattle.explaining.specs.Leading.{IsFirst, RepliesAt, StandsBehind, WalkedTo, is_end}
 use Rattle.simfile.specs.declared.faults.RunFault.{RunFault}
 use Rattle.explaining.specs.declared.walks.Case.{Case}
@@ -28,7 +30,7 @@ replies_at old commands m ticket r h = record { before = h.before; command = h.c
 
 -- and so is what a walk came to
 pub stands_behind : (old : Machine) (commands : List Command) (m : Machine) (w : Walked) → WalkedTo old commands m w → StandsBehind commands m w
-stands_behind old commands m walked.Clean h = tt
+stands_behind old commands m (walked.Passed ordered) h = tt
 stands_behind old commands m (walked.Faulted case) h = replies_at old commands m case.ticket (reply.Fault case.fault case.schedule) h
 stands_behind old commands m (walked.Unbuilt u) h = replies_at old commands m u.ticket (reply.Refused (refusal.BuildFailed u.fault)) h
 stands_behind old commands m (walked.Refused case) h = replies_at old commands m case.ticket (reply.Refused case.refusal) h
@@ -45,7 +47,7 @@ faulted_at commands m w case h e = subst (λ (v : Walked). StandsBehind commands
 -- whether there is something to tell
 found : (configuration : Configuration) (script : List ℕ) (commands : List Command) (m : Machine) (w : Walked) → IsScript script commands → WalkedTo (opening configuration) commands m w
     → Found configuration script (is_end w)
-found configuration script commands m walked.Clean is h = record { commands = commands; machine = m; is = is; led = h }
+found configuration script commands m (walked.Passed ordered) is h = record { commands = commands; machine = m; is = is; led = cleanly (opening configuration) m commands ordered h }
 found configuration script commands m (walked.Faulted case) is h = record { commands = commands; ticket = case.ticket; machine = m; is = is; found = inl (case.fault, case.schedule, h) }
 found configuration script commands m (walked.Unbuilt u) is h = record { commands = commands; ticket = u.ticket; machine = m; is = is; found = inr (refusal.BuildFailed u.fault, h) }
 found configuration script commands m (walked.Refused case) is h = record { commands = commands; ticket = case.ticket; machine = m; is = is; found = inr (case.refusal, h) }

@@ -1,25 +1,20 @@
 -- What an explanation says of a script and a schedule file (own).
-use Rattle.std.specs.Prelude.{◌≡◌, ◌≤◌, ◌⊎◌, ℕ, Bool, true, false, ⊤, Decides, None, Some, Ok, Err, List, codes, length, take, slice_get, nat_eq, MatchOption, MatchBool}
+use Rattle.std.specs.Prelude.{◌≡◌, ◌⊎◌, ℕ, Bool, true, false, ⊤, Ok, Err, List, codes, take, nat_eq, MatchOption, MatchBool}
 use Rattle.std.specs.List.{ends_with}
-use Rattle.clmodel.specs.Launch.{Launch}
-use Rattle.clmodel.specs.Law.{Reaches}
-use Rattle.clmodel.specs.Next.{launch_of}
-use Rattle.clmodel.specs.Outcome.{events_of}
 use Rattle.clmodel.specs.Tree.{Program}
 use Rattle.clmodel.specs.declared.fault.Fault.{Fault}
 use Rattle.clmodel.specs.declared.schedule.EventRun.{EventRun}
-use Rattle.clmodel.specs.declared.setup.Range.{Range}
 use Rattle.byte_io.specs.Sink.{Sink, Stopped}
-use Rattle.device.specs.Machine.{Machine, opening, first, launch_row, kernel_of, setup_of, bytes_of}
+use Rattle.device.specs.Machine.{Machine, opening}
 use Rattle.host_commands.specs.Builds.{Builds}
 use Rattle.host_commands.specs.declared.command.BuildFault.{BuildFault}
 use Rattle.host_commands.specs.declared.command.Command.{Command}
-use Rattle.host_commands.specs.declared.command.Command.TheVariants as command
 use Rattle.host_commands.specs.declared.command.Refusal.{Refusal}
 use Rattle.host_commands.specs.declared.command.Reply.TheVariants as reply
 use Rattle.fault_lines.specs.ScheduleFile.{IsScheduleFile, NoScheduleFile}
 use Rattle.simfile.specs.Faults.{NoScript}
 use Rattle.simfile.specs.Script.{IsScript, IsBadLine}
+use Rattle.telling.specs.Judged.{NoLaunch, Refuses, Tells}
 use Rattle.explaining.specs.Leading.{IsFirst, Leads, LeadsCleanly}
 use Rattle.explaining.specs.declared.facts.Given.{Given}
 use Rattle.simfile.specs.declared.faults.RunFault.{RunFault}
@@ -27,67 +22,18 @@ use Rattle.simfile.specs.declared.faults.RunFault.TheVariants as fault
 use Rattle.limits.specs.declared.Configuration.{Configuration}
 use Rattle.limits.specs.declared.Limits.{Limits}
 
--- the command of a ticket launches nothing, or there is none
-abbrev pub NoLaunch : List Command → ℕ → Type 0
-NoLaunch commands ticket =
-    (kernel : List ℕ) (range : Range) (orders : Bool) → slice_get commands ticket ≡ Some (command.Launch kernel range orders) → ⊥
-
--- a schedule that leads where the given one leads, and isn't longer
-pub record IsShort (launch : Launch) (f : Fault) (given short : List EventRun) : Type 0 where
-  pub leads : Reaches launch (events_of short) f
-  pub not_longer : length (events_of short) ≤ length (events_of given)
-
--- a launch that its row doesn't refuse: true exactly where the schedule leads it to a state that shows the fault
-pub record Replays (m : Machine) (kernel : List ℕ) (range : Range) (f : Fault) (runs : List EventRun) (answer : Bool) : Type 0 where
-  pub admitted : first (launch_row m kernel range) ≡ None
-  pub decides : Decides answer (Reaches (launch_of (setup_of m (kernel_of m kernel) range) (bytes_of m)) (events_of runs) f)
-
--- the command of a ticket is a launch that is judged so
-pub record Tells (m : Machine) (commands : List Command) (ticket : ℕ) (f : Fault) (runs : List EventRun) (answer : Bool) : Type 0 where
-  pub kernel : List ℕ
-  pub range : Range
-  pub orders : Bool
-  pub at : slice_get commands ticket ≡ Some (command.Launch kernel range orders)
-  pub replays : Replays m kernel range f runs answer
-
--- the schedule that is told leads the launch of a ticket to the fault, and isn't longer than the given one
-pub record HasShort (m : Machine) (commands : List Command) (ticket : ℕ) (f : Fault) (given short : List EventRun) : Type 0 where
-  pub kernel : List ℕ
-  pub range : Range
-  pub orders : Bool
-  pub at : slice_get commands ticket ≡ Some (command.Launch kernel range orders)
-  pub is_short : IsShort (launch_of (setup_of m (kernel_of m kernel) range) (bytes_of m)) f given short
-
--- the launch of a ticket is refused by its row
-pub record Refuses (m : Machine) (commands : List Command) (ticket : ℕ) : Type 0 where
-  pub kernel : List ℕ
-  pub range : Range
-  pub orders : Bool
-  pub refusal : Refusal
-  pub at : slice_get commands ticket ≡ Some (command.Launch kernel range orders)
-  pub refused : first (launch_row m kernel range) ≡ Some refusal
-
--- why the launch of a ticket wasn't explained
-abbrev pub Untold : Machine → List Command → ℕ → RunFault → Type 0
-Untold m commands ticket (fault.Read by) = ⊥
-Untold m commands ticket fault.Write = ⊥
-Untold m commands ticket (fault.BadLine n) = ⊥
-Untold m commands ticket fault.OutOfMemory = ⊤
-Untold m commands ticket fault.NoSuchKernel = ⊥
-Untold m commands ticket fault.BadSchedule = ⊥
-Untold m commands ticket (fault.NotALaunch named) = (named ≡ ticket) × NoLaunch commands ticket
-Untold m commands ticket (fault.CommandRefused named) = (named ≡ ticket) × Refuses m commands ticket
-
 -- a case that is judged on a new device, to which the commands before its ticket led
 pub record IsTold (configuration : Configuration) (commands : List Command) (ticket : ℕ) (f : Fault) (runs : List EventRun) (answer : Bool) : Type 0 where
   pub machine : Machine
-  pub led : Leads (opening configuration) (take ticket commands) machine
+  pub done : List Bool
+  pub led : Leads (opening configuration) (take ticket commands) machine done
   pub tells : Tells machine commands ticket f runs answer
 
 -- the launch of a ticket is refused on a new device, to which the commands before it led
 pub record IsRefusedThere (configuration : Configuration) (commands : List Command) (ticket : ℕ) : Type 0 where
   pub machine : Machine
-  pub led : Leads (opening configuration) (take ticket commands) machine
+  pub done : List Bool
+  pub led : Leads (opening configuration) (take ticket commands) machine done
   pub refuses : Refuses machine commands ticket
 
 -- why it wasn't

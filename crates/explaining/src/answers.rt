@@ -3,21 +3,28 @@
 
 ghost use Rattle.std.specs.Prelude.{◌≡◌, [], false, IfOk, OnOk, is_some, string_bytes};
 ghost use Rattle.byte_io.specs.Sink.{Puts};
-ghost use Rattle.explaining.specs.Whole.{AnswersTo, IsTextOf};
+ghost use Rattle.explaining.specs.Whole.{AnswersTo, IsTextOf, word_of};
 
 use crate::facts::Format;
-use crate::told::ExplainedCase;
 use byte_io::{Write, WriteFailed};
 use explain_json::json_of;
 use explain_text::text_of;
 use explanation::Explanation;
 use std::alloc::{AllocError, Global};
+use telling::ExplainedCase;
 
 /// A text, and whether it explains something.
 #[derive(Drop)]
 pub(crate) struct Answer {
     pub text: String,
     pub yes: bool,
+}
+
+/// The word for a script of which nothing is told, by whether one of its replies is `ordered`.
+pub(crate) fn word_of(ordered: bool) -> &'static str
+    ensures { result.now ≡ word_of ordered }
+{
+    if ordered { "ordered\n" } else { "clean\n" }
 }
 
 /// A word that says that there is nothing.

@@ -1,7 +1,7 @@
 //! What a walk over the commands of a script ended at, told.
 #![tactic(auto)]
 
-ghost use Rattle.std.specs.Prelude.{◌≡◌, IfOk, IfErr, string_bytes};
+ghost use Rattle.std.specs.Prelude.{IfOk, IfErr, string_bytes};
 ghost use Rattle.device.specs.Machine.{machine_of};
 ghost use Rattle.host_commands.specs.declared.command.Reply.TheVariants as reply;
 ghost use Rattle.simfile.specs.Faults.{NoScript};
@@ -9,10 +9,10 @@ ghost use Rattle.simfile.specs.Places.{AreAt};
 ghost use Rattle.explaining.specs.Leading.{RepliesAt, StandsBehind};
 ghost use Rattle.explaining.specs.Whole.{TellsEnd, TellsFaulted};
 
-use crate::answers::answer_of;
+use crate::answers::{answer_of, word_of};
 use crate::building::explain_unbuilt;
+use crate::cases::{PerformedScript, explain_case};
 use crate::refusing::explain_refused;
-use crate::told::{PerformedScript, explain_case};
 use crate::walks::{Case, Unbuilt, Walked};
 use device::Device;
 use simfile::faults::RunFault;
@@ -27,7 +27,7 @@ fn fault_text(
 ) -> Result<String, RunFault>
     requires placed { AreAt performed.now.given.script.now performed.now.commands.now performed.now.places.now }
     requires replied { RepliesAt performed.now.commands.now (machine_of device.now) case.ticket (reply.Fault case.fault case.schedule) }
-    ensures tells { IfOk result (λ text. TellsFaulted performed.now.options performed.now.given.script.now performed.now.commands.now (machine_of device.now) case.ticket case.fault case.schedule (string_bytes text)) }
+    ensures tells { IfOk result (λ text. TellsFaulted performed.now.options performed.now.given.script.now performed.now.commands.now performed.now.done.now (machine_of device.now) case.ticket case.fault case.schedule (string_bytes text)) }
     ensures failed { IfErr result (NoScript performed.now.given.script.now) }
 {
     let (ticket, fault) = (case.ticket, case.fault);
@@ -52,7 +52,8 @@ fn unbuilt_text(
     )
 }
 
-/// What a walk ended at, on the device behind that command; `clean` where it is none. An error is out of memory.
+/// What a walk ended at, on the device behind that command; `clean` or `ordered` where it is none. An error is out of
+/// memory.
 pub(crate) fn end_text(
     alloc: Global,
     device: &Device,
@@ -61,11 +62,11 @@ pub(crate) fn end_text(
 ) -> Result<String, RunFault>
     requires placed { AreAt performed.now.given.script.now performed.now.commands.now performed.now.places.now }
     requires ended { StandsBehind performed.now.commands.now (machine_of device.now) end }
-    ensures tells { IfOk result (λ text. TellsEnd performed.now.options performed.now.given.script.now performed.now.commands.now (machine_of device.now) end (string_bytes text)) }
+    ensures tells { IfOk result (λ text. TellsEnd performed.now.options performed.now.given.script.now performed.now.commands.now performed.now.done.now (machine_of device.now) end (string_bytes text)) }
     ensures failed { IfErr result (NoScript performed.now.given.script.now) }
 {
     match end {
-        Walked::Clean => Ok(String::from_str(alloc, "clean\n")?),
+        Walked::Passed { ordered } => Ok(String::from_str(alloc, word_of(ordered))?),
         Walked::Unbuilt(unbuilt) => Ok(unbuilt_text(alloc, performed, unbuilt)?),
         Walked::Refused(case) => Ok(explain_refused(alloc, device, performed, case)?),
         Walked::Faulted(case) => fault_text(alloc, device, performed, case),

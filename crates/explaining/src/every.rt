@@ -1,7 +1,7 @@
 //! Every fault and every refusal of a script, told one behind another.
 #![tactic(auto)]
 
-ghost use Rattle.std.specs.Prelude.{◌≡◌, ◌+◌, ◌<◌, ◌++◌, Some, true, false, codes, decimal, length, IfOk, IfErr, OnOk, slice_get, string_bytes};
+ghost use Rattle.std.specs.Prelude.{◌≡◌, ◌+◌, ◌<◌, [], ◌++◌, Bool, List, Some, true, false, codes, decimal, length, IfOk, IfErr, OnOk, slice_get, string_bytes};
 ghost use Rattle.device.specs.Machine.{machine_of};
 ghost use Rattle.simfile.specs.Faults.{NoScript};
 ghost use Rattle.simfile.specs.Places.{AreAt};
@@ -9,19 +9,20 @@ ghost use Rattle.simfile.specs.Script.{IsScript};
 ghost use Rattle.explaining.specs.Every.{IsEndAdded, TellsCommand};
 ghost use Rattle.explaining.specs.Explaining.{Found};
 ghost use Rattle.explaining.specs.Leading.{IsMet, StandsBehind};
-ghost use Rattle.explaining.specs.Whole.{SaysAll, TellsEach, heading};
+ghost use Rattle.explaining.specs.Whole.{SaysAll, TellsEach, heading, word_of};
 
-use crate::answers::{Answer, word_answer};
+use crate::answers::{Answer, word_answer, word_of};
+use crate::cases::PerformedScript;
 use crate::ends::end_text;
 use crate::facts::{ExplainOptions, Format, Given};
-use crate::told::{PerformedScript, place_of};
-use crate::walks::{Walked, end_of, perform};
+use crate::walks::{Walked, end_of, ordered_by, perform};
 use device::{Command, Device};
 use simfile::copies::copies_of;
 use simfile::faults::RunFault;
 use simfile::script::CommandPlace;
 use std::alloc::{AllocError, Global};
 use std::fmt::Write;
+use telling::place_of;
 
 /// A script that was read: what is given of it, how it is told, and its commands with their places.
 #[derive(Clone, Copy)]
@@ -85,7 +86,7 @@ fn push_end(
     requires placed { AreAt performed.now.given.script.now performed.now.commands.now performed.now.places.now }
     requires within { ticket < length performed.now.commands.now }
     requires ended { StandsBehind performed.now.commands.now (machine_of device.now) end }
-    ensures told { OnOk result (IsEndAdded performed.now.options performed.now.given.script.now performed.now.commands.now (machine_of device.now) ticket end (string_bytes out.old) (string_bytes out.new)) }
+    ensures told { OnOk result (IsEndAdded performed.now.options performed.now.given.script.now performed.now.commands.now performed.now.done.now (machine_of device.now) ticket end (string_bytes out.old) (string_bytes out.new)) }
     ensures failed { IfErr result (NoScript performed.now.given.script.now) }
 {
     let text = end_text(alloc, device, performed, end)?;
@@ -100,28 +101,41 @@ fn push_end(
     Ok(())
 }
 
+/// What was met among the replies so far.
+#[derive(Clone, Copy)]
+pub(crate) struct Met {
+    /// Whether a fault or a refusal was
+    pub end: bool,
+    /// Whether `ordered` was
+    pub ordered: bool,
+}
+
 /// Performs the next command of a script, and adds what is told of its reply, if that is a fault or a refusal. Answers
-/// whether one was met, now or before. An error is out of memory.
+/// what was met, now or before. An error is out of memory.
 fn tell_command(
     alloc: Global,
     device: &mut Device,
     script: &ReadScript<'_>,
     command: Command,
-    met: bool,
+    met: Met,
     done: &mut Vec<bool>,
     out: &mut String,
-) -> Result<bool, RunFault>
+) -> Result<Met, RunFault>
     requires placed { AreAt script.now.given.script.now script.now.commands.now script.now.places.now }
     requires next { slice_get script.now.commands.now (length done.old.items) ≡ Some command }
-    ensures told { IfOk result (TellsCommand script.now.options script.now.given.script.now script.now.commands.now (length done.old.items) (machine_of device.old) command (machine_of device.new)
-        (string_bytes out.old) (string_bytes out.new) met) }
+    ensures told { IfOk result (TellsCommand script.now.options script.now.given.script.now script.now.commands.now done.old.items (machine_of device.old) command (machine_of device.new)
+        done.new.items (string_bytes out.old) (string_bytes out.new) met) }
     ensures counted { OnOk result (length done.new.items ≡ length done.old.items + 1) }
     ensures failed { IfErr result (NoScript script.now.given.script.now) }
 {
     let ticket = done.len();
     let reply = perform(device, command, done)?;
+    let ordered = ordered_by(met.ordered, &reply);
     let Some(end) = end_of(ticket, reply) else {
-        return Ok(met);
+        return Ok(Met {
+            end: met.end,
+            ordered,
+        });
     };
     let performed = PerformedScript {
         given: script.given,
@@ -131,7 +145,14 @@ fn tell_command(
         done: done.as_slice(),
     };
     push_end(alloc, device, &performed, ticket, end, out)?;
-    Ok(true)
+    Ok(Met { end: true, ordered })
+}
+
+/// What is told of the commands of a script, and what was met.
+#[derive(Drop)]
+struct AllTold {
+    text: String,
+    met: Met,
 }
 
 /// Performs the commands of a script, and tells each reply that is a fault or a refusal. An error is out of memory.
@@ -140,37 +161,43 @@ fn tell_commands(
     device: &mut Device,
     script: &ReadScript<'_>,
     same: Vec<Command>,
-) -> Result<Answer, RunFault>
+) -> Result<AllTold, RunFault>
     requires placed { AreAt script.now.given.script.now script.now.commands.now script.now.places.now }
     requires same { same.items ≡ script.now.commands.now }
-    ensures each { IfOk result (λ answer. TellsEach script.now.options script.now.given.script.now script.now.commands.now 0 (machine_of device.old) same.items (machine_of device.new) (string_bytes answer.text)) }
-    ensures met { IfOk result (λ answer. IsMet (machine_of device.old) same.items same.items (machine_of device.new) answer.yes) }
+    ensures each { IfOk result (λ told. (done : List Bool) × TellsEach script.now.options script.now.given.script.now script.now.commands.now [] (machine_of device.old) same.items (machine_of device.new) done (string_bytes told.text)) }
+    ensures met { IfOk result (λ told. IsMet (machine_of device.old) same.items same.items (machine_of device.new) told.met.end told.met.ordered) }
     ensures failed { IfErr result (NoScript script.now.given.script.now) }
 {
     let mut done = Vec::new(alloc);
     let mut text = String::new(alloc);
-    let mut met = false;
+    let mut met = Met {
+        end: false,
+        ordered: false,
+    };
     for command in same {
         met = tell_command(alloc, device, script, command, met, &mut done, &mut text)?;
     }
-    Ok(Answer { text, yes: met })
+    Ok(AllTold { text, met })
 }
 
-/// What was told, or that there was nothing. An error is out of memory.
-fn or_clean(alloc: Global, told: Answer) -> Result<Answer, AllocError>
-    ensures yes { IfOk result (λ answer. answer.yes ≡ told.yes) }
-    ensures some { IfOk result (λ answer. told.yes ≡ true → string_bytes answer.text ≡ string_bytes told.text) }
-    ensures none { IfOk result (λ answer. told.yes ≡ false → string_bytes answer.text ≡ codes "clean\n") }
+/// What was told, or the word that there was nothing. An error is out of memory.
+fn or_word(alloc: Global, told: AllTold) -> Result<Answer, AllocError>
+    ensures yes { IfOk result (λ answer. answer.yes ≡ told.met.end) }
+    ensures some { IfOk result (λ answer. told.met.end ≡ true → string_bytes answer.text ≡ string_bytes told.text) }
+    ensures none { IfOk result (λ answer. told.met.end ≡ false → string_bytes answer.text ≡ word_of told.met.ordered) }
 {
-    if told.yes {
-        return Ok(told);
+    if told.met.end {
+        return Ok(Answer {
+            text: told.text,
+            yes: true,
+        });
     }
-    word_answer(alloc, "clean\n")
+    word_answer(alloc, word_of(told.met.ordered))
 }
 
-/// Tells each fault and each refusal of a script, in the order of its commands; `clean` where there is none. A launch
-/// that has a fault and a command that is refused leave the device as it was, so that each is told by the buffers that
-/// it had. An error is out of memory.
+/// Tells each fault and each refusal of a script, in the order of its commands; `clean` or `ordered` where there is
+/// none. A launch that has a fault and a command that is refused leave the device as it was, so that each is told by
+/// the buffers that it had. An error is out of memory.
 pub(crate) fn explain_all(alloc: Global, script: &ReadScript<'_>) -> Result<Answer, RunFault>
     requires script { IsScript script.now.given.script.now script.now.commands.now }
     requires placed { AreAt script.now.given.script.now script.now.commands.now script.now.places.now }
@@ -181,5 +208,5 @@ pub(crate) fn explain_all(alloc: Global, script: &ReadScript<'_>) -> Result<Answ
     let same = copies_of(alloc, script.commands)?;
     let mut device = Device::new(alloc, script.options.configuration);
     let told = tell_commands(alloc, &mut device, script, same)?;
-    Ok(or_clean(alloc, told)?)
+    Ok(or_word(alloc, told)?)
 }

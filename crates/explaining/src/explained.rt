@@ -1,22 +1,22 @@
 //! A script, or a script with a schedule, explained.
 #![tactic(auto)]
 
-ghost use Rattle.std.specs.Prelude.{◌≡◌, ◌≤◌, [], IfOk, IfErr, IfSome, OnOk, List, ℕ, true, length, is_some, string_bytes};
+ghost use Rattle.std.specs.Prelude.{◌≡◌, ◌≤◌, [], IfOk, IfErr, IfSome, OnOk, List, ℕ, length, is_some, string_bytes};
 ghost use Rattle.byte_io.specs.Sink.{Wrote};
 ghost use Rattle.device.specs.Machine.{machine_of, opening};
 ghost use Rattle.simfile.specs.Faults.{NoScript};
 ghost use Rattle.simfile.specs.Places.{AreAt};
 ghost use Rattle.simfile.specs.Script.{IsScript};
 ghost use Rattle.explaining.specs.Explaining.{Explained, Explains, Found, IsTold, Unanswered, Unexplained, Unled, Unwritten};
-ghost use Rattle.explaining.specs.Leading.{WalkedTo};
+ghost use Rattle.explaining.specs.Leading.{IsNoted, WalkedTo};
 ghost use Rattle.explaining.specs.Whole.{IsToldOf, IsToldThere, Says, SaysOf, SaysOne, SaysScript};
 
 use crate::answers::{Answer, answer_of, tell};
 use crate::building::explain_source;
+use crate::cases::{PerformedScript, explain_case};
 use crate::ends::end_text;
 use crate::every::{ReadScript, explain_all};
 use crate::facts::{ExplainOptions, Given};
-use crate::told::{ExplainedCase, PerformedScript, explain_case};
 use crate::walks::{Performed, Walked, perform_all, walk_anew};
 use byte_io::Write;
 use clmodel::fault::Fault;
@@ -27,6 +27,7 @@ use simfile::copies::copies_of;
 use simfile::faults::RunFault;
 use simfile::script::{CommandPlace, Script, read_script};
 use std::alloc::{AllocError, Global};
+use telling::ExplainedCase;
 
 /// Explains a case on a new device, to which the commands before its ticket lead.
 fn told_at(
@@ -42,7 +43,7 @@ fn told_at(
     requires placed { AreAt given.script.now commands.now places.now }
     requires within { ticket ≤ length commands.now }
     ensures told { IfOk result (λ found. IsTold options.configuration commands.now ticket fault.now schedule (is_some found)) }
-    ensures whole { IfOk result (λ found. IfSome found (IsToldThere options.configuration options.as_given given.entry.script.now commands.now ticket fault.now schedule)) }
+    ensures whole { IfOk result (λ found. IfSome found (IsToldThere options given.entry.script.now commands.now ticket fault.now schedule)) }
     ensures failed { IfErr result (Unled options.configuration commands.now ticket) }
 {
     let (first, _) = commands.split_at(ticket);
@@ -71,7 +72,7 @@ fn told_in(
     requires script { IsScript given.script.now commands.now }
     requires placed { AreAt given.script.now commands.now places.now }
     ensures explained { IfOk result (λ found. Explained options.configuration given.entry.script.now schedule.now (is_some found)) }
-    ensures whole { IfOk result (λ found. IfSome found (IsToldOf options.configuration options.as_given given.entry.script.now schedule.now)) }
+    ensures whole { IfOk result (λ found. IfSome found (IsToldOf options given.entry.script.now schedule.now)) }
     ensures failed { IfErr result (Unexplained options.configuration given.entry.script.now schedule.now) }
 {
     let (number, fault, runs) = read(alloc, schedule)?;
@@ -98,7 +99,7 @@ fn explain_schedule(
     options: ExplainOptions,
 ) -> Result<Answer, RunFault>
     ensures explained { IfOk result (λ answer. Explained options.configuration given.entry.script.now schedule.now answer.yes) }
-    ensures says { IfOk result (λ answer. SaysOf options.configuration options.as_given options.format given.entry.script.now schedule.now answer.yes (string_bytes answer.text)) }
+    ensures says { IfOk result (λ answer. SaysOf options given.entry.script.now schedule.now answer.yes (string_bytes answer.text)) }
     ensures failed { IfErr result (Unexplained options.configuration given.entry.script.now schedule.now) }
 {
     let Script { commands, places } = read_script(alloc, given.script)?;
@@ -123,6 +124,7 @@ fn answer_at(
     requires script { IsScript performed.now.given.script.now performed.now.commands.now }
     requires placed { AreAt performed.now.given.script.now performed.now.commands.now performed.now.places.now }
     requires walked { WalkedTo (opening performed.now.options.configuration) performed.now.commands.now (machine_of device.now) end }
+    requires noted { IsNoted end performed.now.done.now }
     ensures found { IfOk result (λ answer. Found performed.now.options.configuration performed.now.given.script.now answer.yes) }
     ensures says { IfOk result (λ answer. SaysOne performed.now.options performed.now.given.script.now answer.yes (string_bytes answer.text)) }
     ensures failed { IfErr result (NoScript performed.now.given.script.now) }
@@ -206,8 +208,9 @@ fn answer_to(alloc: Global, given: Given<'_>, options: ExplainOptions) -> Result
 /// Explains a fault. With a schedule file: that of its line, for which its schedule is replayed. Without one: the first
 /// fault of the script, or its first command that is refused, whichever comes first; or each fault and each such
 /// command, one behind another. A source, which is a file whose name ends in `.cl`, is built alone. Writes what it
-/// explains and answers true; or writes `no` where the schedule doesn't lead to the fault, `clean` where no launch has
-/// a fault and no command is refused, and `ok` where a source builds, and answers false.
+/// explains and answers true; or writes `no` where the schedule doesn't lead to the fault, `clean` or
+/// `ordered` where no launch has a fault and no command is refused, and `ok` where a source builds, and answers false.
+/// It is `ordered` where one launch is answered so.
 ///
 /// After `Write` a beginning of the text was written, after every other error nothing. No memory may be left at any
 /// step.

@@ -8,8 +8,8 @@ ghost use Rattle.host_commands.specs.declared.command.Command.{Command as Comman
 ghost use Rattle.simfile.specs.Places.{AreAt};
 ghost use Rattle.explaining.specs.Refusing.{IsRefusalText, TellsRefusal};
 
+use crate::cases::PerformedScript;
 use crate::facts::Format;
-use crate::told::{PerformedScript, place_of};
 use crate::walks::RefusedCase;
 use device::{Command, Device};
 use explain_json::command_json;
@@ -18,6 +18,7 @@ use refused_commands::{RefusedCommand, refused_text};
 use simfile::copies::copy_of;
 use simfile::script::CommandPlace;
 use std::alloc::{AllocError, Global};
+use telling::place_of;
 
 /// Commands that were done, with their places in the script.
 #[derive(Drop)]

@@ -1,9 +1,9 @@
 //! The commands of a script, performed up to what is to be explained.
 #![tactic(auto)]
 
-ghost use Rattle.std.specs.Prelude.{◌≡◌, ◌+◌, length, IfOk, IfSome, IfNone, OnOk, Decides, true};
+ghost use Rattle.std.specs.Prelude.{◌≡◌, ◌||◌, ◌+◌, [], ◌∷◌, ◌++◌, length, IfOk, IfSome, IfNone, OnOk, Decides, true};
 ghost use Rattle.device.specs.Machine.{Step, machine_of, opening};
-ghost use Rattle.explaining.specs.Leading.{HadMemory, Leads, WalkedTo, EndsAt, goes_on, is_end};
+ghost use Rattle.explaining.specs.Leading.{HadMemory, IsNoted, Leads, WalkedTo, EndsAt, goes_on, is_done, is_end, is_ordered};
 
 use crate::facts::ExplainOptions;
 use clmodel::fault::Fault;
@@ -37,8 +37,8 @@ pub(crate) struct RefusedCase {
 /// What a walk over commands came to.
 #[derive(Drop)]
 pub(crate) enum Walked {
-    /// The last one, and no reply was a fault or a refusal
-    Clean,
+    /// The last one, and no reply was a fault or a refusal; whether one was `ordered`
+    Passed { ordered: bool },
     /// A launch's fault
     Faulted(Case),
     /// A build that is refused
@@ -53,7 +53,7 @@ impl Walked {
         ensures { result ≡ is_end self.now }
     {
         match self {
-            Walked::Clean => false,
+            Walked::Passed { .. } => false,
             Walked::Faulted(_) | Walked::Unbuilt(_) | Walked::Refused(_) => true,
         }
     }
@@ -81,6 +81,20 @@ fn lacked_memory(reply: &Reply) -> bool
     matches!(reply, Reply::Refused(Refusal::OutOfMemory))
 }
 
+/// Whether a command was done that has this reply, and not refused.
+fn is_done(reply: &Reply) -> bool
+    ensures { result ≡ is_done reply.now }
+{
+    !matches!(reply, Reply::Refused(_))
+}
+
+/// Whether `ordered` is among replies and one more.
+pub(crate) fn ordered_by(ordered: bool, reply: &Reply) -> bool
+    ensures { result ≡ (ordered || is_ordered reply.now) }
+{
+    ordered || matches!(reply, Reply::Ordered)
+}
+
 /// Performs a command, and notes whether it was done. An error is out of memory.
 pub(crate) fn perform(
     device: &mut Device,
@@ -89,13 +103,14 @@ pub(crate) fn perform(
 ) -> Result<Reply, AllocError>
     ensures step { IfOk result (λ reply. Step (machine_of device.old) command reply (machine_of device.new)) }
     ensures memory { IfOk result HadMemory }
+    ensures noted { IfOk result (λ reply. done.new.items ≡ done.old.items ++ is_done reply ∷ []) }
     ensures counted { OnOk result (length done.new.items ≡ length done.old.items + 1) }
 {
     let reply = device.apply(command);
     if lacked_memory(&reply) {
         return Err(AllocError);
     }
-    done.push(!matches!(reply, Reply::Refused(_)))?;
+    done.push(is_done(&reply))?;
     Ok(reply)
 }
 
@@ -105,7 +120,7 @@ pub(crate) fn perform_all(
     device: &mut Device,
     commands: Vec<Command>,
 ) -> Result<Vec<bool>, AllocError>
-    ensures { OnOk result (Leads (machine_of device.old) commands.items (machine_of device.new)) }
+    ensures { IfOk result (λ done. Leads (machine_of device.old) commands.items (machine_of device.new) done.items) }
 {
     let mut done = Vec::new(alloc);
     for command in commands {
@@ -141,18 +156,21 @@ fn walk_commands(
     device: &mut Device,
     commands: Vec<Command>,
 ) -> Result<Walk, AllocError>
-    ensures { IfOk result (λ walk. WalkedTo (machine_of device.old) commands.items (machine_of device.new) walk.end) }
+    ensures walked { IfOk result (λ walk. WalkedTo (machine_of device.old) commands.items (machine_of device.new) walk.end) }
+    ensures noted { IfOk result (λ walk. IsNoted walk.end walk.done.items) }
 {
     let mut done = Vec::new(alloc);
+    let mut ordered = false;
     for command in commands {
         let ticket = done.len();
         let reply = perform(device, command, &mut done)?;
+        ordered = ordered_by(ordered, &reply);
         if let Some(end) = end_of(ticket, reply) {
             return Ok(Walk { end, done });
         }
     }
     Ok(Walk {
-        end: Walked::Clean,
+        end: Walked::Passed { ordered },
         done,
     })
 }
@@ -163,7 +181,8 @@ pub(crate) fn walk_anew(
     options: ExplainOptions,
     commands: Vec<Command>,
 ) -> Result<Performed, AllocError>
-    ensures { IfOk result (λ performed. WalkedTo (opening options.configuration) commands.items (machine_of performed.device) performed.end) }
+    ensures walked { IfOk result (λ performed. WalkedTo (opening options.configuration) commands.items (machine_of performed.device) performed.end) }
+    ensures noted { IfOk result (λ performed. IsNoted performed.end performed.done.items) }
 {
     let mut device = Device::new(alloc, options.configuration);
     let Walk { end, done } = walk_commands(alloc, &mut device, commands)?;

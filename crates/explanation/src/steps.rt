@@ -30,10 +30,12 @@ pub struct Code {
     pub text: String,
 }
 
-/// An event of a schedule: an access of an item, or the release of a group from a barrier.
+/// A step of a schedule: an event that is told, which is an access of an item or the release of a group from a barrier;
+/// or events in a row that are only counted. Each has the number of its event, from 1.
 #[derive(Drop)]
 pub enum ToldEvent {
     Item {
+        event: u64,
         item: u32,
         does: AccessKind,
         /// The object, as `buffer a` or `local 0 tile`
@@ -48,7 +50,13 @@ pub enum ToldEvent {
         code: Option<Code>,
     },
     Release {
+        event: u64,
         group: u32,
         code: Option<Code>,
+    },
+    /// The number of the first one, and how many they are
+    Omitted {
+        event: u64,
+        events: u64,
     },
 }

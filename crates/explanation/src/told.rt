@@ -21,6 +21,8 @@ pub struct LaunchFacts {
     pub local_size: Vec<u64>,
     pub offset: Vec<u64>,
     pub uniform: bool,
+    /// Whether the launch has `orders`, so that a conflict of kind order is no report (own)
+    pub orders: bool,
     pub budget: u32,
 }
 
@@ -113,8 +115,6 @@ pub struct Explanation {
     /// Why it comes about
     pub why: Vec<Reason>,
     pub schedule: ScheduleFacts,
-    /// The first events of the short schedule, 1,000 at most
+    /// The events of the short schedule, in their order, each told or counted
     pub steps: Vec<ToldEvent>,
-    /// How many more events it has
-    pub steps_left: u64,
 }

@@ -3,14 +3,14 @@ use Rattle.std.proofs.Common.{◌≡◌, ℕ, Bool, true, false, Option, None, S
 use Rattle.std.specs.Prelude.{reverse}
 use Rattle.std.proofs.lemmas.Bool.{false≢true}
 use Rattle.std.proofs.lemmas.List.{reverse-append, reverse-reverse}
-use Rattle.clmodel.specs.Launch.{Launch}
+use Rattle.clmodel.specs.Launch.{Launch, group_of}
 use Rattle.clmodel.specs.Run.{State, step}
 use Rattle.clmodel.specs.declared.access.Access.{Access}
 use Rattle.clmodel.specs.declared.schedule.Event.TheVariants.{Item, Release}
 use Rattle.clmodel.proofs.Steps.{ItemStep, ReleaseStep, item_inverse, release_inverse}
 use Rattle.item_step.specs.Running.{Running}
 use Rattle.ordered_runs.specs.Ordered.{newest_race}
-use Rattle.race_filter.specs.Filters.{Keeps}
+use Rattle.race_filter.specs.Filters.{IsPassed, Keeps}
 use Rattle.race_filter.specs.declared.filter.RaceFilter.{RaceFilter}
 use Rattle.replay.specs.States.{IsAt, IsPlayed}
 use Rattle.replay.specs.declared.player.Player.{Player}
@@ -57,13 +57,19 @@ same_log l s g next h =
     let w : ReleaseStep l s g next = release_inverse l s g next h in
     ap (λ (z : State). z.log) w.gives
 
-none_kept : (filter : RaceFilter) → Keeps filter []
-none_kept filter whole y w = absurd w
+none_kept : (l : Launch) (filter : RaceFilter) → Keeps l filter []
+none_kept l filter whole y w = absurd w
+
+-- which is the item's own
+item_is :
+    (l : Launch) (s : State) (k : ℕ) (next : State) (log earlier : List Access) (newest : Access) → step l s (Item k) ≡ Some next → log ≡ reverse next.log → log ≡ earlier ++ newest ∷ []
+    → newest.item ≡ k
+item_is l s k next log earlier newest h told split =
+    let w : ItemStep l s k next = item_inverse l s k next h in
+    let first : (x : Access) × (next.log ≡ x ∷ s.log) × (x.item ≡ k) = (_, sym (ap (λ (z : State). z.log) w.gives), refl) in
+    ap (λ (z : Access). z.item) (head_inj newest first.0 s.log s.log (newest_is l s k next log earlier newest h told split ∙ first.1)) ∙ first.2
 
 -- ---- with the filter
-
-abbrev Claims : RaceFilter → RaceFilter → Access → Bool → Type 0
-Claims old new x quiet = (l : Launch) (log : List Access) → Keeps old log → Keeps new (x ∷ log) × (quiet ≡ true → newest_race l (x ∷ log) ≡ None)
 
 module _ {D : Type 0} (launch_of : D → Launch) (started_of : D → ℕ → Running) (l : Launch) (r : ℕ → Running) (s : State) where
   abbrev At : Player D → State → Type 0
@@ -86,25 +92,25 @@ module _ {D : Type 0} (launch_of : D → Launch) (started_of : D → ℕ → Run
   made_untold k old player false log is so h told empty = absurd (false≢true so)
   made_untold k old player true log is so h told empty =
       let none : next_log ≡ [] = sym (ap reverse (told h.0 h.2) ∙ reverse-reverse next_log) ∙ ap reverse empty in
-      (h.0, h.1, record { at = h.2; kept = subst (Keeps old.filter) (sym none) (none_kept old.filter) }, λ e. absurd (false≢true e))
+      (h.0, h.1, record { at = h.2; kept = subst (Keeps l old.filter) (sym none) (none_kept l old.filter) }, λ e. absurd (false≢true e))
     where
       next_log : List Access
       next_log = h.0.log
 
   -- one that was made, and passed the filter
   pub made_noted :
-      (k : ℕ) (old : Watched D) (player : Player D) (filter : RaceFilter) (yes quiet : Bool) (log earlier : List Access) (newest : Access) → Watches old s → yes ≡ true
-      → IsPlayed l s (Item k) (At player) yes → ((state : State) → At player state → log ≡ reverse state.log) → log ≡ earlier ++ newest ∷ [] → Claims old.filter filter newest quiet
+      (group : ℕ) (uniform : Bool) (k : ℕ) (old : Watched D) (player : Player D) (filter : RaceFilter) (yes quiet : Bool) (log earlier : List Access) (newest : Access) → l.uniform ≡ uniform → group_of l k ≡ group → Watches old s → yes ≡ true
+      → IsPlayed l s (Item k) (At player) yes → ((state : State) → At player state → log ≡ reverse state.log) → log ≡ earlier ++ newest ∷ [] → IsPassed group uniform newest old.filter filter quiet
       → IsMade l s k (Watches (record { player = player; filter = filter })) (Some quiet)
-  made_noted k old player filter false quiet log earlier newest is so h told split claims = absurd (false≢true so)
-  made_noted k old player filter true quiet log earlier newest is so h told split claims =
+  made_noted group uniform k old player filter false quiet log earlier newest alike own is so h told split claims = absurd (false≢true so)
+  made_noted group uniform k old player filter true quiet log earlier newest alike own is so h told split claims =
       let same : newest ∷ s.log ≡ h.0.log = newest_is l s k h.0 log earlier newest h.1 (told h.0 h.2) split in
-      let c = claims l s.log is.kept in
-      (h.0, h.1, record { at = h.2; kept = subst (Keeps filter) same c.0 }, λ e. ap (newest_race l) (sym same) ∙ c.1 e)
+      let c = claims l s.log alike (ap (group_of l) (item_is l s k h.0 log earlier newest h.1 (told h.0 h.2) split) ∙ own) is.kept in
+      (h.0, h.1, record { at = h.2; kept = subst (Keeps l filter) same c.0 }, λ e. ap (newest_race l) (sym same) ∙ c.1 e)
 
   -- a release
   pub released_too :
       (g : ℕ) (old : Watched D) (player : Player D) (yes : Bool) → Watches old s → IsPlayed l s (Release g) (At player) yes
       → IsPlayed l s (Release g) (Watches (record old { player = player })) yes
-  released_too g old player true is h = (h.0, h.1, record { at = h.2; kept = subst (Keeps old.filter) (same_log l s g h.0 h.1) is.kept })
+  released_too g old player true is h = (h.0, h.1, record { at = h.2; kept = subst (Keeps l old.filter) (same_log l s g h.0 h.1) is.kept })
   released_too g old player false is h = (h.0, record { at = h.1; kept = is.kept })

@@ -12,7 +12,7 @@ use Rattle.ordered_play.specs.declared.watching.Watched.{Watched}
 -- a player of a launch is at a state of it, and the filter has noted the accesses of that state
 pub record IsWatched {D : Type 0} (launch_of : D → Launch) (started_of : D → ℕ → Running) (launch : Launch) (started : ℕ → Running) (watched : Watched D) (state : State) : Type 0 where
   pub at : IsAt {D = D} launch_of started_of launch started watched.player state
-  pub kept : Keeps watched.filter state.log
+  pub kept : Keeps launch watched.filter state.log
 
 -- an item's access isn't possible; or it was made, and where true is said it races with none before it
 abbrev pub IsMade : Launch → State → ℕ → (State → Type 0) → Option Bool → Type 0

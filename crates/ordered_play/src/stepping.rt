@@ -110,7 +110,7 @@ fn access_item<D: Runnable>(
         let unset = unset_fault(alloc, launch, item, object, group, byte, kind)?;
         return Ok(Stepped::Fails(Box::into_inner(unset)));
     }
-    match watched.play_item(item)? {
+    match watched.play_item(group, launch.uniform(), item)? {
         Some(quiet) => judge(launch, watched, quiet),
         None => unreachable!(),
     }

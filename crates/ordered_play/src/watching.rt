@@ -1,7 +1,7 @@
 //! A launch as it is played, whose accesses a filter notes.
 
 ghost use Rattle.std.specs.Prelude.{◌≡◌, ◌*◌, ℕ, IfOk, length};
-ghost use Rattle.clmodel.specs.Launch.{Launch};
+ghost use Rattle.clmodel.specs.Launch.{Launch, group_of};
 ghost use Rattle.clmodel.specs.Run.{State, start};
 ghost use Rattle.clmodel.specs.declared.access.Region.TheVariants as region;
 ghost use Rattle.clmodel.specs.declared.schedule.Event.TheVariants as event;
@@ -53,11 +53,17 @@ impl<'a, D: Runnable> Watched<'a, D> {
         self.player.action(item)
     }
 
-    /// Makes an item's access, where that is what it does next and is possible, and says true only where it races with
-    /// none before it; `None` where it isn't possible. An error is out of memory.
-    pub(crate) fn play_item(&mut self, item: u32) -> Result<Option<bool>, AllocError>
+    /// Makes the access of an item of a group, in a launch that is uniform or not, where that is what it does next and
+    /// is possible, and says true only where it races with none before it; `None` where it isn't possible. An error is
+    /// out of memory.
+    pub(crate) fn play_item(
+        &mut self,
+        group: u32,
+        uniform: bool,
+        item: u32,
+    ) -> Result<Option<bool>, AllocError>
         requires { (launch : Launch) × (started : ℕ → Running) × (state : State) × IsWatched D.launch D.started launch started self.old state }
-        ensures { IfOk result (λ made. (launch : Launch) (started : ℕ → Running) (state : State) → IsWatched D.launch D.started launch started self.old state → IsMade launch state item (IsWatched D.launch D.started launch started self.new) made) }
+        ensures { IfOk result (λ made. (launch : Launch) (started : ℕ → Running) (state : State) → launch.uniform ≡ uniform → group_of launch item ≡ group → IsWatched D.launch D.started launch started self.old state → IsMade launch state item (IsWatched D.launch D.started launch started self.new) made) }
     {
         if !self.player.play_item(item)? {
             return Ok(None);
@@ -65,7 +71,7 @@ impl<'a, D: Runnable> Watched<'a, D> {
         let Some((newest, _rest)) = self.player.log().split_last() else {
             return Ok(Some(false));
         };
-        let quiet = self.filter.pass(newest)?;
+        let quiet = self.filter.pass(group, uniform, newest)?;
         Ok(Some(quiet))
     }
 

@@ -1,7 +1,7 @@
 //! What accesses have in common.
 
 ghost use Rattle.std.specs.Prelude.{◌≡◌};
-ghost use Rattle.race_filter.specs.Sorts.{is_atomic, is_load, lets, passed, sort_of, sort_with};
+ghost use Rattle.race_filter.specs.Sorts.{is_atomic, is_load, lets, sort_of, sort_with};
 
 use clmodel::access::{Access, AccessKind};
 
@@ -71,15 +71,5 @@ impl Sort {
         let loads = self.are_loads && is_load(x.kind);
         let atomic = self.are_atomic && is_atomic(x.kind);
         own || loads || atomic
-    }
-}
-
-/// What is kept of a word with one access more, and whether it races with none of those before it.
-pub(crate) fn passed(found: Option<Sort>, x: &Access) -> (Sort, bool)
-    ensures { result ≡ passed found x.now }
-{
-    match found {
-        Some(sort) => (sort.with(x), sort.lets(x)),
-        None => (Sort::of(x), true),
     }
 }

@@ -14,7 +14,7 @@ use Rattle.serving.specs.declared.server.Server.{Server}
 use Rattle.simfile.specs.declared.faults.RunFault.{RunFault}
 use Rattle.simfile.specs.declared.faults.RunFault.TheVariants as fault
 use Rattle.serving.specs.Hearing.{IsHeardLine, EndsWith, HeardLine, HeardSource, HearFails, NotHeard, NotHeardSource, AreSource}
-use Rattle.serving.specs.Turns.{greeting, BeginsNone, IsBad}
+use Rattle.serving.specs.Turns.{greeting, TellsNone, BeginsNone, IsBad}
 use Rattle.serving.specs.Serving.{HeardOpening, NotOpened, HasLine, IsRest, HeardRest, HeardPart, HeardCommand, HeardBad, NoCommand, up_to_most}
 use Rattle.serving.proofs.Sources.{fails_then}
 use Rattle.simfile.specs.declared.lines.Version.{Version}
@@ -27,8 +27,15 @@ use Rattle.simfile.proofs.LineLaws.{whole_read, whole_none, no_line, too_few, so
 
 -- the first line
 
-pub opening_one : {old new : Conversation} {before text : List ℕ} {whole : Bool} → before ≡ [] → HeardLine old new before text whole → HeardOpening old new text version.One whole
-opening_one {old} {new} {before} {text} {whole} empty h =
+-- a line that is all of the text
+record HeardAlone (old new : Conversation) (text : List ℕ) (whole : Bool) : Type 0 where
+  said : Said old new (Heard text ∷ [])
+  failures : new.failures ≡ old.failures
+  line : IsHeardLine whole text
+  ended : line_feeds text ≡ 0 → EndsWith old new
+
+heard_alone : {old new : Conversation} {before text : List ℕ} {whole : Bool} → before ≡ [] → HeardLine old new before text whole → HeardAlone old new text whole
+heard_alone {old} {new} {before} {text} {whole} empty h =
     let same : h.line ≡ text = sym (h.added ∙ ap (λ l. l ++ h.line) empty) in
     record {
       said = subst (λ (l : List ℕ). Said old new (Heard l ∷ [])) same h.said;
@@ -36,6 +43,17 @@ opening_one {old} {new} {before} {text} {whole} empty h =
       line = subst (λ (l : List ℕ). IsHeardLine whole l) same h.is;
       ended = subst (λ (l : List ℕ). line_feeds l ≡ 0 → EndsWith old new) same h.ended;
     }
+
+-- where no version is told of a line, it tells none
+pub tells_none : {line slice : List ℕ} → slice ≡ line → ((v : Version) → TellsVersion slice v → ◌≡◌ {A = Option Version} None (Some v)) → TellsNone line
+tells_none {line} {slice} same only v tells =
+    let bad : ◌≡◌ {A = Option Version} None (Some v) = only v (subst (λ (l : List ℕ). TellsVersion l v) (sym same) tells) in
+    cc
+
+pub opening_one : {old new : Conversation} {before text : List ℕ} {whole : Bool} → before ≡ [] → TellsNone text → HeardLine old new before text whole → HeardOpening old new text version.One whole
+opening_one empty none h =
+    let first = heard_alone empty h in
+    record { said = first.said; untold = λ is. none; failures = first.failures; line = first.line; ended = first.ended }
 
 -- what ends the rest of a rest ends it
 pub ends_then : (a b : Option (List ℕ)) (c : Option (List ℕ)) (bytes : List ℕ) → Consumes a b bytes → IfSome b (λ _. IsAtEnd c) → IfSome a (λ _. IsAtEnd c)
@@ -56,10 +74,11 @@ greeted_by {old} {mid} {before} {first} v empty h tells =
 
 pub opening_later : {old mid new : Conversation} {before first cleared text : List ℕ} {w whole : Bool} (v : Version) → before ≡ [] → HeardLine old mid before first w → TellsVersion first v → cleared ≡ [] → HeardLine mid new cleared text whole → HeardOpening old new text v whole
 opening_later {old} {mid} {new} {before} {first} {cleared} {text} {w} {whole} v empty h tells none k =
-    let second = opening_one none k in
+    let second = heard_alone none k in
     let greeted : Said old mid (greeting v) = greeted_by v empty h tells in
     record {
       said = said_then greeted second.said;
+      untold = λ is. absurd (subst (λ (w : Version). TellsVersion first w) is tells);
       failures = second.failures ∙ h.failures;
       line = second.line;
       ended = λ e. ends_then old.rest mid.rest new.rest (heard (Heard h.line ∷ [])) h.said.heard (second.ended e);

@@ -6,11 +6,12 @@ use Rattle.host_commands.specs.declared.command.Command.{Command}
 use Rattle.host_commands.specs.declared.command.Reply.{Reply}
 use Rattle.byte_io.specs.Talk.{Conversation, Heard, Told, hearing, Said}
 use Rattle.serving.specs.Hearing.{IsHeardLine, EndsWith, HearFails, IsShort}
-use Rattle.serving.specs.Turns.{greeting, IsBad}
+use Rattle.serving.specs.Turns.{greeting, TellsNone, IsBad}
 use Rattle.serving.specs.declared.server.Server.{Server}
 use Rattle.simfile.specs.declared.faults.RunFault.{RunFault}
 use Rattle.simfile.specs.declared.faults.RunFault.TheVariants as fault
 use Rattle.simfile.specs.declared.lines.Version.{Version}
+use Rattle.simfile.specs.declared.lines.Version.TheVariants.{One}
 use Rattle.simfile.specs.Lines.{line}
 use Rattle.simfile.specs.Reading.{command_at}
 use Rattle.simfile.specs.Script.{IsText, line_feeds, head}
@@ -20,9 +21,11 @@ use Rattle.simfile.specs.Stepwise.{IsWhole}
 abbrev pub HasLine : Server → Type 0
 HasLine server = IsHeardLine server.whole server.text.items
 
--- the line of the version was heard, where there is one, and a first line
+-- The line of the version was heard, where there is one, and a first line. It is of version 1 only where that line
+-- tells no version.
 pub record HeardOpening (old new : Conversation) (text : List ℕ) (version : Version) (whole : Bool) : Type 0 where
   pub said : Said old new (greeting version ++ Heard text ∷ [])
+  pub untold : version ≡ One → TellsNone text
   pub failures : new.failures ≡ old.failures
   pub line : IsHeardLine whole text
   pub ended : line_feeds text ≡ 0 → EndsWith old new
@@ -30,6 +33,7 @@ pub record HeardOpening (old new : Conversation) (text : List ℕ) (version : Ve
 -- the same, as the server that it makes has it
 pub record Opened (old new : Conversation) (server : Server) : Type 0 where
   pub said : Said old new (greeting server.version ++ Heard server.text.items ∷ [])
+  pub untold : server.version ≡ One → TellsNone server.text.items
   pub line : HasLine server
   pub ended : line_feeds server.text.items ≡ 0 → EndsWith old new
   pub failures : new.failures ≡ old.failures

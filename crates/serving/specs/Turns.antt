@@ -1,5 +1,5 @@
 -- The talk of commands and replies: each reply is told before the next command is heard (own).
-use Rattle.std.specs.Prelude.{◌≡◌, ◌⊎◌, ℕ, List, [], ◌∷◌, ◌++◌}
+use Rattle.std.specs.Prelude.{◌≡◌, ◌⊎◌, ℕ, ⊤, List, [], ◌∷◌, ◌++◌}
 use Rattle.byte_io.specs.Pieces.{joined}
 use Rattle.host_commands.specs.declared.command.Command.{Command}
 use Rattle.host_commands.specs.declared.command.Reply.{Reply}
@@ -9,13 +9,23 @@ use Rattle.simfile.specs.declared.lines.Version.{Version}
 use Rattle.simfile.specs.declared.lines.Version.TheVariants as version
 use Rattle.simfile.specs.Lines.{line}
 use Rattle.simfile.specs.Script.{IsText, head}
-use Rattle.simfile.specs.Stepwise.{IsWhole}
+use Rattle.simfile.specs.Stepwise.{TellsVersion, IsWhole}
 
 -- the line of a version is heard, and nothing is told for it
 abbrev pub greeting : Version → List Event
 greeting version.One = []
 greeting version.Two = Heard (head version.Two) ∷ []
 greeting version.Three = Heard (head version.Three) ∷ []
+
+-- a line that tells no version
+abbrev pub TellsNone : List ℕ → Type 0
+TellsNone line = (version : Version) → TellsVersion line version → ⊥
+
+-- the first line that is heard tells no version
+abbrev pub FirstTellsNone : List Event → Type 0
+FirstTellsNone [] = ⊤
+FirstTellsNone (Heard line ∷ events) = TellsNone line
+FirstTellsNone (Told line ∷ events) = ⊤
 
 -- a turn for each command: its text is heard, in pieces, and then its reply's line is told
 abbrev pub AreTurns : Version → List Command → List Reply → List Event → Type 0

@@ -52,7 +52,8 @@ text_more : (v : Version) (front : List ℕ) (cs : List Command) (text : List �
 text_more v front [] text c h k = (text, [], ap (λ l. l ++ text) h ∙ sym (append-nil text), k, refl)
 text_more v front (d ∷ cs) text c h k = (h.0, h.1 ++ text, ap (λ l. l ++ text) h.2 ∙ append_assoc h.0 h.1 text, h.3, text_more v h.1 cs text c h.4 k)
 
--- how far the lines are read: these are told, their text and their places are there, and the lines from `at` on are left
+-- how far the lines are read: these are told, their text and their places are there, and the lines from `at` on are
+-- left
 pub record IsAt (files : List NamedFile) (lines : List (List ℕ)) (at : ℕ) (plain : PlainScript) : Type 0 where
   pub tolds : List Told
   pub front : List ℕ
@@ -143,7 +144,7 @@ whole files lines at plain past here =
     let P : List (List ℕ) → Type 0 = λ l. BeginsWritten files (length lines + 1) lines here.tolds l in
     record {
       commands = commands_of here.tolds;
-      text = (version.Three, here.front, here.text, here.texts, many);
+      text = (here.front, here.text, here.texts, many);
       told = record { tolds = here.tolds; begins = subst P none here.begins; are = refl; at = here.places; few = many };
     } where
       nothing : (l : List (List ℕ)) → length l ≡ 0 → l ≡ []

@@ -5,11 +5,10 @@ use Rattle.host_commands.specs.declared.command.Command.{Command}
 use Rattle.script_lines.proofs.Grammar.{says_takes, says_again}
 use Rattle.script_lines.specs.Plain.{plain}
 use Rattle.script_lines.specs.Reading.{says_at}
-use Rattle.simfile.specs.Script.{IsScript}
 use Rattle.text_lines.proofs.FieldLaws.{bind_some}
 use Rattle.written_scripts.specs.Reading.{told_at, IsStop}
 use Rattle.written_scripts.specs.Telling.{told_by, place_of}
-use Rattle.written_scripts.specs.Written.{Tells, BeginsWritten, commands_of, IsThird, AreTold, IsBadAmong, IsWritten, Turns, IsTextOf}
+use Rattle.written_scripts.specs.Written.{Tells, BeginsWritten, commands_of, IsThird, AreTold, IsBadAmong, IsWritten, IsPlainThird, Turns, IsTextOf}
 use Rattle.written_scripts.specs.declared.files.NamedFile.{NamedFile}
 use Rattle.written_scripts.specs.declared.places.Turned.{Turned}
 use Rattle.written_scripts.specs.declared.places.Turned.TheVariants as turned
@@ -115,7 +114,7 @@ turns_only files script (turned.Plain p) cs h w =
     let k = h.written in
     let P : List (List ℕ) → Type 0 = λ l. AreTold files l h.commands p.places.items in
     let one : AreTold files w.1.lines h.commands p.places.items = subst P (same_lines script k.lines w.1.lines k.third w.1.third) k.told in
-    subst (λ (l : List Command). IsScript p.text.items l) (same_commands files w.1.lines h.commands cs p.places.items w.0 one w.1.told) h.text
+    subst (λ (l : List Command). IsPlainThird p.text.items l) (same_commands files w.1.lines h.commands cs p.places.items w.0 one w.1.told) h.text
 turns_only files script (turned.BadLine n) cs h w =
     let P : List (List ℕ) → Type 0 = λ l. IsBadAmong files l n in
     not_both files w.1.lines cs w.0 n w.1.told (subst P (same_lines script h.lines w.1.lines h.third w.1.third) h.bad)

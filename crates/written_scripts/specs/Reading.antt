@@ -3,11 +3,11 @@ use Rattle.std.specs.Prelude.{◌≡◌, ℕ, ◌+◌, ◌<◌, ◌≤◌, Optio
 use Rattle.host_commands.specs.declared.command.Command.{Command}
 use Rattle.script_lines.specs.Plain.{plain}
 use Rattle.script_lines.specs.Reading.{says_at}
-use Rattle.simfile.specs.Script.{IsScript, IsText}
+use Rattle.simfile.specs.Script.{IsText}
 use Rattle.simfile.specs.declared.lines.Version.TheVariants as version
 use Rattle.text_lines.specs.Fronts.{◌>>=◌}
 use Rattle.written_scripts.specs.Telling.{told_by, place_of}
-use Rattle.written_scripts.specs.Written.{Tells, AreTold, IsBadAmong, commands_of}
+use Rattle.written_scripts.specs.Written.{Tells, AreTold, IsBadAmong, IsPlainThird, commands_of}
 use Rattle.written_scripts.specs.declared.files.NamedFile.{NamedFile}
 use Rattle.written_scripts.specs.declared.places.PlainScript.{PlainScript}
 use Rattle.written_scripts.specs.declared.places.Turned.{Turned}
@@ -40,10 +40,10 @@ abbrev pub IsStop : List NamedFile → ℕ → List ℕ → List (List ℕ) → 
 IsStop files number line behind count =
     (told : Option (Command × WrittenPlace)) (taken : ℕ) → Tells files number line behind told taken → 4096 < count + length (commands_of (told ∷ []))
 
--- the text is a script of the commands that the lines behind the first one tell, at these places
+-- the text is a plain script of version 3 of the commands that the lines behind the first one tell, at these places
 pub record IsPlainAmong (files : List NamedFile) (lines : List (List ℕ)) (plain : PlainScript) : Type 0 where
   pub commands : List Command
-  pub text : IsScript plain.text.items commands
+  pub text : IsPlainThird plain.text.items commands
   pub told : AreTold files lines commands plain.places.items
 
 -- what comes of the lines behind the first one

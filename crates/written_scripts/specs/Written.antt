@@ -1,11 +1,12 @@
 -- A script of version 3: what its lines tell, one after another, and which line is bad (own).
-use Rattle.std.specs.Prelude.{◌≡◌, ℕ, ◌+◌, ◌-◌, ◌<◌, ◌≤◌, IsTrue, Option, None, Some, option_map, List, [], ◌∷◌, length, drop}
+use Rattle.std.specs.Prelude.{◌≡◌, ℕ, ◌+◌, ◌-◌, ◌<◌, ◌≤◌, IsTrue, Option, None, Some, option_map, List, [], ◌∷◌, ◌++◌, length, drop}
 use Rattle.clmodel.specs.Setup.{same_text}
 use Rattle.host_commands.specs.declared.command.Command.{Command}
 use Rattle.script_lines.specs.Plain.{plain, first_line}
 use Rattle.script_lines.specs.Says.{Says}
 use Rattle.script_lines.specs.declared.says.LineSays.{LineSays}
-use Rattle.simfile.specs.Script.{IsScript}
+use Rattle.simfile.specs.Script.{Begins, head}
+use Rattle.simfile.specs.declared.lines.Version.TheVariants.{Three}
 use Rattle.written_scripts.specs.Lines.{lines_of}
 use Rattle.written_scripts.specs.Telling.{told_by, place_of}
 use Rattle.written_scripts.specs.declared.files.NamedFile.{NamedFile}
@@ -86,10 +87,15 @@ pub record IsBadWritten (files : List NamedFile) (script : List ℕ) (number : �
 abbrev pub IsOther : List ℕ → Type 0
 IsOther script = (lines : List (List ℕ)) → IsThird script lines → ⊥
 
--- the text is a plain script of the commands that the script tells, which stand in that one at these places
+-- a plain script of version 3: a first line that says so, and the texts of at most 4,096 commands, one after another
+abbrev pub IsPlainThird : List ℕ → List Command → Type 0
+IsPlainThird text commands = (lines : List ℕ) × (text ≡ head Three ++ lines) × Begins Three lines commands [] × (length commands ≤ 4096)
+
+-- the text is a plain script of version 3 of the commands that the script tells, which stand in that one at these
+-- places
 pub record IsPlain (files : List NamedFile) (script : List ℕ) (plain : PlainScript) : Type 0 where
   pub commands : List Command
-  pub text : IsScript plain.text.items commands
+  pub text : IsPlainThird plain.text.items commands
   pub written : AreWrittenAt files script commands plain.places.items
 
 -- what comes of a script: its plain text, its lowest bad line, or nothing, where it isn't of version 3
@@ -98,8 +104,8 @@ Turns files script (turned.Plain plain) = IsPlain files script plain
 Turns files script (turned.BadLine number) = IsBadWritten files script number
 Turns files script turned.Other = IsOther script
 
--- a plain text of these commands came of it
+-- a plain script of version 3 of these commands came of it
 abbrev pub IsTextOf : List Command → Turned → Type 0
-IsTextOf commands (turned.Plain plain) = IsScript plain.text.items commands
+IsTextOf commands (turned.Plain plain) = IsPlainThird plain.text.items commands
 IsTextOf commands (turned.BadLine number) = ⊥
 IsTextOf commands turned.Other = ⊥

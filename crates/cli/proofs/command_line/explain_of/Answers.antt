@@ -25,6 +25,7 @@ returns c =
           absent = λ is. c.get_flag-all.ensures.other (all ∙ is);
           unknown = λ is. c.get_flag-all.ensures.none (all ∙ is);
         },
+        c.in_ok-steps.ensures,
       ),
     )
 
@@ -40,3 +41,6 @@ returns-in_err-configuration c = rw c.from_residual-in_err-configuration.ensures
 
 pub returns-in_err-json : goal.returns-in_err-json
 returns-in_err-json c = rw c.from_residual-in_err-json.ensures (λ asked is. let parts = explain_parts (rows_of (found_of c.args.explain.now)) asked is in c.in_err-json.ensures parts.2 parts.5)
+
+pub returns-in_err-steps : goal.returns-in_err-steps
+returns-in_err-steps c = rw c.from_residual-in_err-steps.ensures (λ asked is. let parts = explain_parts (rows_of (found_of c.args.explain.now)) asked is in c.in_err-steps.ensures parts.6 parts.7)

@@ -6,7 +6,7 @@ use Rattle.cli.proofs.Sessions.{answered_none, answered_more, broken_at, answere
 use Rattle.cli.proofs.session.answer_all.Goals as goal
 
 pub loop-command-init : goal.loop-command-init
-loop-command-init g c = record { split = search rules; counts = search rules; answered = λ configuration first. answered_none configuration _ _ first }
+loop-command-init g c = record { split = search rules; counts = search rules; answered = λ configuration first. answered_none c.args.numbers.now configuration _ _ first }
 
 pub ask-request-requires-clause-room : goal.ask-request-requires-clause-room
 ask-request-requires-clause-room g c =
@@ -18,7 +18,7 @@ pub loop-command-preserved : goal.loop-command-preserved
 loop-command-preserved g c = record {
   split = c.loop-command.invariant.split ∙ (ap (λ l. c.loop-command.yielded ++ l) c.in-Some.ensures.steps.0 ∙ sym (append_assoc c.loop-command.yielded (c.in-Some.command ∷ []) (into_iter_items c.next.new.self)));
   counts = c.ask-request.ensures.counts ∙ (ap (λ n. n + 1) c.loop-command.invariant.counts ∙ sym (length-append c.loop-command.yielded (c.in-Some.command ∷ [])));
-  answered = λ configuration first. answered_more c.in-Some.command (c.loop-command.invariant.answered configuration first)
+  answered = λ configuration first. answered_more c.in-Some.command c.behind-left.result.now c.behind-left.ensures (c.loop-command.invariant.answered configuration first)
       (let a = c.ask-request.ensures.answered in let w = c.in_ok-end.ensures.ok a.0 (c.deref.ensures ∙ a.1) in record { answer = a.0; step = a.2; wrote = w.0; counts = w.1 });
 }
 

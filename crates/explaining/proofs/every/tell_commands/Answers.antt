@@ -10,7 +10,7 @@ use Rattle.explaining.proofs.Each.{command_more, met_more, next_is}
 use Rattle.explaining.proofs.every.tell_commands.Goals as goal
 
 pub loop-command-init : goal.loop-command-init
-loop-command-init c = record { split = search rules; counted = search rules; each = (refl, search rules); met = refl }
+loop-command-init c = record { split = search rules; counted = search rules; each = (refl, search rules, search rules); met = (refl, refl) }
 
 pub tell_command-requires-clause-next : goal.tell_command-requires-clause-next
 tell_command-requires-clause-next c =
@@ -24,24 +24,26 @@ loop-command-preserved c =
       split = split ∙ sym (append_assoc c.loop-command.yielded (c.in-Some.command ∷ []) (into_iter_items c.next.new.self));
       counted = c.in_ok-met.ensures.counted ∙ ap (λ n. n + 1) c.loop-command.invariant.counted ∙ sym (length_push c.loop-command.yielded c.in-Some.command);
       each =
-          command_more c.args.script.now.options c.args.script.now.given.script.now c.args.script.now.commands.now _ _ _ c.loop-command.yielded c.in-Some.command (length c.loop-command.done.items)
-          (string_bytes c.loop-command.text) _ c.loop-command.met _ c.loop-command.invariant.each c.loop-command.invariant.counted c.in_ok-met.ensures.told;
+          command_more c.args.script.now.options c.args.script.now.given.script.now c.args.script.now.commands.now _ _ _ c.loop-command.yielded c.in-Some.command c.loop-command.done.items _
+          (string_bytes c.loop-command.text) _ c.loop-command.met _ c.loop-command.invariant.each c.in_ok-met.ensures.told;
       met =
           met_more c.args.script.now.options c.args.script.now.given.script.now c.args.script.now.commands.now _ _ _ c.args.same.items c.loop-command.yielded (into_iter_items c.next.new.self)
-          c.in-Some.command (length c.loop-command.done.items) (string_bytes c.loop-command.text) _ c.loop-command.met _ split c.loop-command.invariant.met c.in_ok-met.ensures.told;
+          c.in-Some.command c.loop-command.done.items _ (string_bytes c.loop-command.text) _ c.loop-command.met _ split c.loop-command.invariant.met c.in_ok-met.ensures.told;
     }
 
 pub returns-clause-each : goal.returns-clause-each
 returns-clause-each c =
     let empty = nil_from_length (into_iter_items c.loop-command.command-iterator) (omega (arith, c.in-None.ensures.steps.0, c.loop-command.command-iterator.rest.ok)) in
-    let all : c.args.same.items ≡ c.loop-command.yielded = c.loop-command.invariant.split ∙ (ap (λ l. c.loop-command.yielded ++ l) empty ∙ append-nil c.loop-command.yielded) in
-    subst
-    (λ (l : List Command).
-    TellsEach c.args.script.now.options c.args.script.now.given.script.now c.args.script.now.commands.now 0 (machine_of c.args.device.now) l (machine_of c.loop-command.device)
-    (string_bytes c.loop-command.text)) (sym all) c.loop-command.invariant.each
+    let all : c.args.same.items ≡ c.loop-command.yielded = c.loop-command.invariant.split ∙ (ap (λ l. c.loop-command.yielded ++ l) empty ∙ append-nil c.loop-command.yielded) in (
+      c.loop-command.done.items,
+      subst
+          (λ (l : List Command).
+          TellsEach c.args.script.now.options c.args.script.now.given.script.now c.args.script.now.commands.now [] (machine_of c.args.device.now) l (machine_of c.loop-command.device)
+          c.loop-command.done.items (string_bytes c.loop-command.text)) (sym all) c.loop-command.invariant.each,
+    )
 
 pub returns-clause-met : goal.returns-clause-met
 returns-clause-met c =
     let empty = nil_from_length (into_iter_items c.loop-command.command-iterator) (omega (arith, c.in-None.ensures.steps.0, c.loop-command.command-iterator.rest.ok)) in
     let all : c.args.same.items ≡ c.loop-command.yielded = c.loop-command.invariant.split ∙ (ap (λ l. c.loop-command.yielded ++ l) empty ∙ append-nil c.loop-command.yielded) in
-    subst (λ (l : List Command). IsMet (machine_of c.args.device.now) c.args.same.items l (machine_of c.loop-command.device) c.loop-command.met) (sym all) c.loop-command.invariant.met
+    subst (λ (l : List Command). IsMet (machine_of c.args.device.now) c.args.same.items l (machine_of c.loop-command.device) c.loop-command.met.end c.loop-command.met.ordered) (sym all) c.loop-command.invariant.met

@@ -1,7 +1,7 @@
 use Rattle.device.specs.Machine.{machine_of}
-use Rattle.explaining.proofs.Placing.{within}
+use Rattle.telling.proofs.Placing.{within}
 use Rattle.explaining.proofs.Refusals.{told_refusal}
-use Rattle.explaining.proofs.Telling.{ok_then}
+use Rattle.telling.proofs.Telling.{ok_then}
 use Rattle.std.proofs.Common.{arith}
 use Rattle.explaining.proofs.refusing.explain_refused.Goals as goal
 

@@ -7,5 +7,5 @@ use Rattle.explaining.proofs.walks.perform_all.Given as goal
 abbrev pub invariant-loop-command : goal.invariant-loop-command
 invariant-loop-command l = record {
   split : l.fn.commands.items ≡ l.yielded ++ into_iter_items l.command-iterator;
-  led : Leads (machine_of l.initial.device) l.yielded (machine_of l.device);
+  led : Leads (machine_of l.initial.device) l.yielded (machine_of l.device) l.done.items;
 }

@@ -67,7 +67,7 @@ judge-requires-clause-at g c =
     let placed : byte_at l k o c.args.element op ≡ Some c.in-Some.first
     = ap (λ z. byte_at l k o z op) (sym back) ∙ sym (c.first_byte.ensures.value l r s at.at k) ∙ c.in-Some.is in
     let none = sym (c.unset_of.ensures s at) ∙ is_none c.unset_of.result c.in_default-unset_of.not-Some in
-    let p = made_of l s k (IsWatched {D = g.row.D.Denot} g.D.Described.launch g.D.Runnable.started l r c.play_item.new.self) c.in_ok-quiet.field-0 c.in-Some-2.quiet c.in-Some-2.is (c.in_ok-quiet.ensures l r s at) in
+    let p = made_of l s k (IsWatched {D = g.row.D.Denot} g.D.Described.launch g.D.Runnable.started l r c.play_item.new.self) c.in_ok-quiet.field-0 c.in-Some-2.quiet c.in-Some-2.is (c.in_ok-quiet.ensures l r s (sym c.uniform.ensures) (ap (λ n. k / n) (sym c.group_size.ensures.value)) at) in
     (p.0, p.2, lies l s k o c.args.element op c.requires.2 c.requires.3 c.in-Some.first p.0 placed none p.1 c.in-Some.ensures.small)
 
 pub unreachable-requires : goal.unreachable-requires
@@ -84,7 +84,7 @@ unreachable-requires g c =
     = ap (λ z. byte_at l k o z op) (sym back) ∙ sym (c.first_byte.ensures.value l r s at.at k) ∙ c.in-Some.is in
     let none = sym (c.unset_of.ensures s at) ∙ is_none c.unset_of.result c.in_default-unset_of.not-Some in
     never_refused l s k o c.args.element op c.requires.2 c.requires.3 c.in-Some.first placed none
-    (unmade_of l s k (IsWatched {D = g.row.D.Denot} g.D.Described.launch g.D.Runnable.started l r c.play_item.new.self) c.in_ok-quiet.field-0 c.in-None.is (c.in_ok-quiet.ensures l r s at))
+    (unmade_of l s k (IsWatched {D = g.row.D.Denot} g.D.Described.launch g.D.Runnable.started l r c.play_item.new.self) c.in_ok-quiet.field-0 c.in-None.is (c.in_ok-quiet.ensures l r s (sym c.uniform.ensures) (ap (λ n. k / n) (sym c.group_size.ensures.value)) at))
 
 pub returns : goal.returns
 returns g c =
@@ -100,7 +100,7 @@ returns g c =
     let placed : byte_at l k o c.args.element op ≡ Some c.in-Some.first
     = ap (λ z. byte_at l k o z op) (sym back) ∙ sym (c.first_byte.ensures.value l r s at.at k) ∙ c.in-Some.is in
     let none = sym (c.unset_of.ensures s at) ∙ is_none c.unset_of.result c.in_default-unset_of.not-Some in
-    let p = made_of l s k new c.in_ok-quiet.field-0 c.in-Some-2.quiet c.in-Some-2.is (c.in_ok-quiet.ensures l r s at) in
+    let p = made_of l s k new c.in_ok-quiet.field-0 c.in-Some-2.quiet c.in-Some-2.is (c.in_ok-quiet.ensures l r s (sym c.uniform.ensures) (ap (λ n. k / n) (sym c.group_size.ensures.value)) at) in
     made_judged l s k new p.0 x (was_made l s k o c.args.element op c.requires.2 acts c.in-Some.first p.0 placed none p.1) p.2 (h p.0 p.2))
     c.judge.ensures
 
@@ -109,5 +109,5 @@ judge-requires-clause-calm g c = λ s at quiet.
     let l = g.D.Described.launch c.args.launch.now in
     let r = g.D.Runnable.started c.args.launch.now in
     let new = IsWatched {D = g.row.D.Denot} g.D.Described.launch g.D.Runnable.started l r c.play_item.new.self in
-    let p = made_of l c.requires.0 c.args.item new c.in_ok-quiet.field-0 c.in-Some-2.quiet c.in-Some-2.is (c.in_ok-quiet.ensures l r c.requires.0 c.requires.1) in
+    let p = made_of l c.requires.0 c.args.item new c.in_ok-quiet.field-0 c.in-Some-2.quiet c.in-Some-2.is (c.in_ok-quiet.ensures l r c.requires.0 (sym c.uniform.ensures) (ap (λ n. c.args.item / n) (sym c.group_size.ensures.value)) c.requires.1) in
     ap (newest_race l) (at.at.tells.logged ∙ sym p.2.at.tells.logged) ∙ p.3 quiet

@@ -3,6 +3,7 @@ use Rattle.explain_json.proofs.whole.LaunchFactsToJson.to_json.Goals as goal
 
 pub returns : goal.returns
 returns c = c.finish.ensures _ (
+    c.with-12.ensures _ refl (
     c.with-11.ensures _ refl (
     c.with-10.ensures _ refl (
     c.with-9.ensures _ refl (
@@ -13,4 +14,4 @@ returns c = c.finish.ensures _ (
     c.with-4.ensures _ refl (
     c.with-3.ensures _ refl (
     c.with-2.ensures _ refl (
-    c.with.ensures _ tt c.new.ensures)))))))))))
+    c.with.ensures _ tt c.new.ensures))))))))))))

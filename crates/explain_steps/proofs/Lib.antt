@@ -1,0 +1,3 @@
+mod ByteSets
+mod Events
+mod StepRows

@@ -1,0 +1,25 @@
+use Rattle.std.proofs.Common.{◌≡◌, [], ◌∷◌, ◌++◌, List, Option, ℕ, Some, map, ap, ap₂, sym, ◌∙◌, append_assoc, rules, arith}
+use Rattle.std.specs.Vec.Iter.{into_iter_items}
+use Rattle.std.proofs.lemmas.List.{append-nil, map-append, nil_from_length}
+use Rattle.explore_runs.proofs.ends.contents_of.Goals as goal
+
+-- bytes as a space's cells
+abbrev cells : List ℕ → List (Option ℕ)
+cells bytes = map Some bytes
+
+pub loop-space-init : goal.loop-space-init
+loop-space-init c = record { split = search rules; same = search rules }
+
+pub loop-space-preserved : goal.loop-space-preserved
+loop-space-preserved c = record {
+  split = c.loop-space.invariant.split ∙ (ap (λ l. c.loop-space.yielded ++ l) c.in-Some.ensures.steps.0 ∙ sym (append_assoc c.loop-space.yielded (c.in-Some.space ∷ []) (into_iter_items c.next.new.self)));
+  same = ap (map cells) c.in_ok-push.ensures.items
+      ∙ map-append cells c.loop-space.contents.items (c.new.result ∷ [])
+      ∙ ap₂ (λ (xs : List (List (Option ℕ))) x. xs ++ x ∷ []) c.loop-space.invariant.same (ap cells c.new.ensures ∙ c.into_bytes.ensures);
+}
+
+pub returns : goal.returns
+returns c =
+    let empty = nil_from_length (into_iter_items c.loop-space.space-iterator) (omega (arith, c.in-None.ensures.steps.0, c.loop-space.space-iterator.rest.ok)) in
+    let all : c.args.spaces.items ≡ c.loop-space.yielded = c.loop-space.invariant.split ∙ (ap (λ l. c.loop-space.yielded ++ l) empty ∙ append-nil c.loop-space.yielded) in
+    c.loop-space.invariant.same ∙ sym all

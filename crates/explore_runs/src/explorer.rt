@@ -1,0 +1,202 @@
+//! One order of a launch after another.
+
+ghost use Rattle.std.specs.Prelude.{◌≡◌, Some, IfOk, OnOk};
+ghost use Rattle.clmodel.specs.Launch.{Launch as TheLaunch};
+ghost use Rattle.clmodel.specs.Next.{launch_of};
+ghost use Rattle.item_step.specs.Launches.{setup_of};
+ghost use Rattle.launches.specs.Groups.{HasGroups};
+ghost use Rattle.spaces.specs.Buffers.{bytes_in};
+ghost use Rattle.explore_runs.specs.Explored.{AreLeft, Explores, IsFound};
+ghost use Rattle.explore_runs.specs.Orders.{IsLeft, IsOrderEnd};
+
+use crate::apart::{Place, first_apart};
+use crate::by_chance::ByChance;
+use crate::by_priority::ByPriority;
+use crate::chooser::Chooser;
+use crate::ends::{Complete, OrderEnd};
+use crate::in_turn::InTurn;
+use crate::order::play_order;
+use crate::random::Random;
+use clmodel::fault::Fault;
+use clmodel::schedule::Schedule;
+use item_step::Launch;
+use launches::laws::setups_are_runnable;
+use launches::{LoadedLaunch, group_count};
+use replay::copies;
+use spaces::Buffers;
+use std::alloc::{AllocError, Global};
+use std::mem::replace;
+
+/// A fault that an order showed.
+#[derive(Drop)]
+pub struct Found {
+    /// The number of the order, from 0 on.
+    pub order: u32,
+    pub fault: Fault,
+    /// What leads to it.
+    pub schedule: Schedule,
+}
+
+/// What complete orders left in the buffers.
+#[derive(Drop)]
+pub enum Left {
+    /// None was complete.
+    Nothing,
+    /// All left the same.
+    Same(Complete),
+    /// Two left bytes that differ, first at this place.
+    Apart(Complete, Complete, Place),
+}
+
+/// What the orders of a launch have shown that were played so far.
+#[derive(Drop)]
+pub struct Explorer {
+    seed: u64,
+    /// How many orders were played.
+    pub orders: u32,
+    /// How many of them were given up, or ended with an item's budget (own): an order may be unfair to it.
+    pub given_up: u32,
+    /// How many atomic operations the first order has.
+    atomics: u64,
+    pub left: Left,
+    pub found: Option<Found>,
+}
+
+/// How many turns an order has at most (own).
+const TURNS: u32 = 1 << 20;
+
+/// One order of a launch by a chooser. The buffers that it is given stay as they are. An error is out of memory.
+fn order_of<C: Chooser>(
+    alloc: Global,
+    launch: &Launch<'_>,
+    buffers: &Buffers,
+    chooser: &mut C,
+) -> Result<OrderEnd, AllocError>
+    requires { HasGroups (setup_of launch.now) }
+    ensures { IfOk result (IsOrderEnd (launch_of (setup_of launch.now) (bytes_in buffers.now))) }
+{
+    setups_are_runnable();
+    let loaded = LoadedLaunch::new(alloc, launch, buffers);
+    let groups = group_count(launch);
+    let memory = copies(alloc, launch.buffer_names(), buffers)?;
+    play_order(alloc, &loaded, groups, memory, chooser, TURNS)
+}
+
+/// What is known of what complete orders left, with one more of them.
+fn with_complete(left: Left, complete: Complete) -> Left
+    ensures { (launch : TheLaunch) → AreLeft launch left → IsLeft launch complete → AreLeft launch result }
+{
+    match left {
+        Left::Nothing => Left::Same(complete),
+        Left::Same(one) => {
+            match first_apart(one.buffers.as_slice(), complete.buffers.as_slice()) {
+                Some(place) => Left::Apart(one, complete, place),
+                None => Left::Same(one),
+            }
+        }
+        Left::Apart(one, other, place) => Left::Apart(one, other, place),
+    }
+}
+
+impl Explorer {
+    /// Before the first order. A seed gives the same orders on every machine.
+    pub fn new(seed: u64) -> Self
+        ensures { (launch : TheLaunch) → Explores launch result }
+    {
+        Explorer {
+            seed,
+            orders: 0,
+            given_up: 0,
+            atomics: 0,
+            left: Left::Nothing,
+            found: None,
+        }
+    }
+
+    /// The next order: the first is the canonical one, and of the others each second is by priorities and each second
+    /// by chance. An error is out of memory.
+    fn next_end(
+        &mut self,
+        alloc: Global,
+        launch: &Launch<'_>,
+        buffers: &Buffers,
+    ) -> Result<OrderEnd, AllocError>
+        requires { HasGroups (setup_of launch.now) }
+        ensures left { self.new.left ≡ self.old.left }
+        ensures found { self.new.found ≡ self.old.found }
+        ensures ends { IfOk result (IsOrderEnd (launch_of (setup_of launch.now) (bytes_in buffers.now))) }
+    {
+        if self.orders == 0 {
+            let mut chooser = InTurn::new();
+            let end = order_of(alloc, launch, buffers, &mut chooser)?;
+            self.atomics = chooser.asked;
+            return Ok(end);
+        }
+        let random = Random::of_order(self.seed, self.orders);
+        let depth = self.orders / 2 % 4;
+        if self.orders % 2 == 0 {
+            let mut chooser = ByChance::new(random, 2 << depth);
+            return order_of(alloc, launch, buffers, &mut chooser);
+        }
+        let items = group_count(launch).saturating_mul(launch.group_size());
+        let mut chooser = ByPriority::new(alloc, random, items, depth, self.atomics)?;
+        order_of(alloc, launch, buffers, &mut chooser)
+    }
+
+    /// Keeps what a complete order left.
+    fn add_complete(&mut self, complete: Complete)
+        ensures left { (launch : TheLaunch) → AreLeft launch self.old.left → IsLeft launch complete → AreLeft launch self.new.left }
+        ensures found { self.new.found ≡ self.old.found }
+    {
+        let left = replace(&mut self.left, Left::Nothing);
+        self.left = with_complete(left, complete);
+    }
+
+    /// Keeps a fault where none was kept, but not that of an item's budget.
+    fn add_fault(&mut self, found: Found)
+        ensures left { self.new.left ≡ self.old.left }
+        ensures found { (launch : TheLaunch) → IsFound launch self.old.found → IsFound launch (Some found) → IsFound launch self.new.found }
+    {
+        if let Fault::Budget { .. } = found.fault {
+            self.given_up = self.given_up.saturating_add(1);
+            return;
+        }
+        if self.found.is_none() {
+            self.found = Some(found);
+        }
+    }
+
+    /// Keeps what an order shows.
+    fn note(&mut self, end: OrderEnd)
+        ensures { (launch : TheLaunch) → Explores launch self.old → IsOrderEnd launch end → Explores launch self.new }
+    {
+        let order = self.orders;
+        self.orders = order.saturating_add(1);
+        match end {
+            OrderEnd::Complete(complete) => self.add_complete(complete),
+            OrderEnd::Shown(fault, schedule) => self.add_fault(Found {
+                order,
+                fault,
+                schedule,
+            }),
+            OrderEnd::GivenUp => self.given_up = self.given_up.saturating_add(1),
+        }
+    }
+
+    /// Plays one more order of a launch, always of the same one, on the same buffers. A fault is kept where none was,
+    /// but not that of an item's budget. An error is out of memory.
+    pub fn play_next(
+        &mut self,
+        alloc: Global,
+        launch: &Launch<'_>,
+        buffers: &Buffers,
+    ) -> Result<(), AllocError>
+        requires groups { HasGroups (setup_of launch.now) }
+        requires explores { Explores (launch_of (setup_of launch.now) (bytes_in buffers.now)) self.old }
+        ensures { OnOk result (Explores (launch_of (setup_of launch.now) (bytes_in buffers.now)) self.new) }
+    {
+        let end = self.next_end(alloc, launch, buffers)?;
+        self.note(end);
+        Ok(())
+    }
+}

@@ -1,0 +1,5 @@
+pub mod Inside
+pub mod Marking
+pub mod Placing
+pub mod Telling
+pub mod Wholes

@@ -1,0 +1,97 @@
+-- What is told of a launch that was played.
+use Rattle.std.proofs.Common.{◌≡◌, ◌-◌, ◌^◌, ℕ, Bool, Option, None, Some, List, string_bytes, ap, ◌∙◌, subst}
+use Rattle.std.specs.Prelude.{slice_get}
+use Rattle.std.specs.Option.{IfSome}
+use Rattle.clmodel.specs.Launch.{Launch}
+use Rattle.clmodel.specs.Law.{Reaches}
+use Rattle.clmodel.specs.Next.{launch_of}
+use Rattle.clmodel.specs.Outcome.{events_of}
+use Rattle.clmodel.specs.Setup.{Setup, group_items}
+use Rattle.clmodel.specs.declared.fault.Fault.{Fault}
+use Rattle.clmodel.specs.declared.schedule.EventRun.{EventRun}
+use Rattle.clmodel.specs.declared.setup.Range.{Range}
+use Rattle.device.specs.Kept.{IsCodeOf}
+use Rattle.device.specs.Machine.{Machine, kernel_of, setup_of}
+use Rattle.device.specs.Prepared.{IsPrepared}
+use Rattle.explain_items.specs.Named.{AreToldInside, told_items}
+use Rattle.explain_items.specs.declared.context.Context.{Context}
+use Rattle.explanation.specs.declared.steps.ScheduleFacts.{ScheduleFacts}
+use Rattle.explanation.specs.declared.told.Explanation.{Explanation}
+use Rattle.fault_play.specs.PlayedOut.{IsPlayedOut}
+use Rattle.fault_play.specs.declared.played.Played.{Played}
+use Rattle.host_commands.specs.declared.command.Command.{Command}
+use Rattle.host_commands.specs.declared.command.Command.TheVariants as command
+use Rattle.item_step.specs.Launches as launches
+use Rattle.simfile.specs.Places.{StandsAt}
+use Rattle.simfile.specs.declared.script.CommandPlace.{CommandPlace}
+use Rattle.spaces.specs.Buffers.{bytes_in}
+use Rattle.spaces.specs.Tables.{Table}
+use Rattle.telling.proofs.Inside.{each_inside, told_inside}
+use Rattle.telling.specs.Judged.{IsShort}
+use Rattle.telling.specs.Told.{AreNamed, HasWhole, IsAsWanted, IsExplained, IsSourceOf, TellsFault, TellsLaunch, TellsNames, TellsObject, TellsPlayed, schedule_words}
+use Rattle.telling.specs.declared.facts.TellOptions.{TellOptions}
+
+-- an explanation of what was played
+pub explained :
+    (e : Explanation) (options : TellOptions) (launch : Launch) (contents : List ℕ → List ℕ) (context : Context) (ticket : ℕ) (place : CommandPlace) (range : Range) (orders : Bool) (f : Fault) (runs : List EventRun) (facts : ScheduleFacts) (first second : ℕ) (played : Played)
+    → TellsLaunch options.budget ticket place range orders e.launch → TellsNames context e.launch → TellsFault f e.fault → TellsObject contents f e.memory → e.schedule ≡ facts
+    → AreToldInside context played.marks.items (told_items f played) e.items.items → TellsPlayed options (group_items (launches.setup_of context.launch.now).range) f played e
+    → string_bytes facts.short ≡ schedule_words runs → AreNamed f first second
+    → IsPlayedOut launch (launches.started context.launch.now) (group_items (launches.setup_of context.launch.now).range) (events_of runs) f first second (2 ^ 64 - 1) played
+    → Reaches launch (events_of runs) f → IsExplained options launch contents context ticket place range orders f runs e
+explained e options launch contents context ticket place range orders f runs facts first second played launched names faulted object same items tells words named plays leads = record {
+  launched = launched;
+  names = names;
+  faulted = faulted;
+  object = object;
+  schedule = ap (λ z. string_bytes z.short) same ∙ words;
+  items = record {
+    first = first;
+    second = second;
+    named = named;
+    played = played;
+    plays = plays;
+    told = told_inside context played.marks.items (told_items f played) e.items.items (each_inside context.launch.now launch (events_of runs) f first second (2 ^ 64 - 1) played named plays leads) items;
+    tells = tells;
+  };
+}
+
+-- what is told of a prepared launch
+pub whole :
+    (m : Machine) (options : TellOptions) (script : List ℕ) (commands : List Command) (done : List Bool) (ticket : ℕ) (place : CommandPlace) (kernel : List ℕ) (range : Range) (orders : Bool) (context : Context) (buffers : Table (List ℕ)) (f : Fault) (given runs : List EventRun) (e : Explanation)
+    → slice_get commands ticket ≡ Some (command.Launch kernel range orders) → IsPrepared m kernel range context.launch.now → buffers ≡ m.buffers → IsSourceOf script commands done kernel context.program → StandsAt script commands ticket place
+    → IsShort (launch_of (launches.setup_of context.launch.now) (bytes_in buffers)) f given runs → IsAsWanted options.as_given given runs → string_bytes e.schedule.given ≡ schedule_words given
+    → IsExplained options (launch_of (launches.setup_of context.launch.now) (bytes_in buffers)) (bytes_in buffers) context ticket place range orders f runs e → context.kernel.now ≡ kernel
+    → HasWhole m options script commands done ticket f given runs e
+whole m options script commands done ticket place kernel range orders context buffers f given runs e at p same source stands short wanted words explained named = record {
+  kernel = kernel;
+  range = range;
+  orders = orders;
+  at = at;
+  is_short =
+      subst (λ (b : Table (List ℕ)). IsShort (launch_of (setup_of m (kernel_of m kernel) range) (bytes_in b)) f given runs) same
+      (subst (λ (s : Setup). IsShort (launch_of s (bytes_in buffers)) f given runs) p.setup short);
+  wanted = wanted;
+  context = context;
+  same = p.setup;
+  code =
+      subst (λ (s : Setup). IsCodeOf s.program s.kernel (launches.code_of context.launch.now)) p.setup p.code;
+  kernel_named = named;
+  source = source;
+  place = place;
+  stands = stands;
+  explained =
+      subst (λ (b : Table (List ℕ)). IsExplained options (launch_of (setup_of m (kernel_of m kernel) range) (bytes_in b)) (bytes_in b) context ticket place range orders f runs e) same
+      (subst (λ (s : Setup). IsExplained options (launch_of s (bytes_in buffers)) (bytes_in buffers) context ticket place range orders f runs e) p.setup explained);
+  schedule = words;
+}
+
+-- what is known of what was found
+pub if_some : {A : Type 0} (P : A → Type 0) (o : Option A) (x : A) → o ≡ Some x → IfSome o P → P x
+if_some P o x e h = subst (λ p. IfSome p P) e h
+
+-- four facts of what was found
+pub some_all :
+    {A : Type 0} (o : Option A) (P Q R S T : A → Type 0) → IfSome o P → IfSome o Q → IfSome o R → IfSome o S → ((x : A) → P x → Q x → R x → S x → T x) → IfSome o T
+some_all (Some x) P Q R S T p q r s h = h x p q r s
+some_all None P Q R S T p q r s h = tt
