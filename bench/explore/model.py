@@ -7,8 +7,8 @@
 NAME is a script of examples/gallery whose kernel is written here as a function of Python; without one, all of them. The
 orders are those of docs/use/explore.md: order 1 goes by the items' numbers, and of the others each second one goes by
 priorities with few changes, each second one by chance. Written is what each script shows; of a fault the schedule isn't
-made shorter, as the program makes it. With --compare the program is run, its lines are compared, up to the schedule of a
-fault, and the schedule is replayed; the last line is `N passed, M failed`, and the status is 0 where M is 0, else 1.
+made shorter, as the program makes it. With --compare the program is run, its lines are compared, up to the schedule of
+a fault, and the schedule is replayed; the last line is `N passed, M failed`, and the status is 0 where M is 0, else 1.
 """
 import argparse
 import collections
