@@ -1,7 +1,7 @@
 //! Files explained: a script is read, with a schedule file where one is named, and the explanation is written.
 //!
-//! What is explained, which answer is given, and what is written, `explaining` defines, and what is written behind it of
-//! other bytes and numbers `wide_text`. A reader's failure is told apart from its faults.
+//! What is explained, which answer is given, and what is written, `explaining` defines, and `wide_text` what is written
+//! behind it of other bytes and numbers. A reader's failure is told apart from its faults.
 #![tactic(auto)]
 
 ghost use Rattle.std.specs.Prelude.{◌≡◌, IfOk, IfErr};
@@ -131,10 +131,11 @@ pub(crate) fn explain_widely<R: Read, W: Write>(
         options.all,
     )?;
     let name = name.as_bytes().to_vec(alloc)?;
+    let schedule = None;
     let texts = Texts {
         name,
         script,
-        schedule: None,
+        schedule,
     };
     explain_with(alloc, &texts, options, asides.as_slice(), writer)
 }
