@@ -1,9 +1,9 @@
 //! The program `clsim`: a simulated OpenCL 1.2 device for scripts, schedules and host programs.
 //!
 //! It calls `cli`, `explaining`, `exploring` and `wide_text` with the files, the clock and the output of the system; a
-//! file named `-` is standard input. A script of version 3 is handed on as its plain text, which `written_scripts` makes
-//! of it and of the files that it names. The status is the one that `cli` defines, whether standard error can be written
-//! or not; the process ends with 0, 1 or 2. What stands on standard error is only tested.
+//! file named `-` is standard input. A script of version 3 is handed on as its plain text, which `written_scripts`
+//! makes of it and of the files that it names. The status is the one that `cli` defines, whether standard error can be
+//! written or not; the process ends with 0, 1 or 2. What stands on standard error is only tested.
 #![tactic(auto)]
 
 ghost use Rattle.std.specs.Prelude.{◌≡◌, ◌≤◌, IfOk, if◌then◌else◌};
