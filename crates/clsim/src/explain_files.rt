@@ -124,12 +124,7 @@ pub(crate) fn explain_widely<R: Read, W: Write>(
         (WidelyUntold options name.now (R.rest reader.old) (R.failures reader.old) (R.failures reader.new) (W.sink writer.old) (W.sink writer.new)) }
 {
     let script = bytes_of(alloc, reader, Reader::First)?;
-    let asides = fault_asides(
-        alloc,
-        options.configuration,
-        script.as_slice(),
-        options.all,
-    )?;
+    let asides = fault_asides(alloc, options.configuration, script.as_slice(), options.all)?;
     let name = name.as_bytes().to_vec(alloc)?;
     let schedule = None;
     let texts = Texts {
