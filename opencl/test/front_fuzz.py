@@ -1,11 +1,12 @@
 """Random kernels of all constructs on Clsim's driver and on pocl: they have to leave the same bytes.
 
-    front_fuzz.py [--seed N] [--count N] [--together N] [--keep FOLDER] [--seconds N]
+    front_fuzz.py [--seed N] [--count N] [--first N..] [--together N] [--keep FOLDER] [--seconds N]
 
-Both are found by the ICD loader (OCL_ICD_VENDORS names the folder of their vendor files). So many kernels are one
-program, since a program takes more of a compiler's time than a kernel: where one is refused, each is tried alone. Each
-kernel that differs is told, and kept in the folder. A kernel that the driver refuses is counted by its reason. The last
-line is `N the same, M refused, K differ`; the status is 0 where none differs and no more than one of ten is refused.
+Both are found by the ICD loader (OCL_ICD_VENDORS names the folder of their vendor files). The kernels are those of the
+seeds N and so on, behind those of --first. So many kernels are one program, since a program takes more of a compiler's
+time than a kernel: where one is refused, each is tried alone. Each kernel that differs is told, and kept in the folder.
+A kernel that the driver refuses is counted by its reason. The last line is `N the same, M refused, K differ`; the
+status is 0 where none differs and no more than one of ten is refused.
 """
 import argparse
 import collections
@@ -125,6 +126,7 @@ def main(kind):
     parser = argparse.ArgumentParser()
     parser.add_argument("--seed", type=int, default=1)
     parser.add_argument("--count", type=int, default=200)
+    parser.add_argument("--first", type=int, nargs="*", default=[])
     parser.add_argument("--together", type=int, default=10)
     parser.add_argument("--seconds", type=float, default=1e9)
     parser.add_argument("--keep")
@@ -132,11 +134,11 @@ def main(kind):
     warnings.simplefilter("ignore")
     devices = [Device("Clsim"), Device("Portable")]
     counts, reasons = collections.Counter(), collections.Counter()
-    begin, end = time.monotonic(), given.seed + given.count
-    for first in range(given.seed, end, given.together):
+    begin, tried = time.monotonic(), [*given.first, *range(given.seed, given.seed + given.count)]
+    for first in range(0, len(tried), given.together):
         if time.monotonic() - begin > given.seconds:
             break
-        for seed, what, words in judged(kind, devices, list(range(first, min(end, first + given.together)))):
+        for seed, what, words in judged(kind, devices, tried[first:first + given.together]):
             counts[what] += 1
             if what == "refused":
                 reasons[words] += 1
