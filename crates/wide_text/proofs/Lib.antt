@@ -1,5 +1,6 @@
 mod Beside
 mod Failing
+mod Faults
 mod Floats
 mod Flagged
 mod Runs
