@@ -143,9 +143,9 @@ IsSourceOf script commands done kernel source =
 abbrev pub IsAsWanted : Bool → List EventRun → List EventRun → Type 0
 IsAsWanted as_given given runs = MatchBool as_given (runs ≡ given) ⊤
 
--- An explanation of the launch of a ticket of the script of this name, where these commands were done. Its schedule leads the launch to the fault
--- and isn't longer than the given one, or is that very one; its places are those in the source of the kernel's program,
--- and its line that of the launch's command. The launch runs this kernel's code.
+-- An explanation of the launch of a ticket of the script of this name, where these commands were done. Its schedule
+-- leads the launch to the fault and isn't longer than the given one, or is that very one; its places are those in the
+-- source of the kernel's program, and its line that of the launch's command. The launch runs this kernel's code.
 pub record HasWhole (m : Machine) (options : TellOptions) (name script : List ℕ) (commands : List Command) (done : List Bool) (ticket : ℕ) (f : Fault) (given runs : List EventRun) (e : Explanation) : Type 0 where
   pub kernel : List ℕ
   pub range : Range
