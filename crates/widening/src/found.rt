@@ -53,11 +53,15 @@ impl Found<'_> {
         label
     }
 
-    /// The label of each register at each place. An error is out of memory.
-    pub(crate) fn rows(&self, alloc: Global) -> Result<Vec<Row>, AllocError> {
+    /// The label of each register at each place to which a jump leads. An error is out of memory.
+    pub(crate) fn rows(&self, alloc: Global) -> Result<Vec<Option<Row>>, AllocError> {
         let mut rows = Vec::new(alloc);
         for row in &self.search.rows {
-            rows.push(self.row(alloc, row.as_slice())?)?;
+            let labels = match row {
+                Some(row) => Some(self.row(alloc, row.as_slice())?),
+                None => None,
+            };
+            rows.push(labels)?;
         }
         Ok(rows)
     }

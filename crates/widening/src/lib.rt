@@ -19,6 +19,7 @@ pub mod laws;
 mod row;
 mod search;
 mod searched;
+mod step;
 pub mod wide;
 
 pub use decisions::{Decision, Source, Why};
