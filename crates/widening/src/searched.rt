@@ -135,7 +135,8 @@ impl Searched<'_> {
             search.jump(next);
         }
         match instruction {
-            Instruction::Jump { .. } | Instruction::Back { .. } | Instruction::End => search.forget(),
+            Instruction::Jump { .. } | Instruction::Back { .. } | Instruction::End =>
+                search.forget(),
             _ => {
                 if let Some((to, known)) = written {
                     search.set(to, known);
