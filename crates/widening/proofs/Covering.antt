@@ -1,7 +1,8 @@
 -- Rows of labels, and arguments.
-use Rattle.std.proofs.Common.{◌≡◌, ℕ, zero, suc, ◌<◌, ◌≤◌, ◌⊎◌, inl, inr, true, IsTrue, Option, None, Some, List, [], ◌∷◌, length, replicate, slice_get, slice_set, refl, sym, subst, arith}
+use Rattle.std.proofs.Common.{◌≡◌, ℕ, zero, suc, ◌<◌, ◌≤◌, ◌==◌, ◌⊎◌, inl, inr, Bool, true, false, IsTrue, if◌then◌else◌, Option, None, Some, List, [], ◌∷◌, length, replicate, slice_get, slice_set, refl, sym, ◌∙◌, subst, arith, eqb-true, eq-eqb}
 use mathlib.Core.Path.{fun_ext}
-use Rattle.std.proofs.lemmas.Bool.{cases_lt}
+use Rattle.std.proofs.lemmas.Bool.{cases_lt, false≢true}
+use Rattle.std.proofs.lemmas.List.{get_or-set_same, get_or-set_other}
 use Rattle.std.proofs.lemmas.Option.{none-some}
 use Rattle.clmodel.proofs.Steps.{some_inj}
 use Rattle.clmodel.specs.declared.setup.Argument.{Argument}
@@ -57,14 +58,11 @@ unset_row n = fun_ext (λ r. unset_at n r)
 
 -- a row with another label of one register
 pub put_row : (row : List Label) (to : ℕ) (l : Label) → to < length row → labels_of (slice_set row to l) ≡ with_label (labels_of row) to l
-put_row row to l h = fun_ext (λ r. at row to r h)
+put_row row to l h = fun_ext (λ r. at r (r == to) refl)
   where
-    at : (row : List Label) (to r : ℕ) → to < length row → labels_of (slice_set row to l) r ≡ with_label (labels_of row) to l r
-    at [] to r h = absurd (omega (arith, h))
-    at (x ∷ row) zero zero h = refl
-    at (x ∷ row) zero (suc r) h = refl
-    at (x ∷ row) (suc to) zero h = refl
-    at (x ∷ row) (suc to) (suc r) h = at row to r (omega (arith, h))
+    at : (r : ℕ) (b : Bool) → (r == to) ≡ b → labels_of (slice_set row to l) r ≡ (if b then l else labels_of row r)
+    at r true e = subst (λ z. labels_of (slice_set row to l) z ≡ l) (sym (eqb-true r to e)) (get_or-set_same row to l label.Unset h)
+    at r false e = get_or-set_other row to r l label.Unset (λ same. false≢true (sym e ∙ eq-eqb r to same))
 
 pub argument_here : (xs : List (Option Argument)) (i : ℕ) (x : Option Argument) → slice_get xs i ≡ Some x → argument_at xs i ≡ x
 argument_here [] i x h = absurd (none-some x h)

@@ -110,7 +110,7 @@ impl Searched<'_> {
         search.forget();
         for place in 0..self.instructions.len() {
             let instruction = &self.instructions[place];
-            search.arrive(place);
+            search.arrive(place)?;
             if let Some((deciding, why)) = self.deciding(search, instruction) {
                 let sources = deciding.without(all);
                 if !sources.is_empty() {
@@ -122,7 +122,7 @@ impl Searched<'_> {
                     })?;
                 }
             }
-            self.step(search, place, instruction);
+            self.step(search, place, instruction)?;
         }
         Ok(decided)
     }

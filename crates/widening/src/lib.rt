@@ -13,6 +13,7 @@ mod decisions;
 mod flows;
 mod found;
 mod free;
+mod kinds;
 mod known;
 mod labels;
 pub mod laws;

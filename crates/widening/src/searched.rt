@@ -125,35 +125,55 @@ impl Searched<'_> {
         }
     }
 
-    /// The walk goes over the instruction at a place.
-    pub(crate) fn step(&self, search: &mut Search, place: usize, instruction: &Instruction)
+    /// The walk goes over the instruction at a place. An error is out of memory.
+    pub(crate) fn step(
+        &self,
+        search: &mut Search,
+        place: usize,
+        instruction: &Instruction,
+    ) -> Result<(), AllocError>
         requires { place < 2 ^ 32 }
     {
         put_down(search, instruction);
         let written = self.written(search, instruction);
         if let Some(next) = target(place, instruction) {
-            search.jump(next);
+            search.jump(next)?;
         }
         match instruction {
             Instruction::Jump { .. } | Instruction::Back { .. } | Instruction::End =>
                 search.forget(),
             _ => {
                 if let Some((to, known)) = written {
-                    search.set(to, known);
+                    search.set(to, known)?;
                 }
             }
         }
+        Ok(())
     }
 
-    /// One walk over the code.
-    fn pass(&self, search: &mut Search)
+    /// One walk over the code. An error is out of memory.
+    fn pass(&self, search: &mut Search) -> Result<(), AllocError>
         requires { length self.now.instructions.now < 2 ^ 32 }
     {
         search.forget();
         for place in 0..self.instructions.len() {
-            search.arrive(place);
-            self.step(search, place, &self.instructions[place]);
+            search.arrive(place)?;
+            self.step(search, place, &self.instructions[place])?;
         }
+        Ok(())
+    }
+
+    /// How many jumps there are: at least as many as places to which they lead.
+    pub(crate) fn jumps(&self) -> usize
+        requires { length self.now.instructions.now < 2 ^ 32 }
+    {
+        let mut jumps = 0usize;
+        for place in 0..self.instructions.len() {
+            if target(place, &self.instructions[place]).is_some() {
+                jumps = jumps.saturating_add(1);
+            }
+        }
+        jumps
     }
 
     /// Gives each place to which a jump leads its row. An error is out of memory.
@@ -177,7 +197,7 @@ impl Searched<'_> {
         self.add_rows(alloc, &mut search)?;
         for _ in 0..u32::MAX {
             search.changed = false;
-            self.pass(&mut search);
+            self.pass(&mut search)?;
             if !search.changed {
                 break;
             }
