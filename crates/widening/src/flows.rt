@@ -235,8 +235,8 @@ impl Checked<'_> {
             && self.arrives(place + 1, here)
     }
 
-    /// Whether the labels fit code of so many registers: of each place those of its row, if a jump leads there, and else
-    /// those that the instruction before it leaves. An error is out of memory.
+    /// Whether the labels fit code of so many registers: of each place those of its row, if a jump leads there, and
+    /// else those that the instruction before it leaves. An error is out of memory.
     pub(crate) fn fits(
         &self,
         alloc: Global,

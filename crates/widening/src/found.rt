@@ -18,7 +18,8 @@ pub(crate) struct Found<'a> {
     pub(crate) deciding: Set,
 }
 
-/// The labels of registers of which these are known, by the label of each thing that is known. An error is out of memory.
+/// The labels of registers of which these are known, by the label of each thing that is known. An error is out of
+/// memory.
 fn row_of(alloc: Global, kinds: &[u32], labels: &[Label]) -> Result<Row, AllocError> {
     let mut row = Vec::with_capacity(alloc, kinds.len())?;
     for kind in kinds {

@@ -56,7 +56,11 @@ impl Kinds {
         let count = self.slots.len().saturating_mul(2);
         self.slots = vec![in self.alloc; 0; count]?;
         for number in 0..self.all.len() {
-            let slot = self.slot(self.all[number]);
+            let known = match self.all.get(number) {
+                Some(known) => *known,
+                None => NOTHING,
+            };
+            let slot = self.slot(known);
             self.fill(slot, number);
         }
         Ok(())
