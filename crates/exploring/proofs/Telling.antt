@@ -1,0 +1,133 @@
+-- What is told of commands, one behind another.
+use Rattle.std.proofs.Common.{◌≡◌, ◌⊎◌, ◌+◌, ◌<◌, ◌≤◌, ℕ, Bool, true, false, Option, None, Some, List, [], ◌∷◌, ◌++◌, length, refl, sym, ap, ◌∙◌, subst, append_assoc, arith, inl, inr}
+use Rattle.std.proofs.lemmas.List.{append-nil}
+use Rattle.byte_io.specs.Sink.{Sink, Stopped, Wrote}
+use Rattle.byte_io.proofs.Puts.{stopped_then, wrote_none, wrote_then}
+use Rattle.clmodel.specs.Next.{launch_of}
+use Rattle.clmodel.specs.declared.setup.Range.{Range}
+use Rattle.device.specs.Machine.{Machine, Step, bytes_of, kernel_of, opening, setup_of}
+use Rattle.device.specs.Prepared.{IsPrepared}
+use Rattle.host_commands.specs.declared.command.Command.{Command}
+use Rattle.item_step.specs.Launches as launches
+use Rattle.item_step.specs.declared.launch.Launch.{Launch}
+use Rattle.simfile.specs.Faults.{NoScript}
+use Rattle.simfile.specs.Script.{IsScript}
+use Rattle.simfile.specs.declared.faults.RunFault.{RunFault}
+use Rattle.simfile.specs.declared.faults.RunFault.TheVariants as fault
+use Rattle.spaces.specs.Buffers.{bytes_in}
+use Rattle.exploring.specs.Commands.{CommandUntold, TellsCommand, TellsEach, behind, first_spot, is_launch, next}
+use Rattle.exploring.specs.Explored.{HasBegun, HasTold, IsPart, Unexplored, Untold, is_past, no_end}
+use Rattle.exploring.specs.declared.facts.ExploreEnd.{ExploreEnd}
+use Rattle.exploring.specs.declared.facts.ExploreOptions.{ExploreOptions}
+use Rattle.exploring.specs.declared.facts.Spot.{Spot}
+
+-- the numbers behind one command more
+pub behind_more : (spot : Spot) (done : List Command) (c : Command) → behind spot (done ++ c ∷ []) ≡ next (behind spot done) (is_launch c)
+behind_more spot [] c = refl
+behind_more spot (d ∷ done) c = behind_more (next spot (is_launch d)) done c
+
+-- one command more
+pub told_more :
+    (wanted : Option ℕ) (spot : Spot) (old now new : Machine) (done : List Command) (c : Command) (before mid after : ExploreEnd) (text own : List ℕ)
+    → TellsEach wanted spot old done now before mid text → TellsCommand wanted (behind spot done) now c new mid after own → TellsEach wanted spot old (done ++ c ∷ []) new before after (text ++ own)
+told_more wanted spot old now new [] c before mid after text own (same, ended, none) told =
+    let t : TellsCommand wanted spot old c new before after own =
+    subst (λ (e : ExploreEnd). TellsCommand wanted spot old c new e after own) ended (subst (λ (m : Machine). TellsCommand wanted spot m c new mid after own) same told) in
+    (new, after, own, [], t, (refl, refl, refl), ap (λ l. l ++ own) none ∙ sym (append-nil own))
+told_more wanted spot old now new (d ∷ done) c before mid after text own (m, end, front, rest, first, more, split) told =
+    (m, end, front, rest ++ own, first, told_more wanted (next spot (is_launch d)) m now new done c end mid after rest own more told, ap (λ l. l ++ own) split ∙ append_assoc front rest own)
+
+-- what was told of the first commands of a script, and is written
+pub record HasWritten (options : ExploreOptions) (done : List Command) (now : Machine) (end : ExploreEnd) (old new : Sink) : Type 0 where
+  pub text : List ℕ
+  pub told : TellsEach options.launch first_spot (opening options.configuration) done now no_end end text
+  pub wrote : Wrote old new text
+
+pub written_none : (options : ExploreOptions) (now : Machine) (s : Sink) → now ≡ opening options.configuration → HasWritten options [] now no_end s s
+written_none options now s e = record { text = []; told = (e, refl, refl); wrote = wrote_none s }
+
+pub written_more :
+    (options : ExploreOptions) (done : List Command) (now new : Machine) (c : Command) (end after : ExploreEnd) (spot : Spot) (old mid last : Sink) (own : List ℕ) → HasWritten options done now end old mid
+    → spot ≡ behind first_spot done → TellsCommand options.launch spot now c new end after own → Wrote mid last own → HasWritten options (done ++ c ∷ []) new after old last
+written_more options done now new c end after spot old mid last own h at told wrote = record {
+  text = h.text ++ own;
+  told =
+      told_more options.launch first_spot (opening options.configuration) now new done c no_end end after h.text own h.told
+      (subst (λ (s : Spot). TellsCommand options.launch s now c new end after own) at told);
+  wrote = wrote_then h.wrote wrote;
+}
+
+begun :
+    (options : ExploreOptions) (commands done more : List Command) (now : Machine) (end : ExploreEnd) (text : List ℕ) → commands ≡ done ++ more
+    → TellsEach options.launch first_spot (opening options.configuration) done now no_end end text → HasBegun options commands done end text
+begun options commands done more now end text split told = record { rest = more; split = split; new = now; told = told }
+
+-- nothing more is wanted
+pub told_past :
+    (options : ExploreOptions) (commands done more : List Command) (now : Machine) (end : ExploreEnd) (spot : Spot) (old new : Sink) → HasWritten options done now end old new → commands ≡ done ++ more
+    → spot ≡ behind first_spot done → is_past options.launch spot.number ≡ true → (text : List ℕ) × HasTold options commands end text × Wrote old new text
+told_past options commands done more now end spot old new h split at past = (
+  h.text,
+  record {
+    done = done;
+    begun = begun options commands done more now end h.text split h.told;
+    all = inr (subst (λ (s : Spot). is_past options.launch s.number ≡ true) at past);
+  },
+  h.wrote,
+)
+
+-- all commands are told
+pub told_all :
+    (options : ExploreOptions) (commands done : List Command) (now : Machine) (end : ExploreEnd) (old new : Sink) → HasWritten options done now end old new → commands ≡ done
+    → (text : List ℕ) × HasTold options commands end text × Wrote old new text
+told_all options commands done now end old new h all =
+    (h.text, record { done = done; begun = begun options commands done [] now end h.text (all ∙ sym (append-nil done)) h.told; all = inl refl }, h.wrote)
+
+-- a command wasn't told
+pub untold_at :
+    (options : ExploreOptions) (commands done more : List Command) (now : Machine) (c : Command) (end : ExploreEnd) (spot : Spot) (old mid last : Sink) (why : RunFault)
+    → HasWritten options done now end old mid → commands ≡ done ++ c ∷ more → spot ≡ behind first_spot done → CommandUntold options.launch spot now c end mid last why → Untold options commands old last why
+untold_at options commands done more now c end spot old mid last (fault.BadLine n) h split at none = absurd none
+untold_at options commands done more now c end spot old mid last fault.OutOfMemory h split at same =
+    (h.text, (end, inl (done, begun options commands done (c ∷ more) now end h.text split h.told)), subst (λ (s : Sink). Wrote old s h.text) (sym same) h.wrote)
+untold_at options commands done more now c end spot old mid last fault.Write h split at (new, after, own, told, stopped) = (
+  h.text ++ own,
+  (
+    after,
+    inl (
+      done ++ c ∷ [],
+      begun options commands (done ++ c ∷ []) more new after (h.text ++ own) (split ∙ sym (append_assoc done (c ∷ []) more))
+          (told_more options.launch first_spot (opening options.configuration) now new done c no_end end after h.text own h.told
+          (subst (λ (s : Spot). TellsCommand options.launch s now c new end after own) at told)),
+    ),
+  ),
+  stopped_then h.wrote stopped,
+)
+untold_at options commands done more now c end spot old mid last (fault.Read by) h split at none = absurd none
+untold_at options commands done more now c end spot old mid last fault.NoSuchKernel h split at none = absurd none
+untold_at options commands done more now c end spot old mid last fault.BadSchedule h split at none = absurd none
+untold_at options commands done more now c end spot old mid last (fault.NotALaunch ticket) h split at none = absurd none
+untold_at options commands done more now c end spot old mid last (fault.CommandRefused ticket) h split at none = absurd none
+
+-- nothing is written of a text that is no script
+pub no_script : (options : ExploreOptions) (script : List ℕ) (s : Sink) (why : RunFault) → NoScript script why → Unexplored options script s s why
+no_script options script s (fault.BadLine n) none = (none, refl)
+no_script options script s fault.OutOfMemory none = inl refl
+no_script options script s fault.Write none = absurd none
+no_script options script s (fault.Read by) none = absurd none
+no_script options script s fault.NoSuchKernel none = absurd none
+no_script options script s fault.BadSchedule none = absurd none
+no_script options script s (fault.NotALaunch ticket) none = absurd none
+no_script options script s (fault.CommandRefused ticket) none = absurd none
+
+-- a script whose commands weren't all told
+pub unexplored :
+    (options : ExploreOptions) (script : List ℕ) (commands : List Command) (old new : Sink) (why : RunFault) → IsScript script commands → Untold options commands old new why → Unexplored options script old new why
+unexplored options script commands old new (fault.BadLine n) is none = absurd none
+unexplored options script commands old new fault.OutOfMemory is h = inr (record { commands = commands; is = is; untold = h })
+unexplored options script commands old new fault.Write is h = record { commands = commands; is = is; untold = h }
+unexplored options script commands old new (fault.Read by) is none = absurd none
+unexplored options script commands old new fault.NoSuchKernel is none = absurd none
+unexplored options script commands old new fault.BadSchedule is none = absurd none
+unexplored options script commands old new (fault.NotALaunch ticket) is none = absurd none
+unexplored options script commands old new (fault.CommandRefused ticket) is none = absurd none

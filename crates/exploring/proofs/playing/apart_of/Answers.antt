@@ -1,0 +1,8 @@
+use Rattle.std.proofs.Common.{sym, subst}
+use Rattle.explore_runs.specs.Explored.{AreLeft}
+use Rattle.exploring.proofs.playing.apart_of.Goals as goal
+
+pub returns-in-Apart : goal.returns-in-Apart
+returns-in-Apart c = λ bytes left.
+    let apart = subst (AreLeft _) c.in-Apart.is left in
+    (apart.0, apart.1, apart.2, c.in_ok-name_at.ensures)
