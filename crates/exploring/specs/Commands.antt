@@ -93,7 +93,7 @@ is_refused (reply.Refused why) = true
 
 -- what a script came to with one more command
 abbrev pub with_told : Manner → Reply → ExploreEnd → ExploreEnd
-with_told how r end = record { missing = end.missing; faulted = end.faulted || (has_shown how || is_fault r); refused = end.refused || is_refused r }
+with_told how r end = record { missing = end.missing; faulted = end.faulted || has_shown how || is_fault r; refused = end.refused || is_refused r }
 
 -- A command is done by a step of the machine, and this text is told of it and of its reply.
 pub record TellsCommand (wanted : Option ℕ) (spot : Spot) (old : Machine) (c : Command) (new : Machine) (before after : ExploreEnd) (text : List ℕ) : Type 0 where

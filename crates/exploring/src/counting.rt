@@ -39,7 +39,7 @@ pub(crate) fn is_past(wanted: Option<usize>, number: usize) -> bool
 pub(crate) fn launch_count(commands: &[Command]) -> usize
     ensures { result ≡ launch_count commands.now }
 {
-    commands.iter().filter(|command| is_launch(command)).count()
+    commands.iter().filter(|command| is_launch(*command)).count()
 }
 
 /// The number of the launch that has to be there: the wanted one, and the first where each is wanted.

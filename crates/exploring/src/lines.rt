@@ -48,11 +48,7 @@ fn write_command<W: Write>(ticket: usize, writer: &mut W) -> Result<(), WriteFai
 }
 
 /// Writes what stands in front of what is told of a command, which is a launch or not.
-fn write_front<W: Write>(
-    spot: Spot,
-    is_launch: bool,
-    writer: &mut W,
-) -> Result<(), WriteFailed>
+fn write_front<W: Write>(spot: Spot, is_launch: bool, writer: &mut W) -> Result<(), WriteFailed>
     ensures { Puts (W.sink writer.old) result (W.sink writer.new) (front_words spot is_launch) }
 {
     if is_launch {
@@ -267,11 +263,7 @@ fn write_count<W: Write>(findings: &Findings, writer: &mut W) -> Result<(), Writ
 }
 
 /// Writes that the orders of a launch have shown nothing.
-fn write_clean<W: Write>(
-    spot: Spot,
-    findings: &Findings,
-    writer: &mut W,
-) -> Result<(), WriteFailed>
+fn write_clean<W: Write>(spot: Spot, findings: &Findings, writer: &mut W) -> Result<(), WriteFailed>
     ensures { Puts (W.sink writer.old) result (W.sink writer.new) (clean_text spot findings.now) }
 {
     write_launch(spot.number, writer)?;
@@ -279,11 +271,7 @@ fn write_clean<W: Write>(
 }
 
 /// Writes the fault that an order shows, and that two left different bytes.
-fn write_both<W: Write>(
-    spot: Spot,
-    findings: &Findings,
-    writer: &mut W,
-) -> Result<(), WriteFailed>
+fn write_both<W: Write>(spot: Spot, findings: &Findings, writer: &mut W) -> Result<(), WriteFailed>
     ensures { Puts (W.sink writer.old) result (W.sink writer.new) (shown_text spot findings.now.shown ++ apart_text spot findings.now.apart) }
 {
     write_shown(spot, &findings.shown, writer)?;

@@ -1,7 +1,7 @@
 //! What is told of a command beside its reply.
 #![tactic(auto)]
 
-ghost use Rattle.std.specs.Prelude.{◌≡◌, Decides, IfOk};
+ghost use Rattle.std.specs.Prelude.{◌≡◌, IfOk};
 ghost use Rattle.device.specs.Machine.{machine_of};
 ghost use Rattle.exploring.specs.Commands.{IsExplored, IsManner, IsMannerOf, is_fault, is_launch, is_refused, is_wanted, with_told};
 ghost use Rattle.exploring.specs.Lines.{has_shown};
@@ -42,13 +42,6 @@ fn is_wanted(wanted: Option<usize>, number: usize) -> bool
     }
 }
 
-/// Whether a refusal is for want of memory.
-fn is_lack(refusal: &Refusal) -> bool
-    ensures { Decides result (refusal.now ≡ Refusal.OutOfMemory) }
-{
-    matches!(refusal, Refusal::OutOfMemory)
-}
-
 /// What the orders of a launch show, on a device in front of it; nothing, where it is refused. An error is out of
 /// memory.
 fn explored<C: Clock>(
@@ -61,21 +54,13 @@ fn explored<C: Clock>(
 ) -> Result<Manner, AllocError>
     ensures { IfOk result (IsExplored (machine_of device.now) kernel.now range.now) }
 {
-    match device.prepare(kernel, range) {
-        Ok(launch) => Ok(Manner::Explored(findings_of(
-            alloc,
-            &launch,
-            device.buffers(),
-            options,
-            clock,
-        )?)),
-        Err(refusal) => {
-            if is_lack(&refusal) {
-                return Err(AllocError);
-            }
-            Ok(Manner::Quiet)
-        }
-    }
+    let launch = match device.prepare(kernel, range) {
+        Ok(launch) => launch,
+        Err(Refusal::OutOfMemory) => return Err(AllocError),
+        Err(_) => return Ok(Manner::Quiet),
+    };
+    let findings = findings_of(alloc, &launch, device.buffers(), options, clock)?;
+    Ok(Manner::Explored(findings))
 }
 
 /// What is told of a launch, by whether it is wanted and has `orders`. An error is out of memory.
@@ -166,9 +151,12 @@ fn has_shown(how: &Manner) -> bool
 pub(crate) fn with_told(how: &Manner, reply: &Reply, end: ExploreEnd) -> ExploreEnd
     ensures { result ≡ with_told how.now reply.now end }
 {
+    let shown = has_shown(how);
+    let faulted = is_fault(reply);
+    let refused = is_refused(reply);
     ExploreEnd {
         missing: end.missing,
-        faulted: end.faulted || has_shown(how) || is_fault(reply),
-        refused: end.refused || is_refused(reply),
+        faulted: end.faulted || shown || faulted,
+        refused: end.refused || refused,
     }
 }

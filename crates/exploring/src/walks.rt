@@ -31,15 +31,15 @@ fn tell_command<C: Clock, W: Write>(
     ensures told { IfOk result (λ after. (text : List ℕ) × TellsCommand options.now.launch spot (machine_of device.old) command (machine_of device.new) end after text × Wrote (W.sink writer.old) (W.sink writer.new) text) }
     ensures failed { IfErr result (CommandUntold options.now.launch spot (machine_of device.old) command end (W.sink writer.old) (W.sink writer.new)) }
 {
-    let is_launch = is_launch(&command);
+    let launch = is_launch(&command);
     let how = manner_of(alloc, device, &command, spot.number, options, clock)?;
     let reply = device.apply(command);
-    tell(spot, is_launch, &how, &reply, writer)?;
+    tell(spot, launch, &how, &reply, writer)?;
     Ok(with_told(&how, &reply, end))
 }
 
 /// Does commands on a new device, up to the wanted launch or to the last of them, and writes what is told of each.
-fn tell_commands<C: Clock, W: Write>(
+pub(crate) fn tell_commands<C: Clock, W: Write>(
     alloc: Global,
     options: &ExploreOptions,
     commands: Vec<Command>,
@@ -64,9 +64,18 @@ fn tell_commands<C: Clock, W: Write>(
         if is_past(options.launch, spot.number) {
             return Ok(end);
         }
-        let is_launch = is_launch(&command);
-        end = tell_command(alloc, &mut device, options, spot, command, end, clock, writer)?;
-        spot = next(spot, is_launch);
+        let launch = is_launch(&command);
+        end = tell_command(
+            alloc,
+            &mut device,
+            options,
+            spot,
+            command,
+            end,
+            clock,
+            writer,
+        )?;
+        spot = next(spot, launch);
     }
     Ok(end)
 }

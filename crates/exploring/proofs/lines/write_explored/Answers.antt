@@ -8,4 +8,4 @@ returns-in_err-write_findings g c =
     rw p.1 (stopped_more _ c.in_err-write_findings.ensures)
 
 pub returns : goal.returns
-returns g c = puts_then _ _ c.write_if_told.result c.in_ok-write_findings.ensures c.write_if_told.ensures
+returns g c = puts_then _ _ c.write_if_told.result c.in_ok-write_findings.ensures (rw c.is_some.ensures at c.write_if_told.ensures)

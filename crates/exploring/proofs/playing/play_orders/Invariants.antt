@@ -4,5 +4,5 @@ use Rattle.spaces.specs.Buffers.{bytes_in}
 use Rattle.explore_runs.specs.Explored.{Explores}
 use Rattle.exploring.proofs.playing.play_orders.Given as goal
 
-abbrev pub invariant-loop-_ : goal.invariant-loop-_
-invariant-loop-_ g l = Explores (launch_of (setup_of l.launch) (bytes_in l.buffers)) l.explorer
+abbrev pub invariant-loop : goal.invariant-loop
+invariant-loop g l = Explores (launch_of (setup_of l.launch) (bytes_in l.buffers)) l.explorer

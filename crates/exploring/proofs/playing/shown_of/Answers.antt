@@ -5,8 +5,8 @@ use Rattle.spaces.specs.Buffers.{bytes_in}
 use Rattle.explore_runs.specs.Explored.{IsFound}
 use Rattle.exploring.proofs.playing.shown_of.Goals as goal
 
-pub short_schedule-schedule-requires-clause-leads : goal.short_schedule-schedule-requires-clause-leads
-short_schedule-schedule-requires-clause-leads c =
+pub short_schedule-requires-clause-leads : goal.short_schedule-requires-clause-leads
+short_schedule-requires-clause-leads c =
     (subst (IsFound (launch_of (setup_of c.args.launch.now) (bytes_in c.args.buffers.now))) c.in-Some.is c.requires.found).0
 
 pub returns : goal.returns
