@@ -1,6 +1,7 @@
 -- What is told of commands, one behind another.
-use Rattle.std.proofs.Common.{◌≡◌, ◌⊎◌, ◌+◌, ◌<◌, ◌≤◌, ℕ, Bool, true, false, Option, None, Some, List, [], ◌∷◌, ◌++◌, length, refl, sym, ap, ◌∙◌, subst, append_assoc, arith, inl, inr}
+use Rattle.std.proofs.Common.{◌≡◌, ◌⊎◌, ◌+◌, ◌<◌, ◌≤◌, ℕ, Bool, true, false, Option, None, Some, List, [], ◌∷◌, ◌++◌, cond, count_by, get_or, length, take, refl, sym, ap, ◌∙◌, subst, append_assoc, arith, inl, inr}
 use Rattle.std.proofs.lemmas.List.{append-nil}
+use Rattle.std.proofs.lemmas.List.Sums.{count_by_more_no, count_by_more_yes}
 use Rattle.std.specs.Prelude.{MatchBool}
 use Rattle.byte_io.specs.Sink.{Sink, Stopped, Wrote}
 use Rattle.byte_io.proofs.Puts.{stopped_then, wrote_none, wrote_then}
@@ -32,6 +33,16 @@ use Rattle.exploring.specs.declared.findings.Findings.{Findings}
 use Rattle.exploring.specs.declared.findings.Manner.{Manner}
 use Rattle.exploring.specs.declared.findings.Manner.TheVariants as manner
 
+-- how many of the first commands are launches, with one more of them
+pub count_next :
+    (xs : List Command) (i : ℕ) (c : Command) (launch : Bool) → i < length xs → launch ≡ is_launch (get_or xs i c) → count_by is_launch (take (i + 1) xs) ≡ count_by is_launch (take i xs) + cond launch 1 0
+count_next xs i c true within is = count_by_more_yes is_launch xs i c within (sym is)
+count_next xs i c false within is = let same = count_by_more_no is_launch xs i c within (sym is) in omega (arith, same)
+
+pub one_at_most : (launch : Bool) → cond launch 1 0 ≤ 1
+one_at_most true = omega arith
+one_at_most false = omega arith
+
 -- the numbers behind one command more
 pub behind_more : (spot : Spot) (done : List Command) (c : Command) → behind spot (done ++ c ∷ []) ≡ next (behind spot done) (is_launch c)
 behind_more spot [] c = refl
@@ -54,8 +65,8 @@ told_more wanted spot old now new (d ∷ done) c before mid after text own (m, e
     (m, end, front, rest ++ own, first, told_more wanted (next spot (is_launch d)) m now new done c end mid after rest own more told, ap (λ l. l ++ own) split ∙ append_assoc front rest own)
 
 module _
-  (wanted : Option ℕ) (spot : Spot) (old : Machine) (c : Command) (new : Machine) (before : ExploreEnd) (launch : Bool) (how : Manner) (answer : Reply) (from to : Sink)
-  (launches : launch ≡ is_launch c) (is : IsManner wanted spot.number old c how) (step : Step old c answer new) where
+    (wanted : Option ℕ) (spot : Spot) (old : Machine) (c : Command) (new : Machine) (before : ExploreEnd) (launch : Bool) (how : Manner) (answer : Reply) (from to : Sink)
+    (launches : launch ≡ is_launch c) (is : IsManner wanted spot.number old c how) (step : Step old c answer new) where
   -- what is told of a command, as it was done
   tells : (after : ExploreEnd) → after ≡ with_told how answer before → TellsCommand wanted spot old c new before after (told_text spot launch how answer)
   tells after ended = record { how = how; answer = answer; is = is; step = step; told = ap (λ b. told_text spot b how answer) launches; ended = ended }
@@ -111,6 +122,7 @@ told_past options commands done more now end spot old new h split at past = (
 pub told_all :
     (options : ExploreOptions) (commands done : List Command) (now : Machine) (end : ExploreEnd) (old new : Sink) → HasWritten options done now end old new → commands ≡ done
     → (text : List ℕ) × HasTold options commands end text × Wrote old new text
+unfolding begun
 told_all options commands done now end old new h all =
     (h.text, record { done = done; begun = begun options commands done [] now end h.text (all ∙ sym (append-nil done)) h.told; all = inl refl }, h.wrote)
 
@@ -191,12 +203,12 @@ part_of options commands end text h = go (is_among (least options.launch) (launc
 pub told_there :
     (options : ExploreOptions) (commands : List Command) (end : ExploreEnd) (text : List ℕ) (there : Bool) → there ≡ is_among (least options.launch) (launch_count commands) → there ≡ true
     → HasTold options commands end text → IsToldOf options commands end text
-told_there options commands end text there is yes h = subst (λ (b : Bool). MatchBool b (HasTold options commands end text) (IsMissing options commands end text)) (sym yes ∙ is) h
+told_there options commands end text there is holds h = subst (λ (b : Bool). MatchBool b (HasTold options commands end text) (IsMissing options commands end text)) (sym holds ∙ is) h
 
 pub told_missing :
     (options : ExploreOptions) (commands : List Command) (end : ExploreEnd) (text : List ℕ) (there : Bool) → there ≡ is_among (least options.launch) (launch_count commands) → there ≡ false
     → IsMissing options commands end text → IsToldOf options commands end text
-told_missing options commands end text there is no h = subst (λ (b : Bool). MatchBool b (HasTold options commands end text) (IsMissing options commands end text)) (sym no ∙ is) h
+told_missing options commands end text there is fails h = subst (λ (b : Bool). MatchBool b (HasTold options commands end text) (IsMissing options commands end text)) (sym fails ∙ is) h
 
 -- the last call on the writer failed
 pub unreleased :

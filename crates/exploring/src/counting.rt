@@ -1,7 +1,7 @@
 //! The numbers of commands and of launches.
 #![tactic(auto)]
 
-ghost use Rattle.std.specs.Prelude.{◌≡◌, ◌<◌, ◌≤◌};
+ghost use Rattle.std.specs.Prelude.{◌≡◌, ◌+◌, ◌^◌, ◌<◌, ◌≤◌, Some, cond, length, slice_get};
 ghost use Rattle.exploring.specs.Commands.{launch_count, next};
 ghost use Rattle.exploring.specs.Explored.{is_among, is_past, least};
 
@@ -35,11 +35,32 @@ pub(crate) fn is_past(wanted: Option<usize>, number: usize) -> bool
     }
 }
 
+/// The command of a number.
+fn command_at(commands: &[Command], number: usize) -> &Command
+    requires { number < length commands.now }
+    ensures { slice_get commands.now number ≡ Some result.now }
+{
+    &commands[number]
+}
+
+/// A count of launches with one command more, which is one or not.
+fn with_command(count: usize, is_launch: bool) -> usize
+    requires { count + 1 < 2 ^ 64 }
+    ensures { result ≡ count + cond is_launch 1 0 }
+{
+    if is_launch { count + 1 } else { count }
+}
+
 /// How many of these commands are launches.
 pub(crate) fn launch_count(commands: &[Command]) -> usize
     ensures { result ≡ launch_count commands.now }
 {
-    commands.iter().filter(|command| is_launch(*command)).count()
+    let mut launches = 0;
+    for number in 0..commands.len() {
+        let command = command_at(commands, number);
+        launches = with_command(launches, is_launch(command));
+    }
+    launches
 }
 
 /// The number of the launch that has to be there: the wanted one, and the first where each is wanted.

@@ -11,4 +11,4 @@ returns-in-Launch g c =
     IfOk-weaker c.launch_manner.result _ _
     (λ how is.
     subst (λ (command : Command). IsManner c.args.options.now.launch c.args.number m command how) (sym c.in-Launch.is)
-    (subst (λ (wanted : Bool). IsMannerOf m c.in-Launch.kernel.now c.in-Launch.range.now wanted c.in-Launch.orders.now how) c.is_wanted.ensures is)) c.launch_manner.ensures
+    (subst (λ (wanted : Bool). IsMannerOf m c.in-Launch.kernel c.in-Launch.range wanted c.in-Launch.orders how) c.is_wanted.ensures is)) c.launch_manner.ensures

@@ -4,8 +4,7 @@ use Rattle.exploring.proofs.playing.apart_of.Goals as goal
 
 pub returns-in-Apart : goal.returns-in-Apart
 returns-in-Apart c = λ bytes left.
-    let apart = subst (AreLeft _) c.in-Apart.is left in
-    (
+    let apart = subst (AreLeft _) c.in-Apart.is left in (
       apart.0,
       apart.1,
       apart.2,
