@@ -1,5 +1,5 @@
 -- What is told of the commands of a script, one behind another (own).
-use Rattle.std.specs.Prelude.{◌≡◌, ◌+◌, ◌||◌, ℕ, Bool, true, false, ⊤, Option, None, Some, List, [], ◌∷◌, ◌++◌, nat_eq, nat_lt, if◌then◌else◌}
+use Rattle.std.specs.Prelude.{◌≡◌, ◌+◌, ◌||◌, ℕ, Bool, true, false, Option, None, Some, List, [], ◌∷◌, ◌++◌, nat_eq, if◌then◌else◌}
 use Rattle.std.specs.List.{count_by}
 use Rattle.byte_io.specs.Sink.{Sink, Stopped}
 use Rattle.clmodel.specs.Next.{launch_of}

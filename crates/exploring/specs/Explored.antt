@@ -1,6 +1,5 @@
 -- What is written of a script, and why nothing is, or only a beginning (own).
 use Rattle.std.specs.Prelude.{◌≡◌, ◌⊎◌, ◌||◌, ◌&&◌, ℕ, Bool, true, false, Option, None, Some, Result, Ok, Err, List, [], ◌++◌, nat_le, nat_lt, unwrap_or, MatchBool, if◌then◌else◌}
-use Rattle.limits.specs.declared.Configuration.{Configuration}
 use Rattle.byte_io.specs.Sink.{Sink, Stopped, Wrote}
 use Rattle.device.specs.Machine.{Machine, opening}
 use Rattle.host_commands.specs.declared.command.Command.{Command}

@@ -58,8 +58,8 @@ fn with_last(numbers: Numbers, explorer: &Explorer) -> Numbers {
 }
 
 /// Plays orders of a launch, up to the first that shows a fault, to so many, or until the time is over. Each takes the
-/// time of its events, and memory for a copy of the launch's buffers, its items and its accesses while it is played; the
-/// bytes of two at most are kept. An error is out of memory.
+/// time of its events, and while it is played memory for a copy of the launch's buffers, its items and its accesses.
+/// The bytes of two at most are kept. An error is out of memory.
 fn play_orders<C: Clock>(
     alloc: Global,
     launch: &Launch<'_>,

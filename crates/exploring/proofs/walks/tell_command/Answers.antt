@@ -1,8 +1,5 @@
-use Rattle.std.proofs.Common.{◌∙◌, refl, ap}
 use Rattle.std.proofs.lemmas.Result.{err_from_is_err_and}
 use Rattle.device.specs.Machine.{machine_of}
-use Rattle.exploring.specs.Commands.{is_launch}
-use Rattle.exploring.specs.Lines.{told_text}
 use Rattle.exploring.proofs.Telling.{told_one, untold_one}
 use Rattle.exploring.proofs.walks.tell_command.Goals as goal
 

@@ -1,9 +1,9 @@
-use Rattle.std.proofs.Common.{◌≡◌, ◌+◌, ◌≤◌, [], ◌∷◌, ◌++◌, length, length-append, ap, ap₂, sym, ◌∙◌, append_assoc, refl, rules, arith}
+use Rattle.std.proofs.Common.{◌≡◌, ◌+◌, [], ◌∷◌, ◌++◌, length, length-append, ap, ap₂, sym, ◌∙◌, append_assoc, refl, rules, arith}
 use Rattle.std.specs.Vec.Iter.{into_iter_items}
 use Rattle.std.proofs.lemmas.List.{append-nil, length_push, nil_from_length}
 use Rattle.std.proofs.lemmas.Result.{err_from_is_err_and}
 use Rattle.device.specs.Machine.{machine_of}
-use Rattle.exploring.specs.Commands.{behind, first_spot, next}
+use Rattle.exploring.specs.Commands.{first_spot, next}
 use Rattle.exploring.specs.declared.facts.Spot.{Spot}
 use Rattle.exploring.proofs.Telling.{behind_more, number_more, told_all, told_past, untold_at, written_more, written_none}
 use Rattle.exploring.proofs.walks.tell_commands.Goals as goal
