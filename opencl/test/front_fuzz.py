@@ -111,8 +111,8 @@ def compared(kernels, n):
 
 
 def compared_twice(kind, devices, kernels, n):
-    """A kernel that differs is built alone once more, by pocl with optimization. Where it is the same then, pocl differs
-    from itself."""
+    """A kernel that differs is built alone once more, by pocl with optimization: where it is the same then, it is pocl
+    that differs from itself."""
     what, words = compared(kernels, n)
     if what == "same":
         return what, words
