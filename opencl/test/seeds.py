@@ -7,7 +7,8 @@ import os
 FIXED = 1
 # Kernels that differed from pocl in some run: they are tried in front of the others. What each one was:
 #   4349463  abs of the least int (front_kernels.py says what pocl makes of it)
-#   100025   not found again: pocl, Oclgrind and Clsim agree on it now
+#   100025   pocl 3.1 leaves other bytes of one work-item with -cl-opt-disable than with optimization, whose bytes are
+#            Clsim's and Oclgrind's
 ONCE = {"front_fuzz.py": [4349463, 100025]}
 
 
