@@ -2,7 +2,7 @@ use Rattle.std.proofs.Common.{sym, ◌∙◌, subst}
 use Rattle.std.proofs.lemmas.Bool.{false≢true}
 use Rattle.device.specs.Machine.{Answers, machine_of}
 use Rattle.host_commands.specs.declared.command.Command.{Command}
-use Rattle.wide_text.proofs.Faults.{answer_of}
+use Rattle.wide_text.proofs.InKernel.{answer_of}
 use Rattle.wide_text.proofs.faults.answered.Goals as goal
 
 pub returns : goal.returns

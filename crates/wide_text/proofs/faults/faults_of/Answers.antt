@@ -2,7 +2,7 @@ use Rattle.std.proofs.Common.{◌≡◌, ◌+◌, ◌++◌, ◌∷◌, List, ℕ
 use Rattle.std.proofs.lemmas.List.{drop_more}
 use Rattle.device.specs.Machine.{Machine, machine_of, opening}
 use Rattle.wide_text.specs.Faults.{IsAside, TellsFaults, head_of}
-use Rattle.wide_text.proofs.Faults.{Continues, all_told, goes_further, stops_there}
+use Rattle.wide_text.proofs.InKernel.{Continues, all_told, goes_further, stops_there}
 use Rattle.wide_text.proofs.faults.faults_of.Goals as goal
 
 pub loop-number-init : goal.loop-number-init
