@@ -286,7 +286,8 @@ fn lacked_memory(reply: &Reply) -> bool
 fn answered(alloc: Global, device: &mut Device, command: &Command) -> Result<Reply, AllocError>
     ensures { IfOk result (λ reply. Answers (machine_of device.old) command.now reply (machine_of device.new)) }
 {
-    let reply = device.apply(copy_of(alloc, command)?);
+    let same = copy_of(alloc, command)?;
+    let reply = device.apply(same);
     if lacked_memory(&reply) {
         return Err(AllocError);
     }
@@ -333,6 +334,25 @@ fn goes_on(all: bool, reply: &Reply) -> bool
     all || !(is_fault(reply) || is_refused(reply))
 }
 
+/// Has a device do the command of a number, with its reply; a text gets what is told of it. An error is out of memory.
+fn step(
+    alloc: Global,
+    device: &mut Device,
+    sources: &mut Sources<'_>,
+    head: &str,
+    number: usize,
+    command: &Command,
+    out: &mut Vec<u8>,
+) -> Result<Reply, AllocError>
+    ensures { IfOk result (λ reply. Answers (machine_of device.old) command.now reply (machine_of device.new) × (line : List ℕ) × IsAside head.now (machine_of device.old) command.now reply line × (out.new.items ≡ out.old.items ++ line)) }
+{
+    let reply = answered(alloc, device, command)?;
+    let text = aside(alloc, device, sources, head, command, &reply)?;
+    out.extend_from_slice(text.as_slice())?;
+    sources.pass_done(number, &reply)?;
+    Ok(reply)
+}
+
 /// The lines of the faults of a script's commands, on a new device of this configuration. An error is out of memory.
 fn faults_of(
     alloc: Global,
@@ -347,15 +367,19 @@ fn faults_of(
     let mut sources = Sources::new(alloc, configuration.limits, commands, places);
     let mut out = Vec::new(alloc);
     for number in 0..commands.len() {
-        let command = &commands[number];
-        let reply = answered(alloc, &mut device, command)?;
         let head = head_of(alloc, all, places, number)?;
-        let text = aside(alloc, &device, &mut sources, head.as_str(), command, &reply)?;
-        out.extend_from_slice(text.as_slice())?;
+        let reply = step(
+            alloc,
+            &mut device,
+            &mut sources,
+            head.as_str(),
+            number,
+            &commands[number],
+            &mut out,
+        )?;
         if !goes_on(all, &reply) {
             return Ok(out);
         }
-        sources.pass_done(number, &reply)?;
     }
     Ok(out)
 }
