@@ -1,6 +1,6 @@
 mod Beside
 mod Failing
-mod Faults
+mod InKernel
 mod Floats
 mod Flagged
 mod Runs

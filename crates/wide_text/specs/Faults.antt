@@ -127,9 +127,12 @@ IsAside head old (command.Arg kernel index given) r text = text ≡ []
 abbrev pub command_words : (number line : ℕ) → List ℕ
 command_words number line = codes "command " ++ decimal number ++ codes ", line " ++ decimal line ++ codes " of the script: "
 
+abbrev pub no_place : CommandPlace
+no_place = record { at = 0; line = 0; source_line = 0 }
+
 -- the line of the command of a number, or 0, where there is none
 abbrev pub line_at : List CommandPlace → ℕ → ℕ
-line_at places number = (slice_index_or places number (record { at = 0; line = 0; source_line = 0 })).line
+line_at places number = (slice_index_or places number no_place).line
 
 -- they stand there where each fault is told
 abbrev pub head_of : Bool → ℕ → List CommandPlace → List ℕ

@@ -1,7 +1,7 @@
 //! Whether the faults of a script are in their kernels or in their data.
 #![tactic(auto)]
 
-ghost use Rattle.std.specs.Prelude.{◌≡◌, ◌++◌, List, ℕ, IsTrue, IfOk, IfErr, OnOk, Decides, not, ◌||◌, string_bytes};
+ghost use Rattle.std.specs.Prelude.{◌≡◌, ◌++◌, List, ℕ, IsTrue, IfOk, IfErr, OnOk, Decides, true, not, ◌||◌, codes, string_bytes};
 ghost use Rattle.clmodel.specs.Setup.{buffer_names};
 ghost use Rattle.clmodel.specs.declared.fault.Fault.{Fault as FaultOf};
 ghost use Rattle.clmodel.specs.declared.schedule.Schedule.{Schedule as ScheduleOf};
@@ -91,6 +91,15 @@ fn push_more(names: &[Name], out: &mut Vec<u8>) -> Result<(), AllocError>
     Ok(())
 }
 
+/// Adds the first name, behind its words.
+fn push_first(name: &Name, out: &mut Vec<u8>) -> Result<(), AllocError>
+    ensures { OnOk result (out.new.items ≡ out.old.items ++ (codes " for all bytes of " ++ name.now)) }
+{
+    out.extend_from_slice(b" for all bytes of ")?;
+    out.extend_from_slice(name.as_slice())?;
+    Ok(())
+}
+
 /// Adds the names of the buffers for all of whose bytes a fault is the same.
 fn push_names(names: &[Name], out: &mut Vec<u8>) -> Result<(), AllocError>
     ensures { OnOk result (out.new.items ≡ out.old.items ++ names_text names.now) }
@@ -98,8 +107,7 @@ fn push_names(names: &[Name], out: &mut Vec<u8>) -> Result<(), AllocError>
     match names {
         [] => Ok(()),
         [name, rest @ ..] => {
-            out.extend_from_slice(b" for all bytes of ")?;
-            out.extend_from_slice(name.as_slice())?;
+            push_first(name, out)?;
             push_more(rest, out)
         }
     }
@@ -109,7 +117,8 @@ fn push_names(names: &[Name], out: &mut Vec<u8>) -> Result<(), AllocError>
 fn kernel_line(alloc: Global, head: &str, names: &[Name], more: &str) -> Result<Vec<u8>, AllocError>
     ensures { IfOk result (λ text. IsKernelLine head.now names.now text.items) }
 {
-    let mut out = head.as_bytes().to_vec(alloc)?;
+    let mut out = Vec::new(alloc);
+    out.extend_from_slice(head.as_bytes())?;
     out.extend_from_slice(b"in the kernel: the same fault by the same schedule")?;
     push_names(names, &mut out)?;
     push_in_line(more.as_bytes(), &mut out)?;
@@ -121,7 +130,8 @@ fn kernel_line(alloc: Global, head: &str, names: &[Name], more: &str) -> Result<
 fn data_line(alloc: Global, head: &str, more: &str) -> Result<Vec<u8>, AllocError>
     ensures { IfOk result (λ text. IsDataLine head.now text.items) }
 {
-    let mut out = head.as_bytes().to_vec(alloc)?;
+    let mut out = Vec::new(alloc);
+    out.extend_from_slice(head.as_bytes())?;
     out.extend_from_slice(b"in the data")?;
     push_in_line(more.as_bytes(), &mut out)?;
     out.push(b'\n')?;
@@ -198,7 +208,8 @@ fn launch_line(
     faults_are_in_kernel();
     let uniform = launch.range().uniform;
     let names = launch.buffer_names();
-    match widen_launch(alloc, launch.code(), names, launch.arguments(), uniform)? {
+    let found = widen_launch(alloc, launch.code(), names, launch.arguments(), uniform)?;
+    match found {
         Some(wide) => found_line(alloc, head, source, launch, &wide),
         None => data_line(alloc, head, NOT_FOUND),
     }
@@ -275,7 +286,8 @@ fn lacked_memory(reply: &Reply) -> bool
 fn answered(alloc: Global, device: &mut Device, command: &Command) -> Result<Reply, AllocError>
     ensures { IfOk result (λ reply. Answers (machine_of device.old) command.now reply (machine_of device.new)) }
 {
-    let reply = device.apply(copy_of(alloc, command)?);
+    let same = copy_of(alloc, command)?;
+    let reply = device.apply(same);
     if lacked_memory(&reply) {
         return Err(AllocError);
     }
@@ -322,6 +334,25 @@ fn goes_on(all: bool, reply: &Reply) -> bool
     all || !(is_fault(reply) || is_refused(reply))
 }
 
+/// Has a device do the command of a number, with its reply; a text gets what is told of it. An error is out of memory.
+fn step(
+    alloc: Global,
+    device: &mut Device,
+    sources: &mut Sources<'_>,
+    head: &str,
+    number: usize,
+    command: &Command,
+    out: &mut Vec<u8>,
+) -> Result<Reply, AllocError>
+    ensures { IfOk result (λ reply. Answers (machine_of device.old) command.now reply (machine_of device.new) × (line : List ℕ) × IsAside head.now (machine_of device.old) command.now reply line × (out.new.items ≡ out.old.items ++ line)) }
+{
+    let reply = answered(alloc, device, command)?;
+    let text = aside(alloc, device, sources, head, command, &reply)?;
+    out.extend_from_slice(text.as_slice())?;
+    sources.pass_done(number, &reply)?;
+    Ok(reply)
+}
+
 /// The lines of the faults of a script's commands, on a new device of this configuration. An error is out of memory.
 fn faults_of(
     alloc: Global,
@@ -336,15 +367,19 @@ fn faults_of(
     let mut sources = Sources::new(alloc, configuration.limits, commands, places);
     let mut out = Vec::new(alloc);
     for number in 0..commands.len() {
-        let command = &commands[number];
-        let reply = answered(alloc, &mut device, command)?;
         let head = head_of(alloc, all, places, number)?;
-        let text = aside(alloc, &device, &mut sources, head.as_str(), command, &reply)?;
-        out.extend_from_slice(text.as_slice())?;
+        let reply = step(
+            alloc,
+            &mut device,
+            &mut sources,
+            head.as_str(),
+            number,
+            &commands[number],
+            &mut out,
+        )?;
         if !goes_on(all, &reply) {
             return Ok(out);
         }
-        sources.pass_done(number, &reply)?;
     }
     Ok(out)
 }

@@ -1,7 +1,7 @@
 use Rattle.std.proofs.Common.{◌+◌, [], drop, get_or, ap, sym, ◌∙◌, refl}
 use Rattle.std.proofs.lemmas.List.{drop_all, drop_more}
 use Rattle.wide_text.specs.Faults.{are_free, is_any}
-use Rattle.wide_text.proofs.Faults.{one_let}
+use Rattle.wide_text.proofs.InKernel.{one_let}
 use Rattle.wide_text.proofs.faults.are_buffers_free.Goals as goal
 
 pub loop-number-init : goal.loop-number-init

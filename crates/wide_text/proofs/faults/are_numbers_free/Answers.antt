@@ -1,7 +1,7 @@
 use Rattle.std.proofs.Common.{◌+◌, not, ◌||◌, ◌∷◌, drop, ap, sym, ◌∙◌, refl}
 use Rattle.std.proofs.lemmas.List.{drop_all, drop_more}
 use Rattle.wide_text.specs.Faults.{are_free, is_number}
-use Rattle.wide_text.proofs.Faults.{one_let}
+use Rattle.wide_text.proofs.InKernel.{one_let}
 use Rattle.wide_text.proofs.faults.are_numbers_free.Goals as goal
 
 pub loop-index-init : goal.loop-index-init

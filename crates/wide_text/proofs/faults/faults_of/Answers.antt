@@ -1,8 +1,8 @@
 use Rattle.std.proofs.Common.{◌≡◌, ◌+◌, ◌++◌, ◌∷◌, List, ℕ, drop, ap, sym, ◌∙◌, subst}
 use Rattle.std.proofs.lemmas.List.{drop_more}
 use Rattle.device.specs.Machine.{Machine, machine_of, opening}
-use Rattle.wide_text.specs.Faults.{IsAside, TellsFaults, head_of}
-use Rattle.wide_text.proofs.Faults.{Continues, all_told, goes_further, stops_there}
+use Rattle.wide_text.specs.Faults.{IsAside, TellsFaults}
+use Rattle.wide_text.proofs.InKernel.{Continues, all_told, goes_further, stops_there}
 use Rattle.wide_text.proofs.faults.faults_of.Goals as goal
 
 pub loop-number-init : goal.loop-number-init
@@ -21,16 +21,14 @@ loop-number-preserved c =
     let i = c.loop-number.number in
     let command = c.index-commands-number.result in
     let out = c.loop-number.out.items in
-    let line = c.in_ok-text.text.items in
     let old = machine_of c.loop-number.device in
-    let mid = machine_of c.answered.new.device in
+    let mid = machine_of c.step.new.device in
     let r = c.in_ok-reply.reply in
-    let head = c.as_str.ensures.value ∙ c.in_ok-head.ensures in
-    let aside = subst (λ (h : List ℕ). IsAside h old command r line) head (c.in_ok-text.ensures old c.in_ok-reply.ensures) in
+    let told = c.in_ok-reply.ensures in
+    let aside = subst (λ (h : List ℕ). IsAside h old command r told.1) (c.as_str.ensures.value ∙ c.in_ok-head.ensures) told.2 in
     let here = drop_more commands i command c.loop-number-test.true ∙ ap (λ x. x ∷ drop (i + 1) commands) (sym c.index-commands-number.is) in
-    let grown = c.in_ok-extend_from_slice.ensures.items ∙ ap (λ t. out ++ t) c.as_slice.ensures.value in
-    subst (λ (t : List ℕ). Continues all places start commands (i + 1) mid t) (sym grown)
-    (goes_further all places start commands i old mid command r line out here c.in_ok-reply.ensures aside (sym c.goes_on.ensures ∙ c.if-not-goes_on.false) c.loop-number.invariant)
+    subst (λ (t : List ℕ). Continues all places start commands (i + 1) mid t) (sym told.3)
+    (goes_further all places start commands i old mid command r told.1 out here told.0 aside (sym c.goes_on.ensures ∙ c.if-not-goes_on.false) c.loop-number.invariant)
 
 pub returns-then-not-goes_on : goal.returns-then-not-goes_on
 returns-then-not-goes_on c =
@@ -41,16 +39,14 @@ returns-then-not-goes_on c =
     let i = c.loop-number.number in
     let command = c.index-commands-number.result in
     let out = c.loop-number.out.items in
-    let line = c.in_ok-text.text.items in
     let old = machine_of c.loop-number.device in
-    let mid = machine_of c.answered.new.device in
+    let mid = machine_of c.step.new.device in
     let r = c.in_ok-reply.reply in
-    let head = c.as_str.ensures.value ∙ c.in_ok-head.ensures in
-    let aside = subst (λ (h : List ℕ). IsAside h old command r line) head (c.in_ok-text.ensures old c.in_ok-reply.ensures) in
+    let told = c.in_ok-reply.ensures in
+    let aside = subst (λ (h : List ℕ). IsAside h old command r told.1) (c.as_str.ensures.value ∙ c.in_ok-head.ensures) told.2 in
     let here = drop_more commands i command c.loop-number-test.true ∙ ap (λ x. x ∷ drop (i + 1) commands) (sym c.index-commands-number.is) in
-    let grown = c.in_ok-extend_from_slice.ensures.items ∙ ap (λ t. out ++ t) c.as_slice.ensures.value in
-    subst (λ (t : List ℕ). TellsFaults all places 0 start commands t) (sym grown)
-    (stops_there all places start commands i old mid command r line out here c.in_ok-reply.ensures aside (sym c.goes_on.ensures ∙ c.if-not-goes_on.true) c.loop-number.invariant)
+    subst (λ (t : List ℕ). TellsFaults all places 0 start commands t) (sym told.3)
+    (stops_there all places start commands i old mid command r told.1 out here told.0 aside (sym c.goes_on.ensures ∙ c.if-not-goes_on.true) c.loop-number.invariant)
 
 pub returns : goal.returns
 returns c =

@@ -1,5 +1,5 @@
 use Rattle.device.specs.Machine.{machine_of, opening}
-use Rattle.wide_text.proofs.Faults.{Continues}
+use Rattle.wide_text.proofs.InKernel.{Continues}
 use Rattle.wide_text.proofs.faults.faults_of.Given as goal
 
 abbrev pub invariant-loop-number : goal.invariant-loop-number

@@ -1,6 +1,6 @@
 use Rattle.std.proofs.lemmas.Result.{IfOk-weaker}
 use Rattle.device.specs.Machine.{machine_of}
-use Rattle.wide_text.proofs.Faults.{prepared_line}
+use Rattle.wide_text.proofs.InKernel.{prepared_line}
 use Rattle.wide_text.proofs.faults.kernel_aside.Goals as goal
 
 pub returns-in-Ok : goal.returns-in-Ok

@@ -1,4 +1,4 @@
-use Rattle.wide_text.proofs.Faults.{faults_are_in_kernel}
+use Rattle.wide_text.proofs.InKernel.{faults_are_in_kernel}
 use Rattle.wide_text.proofs.laws.faults_are_in_kernel.Goals as goal
 
 pub returns : goal.returns

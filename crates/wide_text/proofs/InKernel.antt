@@ -148,7 +148,7 @@ last_told all places number m mid c r line cs answers aside stops = (
   answers,
   aside,
   sym (append-nil line),
-  subst (λ (b : Bool). MatchBool b (TellsFaults all places (number + 1) mid cs []) ([] ≡ [])) (sym stops) refl,
+  subst (λ (b : Bool). MatchBool b (TellsFaults all places (number + 1) mid cs []) (◌≡◌ {A = List ℕ} [] [])) (sym stops) refl,
 )
 
 pub goes_further : (all : Bool) (places : List CommandPlace) (opening : Machine) (commands : List Command) (i : ℕ) (m mid : Machine) (c : Command) (r : Reply) (line out : List ℕ)
@@ -177,7 +177,13 @@ answer_of old new c r (inr lacks) memory = absurd (memory lacks.1)
 
 -- ---- the line of a launch that was prepared
 
--- what is found of a launch holds for the replies to it
+-- what `widen_launch` promises of what it found
+abbrev pub HoldsFor : Listing → List (List ℕ) → List (Option Argument) → Bool → Wide → Type 0
+HoldsFor code names given uniform wide =
+    (old : Machine) (setup : Setup) → IsCodeOf setup.program setup.kernel code → setup.arguments ≡ given → buffer_names setup ≡ names → setup.range.uniform ≡ uniform
+    → IsWideReply wide.buffers.items wide.arguments.items old setup
+
+-- it holds for the replies to the launch
 pub wide_there : (launch : Launch) (code : Listing) (names : List (List ℕ)) (given : List (Option Argument)) (uniform : Bool) (wide : Wide)
     → ((old : Machine) (setup : Setup) → IsCodeOf setup.program setup.kernel code → setup.arguments ≡ given → buffer_names setup ≡ names → setup.range.uniform ≡ uniform
     → IsWideReply wide.buffers.items wide.arguments.items old setup)
