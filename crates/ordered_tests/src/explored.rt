@@ -46,6 +46,10 @@ pub(crate) struct Trial {
     /// What the buffers hold, digit by digit an int.
     pub a: &'static str,
     pub b: &'static str,
+    /// What they hold at the end of the run in order, one behind the other.
+    pub left: &'static str,
+    /// What orders show.
+    pub shows: Shows,
 }
 
 /// The bytes of ints that a text tells digit by digit. None where memory runs out.
@@ -78,20 +82,21 @@ fn range_of(alloc: Global, items: (u64, u64)) -> Option<Range> {
     })
 }
 
-/// How the run in order of a launch ends, and what orders of a seed show, up to the first with a fault. None where
-/// memory runs out.
+/// How the run in order of a launch ends, and what orders of a seed show, up to the first by which they show this. None
+/// where memory runs out.
 fn explore(
     alloc: Global,
     launch: &Launch<'_>,
     buffers: &Buffers,
     seed: u64,
+    shows: Shows,
 ) -> Option<(OrderedEnd, Explorer)>
     requires { HasGroups (setup_of launch.now) }
 {
     let ordered = run_ordered(alloc, launch, buffers).ok()?;
     let mut explorer = Explorer::new(seed);
     for _ in 0..ORDERS {
-        if explorer.found.is_some() || explorer.given_up > 0 {
+        if shows != Shows::Same && shown(&explorer) == Some(shows) {
             break;
         }
         explorer.play_next(alloc, launch, buffers).ok()?;
@@ -99,7 +104,8 @@ fn explore(
     Some((ordered, explorer))
 }
 
-/// How a trial's run in order ends, and what its orders of a seed show. None where it can't be launched.
+/// How a trial's run in order ends, and what its orders of a seed show, up to the first by which they show what it says.
+/// None where it can't be launched.
 pub(crate) fn seen(alloc: Global, trial: &Trial, seed: u64) -> Option<(OrderedEnd, Explorer)> {
     let limits = Limits::profile();
     let program = build(alloc, Limits::profile(), trial.source.as_bytes()).ok()?;
@@ -125,7 +131,8 @@ pub(crate) fn seen(alloc: Global, trial: &Trial, seed: u64) -> Option<(OrderedEn
         budget: BUDGET,
     };
     let launch = Launch::new(alloc, setup, group_items(&limits, &range), &code).ok()?;
-    explore(alloc, &launch, &buffers_of(alloc, trial)?, seed)
+    let buffers = buffers_of(alloc, trial)?;
+    explore(alloc, &launch, &buffers, seed, trial.shows)
 }
 
 /// What a fault shows, where it is the race of two stores behind the first int of a buffer.
@@ -177,17 +184,11 @@ fn leave(alloc: Global, ordered: OrderedEnd, left: &Left, ints: &[u8]) -> Option
     Some(bytes.as_slice() == ints && others.as_slice() == ints)
 }
 
-/// Whether a trial leaves these ints in `a` and `b`, one behind the other, when it is run in order, and its orders show
-/// this by a seed. None where it can't be launched.
-pub(crate) fn comes_to(
-    alloc: Global,
-    trial: &Trial,
-    left: &str,
-    seed: u64,
-    shows: Shows,
-) -> Option<bool> {
+/// Whether a trial leaves what it says when it is run in order, and its orders of a seed show what it says. None where
+/// it can't be launched.
+pub(crate) fn comes_out(alloc: Global, trial: &Trial, seed: u64) -> Option<bool> {
     let (ordered, explorer) = seen(alloc, trial, seed)?;
-    let left = ints(alloc, left)?;
+    let left = ints(alloc, trial.left)?;
     let is_left = leave(alloc, ordered, &explorer.left, left.as_slice())?;
-    Some(is_left && shown(&explorer) == Some(shows))
+    Some(is_left && shown(&explorer) == Some(trial.shows))
 }

@@ -1,7 +1,7 @@
 //! Small programs of atomic operations, right and with a mistake each that the run in order doesn't show. What must come
 //! of them follows from their text by hand.
 
-use crate::explored::{Shows, Trial, comes_to, seen};
+use crate::explored::{Shows, Trial, comes_out, seen};
 use clmodel::schedule::{EventRun, Schedule};
 
 /// The seed of the orders that find the mistakes.
@@ -18,15 +18,18 @@ fn a_lost_unlock(rt: HostRuntime) {
         items: (4, 2),
         a: "0",
         b: "0",
+        left: "04",
+        shows: Shows::Same,
     };
-    assert!(rt; comes_to(rt.alloc(), &right, "04", SEED, Shows::Same) == Some(true));
+    assert!(rt; comes_out(rt.alloc(), &right, SEED) == Some(true));
     let lost = Trial {
         source: "__kernel void k(__global int *a, __global int *b) { \
             if (atomic_cmpxchg(a, 0, 1) != 0) while (atomic_xchg(a, 2) != 0) ; \
             int n = atomic_add(b, 0); atomic_xchg(b, n + 1); atomic_cmpxchg(a, 1, 0); }",
+        shows: Shows::Waits,
         ..right
     };
-    assert!(rt; comes_to(rt.alloc(), &lost, "04", SEED, Shows::Waits) == Some(true));
+    assert!(rt; comes_out(rt.alloc(), &lost, SEED) == Some(true));
 }
 
 /// A queue of flags with data: an item puts its number, from 1 on, in the place of a ticket, and takes one from that of
@@ -42,17 +45,20 @@ fn a_flag_before_its_data(rt: HostRuntime) {
         items: (3, 1),
         a: "000",
         b: "000000",
+        left: "336101010",
+        shows: Shows::Same,
     };
-    assert!(rt; comes_to(rt.alloc(), &right, "336101010", SEED, Shows::Same) == Some(true));
+    assert!(rt; comes_out(rt.alloc(), &right, SEED) == Some(true));
     let early = Trial {
         source: "__kernel void k(__global int *a, __global int *b) { \
             int t = atomic_inc(&a[0]); \
             atomic_xchg(&b[2 * t], 1); atomic_xchg(&b[2 * t + 1], (int)get_global_id(0) + 1); \
             int h = atomic_inc(&a[1]); while (atomic_add(&b[2 * h], 0) == 0) ; \
             int v = atomic_xchg(&b[2 * h + 1], 0); atomic_add(&a[2], v); }",
+        shows: Shows::Apart(0, 8),
         ..right
     };
-    assert!(rt; comes_to(rt.alloc(), &early, "336101010", SEED, Shows::Apart(0, 8)) == Some(true));
+    assert!(rt; comes_out(rt.alloc(), &early, SEED) == Some(true));
 }
 
 /// The ints of `b` that aren't 0, put behind their count in `a`, each in the place of a ticket. Where the ticket is read
@@ -64,6 +70,8 @@ const TWICE: Trial = Trial {
     items: (6, 3),
     a: "0000",
     b: "404040",
+    left: "3444404040",
+    shows: Shows::Race,
 };
 
 /// Three of six ints aren't 0.
@@ -72,10 +80,11 @@ fn a_ticket_taken_twice(rt: HostRuntime) {
     let right = Trial {
         source: "__kernel void k(__global int *a, __global int *b) { \
             int i = get_global_id(0); if (b[i] != 0) a[1 + atomic_inc(a)] = b[i]; }",
+        shows: Shows::Same,
         ..TWICE
     };
-    assert!(rt; comes_to(rt.alloc(), &right, "3444404040", SEED, Shows::Same) == Some(true));
-    assert!(rt; comes_to(rt.alloc(), &TWICE, "3444404040", SEED, Shows::Race) == Some(true));
+    assert!(rt; comes_out(rt.alloc(), &right, SEED) == Some(true));
+    assert!(rt; comes_out(rt.alloc(), &TWICE, SEED) == Some(true));
 }
 
 /// Each of three items joins the sets of two numbers by hanging the higher root below the lower. The pairs join all, so
@@ -94,8 +103,10 @@ fn a_compare_exchange_without_its_loop(rt: HostRuntime) {
         items: (3, 3),
         a: "012",
         b: "021222",
+        left: "000021222",
+        shows: Shows::Same,
     };
-    assert!(rt; comes_to(rt.alloc(), &right, "000021222", SEED, Shows::Same) == Some(true));
+    assert!(rt; comes_out(rt.alloc(), &right, SEED) == Some(true));
     let lost = Trial {
         source: "int root(__global int *a, int x) { int p = atomic_add(&a[x], 0); \
             while (p != x) { x = p; p = atomic_add(&a[x], 0); } return x; } \
@@ -104,9 +115,10 @@ fn a_compare_exchange_without_its_loop(rt: HostRuntime) {
             if (x != y) atomic_cmpxchg(&a[max(x, y)], max(x, y), min(x, y)); \
             barrier(CLK_GLOBAL_MEM_FENCE); x = root(a, i); \
             barrier(CLK_GLOBAL_MEM_FENCE); atomic_xchg(&a[i], x); }",
+        shows: Shows::Apart(0, 4),
         ..right
     };
-    assert!(rt; comes_to(rt.alloc(), &lost, "000021222", SEED, Shows::Apart(0, 4)) == Some(true));
+    assert!(rt; comes_out(rt.alloc(), &lost, SEED) == Some(true));
 }
 
 /// Whether two schedules are one.
