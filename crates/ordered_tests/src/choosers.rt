@@ -76,7 +76,7 @@ fn by_priority(rt: HostRuntime) {
         assert!(rt; goes_on_long(&mut chooser, item as u32));
         ring[place] = item;
     }
-    assert!(rt; ring[0] + ring[1] + ring[2] == 3 && ring[0] != ring[1] && ring[1] != ring[2]);
+    assert!(rt; ring[0] != ring[1] && ring[1] != ring[2] && ring[2] != ring[0]);
     assert!(rt; ring[0] == ring[3] && ring[1] == ring[4] && ring[2] == ring[5]);
 }
 
@@ -88,6 +88,6 @@ fn a_change_of_priorities(rt: HostRuntime) {
     };
     let first = chooser.choose(&[0, 1]);
     assert!(rt; first < 2 && chooser.switches(first as u32));
-    assert!(rt; chooser.choose(&[0, 1]) + first == 1);
+    assert!(rt; chooser.choose(&[0, 1]) != first);
     assert!(rt; !chooser.switches(1));
 }

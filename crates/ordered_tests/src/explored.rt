@@ -9,6 +9,7 @@ use clmodel::access::{AccessKind, Clash};
 use clmodel::fault::Fault;
 use clmodel::setup::{Argument, Range};
 use clmodel::text::{Bytes, Name, Numbers};
+use cltypes::Checked;
 use explore_runs::{Explorer, Left};
 use host_commands::build::build;
 use host_commands::ranges::{group_items, is_bad_dimension, is_bad_group, is_too_many};
@@ -17,7 +18,7 @@ use limits::Limits;
 use lower::lower_kernel;
 use ordered_play::{OrderedEnd, run_ordered};
 use spaces::Buffers;
-use std::alloc::Global;
+use std::alloc::{AllocError, Global};
 
 /// How many orders are played at most, and how many ticks an item has.
 const ORDERS: u32 = 1000;
@@ -82,57 +83,74 @@ fn range_of(alloc: Global, items: (u64, u64)) -> Option<Range> {
     })
 }
 
-/// How the run in order of a launch ends, and what orders of a seed show, up to the first by which they show this. None
-/// where memory runs out.
+/// How the run in order of a launch ends, and what orders of a seed show, up to the first by which they show this. An
+/// error is out of memory.
 fn explore(
     alloc: Global,
     launch: &Launch<'_>,
     buffers: &Buffers,
     seed: u64,
     shows: Shows,
-) -> Option<(OrderedEnd, Explorer)>
+) -> Result<(OrderedEnd, Explorer), AllocError>
     requires { HasGroups (setup_of launch.now) }
 {
-    let ordered = run_ordered(alloc, launch, buffers).ok()?;
+    let ordered = run_ordered(alloc, launch, buffers)?;
     let mut explorer = Explorer::new(seed);
     for _ in 0..ORDERS {
         if shows != Shows::Same && shown(&explorer) == Some(shows) {
             break;
         }
-        explorer.play_next(alloc, launch, buffers).ok()?;
+        explorer.play_next(alloc, launch, buffers)?;
     }
-    Some((ordered, explorer))
+    Ok((ordered, explorer))
+}
+
+/// The same of a launch of the kernel `k` on these buffers. None where it can't be launched.
+fn launched(
+    alloc: Global,
+    program: &Checked,
+    range: &Range,
+    buffers: &Buffers,
+    names: (Name, Name),
+    seed: u64,
+    shows: Shows,
+) -> Option<(OrderedEnd, Explorer)> {
+    let found = program.kernel(b"k")?;
+    let limits = Limits::profile();
+    if is_bad_dimension(range) || is_bad_group(&limits, range) || is_too_many(&limits, range) {
+        return None;
+    }
+    let arguments = [
+        Some(Argument::Buffer(names.0)),
+        Some(Argument::Buffer(names.1)),
+    ];
+    let kernel = found.function.name;
+    if is_local_too_large(limits.local_bytes, &program.tree, kernel, &arguments) {
+        return None;
+    }
+    let code = lower_kernel(alloc, program, found).ok()?;
+    let setup = Setup {
+        tree: &program.tree,
+        kernel,
+        range,
+        arguments: &arguments,
+        budget: BUDGET,
+    };
+    let launch = Launch::new(alloc, setup, group_items(&limits, range), &code).ok()?;
+    explore(alloc, &launch, buffers, seed, shows).ok()
 }
 
 /// How a trial's run in order ends, and what its orders of a seed show, up to the first by which they show what it says.
 /// None where it can't be launched.
 pub(crate) fn seen(alloc: Global, trial: &Trial, seed: u64) -> Option<(OrderedEnd, Explorer)> {
-    let limits = Limits::profile();
     let program = build(alloc, Limits::profile(), trial.source.as_bytes()).ok()?;
     let range = range_of(alloc, trial.items)?;
-    if is_bad_dimension(&range) || is_bad_group(&limits, &range) || is_too_many(&limits, &range) {
-        return None;
-    }
-    let found = program.kernel(b"k")?;
-    let kernel = found.function.name;
-    let arguments = [
-        Some(Argument::Buffer(Name::copy_of(alloc, b"a").ok()?)),
-        Some(Argument::Buffer(Name::copy_of(alloc, b"b").ok()?)),
-    ];
-    if is_local_too_large(limits.local_bytes, &program.tree, kernel, &arguments) {
-        return None;
-    }
-    let code = lower_kernel(alloc, &program, found).ok()?;
-    let setup = Setup {
-        tree: &program.tree,
-        kernel,
-        range: &range,
-        arguments: &arguments,
-        budget: BUDGET,
-    };
-    let launch = Launch::new(alloc, setup, group_items(&limits, &range), &code).ok()?;
     let buffers = buffers_of(alloc, trial)?;
-    explore(alloc, &launch, &buffers, seed, trial.shows)
+    let names = (
+        Name::copy_of(alloc, b"a").ok()?,
+        Name::copy_of(alloc, b"b").ok()?,
+    );
+    launched(alloc, &program, &range, &buffers, names, seed, trial.shows)
 }
 
 /// What a fault shows, where it is the race of two stores behind the first int of a buffer.
