@@ -1,7 +1,7 @@
 """Random kernels on floating-point numbers on Clsim's driver and on pocl: they have to leave the same bytes, and
 results of functions within both their bounds.
 
-    front_floats.py [--seed N] [--count N] [--together N] [--keep FOLDER] [--seconds N]
+    front_floats.py [--seed N] [--count N] [--first N..] [--together N] [--keep FOLDER] [--seconds N]
 
 As front_fuzz.py; the last line is `N the same, M refused, K differ`.
 """

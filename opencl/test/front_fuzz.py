@@ -1,11 +1,13 @@
 """Random kernels of all constructs on Clsim's driver and on pocl: they have to leave the same bytes.
 
-    front_fuzz.py [--seed N] [--count N] [--together N] [--keep FOLDER] [--seconds N]
+    front_fuzz.py [--seed N] [--count N] [--first N..] [--together N] [--keep FOLDER] [--seconds N]
 
-Both are found by the ICD loader (OCL_ICD_VENDORS names the folder of their vendor files). So many kernels are one
-program, since a program takes more of a compiler's time than a kernel: where one is refused, each is tried alone. Each
-kernel that differs is told, and kept in the folder. A kernel that the driver refuses is counted by its reason. The last
-line is `N the same, M refused, K differ`; the status is 0 where none differs and no more than one of ten is refused.
+Both are found by the ICD loader (OCL_ICD_VENDORS names the folder of their vendor files). The kernels are those of the
+seeds N and so on, behind those of --first. So many kernels are one program, since a program takes more of a compiler's
+time than a kernel: where one is refused, each is tried alone. Each kernel that differs is told, and kept in the folder.
+A kernel that the driver refuses is counted by its reason. One that differs from what pocl makes of it without
+optimization, and not from what it makes with it, is told and is none that differs. The last line is `N the same, M
+refused, K differ`; the status is 0 where none differs and no more than one of ten is refused.
 """
 import argparse
 import collections
@@ -47,9 +49,9 @@ class Device:
         cl.enqueue_copy(self.queue, back, buffer)
         return back
 
-    def built(self, source):
+    def built(self, source, options=("-cl-opt-disable",)):
         try:
-            return cl.Program(self.context, source).build(options=["-cl-opt-disable"])
+            return cl.Program(self.context, source).build(options=list(options))
         except cl.RuntimeError as error:
             raise Refused(str(error)) from error
 
@@ -108,6 +110,21 @@ def compared(kernels, n):
     return ("same", "") if found == "same" else ("differ", found)
 
 
+def compared_twice(kind, devices, kernels, n):
+    """A kernel that differs is built alone once more, by pocl with optimization: where it is the same then, it is pocl
+    that differs from itself."""
+    what, words = compared(kernels, n)
+    if what == "same":
+        return what, words
+    seed = kernels.seeds[n]
+    try:
+        source = kind.program([seed])
+        alone = kind(devices, [devices[0].built(source), devices[1].built(source, ())], [seed])
+    except (Refused, cl.Error):
+        return what, words
+    return ("optimized", words) if compared(alone, 0)[0] == "same" else (what, words)
+
+
 def judged(kind, devices, seeds):
     """What comes of each seed: the seed, its class, and words."""
     try:
@@ -118,13 +135,14 @@ def judged(kind, devices, seeds):
             return [found for seed in seeds for found in judged(kind, devices, [seed])]
         is_refused = isinstance(error, Refused)
         return [(seeds[0], *(("refused", reason(str(error))) if is_refused else ("differ", str(error)[:500])))]
-    return [(seed, *compared(kernels, n)) for n, seed in enumerate(seeds)]
+    return [(seed, *compared_twice(kind, devices, kernels, n)) for n, seed in enumerate(seeds)]
 
 
 def main(kind):
     parser = argparse.ArgumentParser()
     parser.add_argument("--seed", type=int, default=1)
     parser.add_argument("--count", type=int, default=200)
+    parser.add_argument("--first", type=int, nargs="*", default=[])
     parser.add_argument("--together", type=int, default=10)
     parser.add_argument("--seconds", type=float, default=1e9)
     parser.add_argument("--keep")
@@ -132,22 +150,24 @@ def main(kind):
     warnings.simplefilter("ignore")
     devices = [Device("Clsim"), Device("Portable")]
     counts, reasons = collections.Counter(), collections.Counter()
-    begin, end = time.monotonic(), given.seed + given.count
-    for first in range(given.seed, end, given.together):
+    begin, tried = time.monotonic(), [*given.first, *range(given.seed, given.seed + given.count)]
+    for first in range(0, len(tried), given.together):
         if time.monotonic() - begin > given.seconds:
             break
-        for seed, what, words in judged(kind, devices, list(range(first, min(end, first + given.together)))):
+        for seed, what, words in judged(kind, devices, tried[first:first + given.together]):
             counts[what] += 1
             if what == "refused":
                 reasons[words] += 1
-            if what == "differ":
+            if what in ("differ", "optimized"):
                 print(f"seed {seed}: {words}", flush=True)
             if what != "same" and given.keep:
                 with open(os.path.join(given.keep, f"{what}_{seed}.cl"), "w", encoding="ascii") as file:
                     file.write(kind.program([seed]))
     for words, count in reasons.most_common():
         print(f"{count} refused: {words}")
-    print(f"{counts['same']} the same, {counts['refused']} refused, {counts['differ']} differ")
+    if counts["optimized"]:
+        print(f"{counts['optimized']} the same only where pocl optimizes them")
+    print(f"{counts['same'] + counts['optimized']} the same, {counts['refused']} refused, {counts['differ']} differ")
     return 1 if counts["differ"] or counts["refused"] * 10 > sum(counts.values()) else 0
 
 

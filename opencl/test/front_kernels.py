@@ -156,11 +156,16 @@ class Kernel:
         a, b, c = (self.number(t, depth - 1) for _ in range(3))
         narrow = r.choice([k for k in TYPES if WIDTH[k] < 8])
         wide = {"char": "short", "uchar": "ushort", "short": "int", "ushort": "uint", "int": "long", "uint": "ulong"}
+        # (pocl 3.1 has |x| and sums of mad_sat for ints and longs as if none overflowed, so that |x| of the least
+        # number, which 6.12.3 gives, is any number there: no argument of these is such a one)
+        is_taken = t in ("int", "long")
+        odd = [f"({t})({x} | 1)" if is_taken else x for x in (a, b)]
+        high = f"({t})({a} & ~{'0xffff' if t == 'int' else '0xffffffffl'})" if is_taken else a
         return r.choice([
             lambda: f"{r.choice(OF_TWO)}({a}, {b})",
-            lambda: f"clamp({a}, ({t})3, ({t})100)", lambda: f"mad_sat({a}, {b}, {c})",
+            lambda: f"clamp({a}, ({t})3, ({t})100)", lambda: f"mad_sat({high}, {b}, {c})",
             lambda: f"bitselect({a}, {b}, {c})", lambda: f"({t}){r.choice(['clz', 'popcount'])}({a})",
-            lambda: f"({t})abs({a})", lambda: f"({t})abs_diff({a}, {b})",
+            lambda: f"({t})abs({odd[0]})", lambda: f"({t})abs_diff({odd[0]}, {odd[1]})",
             lambda: f"select({a}, {b}, {c})",
             lambda: f"({t})upsample({self.number(narrow, 1)}, {self.number(as_unsigned(narrow), 1)})"
             if narrow in wide else a,
