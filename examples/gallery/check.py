@@ -236,13 +236,52 @@ def compaction_by_tickets(script):
     return {"kept": packed(kept).ljust(68, b"\xff"), "count": packed([len(kept)])}
 
 
-def union_find(script):
-    """Sets that are merged, edge by edge."""
-    sets = {vertex: {vertex} for vertex in range(16)}
+def compaction_by_tickets_that_are_read(script):
+    """One after another the work-items read different places."""
+    return compaction_by_tickets(script)
+
+
+def lowest_of(script, vertices):
+    """The lowest vertex that hangs together with each: sets that are merged, edge by edge."""
+    sets = {vertex: {vertex} for vertex in range(vertices)}
     for one, other in zip(script.ints("one"), script.ints("other")):
         merged = sets[one] | sets[other]
         sets |= {vertex: merged for vertex in merged}
-    return {"lowest": packed(min(sets[vertex]) for vertex in range(16))}
+    return packed(min(sets[vertex]) for vertex in range(vertices))
+
+
+def union_find(script):
+    return {"lowest": lowest_of(script, 16)}
+
+
+def components(script):
+    return {"parent": lowest_of(script, 8)}
+
+
+def components_without_the_loop(script):
+    """One after another no edge is lost."""
+    return components(script)
+
+
+def bids_under_a_lock(script):
+    bids = script.ints("bids")
+    return {"best": packed([max(bids)]), "bidder": packed([bids.index(max(bids))])}
+
+
+def bids_under_a_lock_that_stays(script):
+    """One after another each bid is the highest."""
+    return bids_under_a_lock(script)
+
+
+def queue_of_numbers(script):
+    """The queue is empty at its end."""
+    shares = [2520 // number for number in script.ints("number")]
+    return {"sum": packed([sum(shares)]), "slot": bytes(16), "full": bytes(16)}
+
+
+def queue_of_numbers_with_an_early_flag(script):
+    """One after another each number is there."""
+    return queue_of_numbers(script)
 
 
 def union_find_with_a_plain_load(_):

@@ -1,7 +1,8 @@
 -- What the proofs of the command line cite.
 use Rattle.std.proofs.Common.{◌≡◌, ◌≤◌, ◌<◌, ◌+◌, ◌^◌, ◌∙◌, ◌⊎◌, ◌↔◌, ◌==◌, IsSome, subst, sym, ap, refl, inl, inr, arith, append_assoc, false, true, Box, ℕ, Bool, List, [], ◌∷◌, ◌++◌, Option, Some, None, Result, Ok, Err, option_map, codes, slice_index}
 use Rattle.std.proofs.lemmas.Bool.{false≢true}
-use Rattle.std.specs.Prelude.{IfOk, ◌||◌}
+use Rattle.std.specs.Prelude.{IfOk, ◌||◌, is_some}
+use Rattle.std.specs.Option.{unwrap_or}
 use Rattle.std.specs.Str.{bytes_eq}
 use Rattle.std.specs.Str.Parse.{ParsesUnsigned}
 use Rattle.std.specs.Box.{box_value}
@@ -19,7 +20,7 @@ use Rattle.cli.specs.declared.command_line.Invocation.{Invocation}
 use Rattle.cli.specs.declared.command_line.Invocation.TheVariants as invocation
 use Rattle.limits.specs.declared.Configuration.{Configuration}
 use Rattle.limits.specs.declared.Limits.{Limits}
-use Rattle.cli.specs.CommandLine.{AreForms, IsArgument, IsForm, all_forms, alone, flag, form_of, needed, number, option, program, program_of, some_schedule, AreLimits, GivesBudget, GivesConfiguration, GivesFormat, GivesLimits, GivesSteps, GivesWorkers, IsCount, IsFormat, IsNumber, AsksBy, IsRefused, Reads, Holds}
+use Rattle.cli.specs.CommandLine.{AreForms, IsArgument, IsForm, all_forms, alone, flag, form_of, needed, number, option, program, program_of, some_schedule, wide_number, AreLimits, GivesBudget, GivesConfiguration, GivesFormat, GivesLaunch, GivesLimits, GivesOrders, GivesSeconds, GivesSeed, GivesSteps, GivesWiden, GivesWorkers, IsCount, IsFormat, IsNumber, IsSeed, AsksBy, IsRefused, Reads, Holds, says_yes}
 
 -- what holds of the value that was made
 pub of_made : {T E : Type 0} (P : T → Type 0) (made : Result T E) (x : T) → made ≡ Ok x → IfOk made P → P x
@@ -61,12 +62,12 @@ are_program forms are = are.are
 
 -- the matches of the program are known
 pub simple_program : is_simple program ≡ true
-unfolding program program_of form_of needed option number some_schedule flag
+unfolding program program_of form_of needed option number wide_number some_schedule flag
 simple_program = refl
 
 -- so are the faults of its words
 pub free_program : is_simple_and_free program ≡ true
-unfolding program program_of form_of needed option number some_schedule flag
+unfolding program program_of form_of needed option number wide_number some_schedule flag
 free_program = refl
 
 -- no option was read where it isn't there
@@ -127,6 +128,49 @@ not_counted most None nothing (Some n) is = cc
 not_counted most (Some text) nothing None is = is
 not_counted most (Some text) nothing (Some n) is = nothing n is
 
+-- the number of an option with a default is its count, or the default
+pub number_or : (absent most : ℕ) (o : Option Text) (count : Option ℕ) → IsCount most o count → IsNumber absent most o (unwrap_or count absent)
+number_or absent most None None is = refl
+number_or absent most None (Some n) is = cc
+number_or absent most (Some text) None is = absurd is
+number_or absent most (Some text) (Some n) is = is
+
+-- where it has no count, it has no number either
+pub no_number : (absent most : ℕ) (o : Option Text) → ((count : Option ℕ) → ¬ IsCount most o count) → (n : ℕ) → ¬ IsNumber absent most o n
+no_number absent most None nothing n is = nothing None refl
+no_number absent most (Some text) nothing n is = nothing (Some n) is
+
+-- ---- seeds
+
+-- the seed where the option isn't there
+pub no_seed : {E : Type 0} (G : List ℕ → Result ℕ E → Type 0) (o : Option Text) (read : Option ℕ) → read ≡ None
+    → ((t : Text) → o ≡ Some t → TriesOne G t (Ok read)) → IsSeed o 1
+no_seed G None read is reads = refl
+no_seed G (Some t) None is reads = absurd (reads t refl)
+no_seed G (Some t) (Some n) is reads = cc
+
+-- the number that was read is the seed
+pub the_seed : {E : Type 0} (G : List ℕ → Result ℕ E → Type 0) (o : Option Text) (n : ℕ) (read : Option ℕ) → read ≡ Some n
+    → (o ≡ None → ◌≡◌ {A = Result (Option ℕ) E} (Ok read) (Ok None)) → ((t : Text) → o ≡ Some t → TriesOne G t (Ok read))
+    → ((t : Text) (r : Result ℕ E) → G t r → ParsesUnsigned 64 10 t r) → IsSeed o n
+the_seed G o n None is none reads only = cc
+the_seed G None n (Some k) is none reads only =
+    let bad = none refl in
+    cc
+the_seed G (Some t) n (Some k) is none reads only =
+    let same : n ≡ k = cc in
+    let parsed = only t (Ok k) (reads t refl) in
+    (parsed.0.0, same ∙ parsed.1, subst (λ (x : ℕ). x < 2 ^ 64) (sym (same ∙ parsed.1)) parsed.0.1)
+
+-- a text that isn't read as a number is no seed
+pub not_a_seed : {E : Type 0} (G : List ℕ → Result ℕ E → Type 0) (o : Option Text) (e : E)
+    → (o ≡ None → ◌≡◌ {A = Result (Option ℕ) E} (Err e) (Ok None)) → ((t : Text) → o ≡ Some t → TriesOne G t (Err e))
+    → ((t : Text) (r : Result ℕ E) → G t r → ParsesUnsigned 64 10 t r) → (n : ℕ) → ¬ IsSeed o n
+not_a_seed G None e none reads only n is =
+    let bad = none refl in
+    cc
+not_a_seed G (Some t) e none reads only n is = only t (Err e) (reads t refl) (is.0, subst (λ (x : ℕ). x < 2 ^ 64) is.1 is.2)
+
 -- the ticks that limits allow have 32 bits
 pub few_ticks : (ticks : ℕ) → ticks ≤ 1000000000 → ticks < 2 ^ 32
 few_ticks ticks few = omega (arith, few)
@@ -162,7 +206,7 @@ no_limits name profile large limits (inr h) = false≢true (sym (subst (λ (f : 
 
 -- a number by which the names of the forms are told apart
 abbrev key : Text → ℕ
-key name = slice_index name 0 + slice_index name 1
+key name = slice_index name 0 + slice_index name 1 + slice_index name 4
 
 differ : {P : Type 0} {a b : Text} → a ≡ b → (key a == key b) ≡ false → P
 differ {P} {a} {b} same apart =
@@ -201,6 +245,7 @@ run_parts rows (invocation.Explain script schedule wish) is = differ is.0 refl
 run_parts rows (invocation.Version json) is = differ is.0 refl
 run_parts rows (invocation.Widen script json limits) is = differ is.0 refl
 run_parts rows (invocation.Plain script) is = differ is.0 refl
+run_parts rows (invocation.Explore script wish) is = differ is.0 refl
 
 pub check_parts : (rows : List Row) (asked : Invocation) → AsksBy (codes "check") rows asked
     → (path : Text) × (limits : Limits) × (first_of (codes "FILE") rows ≡ Some path) × GivesLimits rows limits
@@ -213,6 +258,7 @@ check_parts rows (invocation.Explain script schedule wish) is = differ is.0 refl
 check_parts rows (invocation.Version json) is = differ is.0 refl
 check_parts rows (invocation.Widen script json limits) is = differ is.0 refl
 check_parts rows (invocation.Plain script) is = differ is.0 refl
+check_parts rows (invocation.Explore script wish) is = differ is.0 refl
 
 pub dump_parts : (rows : List Row) (asked : Invocation) → AsksBy (codes "dump") rows asked
     → (path name : Text) × (limits : Limits) × (first_of (codes "FILE") rows ≡ Some path) × (first_of (codes "KERNEL") rows ≡ Some name) × GivesLimits rows limits
@@ -225,6 +271,7 @@ dump_parts rows (invocation.Explain script schedule wish) is = differ is.0 refl
 dump_parts rows (invocation.Version json) is = differ is.0 refl
 dump_parts rows (invocation.Widen script json limits) is = differ is.0 refl
 dump_parts rows (invocation.Plain script) is = differ is.0 refl
+dump_parts rows (invocation.Explore script wish) is = differ is.0 refl
 
 pub replay_parts : (rows : List Row) (asked : Invocation) → AsksBy (codes "replay") rows asked
     → (script schedule : Text) × (limits : Limits) × (first_of (codes "SCRIPT") rows ≡ Some script) × (first_of (codes "SCHEDULE") rows ≡ Some schedule) × GivesLimits rows limits
@@ -237,6 +284,7 @@ replay_parts rows (invocation.Explain script schedule wish) is = differ is.0 ref
 replay_parts rows (invocation.Version json) is = differ is.0 refl
 replay_parts rows (invocation.Widen script json limits) is = differ is.0 refl
 replay_parts rows (invocation.Plain script) is = differ is.0 refl
+replay_parts rows (invocation.Explore script wish) is = differ is.0 refl
 
 pub serve_parts : (rows : List Row) (asked : Invocation) → AsksBy (codes "serve") rows asked
     → (w : ℕ) × (configuration : Configuration) × GivesWorkers rows w × GivesConfiguration rows configuration
@@ -249,19 +297,21 @@ serve_parts rows (invocation.Explain script schedule wish) is = differ is.0 refl
 serve_parts rows (invocation.Version json) is = differ is.0 refl
 serve_parts rows (invocation.Widen script json limits) is = differ is.0 refl
 serve_parts rows (invocation.Plain script) is = differ is.0 refl
+serve_parts rows (invocation.Explore script wish) is = differ is.0 refl
 
 pub explain_parts : (rows : List Row) (asked : Invocation) → AsksBy (codes "explain") rows asked
     → (script : Text) × (configuration : Configuration) × (json : Bool) × (first_of (codes "SCRIPT") rows ≡ Some script) × GivesConfiguration rows configuration × GivesFormat rows json
-    × (count : Option ℕ) × GivesSteps rows count
+    × (count : Option ℕ) × GivesSteps rows count × (widen : Bool) × GivesWiden rows widen
 explain_parts rows (invocation.Run path options numbered) is = differ is.0 refl
 explain_parts rows (invocation.Check path limits) is = differ is.0 refl
 explain_parts rows (invocation.Dump path name limits) is = differ is.0 refl
 explain_parts rows (invocation.Replay script schedule configuration) is = differ is.0 refl
 explain_parts rows (invocation.Serve options) is = differ is.0 refl
-explain_parts rows (invocation.Explain script schedule wish) is = (script.now, wish.configuration, wish.json, is.1.0, is.1.2, is.1.3, wish.steps, is.1.6)
+explain_parts rows (invocation.Explain script schedule wish) is = (script.now, wish.configuration, wish.json, is.1.0, is.1.2, is.1.3, wish.steps, is.1.6, wish.widen, is.1.7)
 explain_parts rows (invocation.Version json) is = differ is.0 refl
 explain_parts rows (invocation.Widen script json limits) is = differ is.0 refl
 explain_parts rows (invocation.Plain script) is = differ is.0 refl
+explain_parts rows (invocation.Explore script wish) is = differ is.0 refl
 
 pub version_parts : (rows : List Row) (asked : Invocation) → AsksBy (codes "version") rows asked
     → (json : Bool) × GivesFormat rows json
@@ -274,6 +324,7 @@ version_parts rows (invocation.Explain script schedule wish) is = differ is.0 re
 version_parts rows (invocation.Version json) is = (json, is.1)
 version_parts rows (invocation.Widen script json limits) is = differ is.0 refl
 version_parts rows (invocation.Plain script) is = differ is.0 refl
+version_parts rows (invocation.Explore script wish) is = differ is.0 refl
 
 pub widen_parts : (rows : List Row) (asked : Invocation) → AsksBy (codes "widen") rows asked
     → (script : Text) × (json : Bool) × (limits : Limits) × (first_of (codes "SCRIPT") rows ≡ Some script) × GivesFormat rows json × GivesLimits rows limits
@@ -286,6 +337,7 @@ widen_parts rows (invocation.Explain script schedule wish) is = differ is.0 refl
 widen_parts rows (invocation.Version json) is = differ is.0 refl
 widen_parts rows (invocation.Widen script json limits) is = (script.now, json, limits, is.1.0, is.1.1, is.1.2)
 widen_parts rows (invocation.Plain script) is = differ is.0 refl
+widen_parts rows (invocation.Explore script wish) is = differ is.0 refl
 
 pub plain_parts : (rows : List Row) (asked : Invocation) → AsksBy (codes "plain") rows asked
     → (script : Text) × (first_of (codes "SCRIPT") rows ≡ Some script)
@@ -298,9 +350,68 @@ plain_parts rows (invocation.Explain script schedule wish) is = differ is.0 refl
 plain_parts rows (invocation.Version json) is = differ is.0 refl
 plain_parts rows (invocation.Widen script json limits) is = differ is.0 refl
 plain_parts rows (invocation.Plain script) is = (script.now, is.1)
+plain_parts rows (invocation.Explore script wish) is = differ is.0 refl
+
+pub explore_parts : (rows : List Row) (asked : Invocation) → AsksBy (codes "explore") rows asked
+    → (script : Text) × (launch : Option ℕ) × (orders : ℕ) × (seconds : Option ℕ) × (seed : ℕ) × (configuration : Configuration)
+    × (first_of (codes "SCRIPT") rows ≡ Some script) × GivesLaunch rows launch × GivesOrders rows orders × GivesSeconds rows seconds × GivesSeed rows seed
+    × GivesConfiguration rows configuration
+explore_parts rows (invocation.Run path options numbered) is = differ is.0 refl
+explore_parts rows (invocation.Check path limits) is = differ is.0 refl
+explore_parts rows (invocation.Dump path name limits) is = differ is.0 refl
+explore_parts rows (invocation.Replay script schedule configuration) is = differ is.0 refl
+explore_parts rows (invocation.Serve options) is = differ is.0 refl
+explore_parts rows (invocation.Explain script schedule wish) is = differ is.0 refl
+explore_parts rows (invocation.Version json) is = differ is.0 refl
+explore_parts rows (invocation.Widen script json limits) is = differ is.0 refl
+explore_parts rows (invocation.Plain script) is = differ is.0 refl
+explore_parts rows (invocation.Explore script wish) is =
+    (script.now, wish.launch, wish.orders, wish.seconds, wish.seed, wish.configuration, is.1.0, is.1.1, is.1.2, is.1.3, is.1.4, is.1.5)
 
 pub not_there : {A : Type 0} (o : Option A) (x : A) → o ≡ None → ¬ (o ≡ Some x)
 not_there o x none some = let bad : None ≡ Some x = sym none ∙ some in cc
+
+-- what was found is made of something, and nothing of nothing
+pub of_some : {A B : Type 0} (f : A → B) (o : Option A) → is_some o ≡ true → ¬ (option_map f o ≡ None)
+of_some f None some none = false≢true some
+of_some f (Some a) some none = cc
+
+pub of_none : {A B : Type 0} (f : A → B) (o : Option A) → is_some o ≡ false → option_map f o ≡ None
+of_none f None none = refl
+of_none f (Some a) none = absurd (false≢true (sym none))
+
+-- where something was read, there is something to read, and else there isn't
+pub some_read : {A : Type 0} (P : A → Type 0) (read : Option A) → Reads P read → is_some read ≡ true → ¬ ((x : A) → ¬ P x)
+some_read P None reads found none = false≢true found
+some_read P (Some x) reads found none = none x reads
+
+pub none_read : {A : Type 0} (P : A → Type 0) (read : Option A) → Reads P read → is_some read ≡ false → (x : A) → ¬ P x
+none_read P None reads missing x = reads x
+none_read P (Some y) reads missing x = λ is. false≢true (sym missing)
+
+-- ---- widening
+
+-- without the flag nothing is asked of the other options
+pub not_widened : (rows : List Row) → says_yes (first_of (codes "widen") rows) ≡ false → GivesWiden rows false
+not_widened rows off = record { there = sym off; text = λ bad. absurd (false≢true bad); alone = λ bad. absurd (false≢true bad) }
+
+-- with it the format is text, and there is no schedule file
+pub widened : (rows : List Row) → says_yes (first_of (codes "widen") rows) ≡ true → GivesFormat rows false → first_of (codes "SCHEDULE") rows ≡ None → GivesWiden rows true
+widened rows on format single = record { there = sym on; text = λ _. format; alone = λ _. single }
+
+pub not_with_schedule : (rows : List Row) → says_yes (first_of (codes "widen") rows) ≡ true → ¬ (first_of (codes "SCHEDULE") rows ≡ None)
+    → (widen : Bool) → ¬ GivesWiden rows widen
+not_with_schedule rows on named widen is = named (is.alone (is.there ∙ on))
+
+pub not_with_format : (rows : List Row) → says_yes (first_of (codes "widen") rows) ≡ true → ¬ GivesFormat rows false → (widen : Bool) → ¬ GivesWiden rows widen
+not_with_format rows on other widen is = other (is.text (is.there ∙ on))
+
+-- what is JSON isn't text
+pub not_text : (format : Option Text) → IsFormat format true → ¬ IsFormat format false
+not_text None json text = false≢true (sym json)
+not_text (Some name) (inl json) text = false≢true (sym json.1)
+not_text (Some name) (inr json) (inl text) = differ (sym text.0 ∙ json.0) refl
+not_text (Some name) (inr json) (inr text) = false≢true text.1
 
 -- matches in which no form of this name was found
 pub not_found : {A : Type 0} (o : Option A) (name : Text) (m : ArgMatches) → ((a : A) → o ≡ Some a → ⊥) → (IsSome o ↔ (subcommand_name_of m ≡ Some name))
@@ -312,6 +423,7 @@ not_found (Some a) name m missing found named = missing a refl
 pub holds_nothing : (m : ArgMatches) → ¬ (subcommand_name_of m ≡ Some (codes "run")) → ¬ (subcommand_name_of m ≡ Some (codes "check")) → ¬ (subcommand_name_of m ≡ Some (codes "dump"))
     → ¬ (subcommand_name_of m ≡ Some (codes "replay")) → ¬ (subcommand_name_of m ≡ Some (codes "serve")) → ¬ (subcommand_name_of m ≡ Some (codes "explain"))
     → ¬ (subcommand_name_of m ≡ Some (codes "version")) → ¬ (subcommand_name_of m ≡ Some (codes "widen")) → ¬ (subcommand_name_of m ≡ Some (codes "plain"))
+    → ¬ (subcommand_name_of m ≡ Some (codes "explore"))
     → (asked : Invocation) → ¬ Holds (subcommand_rows_of m) asked
 holds_nothing m = go (out-ArgMatches m).subcommand
   where
@@ -320,17 +432,18 @@ holds_nothing m = go (out-ArgMatches m).subcommand
 
     go : {Z : Type 0} (o : Option (Box SubCommand Z)) → ¬ (named o ≡ Some (codes "run")) → ¬ (named o ≡ Some (codes "check")) → ¬ (named o ≡ Some (codes "dump"))
         → ¬ (named o ≡ Some (codes "replay")) → ¬ (named o ≡ Some (codes "serve")) → ¬ (named o ≡ Some (codes "explain")) → ¬ (named o ≡ Some (codes "version"))
-        → ¬ (named o ≡ Some (codes "widen")) → ¬ (named o ≡ Some (codes "plain")) → (asked : Invocation) → ¬ Holds (subcommand_rows o) asked
-    go None run check dump replay serve explain version widen plain asked h = h
-    go (Some b) run check dump replay serve explain version widen plain (invocation.Run path options numbered) h = run (ap Some h.0)
-    go (Some b) run check dump replay serve explain version widen plain (invocation.Check path limits) h = check (ap Some h.0)
-    go (Some b) run check dump replay serve explain version widen plain (invocation.Dump path name limits) h = dump (ap Some h.0)
-    go (Some b) run check dump replay serve explain version widen plain (invocation.Replay script schedule configuration) h = replay (ap Some h.0)
-    go (Some b) run check dump replay serve explain version widen plain (invocation.Serve options) h = serve (ap Some h.0)
-    go (Some b) run check dump replay serve explain version widen plain (invocation.Explain script schedule wish) h = explain (ap Some h.0)
-    go (Some b) run check dump replay serve explain version widen plain (invocation.Version json) h = version (ap Some h.0)
-    go (Some b) run check dump replay serve explain version widen plain (invocation.Widen script json limits) h = widen (ap Some h.0)
-    go (Some b) run check dump replay serve explain version widen plain (invocation.Plain script) h = plain (ap Some h.0)
+        → ¬ (named o ≡ Some (codes "widen")) → ¬ (named o ≡ Some (codes "plain")) → ¬ (named o ≡ Some (codes "explore")) → (asked : Invocation) → ¬ Holds (subcommand_rows o) asked
+    go None run check dump replay serve explain version widen plain explore asked h = h
+    go (Some b) run check dump replay serve explain version widen plain explore (invocation.Run path options numbered) h = run (ap Some h.0)
+    go (Some b) run check dump replay serve explain version widen plain explore (invocation.Check path limits) h = check (ap Some h.0)
+    go (Some b) run check dump replay serve explain version widen plain explore (invocation.Dump path name limits) h = dump (ap Some h.0)
+    go (Some b) run check dump replay serve explain version widen plain explore (invocation.Replay script schedule configuration) h = replay (ap Some h.0)
+    go (Some b) run check dump replay serve explain version widen plain explore (invocation.Serve options) h = serve (ap Some h.0)
+    go (Some b) run check dump replay serve explain version widen plain explore (invocation.Explain script schedule wish) h = explain (ap Some h.0)
+    go (Some b) run check dump replay serve explain version widen plain explore (invocation.Version json) h = version (ap Some h.0)
+    go (Some b) run check dump replay serve explain version widen plain explore (invocation.Widen script json limits) h = widen (ap Some h.0)
+    go (Some b) run check dump replay serve explain version widen plain explore (invocation.Plain script) h = plain (ap Some h.0)
+    go (Some b) run check dump replay serve explain version widen plain explore (invocation.Explore script wish) h = explore (ap Some h.0)
 
 -- ---- refusals
 

@@ -1,6 +1,7 @@
 -- The forms of the command line, and what a command line asks for.
-use Rattle.std.specs.Prelude.{◌≡◌, ◌⊎◌, ◌≤◌, ℕ, Bool, true, false, Option, Some, None, option_map, List, [], ◌∷◌, codes}
+use Rattle.std.specs.Prelude.{◌≡◌, ◌⊎◌, ◌≤◌, ◌<◌, ◌^◌, ℕ, Bool, true, false, Option, Some, None, option_map, List, [], ◌∷◌, codes}
 use Rattle.std.specs.Option.{MatchOption}
+use Rattle.std.specs.Str.{bytes_eq}
 use Rattle.std.specs.Str.Parse.{IsNumeral, digits_value, without_leading_plus}
 use Rattle.clap.specs.Kinds.{or_else}
 use Rattle.clap.specs.Simple.{new_shape, on_top}
@@ -47,6 +48,10 @@ option name = record (new_rule name) { long = Some name; value_names = 1 }
 -- an option whose value is a number from 1 to the most
 unfoldable pub number : Text → ℕ → Rule
 number name most = record (new_rule name) { long = Some name; value_names = 1; parser = Some (parser.Unsigned 1 most) }
+
+-- an option whose value is a number of 64 bits
+unfoldable pub wide_number : Text → Rule
+wide_number name = record (new_rule name) { long = Some name; value_names = 1; parser = Some (parser.Unsigned 0 18446744073709551615) }
 
 -- `FILE`
 abbrev pub file : Rule
@@ -100,6 +105,26 @@ all = flag (codes "all")
 abbrev pub steps : Rule
 steps = number (codes "steps") 1000000
 
+-- `--widen`
+abbrev pub widen : Rule
+widen = flag (codes "widen")
+
+-- `--launch N`, a number from 1 to 1,000,000
+abbrev pub launch : Rule
+launch = number (codes "launch") 1000000
+
+-- `--orders N`, a number from 1 to 1,000,000
+abbrev pub orders : Rule
+orders = number (codes "orders") 1000000
+
+-- `--seconds N`, a number from 1 to 86,400
+abbrev pub seconds : Rule
+seconds = number (codes "seconds") 86400
+
+-- `--seed N`, a number of 64 bits
+abbrev pub seed : Rule
+seed = wide_number (codes "seed")
+
 -- what a device is made with: `--budget N` and `--limits LIMITS`
 abbrev pub configured : List Rule
 configured = budget ∷ limits ∷ []
@@ -136,9 +161,10 @@ serve_arguments = working
 abbrev pub explained : List Rule
 explained = script ∷ some_schedule ∷ format ∷ []
 
--- `explain SCRIPT [SCHEDULE] [--format text|json] [--budget N] [--limits LIMITS] [--as-given] [--all] [--steps N]`
+-- `explain SCRIPT [SCHEDULE] [--format text|json] [--budget N] [--limits LIMITS] [--as-given] [--all] [--steps N]
+-- [--widen]`
 abbrev pub explain_arguments : List Rule
-explain_arguments = script ∷ some_schedule ∷ format ∷ budget ∷ limits ∷ as_given ∷ all ∷ steps ∷ []
+explain_arguments = script ∷ some_schedule ∷ format ∷ budget ∷ limits ∷ as_given ∷ all ∷ steps ∷ widen ∷ []
 
 -- `version [--format text|json]`
 abbrev pub version_arguments : List Rule
@@ -151,6 +177,14 @@ widen_arguments = script ∷ format ∷ limits ∷ []
 -- `plain SCRIPT`
 abbrev pub plain_arguments : List Rule
 plain_arguments = script ∷ []
+
+-- which orders `explore` tries: `SCRIPT [--launch N] [--orders N] [--seconds N] [--seed N]`
+abbrev pub searched : List Rule
+searched = script ∷ launch ∷ orders ∷ seconds ∷ seed ∷ []
+
+-- `explore SCRIPT [--launch N] [--orders N] [--seconds N] [--seed N] [--budget N] [--limits LIMITS]`
+abbrev pub explore_arguments : List Rule
+explore_arguments = script ∷ launch ∷ orders ∷ seconds ∷ seed ∷ budget ∷ limits ∷ []
 
 -- the program without a form; one must be named, but for `--version`
 abbrev pub no_form : App
@@ -169,7 +203,8 @@ pub record AreForms (forms : List Shape) (command : Command) : Type 0 where
 abbrev pub all_forms : List Shape
 all_forms = form_of (codes "run") run_arguments ∷ form_of (codes "check") check_arguments ∷ form_of (codes "dump") dump_arguments
     ∷ form_of (codes "replay") replay_arguments ∷ form_of (codes "serve") serve_arguments ∷ form_of (codes "explain") explain_arguments
-    ∷ form_of (codes "version") version_arguments ∷ form_of (codes "widen") widen_arguments ∷ form_of (codes "plain") plain_arguments ∷ []
+    ∷ form_of (codes "version") version_arguments ∷ form_of (codes "widen") widen_arguments ∷ form_of (codes "plain") plain_arguments
+    ∷ form_of (codes "explore") explore_arguments ∷ []
 
 unfoldable pub program : App
 program = program_of all_forms
@@ -226,6 +261,26 @@ IsCount most (Some text) (Some n) = IsNumber 0 most (Some text) n
 abbrev pub GivesSteps : List Row → Option ℕ → Type 0
 GivesSteps rows count = IsCount 1000000 (one_of (codes "steps") rows) count
 
+-- the number of `--launch`, where it is there
+abbrev pub GivesLaunch : List Row → Option ℕ → Type 0
+GivesLaunch rows count = IsCount 1000000 (one_of (codes "launch") rows) count
+
+-- the number of `--orders`, or 1,000 where it isn't there
+abbrev pub GivesOrders : List Row → ℕ → Type 0
+GivesOrders rows n = IsNumber 1000 1000000 (one_of (codes "orders") rows) n
+
+-- the number of `--seconds`, where it is there
+abbrev pub GivesSeconds : List Row → Option ℕ → Type 0
+GivesSeconds rows count = IsCount 86400 (one_of (codes "seconds") rows) count
+
+-- the number of an option, of 64 bits, or 1 where the option isn't there
+abbrev pub IsSeed : Option Text → ℕ → Type 0
+IsSeed None n = n ≡ 1
+IsSeed (Some text) n = IsNumeral 10 (without_leading_plus text) × (n ≡ digits_value 10 (without_leading_plus text)) × (n < 2 ^ 64)
+
+abbrev pub GivesSeed : List Row → ℕ → Type 0
+GivesSeed rows n = IsSeed (one_of (codes "seed") rows) n
+
 -- whether a flag is there
 pub record IsFlag (found : Option Text) (given : Bool) : Type 0 where
   pub there : found ≡ Some (codes "true") → given ≡ true
@@ -235,12 +290,25 @@ pub record IsFlag (found : Option Text) (given : Bool) : Type 0 where
 abbrev pub GivesFlag : Text → List Row → Bool → Type 0
 GivesFlag name rows given = IsFlag (one_of name rows) given
 
+-- whether a flag's text says that it is there
+abbrev pub says_yes : Option Text → Bool
+says_yes None = false
+says_yes (Some text) = bytes_eq text (codes "true")
+
+-- whether `--widen` is there, which takes text and no schedule file
+pub record GivesWiden (rows : List Row) (widen : Bool) : Type 0 where
+  pub there : widen ≡ says_yes (first_of (codes "widen") rows)
+  pub text : widen ≡ true → GivesFormat rows false
+  pub alone : widen ≡ true → first_of (codes "SCHEDULE") rows ≡ None
+
 -- what is wrong with the values of a form: its limits where they are none, or else its format where it is none, or else
--- its budget (own)
+-- what `--widen` doesn't take, or else its budget (own)
 pub record SaysWrong (rows : List Row) (text : Text) : Type 0 where
   pub limits : ((limits : Limits) → ¬ GivesLimits rows limits) → text ≡ codes "the limits are profile or large"
   pub format : (limits : Limits) → GivesLimits rows limits → ((json : Bool) → ¬ GivesFormat rows json) → text ≡ codes "the format is text or json"
-  pub budget : (limits : Limits) (json : Bool) → GivesLimits rows limits → GivesFormat rows json
+  pub widen : (limits : Limits) (json : Bool) → GivesLimits rows limits → GivesFormat rows json → ((widen : Bool) → ¬ GivesWiden rows widen)
+      → text ≡ codes "--widen takes text and no schedule file"
+  pub budget : (limits : Limits) (json widen : Bool) → GivesLimits rows limits → GivesFormat rows json → GivesWiden rows widen
       → text ≡ codes "the budget is at most 1000000, and with --limits large at most 1000000000"
 
 -- the name of the form by which this is asked for
@@ -254,11 +322,12 @@ form_name (invocation.Explain _ _ _) = codes "explain"
 form_name (invocation.Version _) = codes "version"
 form_name (invocation.Widen _ _ _) = codes "widen"
 form_name (invocation.Plain _) = codes "plain"
+form_name (invocation.Explore _ _) = codes "explore"
 
 -- the matches of its form give what is asked for: a run by their workers, under their limits and budget, with the lines
 -- of its commands or without; a check or a dump within their limits; a replay under their limits; an explanation of the
 -- schedule file, if one is named; a script whose replies are widened, within their limits; a script that is written as
--- a plain one (own)
+-- a plain one; a script whose launches are tried in other orders (own)
 abbrev pub Gives : List Row → Invocation → Type 0
 Gives rows (invocation.Run path options numbered) =
     (first_of (codes "FILE") rows ≡ Some path.now) × GivesWorkers rows options.workers × GivesConfiguration rows options.configuration
@@ -272,11 +341,14 @@ Gives rows (invocation.Serve options) = GivesWorkers rows options.workers × Giv
 Gives rows (invocation.Explain script schedule wish) =
     (first_of (codes "SCRIPT") rows ≡ Some script.now) × (first_of (codes "SCHEDULE") rows ≡ option_map (λ s. s.now) schedule)
     × GivesConfiguration rows wish.configuration × GivesFormat rows wish.json × GivesFlag (codes "as-given") rows wish.as_given × GivesFlag (codes "all") rows wish.all
-    × GivesSteps rows wish.steps
+    × GivesSteps rows wish.steps × GivesWiden rows wish.widen
 Gives rows (invocation.Version json) = GivesFormat rows json
 Gives rows (invocation.Widen script json limits) =
     (first_of (codes "SCRIPT") rows ≡ Some script.now) × GivesFormat rows json × GivesLimits rows limits
 Gives rows (invocation.Plain script) = first_of (codes "SCRIPT") rows ≡ Some script.now
+Gives rows (invocation.Explore script wish) =
+    (first_of (codes "SCRIPT") rows ≡ Some script.now) × GivesLaunch rows wish.launch × GivesOrders rows wish.orders × GivesSeconds rows wish.seconds
+    × GivesSeed rows wish.seed × GivesConfiguration rows wish.configuration
 
 -- the form of this name, with these matches, asks for it
 abbrev pub AsksBy : Text → List Row → Invocation → Type 0

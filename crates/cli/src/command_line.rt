@@ -1,12 +1,12 @@
 //! The command line of the program.
 #![tactic(auto)]
 
-ghost use Rattle.std.specs.Prelude.{◌≡◌, ◌≤◌, List, [], ◌∷◌, ◌++◌, codes, map, Ok, IfOk, IfErr, IfSome};
-ghost use Rattle.clap.specs.Words.{Rule, Shape, Text, kind_of, found_of, rows_of, subcommand_rows_of};
-ghost use Rattle.cli.specs.CommandLine.{AreForms, IsArgument, IsForm, all_forms, form_of, needed, option, number, limits, some_schedule, format, flag, configured, working, explained, run_arguments, check_arguments, dump_arguments, replay_arguments, serve_arguments, explain_arguments, version_arguments, widen_arguments, plain_arguments, GivesWorkers, GivesLimits, GivesBudget, GivesConfiguration, GivesFormat, GivesSteps, SaysWrong, AsksBy, Reads, Holds, AsksFor, IsRefused};
+ghost use Rattle.std.specs.Prelude.{◌≡◌, ◌≤◌, List, [], ◌∷◌, ◌++◌, codes, map, option_map, Ok, IfOk, IfErr, IfSome};
+ghost use Rattle.clap.specs.Words.{Rule, Shape, Text, kind_of, found_of, one_of, rows_of, subcommand_rows_of};
+ghost use Rattle.cli.specs.CommandLine.{AreForms, IsArgument, IsForm, all_forms, form_of, needed, option, number, wide_number, limits, some_schedule, format, flag, configured, working, explained, searched, run_arguments, check_arguments, dump_arguments, replay_arguments, serve_arguments, explain_arguments, version_arguments, widen_arguments, plain_arguments, explore_arguments, GivesWorkers, GivesLimits, GivesBudget, GivesConfiguration, GivesFormat, GivesOrders, GivesSeed, GivesWiden, IsCount, says_yes, SaysWrong, AsksBy, Reads, Holds, AsksFor, IsRefused};
 
 use crate::session::Options;
-use crate::wish::ExplainWish;
+use crate::wish::{ExplainWish, ExploreWish};
 use clap::builder::ValueParser;
 use clap::error::ErrorKind;
 use clap::{Arg, ArgAction, ArgMatches, Command, Error};
@@ -63,6 +63,11 @@ pub enum Invocation<'a> {
     Plain {
         script: &'a str,
     },
+    /// Tries the launches of the script of a file in other orders
+    Explore {
+        script: &'a str,
+        wish: ExploreWish,
+    },
 }
 
 /// The greatest budget of a device, by whatever limits.
@@ -73,6 +78,18 @@ const MAX_WORKERS: u32 = 16;
 
 /// The most steps that an explanation may be asked for.
 const MAX_STEPS: u32 = 1_000_000;
+
+/// The greatest number of a launch that may be named.
+const MAX_LAUNCH: u32 = 1_000_000;
+
+/// The most orders that may be tried.
+const MAX_ORDERS: u32 = 1_000_000;
+
+/// How many orders are tried where no number is given.
+const DEFAULT_ORDERS: usize = 1000;
+
+/// The most seconds for which orders may be tried: those of a day.
+const MAX_SECONDS: u32 = 86_400;
 
 /// An argument that must be given, and what help says of it.
 #[tactic(auto, unfolding(crate::specs::CommandLine::needed))]
@@ -99,6 +116,14 @@ fn number<'a>(alloc: Global, name: &'a str, most: u32, help: &'a str) -> Arg<'a>
     ensures { IsArgument (number name.entry.now most) result }
 {
     option(alloc, name, "N", help).value_parser(ValueParser::unsigned(1, most as u64))
+}
+
+/// An option whose value is a number of 64 bits, and what help says of it.
+#[tactic(auto, unfolding(crate::specs::CommandLine::option, crate::specs::CommandLine::wide_number))]
+fn wide_number<'a>(alloc: Global, name: &'a str, help: &'a str) -> Arg<'a>
+    ensures { IsArgument (wide_number name.entry.now) result }
+{
+    option(alloc, name, "N", help).value_parser(ValueParser::unsigned(0, u64::MAX))
 }
 
 /// The argument `SCHEDULE`, where it may be left out.
@@ -311,7 +336,7 @@ fn explained<'a>(alloc: Global) -> Result<Command<'a>, AllocError>
 }
 
 /// The form `explain SCRIPT [SCHEDULE] [--format text|json] [--budget N] [--limits LIMITS] [--as-given] [--all]
-/// [--steps N]`.
+/// [--steps N] [--widen]`.
 fn explain_form<'a>(alloc: Global) -> Result<Command<'a>, AllocError>
     ensures { IfOk result (IsForm (codes "explain") explain_arguments) }
 {
@@ -331,8 +356,10 @@ fn explain_form<'a>(alloc: Global) -> Result<Command<'a>, AllocError>
         MAX_STEPS,
         "The most steps of a way to a fault that are told, the last ones: 1000 without it",
     );
+    let same = "Tells of each explained fault whether it is the same for all bytes";
+    let widen = flag(alloc, "widen", same);
     let flagged = with(with(configured(alloc, explained(alloc)), as_given), all);
-    with(flagged, steps)
+    with(with(flagged, steps), widen)
 }
 
 /// The form `version [--format text|json]`.
@@ -375,6 +402,50 @@ fn plain_form<'a>(alloc: Global) -> Result<Command<'a>, AllocError>
         "SCRIPT",
         "The script",
     )
+}
+
+/// The form `explore SCRIPT [--launch N] [--orders N] [--seconds N] [--seed N]`, without its other options.
+fn searched<'a>(alloc: Global) -> Result<Command<'a>, AllocError>
+    ensures { IfOk result (IsForm (codes "explore") searched) }
+{
+    let form = form_on(
+        alloc,
+        "explore",
+        "Tries other orders of a launch with orders, and tells the first fault that one shows",
+        "SCRIPT",
+        "The script",
+    );
+    let launch = number(
+        alloc,
+        "launch",
+        MAX_LAUNCH,
+        "The launch, by its number from 1 on: each launch with orders without it",
+    );
+    let orders = number(
+        alloc,
+        "orders",
+        MAX_ORDERS,
+        "How many orders of a launch are tried at most: 1000 without it",
+    );
+    let seconds = number(
+        alloc,
+        "seconds",
+        MAX_SECONDS,
+        "For how many seconds orders are tried at most",
+    );
+    let seed = wide_number(
+        alloc,
+        "seed",
+        "With which number the draws begin: 1 without it",
+    );
+    with(with(with(with(form, launch), orders), seconds), seed)
+}
+
+/// The form `explore SCRIPT [--launch N] [--orders N] [--seconds N] [--seed N] [--budget N] [--limits LIMITS]`.
+fn explore_form<'a>(alloc: Global) -> Result<Command<'a>, AllocError>
+    ensures { IfOk result (IsForm (codes "explore") explore_arguments) }
+{
+    configured(alloc, searched(alloc))
 }
 
 /// The limits of a device, the profile's where the option isn't there, and `None` where it names none.
@@ -513,16 +584,44 @@ fn format_of(matches: &ArgMatches<'_>) -> Option<bool>
     None
 }
 
-/// How many steps are told at most, where the option is there, and `None` where its number is none.
-fn steps_of(explain: &ArgMatches<'_>) -> Option<Option<usize>>
-    ensures { Reads (GivesSteps (rows_of (found_of explain.now))) result }
+/// The number of an option, where it is there, and `None` where it is none from 1 to `most`.
+fn count_of(matches: &ArgMatches<'_>, name: &str, most: u32) -> Option<Option<usize>>
+    ensures { Reads (IsCount most (one_of name.now (rows_of (found_of matches.now)))) result }
 {
-    match explain.try_get_one::<u32>("steps") {
+    match matches.try_get_one::<u32>(name) {
         Ok(None) => Some(None),
-        Ok(Some(steps)) if steps >= 1 && steps <= MAX_STEPS => Some(Some(steps as usize)),
+        Ok(Some(count)) if count >= 1 && count <= most => Some(Some(count as usize)),
         Ok(Some(_)) => None,
         Err(_) => None,
     }
+}
+
+/// Whether the text of a flag says that it is there.
+fn says_yes(text: Option<&str>) -> bool
+    ensures { result ≡ says_yes (option_map (λ s. s.now) text.entry) }
+{
+    match text {
+        Some(text) => text == "true",
+        None => false,
+    }
+}
+
+/// Whether `--widen` is there, and `None` where it is there with JSON or with a schedule file.
+fn widening_of(explain: &ArgMatches<'_>) -> Option<bool>
+    ensures { Reads (GivesWiden (rows_of (found_of explain.now))) result }
+{
+    let widen = says_yes(explain.get_str("widen"));
+    if !widen {
+        return Some(false);
+    }
+    if explain.get_str("SCHEDULE").is_some() {
+        return None;
+    }
+    let json = format_of(explain)?;
+    if json {
+        return None;
+    }
+    Some(true)
 }
 
 /// What the matches of `explain` ask for.
@@ -535,7 +634,8 @@ fn explain_of<'a>(explain: &ArgMatches<'a>) -> Option<Invocation<'a>>
     let json = format_of(explain)?;
     let as_given = explain.get_flag("as-given");
     let all = explain.get_flag("all");
-    let steps = steps_of(explain)?;
+    let steps = count_of(explain, "steps", MAX_STEPS)?;
+    let widen = widening_of(explain)?;
     Some(Invocation::Explain {
         script,
         schedule,
@@ -545,6 +645,7 @@ fn explain_of<'a>(explain: &ArgMatches<'a>) -> Option<Invocation<'a>>
             as_given,
             all,
             steps,
+            widen,
         },
     })
 }
@@ -579,6 +680,47 @@ fn plain_of<'a>(plain: &ArgMatches<'a>) -> Option<Invocation<'a>>
     Some(Invocation::Plain { script })
 }
 
+/// How many orders are tried at most, the default where the option isn't there, and `None` where its number is none.
+fn orders_of(explore: &ArgMatches<'_>) -> Option<usize>
+    ensures { Reads (GivesOrders (rows_of (found_of explore.now))) result }
+{
+    let orders = count_of(explore, "orders", MAX_ORDERS)?;
+    Some(orders.unwrap_or(DEFAULT_ORDERS))
+}
+
+/// With which number the draws begin, 1 where the option isn't there, and `None` where its number has no 64 bits.
+fn seed_of(explore: &ArgMatches<'_>) -> Option<u64>
+    ensures { Reads (GivesSeed (rows_of (found_of explore.now))) result }
+{
+    match explore.try_get_one::<u64>("seed") {
+        Ok(None) => Some(1),
+        Ok(Some(seed)) => Some(seed),
+        Err(_) => None,
+    }
+}
+
+/// What the matches of `explore` ask for.
+fn explore_of<'a>(explore: &ArgMatches<'a>) -> Option<Invocation<'a>>
+    ensures { Reads (AsksBy (codes "explore") (rows_of (found_of explore.now))) result }
+{
+    let script = explore.get_str("SCRIPT")?;
+    let launch = count_of(explore, "launch", MAX_LAUNCH)?;
+    let orders = orders_of(explore)?;
+    let seconds = count_of(explore, "seconds", MAX_SECONDS)?;
+    let seed = seed_of(explore)?;
+    let configuration = configuration_of(explore)?;
+    Some(Invocation::Explore {
+        script,
+        wish: ExploreWish {
+            configuration,
+            launch,
+            orders,
+            seconds,
+            seed,
+        },
+    })
+}
+
 /// What the matches of a command line ask for, by the form that they hold.
 fn asked<'a>(matches: &ArgMatches<'a>) -> Option<Invocation<'a>>
     ensures { Reads (Holds (subcommand_rows_of matches.now)) result }
@@ -607,7 +749,10 @@ fn asked<'a>(matches: &ArgMatches<'a>) -> Option<Invocation<'a>>
     if let Some(widen) = matches.subcommand_matches("widen") {
         return widen_of(widen);
     }
-    plain_of(matches.subcommand_matches("plain")?)
+    if let Some(plain) = matches.subcommand_matches("plain") {
+        return plain_of(plain);
+    }
+    explore_of(matches.subcommand_matches("explore")?)
 }
 
 /// The forms of the command line, without any of them yet. That there is a version gives them `--version`; what the
@@ -645,7 +790,8 @@ fn forms<'a>(alloc: Global) -> Result<Command<'a>, AllocError>
     let with_explaining = with_form(with_serving, explain_form(alloc));
     let with_version = with_form(with_explaining, version_form(alloc));
     let with_widening = with_form(with_version, widen_form(alloc));
-    with_form(with_widening, plain_form(alloc))
+    let with_writing = with_form(with_widening, plain_form(alloc));
+    with_form(with_writing, explore_form(alloc))
 }
 
 /// A form whose usage is shown by this name.
@@ -679,11 +825,14 @@ fn form_of<'a>(alloc: Global, name: &str) -> Result<Command<'a>, AllocError> {
     if name == "plain" {
         return shown(plain_form(alloc), "clsim plain");
     }
+    if name == "explore" {
+        return shown(explore_form(alloc), "clsim explore");
+    }
     shown(version_form(alloc), "clsim version")
 }
 
-/// What is wrong with the values of a form that ask for nothing: its limits, or else its format, or else its budget,
-/// which is more than its limits allow.
+/// What is wrong with the values of a form that ask for nothing: its limits, or else its format, or else that `--widen`
+/// is there with JSON or a schedule file, or else its budget, which is more than its limits allow.
 fn wrong_in(values: &ArgMatches<'_>) -> &'static str
     ensures { SaysWrong (rows_of (found_of values.now)) result.now }
 {
@@ -692,6 +841,9 @@ fn wrong_in(values: &ArgMatches<'_>) -> &'static str
     }
     if format_of(values).is_none() {
         return "the format is text or json";
+    }
+    if widening_of(values).is_none() {
+        return "--widen takes text and no schedule file";
     }
     "the budget is at most 1000000, and with --limits large at most 1000000000"
 }
@@ -732,10 +884,11 @@ fn command_by<'a>(
 /// - `clsim replay SCRIPT SCHEDULE [--limits LIMITS]`
 /// - `clsim serve [--workers N] [--budget N] [--limits LIMITS]`
 /// - `clsim explain SCRIPT [SCHEDULE] [--format text|json] [--budget N] [--limits LIMITS] [--as-given]
-///   [--all] [--steps N]`
+///   [--all] [--steps N] [--widen]`
 /// - `clsim version [--format text|json]`
 /// - `clsim widen SCRIPT [--format text|json] [--limits LIMITS]`
 /// - `clsim plain SCRIPT`
+/// - `clsim explore SCRIPT [--launch N] [--orders N] [--seconds N] [--seed N] [--budget N] [--limits LIMITS]`
 ///
 /// The errors of the words `--help`, `help` with a form or without, and `--version` have the kinds `DisplayHelp` and
 /// `DisplayVersion`.

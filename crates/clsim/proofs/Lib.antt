@@ -1,1 +1,2 @@
 mod FileLemmas
+mod WideLemmas

@@ -2,6 +2,7 @@
 use Rattle.std.specs.Prelude.{◌≡◌, ◌⊎◌, ℕ, Bool, Option, None, Some, option_map, List, [], if◌then◌else◌}
 use Rattle.cli.specs.Reading.{ReadFails}
 use Rattle.cli.specs.declared.wish.ExplainWish.{ExplainWish}
+use Rattle.cli.specs.declared.wish.ExploreWish.{ExploreWish}
 use Rattle.simfile.specs.declared.faults.Reader.{Reader}
 use Rattle.simfile.specs.declared.faults.Reader.TheVariants as reader
 use Rattle.simfile.specs.declared.faults.RunFault.{RunFault}
@@ -12,6 +13,7 @@ use Rattle.explaining.specs.Whole.{Says}
 use Rattle.explaining.specs.declared.facts.ExplainOptions.{ExplainOptions}
 use Rattle.explaining.specs.declared.facts.Format.TheVariants as format
 use Rattle.explaining.specs.declared.facts.Given.{Given}
+use Rattle.exploring.specs.declared.facts.ExploreOptions.{ExploreOptions}
 use Rattle.limits.specs.declared.Configuration.{Configuration}
 
 -- the answer to what is given, and the text that says so, which was written whole
@@ -75,6 +77,13 @@ pub record IsWished (wish : ExplainWish) (options : ExplainOptions) : Type 0 whe
   pub as_given : options.as_given ≡ wish.as_given
   pub all : options.all ≡ wish.all
   pub steps : options.steps ≡ wish.steps
+
+-- a script is explored as it is wished
+pub record IsExploreWished (wish : ExploreWish) (options : ExploreOptions) : Type 0 where
+  pub configuration : options.configuration ≡ wish.configuration
+  pub launch : options.launch ≡ wish.launch
+  pub orders : options.orders ≡ wish.orders
+  pub seed : options.seed ≡ wish.seed
 
 -- a reader wasn't read to its end, or no memory was left, and nothing was written
 abbrev pub Unread : Reader → ℕ → ℕ → Sink → Sink → RunFault → Type 0

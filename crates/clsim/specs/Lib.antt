@@ -1,2 +1,3 @@
 pub mod Files
 pub mod Plain
+pub mod Wide

@@ -1,18 +1,22 @@
 //! Files explained: a script is read, with a schedule file where one is named, and the explanation is written.
 //!
-//! What is explained, which answer is given, and what is written, `explaining` defines. A reader's failure is told
-//! apart from its faults.
+//! What is explained, which answer is given, and what is written, `explaining` defines, and `wide_text` what is written
+//! behind it of other bytes and numbers. A reader's failure is told apart from its faults.
 #![tactic(auto)]
 
 ghost use Rattle.std.specs.Prelude.{◌≡◌, IfOk, IfErr};
 ghost use Rattle.std.specs.Option.{option_map};
+ghost use Rattle.wide_text.specs.Faults.{IsFaultAsides};
 ghost use Rattle.clsim.specs.Files.{IsGiven, Answered, Unanswered, ScriptTold, ScriptUntold, FileTold, FileUntold};
+ghost use Rattle.clsim.specs.Wide.{WidelyAnswered, WidelyUnanswered, WidelyTold, WidelyUntold};
 
+use crate::passing::put_all;
 use byte_io::{Read, Write};
 use cli::reading::bytes_of;
 use explaining::{ExplainOptions, Given, explain};
 use simfile::faults::{Reader, RunFault};
 use std::alloc::Global;
+use wide_text::fault_asides;
 
 /// The texts that are explained: the script's name, its bytes, and those of a schedule file, if one is named.
 #[derive(Drop)]
@@ -84,6 +88,51 @@ pub(crate) fn explain_script<R: Read, W: Write>(
         schedule: None,
     };
     explain_texts(alloc, &texts, options, writer)
+}
+
+/// Explains texts, and writes lines behind the explanation.
+fn explain_with<W: Write>(
+    alloc: Global,
+    texts: &Texts,
+    options: ExplainOptions,
+    asides: &[u8],
+    writer: &mut W,
+) -> Result<bool, RunFault>
+    ensures told { IfOk result (WidelyAnswered options texts.now.name.items texts.now.script.items (option_map (λ bytes. bytes.items) texts.now.schedule) asides.now (W.sink writer.old) (W.sink writer.new)) }
+    ensures untold { IfErr result
+        (WidelyUnanswered options texts.now.name.items texts.now.script.items (option_map (λ bytes. bytes.items) texts.now.schedule) asides.now (W.sink writer.old) (W.sink writer.new)) }
+{
+    let answer = explain_texts(alloc, texts, options, writer)?;
+    put_all(asides, writer)?;
+    Ok(answer)
+}
+
+/// Reads a script and explains its first fault, or all of them, as `explain_script` does, and writes behind the
+/// explanation of each fault whether it is in the kernel or in the data. These lines are made first: where that fails,
+/// nothing is written.
+///
+/// Faults are those of `explain_script`.
+pub(crate) fn explain_widely<R: Read, W: Write>(
+    alloc: Global,
+    name: &str,
+    reader: &mut R,
+    options: ExplainOptions,
+    writer: &mut W,
+) -> Result<bool, RunFault>
+    ensures told { IfOk result (WidelyTold options name.now (R.rest reader.old) (W.sink writer.old) (W.sink writer.new)) }
+    ensures untold { IfErr result
+        (WidelyUntold options name.now (R.rest reader.old) (R.failures reader.old) (R.failures reader.new) (W.sink writer.old) (W.sink writer.new)) }
+{
+    let script = bytes_of(alloc, reader, Reader::First)?;
+    let asides = fault_asides(alloc, options.configuration, script.as_slice(), options.all)?;
+    let name = name.as_bytes().to_vec(alloc)?;
+    let schedule = None;
+    let texts = Texts {
+        name,
+        script,
+        schedule,
+    };
+    explain_with(alloc, &texts, options, asides.as_slice(), writer)
 }
 
 /// Reads a script and a schedule file, and explains the fault of that file. Writes the explanation and answers true, or

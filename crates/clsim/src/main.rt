@@ -1,9 +1,9 @@
 //! The program `clsim`: a simulated OpenCL 1.2 device for scripts, schedules and host programs.
 //!
-//! It calls `cli`, `explaining` and `wide_text` with the files and the output of the system; a file named `-` is
-//! standard input. A script of version 3 is handed on as its plain text, which `written_scripts` makes of it and of the
-//! files that it names. The status is the one that `cli` defines, whether standard error can be written or not; the
-//! process ends with 0, 1 or 2. What stands on standard error is only tested.
+//! It calls `cli`, `explaining`, `exploring` and `wide_text` with the files, the clock and the output of the system; a
+//! file named `-` is standard input. A script of version 3 is handed on as its plain text, which `written_scripts`
+//! makes of it and of the files that it names. The status is the one that `cli` defines, whether standard error can be
+//! written or not; the process ends with 0, 1 or 2. What stands on standard error is only tested.
 #![tactic(auto)]
 
 ghost use Rattle.std.specs.Prelude.{◌≡◌, ◌≤◌, IfOk, if◌then◌else◌};
@@ -11,9 +11,11 @@ ghost use Rattle.std.specs.Process.{exit_status};
 ghost use Rattle.cli.specs.Checking.{source_status_of};
 ghost use Rattle.cli.specs.Replaying.{replay_status_of};
 ghost use Rattle.cli.specs.Session.{status_of};
-ghost use Rattle.clsim.specs.Files.{IsWished};
+ghost use Rattle.clsim.specs.Files.{IsExploreWished, IsWished};
+ghost use Rattle.exploring.specs.Explored.{status_of as explore_status_of};
 ghost use Rattle.wide_text.specs.Widened.{status_of as wide_status_of};
 
+mod deadline;
 mod explain_files;
 mod looks;
 mod named_file;
@@ -23,7 +25,8 @@ mod reporting;
 mod version;
 mod written_file;
 
-use crate::explain_files::{explain_schedule, explain_script};
+use crate::deadline::Deadline;
+use crate::explain_files::{explain_schedule, explain_script, explain_widely};
 use crate::looks::Looks;
 use crate::named_file::{NamedFile, STANDARD_INPUT};
 use crate::passing::pass;
@@ -41,16 +44,17 @@ use cli::dumping::dump_file;
 use cli::reading::bytes_of;
 use cli::replaying::{replay_files, replay_status};
 use cli::session::{Options, RunEnd};
-use cli::wish::ExplainWish;
+use cli::wish::{ExplainWish, ExploreWish};
 use cli::{run, run_numbered, status};
 use explaining::{ExplainOptions, Format};
+use exploring::{ExploreEnd, ExploreOptions, explore, status as explore_status};
 use limits::{Configuration, Limits};
 use simfile::faults::{Reader, RunFault};
 use std::env::Env;
 use std::io::{BufReader, BufWriter, IsTerminal, Printer};
 use std::marker::Sync;
 use std::process::ExitCode;
-use std::rt::Files;
+use std::rt::{Clock, Files};
 use std::sync::Wait;
 use std::thread::Threads;
 use std::{env, io};
@@ -185,17 +189,20 @@ fn options_of(wish: ExplainWish) -> ExplainOptions
 }
 
 /// Explains the fault of a schedule file, or without one the first fault of a script of this name or all of them, with
-/// what is told on standard output.
+/// what is told on standard output. Where it is `wide`, the text of a script's faults says whether they are in the
+/// kernel or in the data.
 fn explain_fault<R: Files + io::Input + Print + AllocGlobal>(
     rt: &R,
     name: &str,
     script: &mut WrittenFile<'_, R>,
     schedule: Option<&str>,
     options: ExplainOptions,
+    wide: bool,
     gone: &mut bool,
 ) -> Result<bool, RunFault> {
     let mut writer = output_of(rt)?;
     let outcome = match schedule {
+        None if wide => explain_widely(rt.alloc(), name, script, options, &mut writer),
         None => explain_script(rt.alloc(), name, script, options, &mut writer),
         Some(schedule) => {
             let mut file = NamedFile::new(rt, schedule);
@@ -227,6 +234,39 @@ fn widen_script<R: Files + io::Input + Print + AllocGlobal>(
         configuration,
         text.as_slice(),
         format,
+        &mut writer,
+    );
+    *gone = writer.into_inner().is_gone();
+    outcome
+}
+
+/// How a script is explored, as it is wished.
+fn explore_options_of(wish: ExploreWish) -> ExploreOptions
+    ensures { IsExploreWished wish result }
+{
+    ExploreOptions {
+        configuration: wish.configuration,
+        launch: wish.launch,
+        orders: wish.orders,
+        seed: wish.seed,
+    }
+}
+
+/// Plays other orders of the launches of a script, with what they show on standard output.
+fn explore_script<R: Files + io::Input + Print + Clock + AllocGlobal>(
+    rt: &R,
+    script: &mut WrittenFile<'_, R>,
+    wish: ExploreWish,
+    gone: &mut bool,
+) -> Result<ExploreEnd, RunFault> {
+    let mut writer = output_of(rt)?;
+    let text = bytes_of(rt.alloc(), script, Reader::First)?;
+    let mut deadline = Deadline::new(rt, wish.seconds);
+    let outcome = explore(
+        rt.alloc(),
+        explore_options_of(wish),
+        text.as_slice(),
+        &mut deadline,
         &mut writer,
     );
     *gone = writer.into_inner().is_gone();
@@ -298,6 +338,20 @@ fn end_widen<R: Files + Eprint>(rt: &R, outcome: Result<WideEnd, RunFault>, told
         tell(rt, fault, told);
     }
     wide_status(&outcome)
+}
+
+/// The status of a script that is explored. A fault is told.
+fn end_explore<R: Files + Eprint>(
+    rt: &R,
+    outcome: Result<ExploreEnd, RunFault>,
+    told: Told<'_>,
+) -> u8
+    ensures { result ≡ explore_status_of outcome }
+{
+    if let Err(fault) = outcome {
+        tell(rt, fault, told);
+    }
+    explore_status(&outcome)
 }
 
 /// Runs the script of a file, with the line of its command in front of each reply or without, and gives the status.
@@ -399,7 +453,8 @@ fn do_explain<R: Files + io::Input + Print + Eprint + AllocGlobal>(
     let mut script = WrittenFile::explained(rt, file);
     let mut gone = false;
     let options = options_of(wish);
-    let outcome = explain_fault(rt, file, &mut script, schedule, options, &mut gone);
+    let wide = wish.widen && !script.is_source();
+    let outcome = explain_fault(rt, file, &mut script, schedule, options, wide, &mut gone);
     if let Ok(true) = outcome {
         script.tell_lines(rt);
     }
@@ -422,6 +477,20 @@ fn do_widen<R: Files + io::Input + Print + Eprint + AllocGlobal>(
         script.tell_lines(rt);
     }
     end_widen(rt, outcome, script.told(gone))
+}
+
+/// Explores other orders of the launches of the script of a file, and gives the status.
+fn do_explore<R: Files + io::Input + Print + Eprint + Clock + AllocGlobal>(
+    rt: &R,
+    file: &str,
+    wish: ExploreWish,
+) -> u8
+    ensures { result ≤ 2 }
+{
+    let mut script = WrittenFile::new(rt, file);
+    let mut gone = false;
+    let outcome = explore_script(rt, &mut script, wish, &mut gone);
+    end_explore(rt, outcome, script.told(gone))
 }
 
 /// Writes the script of a file as a plain text, and gives the status.
@@ -477,7 +546,7 @@ fn answer_words<R: Print + Eprint>(rt: &R, words: &[&str], error: &Error) -> u8
 
 /// Does what the words of the command line ask for, and gives the status. `watched` says that a person reads standard
 /// error.
-fn perform<R: Files + io::Input + Print + Eprint + AllocGlobal + Threads + Wait + Sync>(
+fn perform<R: Files + io::Input + Print + Eprint + Clock + AllocGlobal + Threads + Wait + Sync>(
     rt: &R,
     words: &[&str],
     watched: bool,
@@ -524,12 +593,13 @@ fn perform<R: Files + io::Input + Print + Eprint + AllocGlobal + Threads + Wait 
             },
         ) => do_widen(rt, script, json, limits),
         Ok(Invocation::Plain { script }) => do_plain(rt, script),
+        Ok(Invocation::Explore { script, wish }) => do_explore(rt, script, wish),
         Err(error) => answer_words(rt, words, &error),
     }
 }
 
 /// Does what the command line asks for, and gives the status. No memory may be left for its words.
-fn ask<R: Env + Files + io::Input + Print + Eprint + AllocGlobal + Threads + Wait + Sync>(
+fn ask<R: Env + Files + io::Input + Print + Eprint + Clock + AllocGlobal + Threads + Wait + Sync>(
     rt: &R,
     watched: bool,
 ) -> io::Result<u8>
@@ -546,7 +616,7 @@ fn ask<R: Env + Files + io::Input + Print + Eprint + AllocGlobal + Threads + Wai
 
 /// Does what the command line asks for, and gives the status of the process: where anything is told on standard error,
 /// it is 2, whatever that takes.
-fn end<R: Env + Files + io::Input + Print + Eprint + AllocGlobal + Threads + Wait + Sync>(
+fn end<R: Env + Files + io::Input + Print + Eprint + Clock + AllocGlobal + Threads + Wait + Sync>(
     rt: &R,
     watched: bool,
 ) -> ExitCode

@@ -11,7 +11,7 @@ use simfile::faults::{Reader, RunFault};
 use std::alloc::Global;
 
 /// Writes a text, and holds none of it back.
-fn put_all<W: Write>(text: &[u8], writer: &mut W) -> Result<(), WriteFailed>
+pub(crate) fn put_all<W: Write>(text: &[u8], writer: &mut W) -> Result<(), WriteFailed>
     ensures whole { Puts (W.sink writer.old) result (W.sink writer.new) text.now }
     ensures released { OnOk result ((W.sink writer.new).held ≡ []) }
 {

@@ -218,6 +218,11 @@ impl<'a, R: Files + io::Input> WrittenFile<'a, R> {
         file
     }
 
+    /// Whether it is a source by its name.
+    pub(crate) fn is_source(&self) -> bool {
+        self.is_source
+    }
+
     /// Tells of a script of version 3 that the lines that were told are those of its plain text, where it is another.
     pub(crate) fn tell_lines(&self, rt: &impl Eprint) {
         if self.is_other {

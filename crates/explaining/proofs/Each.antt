@@ -51,31 +51,31 @@ stands_at commands before new c ticket r w ends at step = go w ends
 
 -- what is told of the end of a walk is told of the reply
 tells_reply :
-    (options : ExplainOptions) (script : List ℕ) (commands : List Command) (done : List Bool) (m : Machine) (ticket : ℕ) (r : Reply) (w : Walked) (text : List ℕ) → EndsAt ticket r w
-    → TellsEnd options script commands done m w text → TellsReply options script commands done m ticket r text
-tells_reply options script commands done m ticket r (walked.Passed ordered) text h tells = absurd h
-tells_reply options script commands done m ticket r (walked.Faulted case) text (same, is) tells =
-    subst (λ (a : Reply). TellsReply options script commands done m ticket a text) (sym is)
-    (subst (λ n. TellsReply options script commands done m n (reply.Fault case.fault case.schedule) text) same tells)
-tells_reply options script commands done m ticket r (walked.Unbuilt build) text (same, is) tells =
-    subst (λ (a : Reply). TellsReply options script commands done m ticket a text) (sym is)
-    (subst (λ n. TellsReply options script commands done m n (reply.Refused (refusal.BuildFailed build.fault)) text) same tells)
-tells_reply options script commands done m ticket r (walked.Refused case) text (same, is) tells =
-    subst (λ (a : Reply). TellsReply options script commands done m ticket a text) (sym is)
-    (subst (λ n. TellsReply options script commands done m n (reply.Refused case.refusal) text) same tells)
+    (options : ExplainOptions) (name script : List ℕ) (commands : List Command) (done : List Bool) (m : Machine) (ticket : ℕ) (r : Reply) (w : Walked) (text : List ℕ) → EndsAt ticket r w
+    → TellsEnd options name script commands done m w text → TellsReply options name script commands done m ticket r text
+tells_reply options name script commands done m ticket r (walked.Passed ordered) text h tells = absurd h
+tells_reply options name script commands done m ticket r (walked.Faulted case) text (same, is) tells =
+    subst (λ (a : Reply). TellsReply options name script commands done m ticket a text) (sym is)
+    (subst (λ n. TellsReply options name script commands done m n (reply.Fault case.fault case.schedule) text) same tells)
+tells_reply options name script commands done m ticket r (walked.Unbuilt build) text (same, is) tells =
+    subst (λ (a : Reply). TellsReply options name script commands done m ticket a text) (sym is)
+    (subst (λ n. TellsReply options name script commands done m n (reply.Refused (refusal.BuildFailed build.fault)) text) same tells)
+tells_reply options name script commands done m ticket r (walked.Refused case) text (same, is) tells =
+    subst (λ (a : Reply). TellsReply options name script commands done m ticket a text) (sym is)
+    (subst (λ n. TellsReply options name script commands done m n (reply.Refused case.refusal) text) same tells)
 
 -- of a reply that goes on nothing is told
 pub goes_told :
-    (options : ExplainOptions) (script : List ℕ) (commands : List Command) (done all : List Bool) (old : Machine) (c : Command) (new : Machine) (r : Reply) (text : List ℕ) (met met' : Met)
+    (options : ExplainOptions) (name script : List ℕ) (commands : List Command) (done all : List Bool) (old : Machine) (c : Command) (new : Machine) (r : Reply) (text : List ℕ) (met met' : Met)
     → Step old c r new → HadMemory r → all ≡ done ++ is_done r ∷ [] → goes_on r ≡ true → met'.end ≡ met.end → met'.ordered ≡ (met.ordered || is_ordered r)
-    → TellsCommand options script commands done old c new all text text met met'
-goes_told options script commands done all old c new r text met met' step memory noted on same ordered = record {
+    → TellsCommand options name script commands done old c new all text text met met'
+goes_told options name script commands done all old c new r text met met' step memory noted on same ordered = record {
   answer = r;
   replied = step;
   memory = memory;
   noted = noted;
   part = [];
-  tells = subst (λ b. MatchBool b (◌≡◌ {A = List ℕ} [] []) (IsHeaded options script commands all new (length done) r [])) (sym on) refl;
+  tells = subst (λ b. MatchBool b (◌≡◌ {A = List ℕ} [] []) (IsHeaded options name script commands all new (length done) r [])) (sym on) refl;
   added = sym (append-nil text);
   stays = λ e. same;
   turns = λ e. absurd (false≢true (sym e ∙ on));
@@ -84,16 +84,16 @@ goes_told options script commands done all old c new r text met met' step memory
 
 -- and of another one what is told of the end of a walk
 pub end_told :
-    (options : ExplainOptions) (script : List ℕ) (commands : List Command) (done all : List Bool) (ticket : ℕ) (old : Machine) (c : Command) (new : Machine) (r : Reply) (w : Walked) (before after : List ℕ) (met met' : Met)
-    → Step old c r new → HadMemory r → all ≡ done ++ is_done r ∷ [] → ticket ≡ length done → EndsAt ticket r w → IsEndAdded options script commands all new ticket w before after
-    → met'.end ≡ true → met'.ordered ≡ (met.ordered || is_ordered r) → TellsCommand options script commands done old c new all before after met met'
-end_told options script commands done all ticket old c new r w before after met met' step memory noted same ends told turned ordered = record {
+    (options : ExplainOptions) (name script : List ℕ) (commands : List Command) (done all : List Bool) (ticket : ℕ) (old : Machine) (c : Command) (new : Machine) (r : Reply) (w : Walked) (before after : List ℕ) (met met' : Met)
+    → Step old c r new → HadMemory r → all ≡ done ++ is_done r ∷ [] → ticket ≡ length done → EndsAt ticket r w → IsEndAdded options name script commands all new ticket w before after
+    → met'.end ≡ true → met'.ordered ≡ (met.ordered || is_ordered r) → TellsCommand options name script commands done old c new all before after met met'
+end_told options name script commands done all ticket old c new r w before after met met' step memory noted same ends told turned ordered = record {
   answer = r;
   replied = step;
   memory = memory;
   noted = noted;
   part = part;
-  tells = subst (λ n. TellsAny options script commands all new n r part) same any;
+  tells = subst (λ n. TellsAny options name script commands all new n r part) same any;
   added = told.added;
   stays = λ e. absurd (false≢true (sym (ends_false ticket r w ends) ∙ e));
   turns = λ e. turned;
@@ -103,29 +103,29 @@ end_told options script commands done all ticket old c new r w before after met 
     part : List ℕ
     part = heading options.format ticket told.place.line ++ told.own
 
-    headed : IsHeaded options script commands all new ticket r part
-    headed = record { place = told.place; stands = told.stands; own = told.own; tells = tells_reply options script commands all new ticket r w told.own ends told.tells; whole = refl }
+    headed : IsHeaded options name script commands all new ticket r part
+    headed = record { place = told.place; stands = told.stands; own = told.own; tells = tells_reply options name script commands all new ticket r w told.own ends told.tells; whole = refl }
 
-    any : TellsAny options script commands all new ticket r part
-    any = subst (λ b. MatchBool b (part ≡ []) (IsHeaded options script commands all new ticket r part)) (sym (ends_false ticket r w ends)) headed
+    any : TellsAny options name script commands all new ticket r part
+    any = subst (λ b. MatchBool b (part ≡ []) (IsHeaded options name script commands all new ticket r part)) (sym (ends_false ticket r w ends)) headed
 
 -- one command more is told
 pub each_more :
-    (options : ExplainOptions) (script : List ℕ) (commands : List Command) (first_done : List Bool) (old now new : Machine) (done : List Command) (c : Command) (r : Reply) (all : List Bool) (text part whole : List ℕ)
-    → TellsEach options script commands first_done old done now all text → Step now c r new → HadMemory r → TellsAny options script commands (all ++ is_done r ∷ []) new (length all) r part
-    → whole ≡ text ++ part → TellsEach options script commands first_done old (done ++ c ∷ []) new (all ++ is_done r ∷ []) whole
-each_more options script commands first_done old now new [] c r all text part whole (same, kept, empty) step memory tells added = (
+    (options : ExplainOptions) (name script : List ℕ) (commands : List Command) (first_done : List Bool) (old now new : Machine) (done : List Command) (c : Command) (r : Reply) (all : List Bool) (text part whole : List ℕ)
+    → TellsEach options name script commands first_done old done now all text → Step now c r new → HadMemory r → TellsAny options name script commands (all ++ is_done r ∷ []) new (length all) r part
+    → whole ≡ text ++ part → TellsEach options name script commands first_done old (done ++ c ∷ []) new (all ++ is_done r ∷ []) whole
+each_more options name script commands first_done old now new [] c r all text part whole (same, kept, empty) step memory tells added = (
   new,
   r,
   part,
   [],
   subst (λ m. Step m c r new) same step,
   memory,
-  subst (λ (l : List Bool). TellsAny options script commands (l ++ is_done r ∷ []) new (length l) r part) kept tells,
+  subst (λ (l : List Bool). TellsAny options name script commands (l ++ is_done r ∷ []) new (length l) r part) kept tells,
   (refl, ap (λ l. l ++ is_done r ∷ []) kept, refl),
   added ∙ ap (λ t. t ++ part) empty ∙ sym (append-nil part),
 )
-each_more options script commands first_done old now new (d ∷ done) c r all text part whole (mid, s, first, rest, did, had, any, more, split) step memory tells added = (
+each_more options name script commands first_done old now new (d ∷ done) c r all text part whole (mid, s, first, rest, did, had, any, more, split) step memory tells added = (
   mid,
   s,
   first,
@@ -133,26 +133,26 @@ each_more options script commands first_done old now new (d ∷ done) c r all te
   did,
   had,
   any,
-  each_more options script commands (first_done ++ is_done s ∷ []) mid now new done c r all rest part (rest ++ part) more step memory tells refl,
+  each_more options name script commands (first_done ++ is_done s ∷ []) mid now new done c r all rest part (rest ++ part) more step memory tells refl,
   added ∙ ap (λ t. t ++ part) split ∙ append_assoc first rest part,
 )
 
 -- a command is told behind others
 pub command_more :
-    (options : ExplainOptions) (script : List ℕ) (commands : List Command) (old now new : Machine) (done : List Command) (c : Command) (flags all : List Bool) (text whole : List ℕ) (met met' : Met)
-    → TellsEach options script commands [] old done now flags text → TellsCommand options script commands flags now c new all text whole met met'
-    → TellsEach options script commands [] old (done ++ c ∷ []) new all whole
-command_more options script commands old now new done c flags all text whole met met' each told =
-    subst (λ (l : List Bool). TellsEach options script commands [] old (done ++ c ∷ []) new l whole) (sym told.noted)
-    (each_more options script commands [] old now new done c told.answer flags text told.part whole each told.replied told.memory
-    (subst (λ (l : List Bool). TellsAny options script commands l new (length flags) told.answer told.part) told.noted told.tells) told.added)
+    (options : ExplainOptions) (name script : List ℕ) (commands : List Command) (old now new : Machine) (done : List Command) (c : Command) (flags all : List Bool) (text whole : List ℕ) (met met' : Met)
+    → TellsEach options name script commands [] old done now flags text → TellsCommand options name script commands flags now c new all text whole met met'
+    → TellsEach options name script commands [] old (done ++ c ∷ []) new all whole
+command_more options name script commands old now new done c flags all text whole met met' each told =
+    subst (λ (l : List Bool). TellsEach options name script commands [] old (done ++ c ∷ []) new l whole) (sym told.noted)
+    (each_more options name script commands [] old now new done c told.answer flags text told.part whole each told.replied told.memory
+    (subst (λ (l : List Bool). TellsAny options name script commands l new (length flags) told.answer told.part) told.noted told.tells) told.added)
 
 -- and whether a fault or a refusal was met
 pub met_more :
-    (options : ExplainOptions) (script : List ℕ) (all : List Command) (old now new : Machine) (commands done rest : List Command) (c : Command) (flags flags' : List Bool) (text whole : List ℕ) (met met' : Met)
-    → commands ≡ done ++ c ∷ rest → IsMet old commands done now met.end met.ordered → TellsCommand options script all flags now c new flags' text whole met met'
+    (options : ExplainOptions) (name script : List ℕ) (all : List Command) (old now new : Machine) (commands done rest : List Command) (c : Command) (flags flags' : List Bool) (text whole : List ℕ) (met met' : Met)
+    → commands ≡ done ++ c ∷ rest → IsMet old commands done now met.end met.ordered → TellsCommand options name script all flags now c new flags' text whole met met'
     → IsMet old commands (done ++ c ∷ []) new met'.end met'.ordered
-met_more options script all old now new commands done rest c flags flags' text whole met met' split so_far told = go (goes_on told.answer) refl met.end so_far told.stays
+met_more options name script all old now new commands done rest c flags flags' text whole met met' split so_far told = go (goes_on told.answer) refl met.end so_far told.stays
   where
     Behind : Bool → Type 0
     Behind end = IsMet old commands (done ++ c ∷ []) new end met'.ordered
@@ -199,25 +199,25 @@ found_all configuration script commands same first m met answer is equal opened 
     (subst (λ (s : Machine). IsMet s commands commands m met.end met.ordered) opened (subst (λ (l : List Command). IsMet first l l m met.end met.ordered) equal h)))
 
 pub says_all :
-    (options : ExplainOptions) (script : List ℕ) (commands same : List Command) (done : List Bool) (first m : Machine) (met : Met) (answer : Bool) (told text : List ℕ) → IsScript script commands
-    → same ≡ commands → first ≡ opening options.configuration → TellsEach options script commands [] first same m done told → IsMet first same same m met.end met.ordered → answer ≡ met.end
-    → (met.end ≡ true → text ≡ told) → (met.end ≡ false → text ≡ word_of met.ordered) → SaysAll options script answer text
-says_all options script commands same done first m met answer told text is equal opened each h answered some none =
-    subst (λ y. SaysAll options script y text) (sym answered)
+    (options : ExplainOptions) (name script : List ℕ) (commands same : List Command) (done : List Bool) (first m : Machine) (met : Met) (answer : Bool) (told text : List ℕ) → IsScript script commands
+    → same ≡ commands → first ≡ opening options.configuration → TellsEach options name script commands [] first same m done told → IsMet first same same m met.end met.ordered → answer ≡ met.end
+    → (met.end ≡ true → text ≡ told) → (met.end ≡ false → text ≡ word_of met.ordered) → SaysAll options name script answer text
+says_all options name script commands same done first m met answer told text is equal opened each h answered some none =
+    subst (λ y. SaysAll options name script y text) (sym answered)
     (go met.end (subst (λ (s : Machine). IsMet s commands commands m met.end met.ordered) opened (subst (λ (l : List Command). IsMet first l l m met.end met.ordered) equal h)) some none)
   where
-    here : TellsEach options script commands [] (opening options.configuration) commands m done told
+    here : TellsEach options name script commands [] (opening options.configuration) commands m done told
     here =
-        subst (λ (s : Machine). TellsEach options script commands [] s commands m done told) opened
-        (subst (λ (l : List Command). TellsEach options script commands [] first l m done told) equal each)
+        subst (λ (s : Machine). TellsEach options name script commands [] s commands m done told) opened
+        (subst (λ (l : List Command). TellsEach options name script commands [] first l m done told) equal each)
 
     go :
-        (b : Bool) → IsMet (opening options.configuration) commands commands m b met.ordered → (b ≡ true → text ≡ told) → (b ≡ false → text ≡ word_of met.ordered) → SaysAll options script b text
+        (b : Bool) → IsMet (opening options.configuration) commands commands m b met.ordered → (b ≡ true → text ≡ told) → (b ≡ false → text ≡ word_of met.ordered) → SaysAll options name script b text
     go true h some none = record {
       commands = commands;
       machine = m;
       done = done;
       is = is;
-      each = subst (λ (t : List ℕ). TellsEach options script commands [] (opening options.configuration) commands m done t) (sym (some refl)) here;
+      each = subst (λ (t : List ℕ). TellsEach options name script commands [] (opening options.configuration) commands m done t) (sym (some refl)) here;
     }
     go false h some none = record { commands = commands; machine = m; ordered = met.ordered; is = is; led = h; says = none refl }

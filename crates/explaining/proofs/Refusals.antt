@@ -24,9 +24,8 @@ pub told_refusal :
     (limits : Limits) (buffers : Table (List ℕ)) (f : Format) (name script : List ℕ) (commands : List Command) (ticket : ℕ) (place : CommandPlace) (refusal : Refusal) (found : Option Found) (told : RefusedCommand) (text : List ℕ)
     → StandsAt script commands ticket place → TellsRefused name script ticket place refusal (reason_in found) told
     → ((command : Command) → slice_get commands ticket ≡ Some command → IfSome found (λ f. Holds limits buffers command f.reason)) → IsRefusalText f told text
-    → TellsRefusal limits buffers f script commands ticket refusal text
+    → TellsRefusal limits buffers f name script commands ticket refusal text
 told_refusal limits buffers f name script commands ticket place refusal found told text stands tells holds written = record {
-  name = name;
   place = place;
   stands = stands;
   told = told;

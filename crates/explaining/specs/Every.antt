@@ -12,22 +12,22 @@ use Rattle.explaining.specs.declared.facts.ExplainOptions.{ExplainOptions}
 use Rattle.explaining.specs.declared.walks.Walked.{Walked}
 
 -- a text gets that of what a walk ends at, behind the heading of the command of a number
-pub record IsEndAdded (options : ExplainOptions) (script : List ℕ) (commands : List Command) (done : List Bool) (machine : Machine) (ticket : ℕ) (end : Walked) (before after : List ℕ) : Type 0 where
+pub record IsEndAdded (options : ExplainOptions) (name script : List ℕ) (commands : List Command) (done : List Bool) (machine : Machine) (ticket : ℕ) (end : Walked) (before after : List ℕ) : Type 0 where
   pub place : CommandPlace
   pub stands : StandsAt script commands ticket place
   pub own : List ℕ
-  pub tells : TellsEnd options script commands done machine end own
+  pub tells : TellsEnd options name script commands done machine end own
   pub added : after ≡ before ++ (heading options.format ticket place.line ++ own)
 
 -- A command is done, or not, behind others, and a text gets what is told of its reply. Whether a reply was met that is
 -- a fault or a refusal stays as it was, or is true from here on; and so with one that is `ordered`.
-pub record TellsCommand (options : ExplainOptions) (script : List ℕ) (commands : List Command) (done : List Bool) (old : Machine) (command : Command) (new : Machine) (all : List Bool) (before after : List ℕ) (met met' : Met) : Type 0 where
+pub record TellsCommand (options : ExplainOptions) (name script : List ℕ) (commands : List Command) (done : List Bool) (old : Machine) (command : Command) (new : Machine) (all : List Bool) (before after : List ℕ) (met met' : Met) : Type 0 where
   pub answer : Reply
   pub replied : Step old command answer new
   pub memory : HadMemory answer
   pub noted : all ≡ done ++ is_done answer ∷ []
   pub part : List ℕ
-  pub tells : TellsAny options script commands all new (length done) answer part
+  pub tells : TellsAny options name script commands all new (length done) answer part
   pub added : after ≡ before ++ part
   pub stays : goes_on answer ≡ true → met'.end ≡ met.end
   pub turns : goes_on answer ≡ false → met'.end ≡ true

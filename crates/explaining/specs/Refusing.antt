@@ -22,8 +22,7 @@ IsRefusalText format.Json told text = IsCommandLine told text
 
 -- A text tells the refusal of the command of a number, with the place of the command in the script. The reason that it
 -- gives, if it gives one, holds of the command, of these limits and of these buffers.
-pub record TellsRefusal (limits : Limits) (buffers : Table (List ℕ)) (f : Format) (script : List ℕ) (commands : List Command) (ticket : ℕ) (refusal : Refusal) (text : List ℕ) : Type 0 where
-  pub name : List ℕ
+pub record TellsRefusal (limits : Limits) (buffers : Table (List ℕ)) (f : Format) (name script : List ℕ) (commands : List Command) (ticket : ℕ) (refusal : Refusal) (text : List ℕ) : Type 0 where
   pub place : CommandPlace
   pub stands : StandsAt script commands ticket place
   pub told : RefusedCommand

@@ -39,7 +39,7 @@ pub(crate) fn explain_case(
 ) -> Result<Option<ExplainedCase>, RunFault>
     requires { AreAt performed.now.given.script.now performed.now.commands.now performed.now.places.now }
     ensures told { IfOk result (λ found. Tells (machine_of device.now) performed.now.commands.now ticket fault.now schedule (is_some found)) }
-    ensures whole { IfOk result (λ found. IfSome found (λ told. HasWhole (machine_of device.now) (tell_options performed.now.options) performed.now.given.script.now performed.now.commands.now performed.now.done.now ticket fault.now schedule told.schedule told.whole)) }
+    ensures whole { IfOk result (λ found. IfSome found (λ told. HasWhole (machine_of device.now) (tell_options performed.now.options) performed.now.given.name.now performed.now.given.script.now performed.now.commands.now performed.now.done.now ticket fault.now schedule told.schedule told.whole)) }
     ensures failed { IfErr result (Untold (machine_of device.now) performed.now.commands.now ticket) }
 {
     let options = performed.options;

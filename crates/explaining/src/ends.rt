@@ -27,7 +27,7 @@ fn fault_text(
 ) -> Result<String, RunFault>
     requires placed { AreAt performed.now.given.script.now performed.now.commands.now performed.now.places.now }
     requires replied { RepliesAt performed.now.commands.now (machine_of device.now) case.ticket (reply.Fault case.fault case.schedule) }
-    ensures tells { IfOk result (λ text. TellsFaulted performed.now.options performed.now.given.script.now performed.now.commands.now performed.now.done.now (machine_of device.now) case.ticket case.fault case.schedule (string_bytes text)) }
+    ensures tells { IfOk result (λ text. TellsFaulted performed.now.options performed.now.given.name.now performed.now.given.script.now performed.now.commands.now performed.now.done.now (machine_of device.now) case.ticket case.fault case.schedule (string_bytes text)) }
     ensures failed { IfErr result (NoScript performed.now.given.script.now) }
 {
     let (ticket, fault) = (case.ticket, case.fault);
@@ -62,7 +62,7 @@ pub(crate) fn end_text(
 ) -> Result<String, RunFault>
     requires placed { AreAt performed.now.given.script.now performed.now.commands.now performed.now.places.now }
     requires ended { StandsBehind performed.now.commands.now (machine_of device.now) end }
-    ensures tells { IfOk result (λ text. TellsEnd performed.now.options performed.now.given.script.now performed.now.commands.now performed.now.done.now (machine_of device.now) end (string_bytes text)) }
+    ensures tells { IfOk result (λ text. TellsEnd performed.now.options performed.now.given.name.now performed.now.given.script.now performed.now.commands.now performed.now.done.now (machine_of device.now) end (string_bytes text)) }
     ensures failed { IfErr result (NoScript performed.now.given.script.now) }
 {
     match end {

@@ -86,7 +86,7 @@ fn push_end(
     requires placed { AreAt performed.now.given.script.now performed.now.commands.now performed.now.places.now }
     requires within { ticket < length performed.now.commands.now }
     requires ended { StandsBehind performed.now.commands.now (machine_of device.now) end }
-    ensures told { OnOk result (IsEndAdded performed.now.options performed.now.given.script.now performed.now.commands.now performed.now.done.now (machine_of device.now) ticket end (string_bytes out.old) (string_bytes out.new)) }
+    ensures told { OnOk result (IsEndAdded performed.now.options performed.now.given.name.now performed.now.given.script.now performed.now.commands.now performed.now.done.now (machine_of device.now) ticket end (string_bytes out.old) (string_bytes out.new)) }
     ensures failed { IfErr result (NoScript performed.now.given.script.now) }
 {
     let text = end_text(alloc, device, performed, end)?;
@@ -123,7 +123,7 @@ fn tell_command(
 ) -> Result<Met, RunFault>
     requires placed { AreAt script.now.given.script.now script.now.commands.now script.now.places.now }
     requires next { slice_get script.now.commands.now (length done.old.items) ≡ Some command }
-    ensures told { IfOk result (TellsCommand script.now.options script.now.given.script.now script.now.commands.now done.old.items (machine_of device.old) command (machine_of device.new)
+    ensures told { IfOk result (TellsCommand script.now.options script.now.given.name.now script.now.given.script.now script.now.commands.now done.old.items (machine_of device.old) command (machine_of device.new)
         done.new.items (string_bytes out.old) (string_bytes out.new) met) }
     ensures counted { OnOk result (length done.new.items ≡ length done.old.items + 1) }
     ensures failed { IfErr result (NoScript script.now.given.script.now) }
@@ -164,7 +164,7 @@ fn tell_commands(
 ) -> Result<AllTold, RunFault>
     requires placed { AreAt script.now.given.script.now script.now.commands.now script.now.places.now }
     requires same { same.items ≡ script.now.commands.now }
-    ensures each { IfOk result (λ told. (done : List Bool) × TellsEach script.now.options script.now.given.script.now script.now.commands.now [] (machine_of device.old) same.items (machine_of device.new) done (string_bytes told.text)) }
+    ensures each { IfOk result (λ told. (done : List Bool) × TellsEach script.now.options script.now.given.name.now script.now.given.script.now script.now.commands.now [] (machine_of device.old) same.items (machine_of device.new) done (string_bytes told.text)) }
     ensures met { IfOk result (λ told. IsMet (machine_of device.old) same.items same.items (machine_of device.new) told.met.end told.met.ordered) }
     ensures failed { IfErr result (NoScript script.now.given.script.now) }
 {
@@ -202,7 +202,7 @@ pub(crate) fn explain_all(alloc: Global, script: &ReadScript<'_>) -> Result<Answ
     requires script { IsScript script.now.given.script.now script.now.commands.now }
     requires placed { AreAt script.now.given.script.now script.now.commands.now script.now.places.now }
     ensures found { IfOk result (λ answer. Found script.now.options.configuration script.now.given.script.now answer.yes) }
-    ensures says { IfOk result (λ answer. SaysAll script.now.options script.now.given.script.now answer.yes (string_bytes answer.text)) }
+    ensures says { IfOk result (λ answer. SaysAll script.now.options script.now.given.name.now script.now.given.script.now answer.yes (string_bytes answer.text)) }
     ensures failed { IfErr result (NoScript script.now.given.script.now) }
 {
     let same = copies_of(alloc, script.commands)?;

@@ -43,7 +43,7 @@ fn told_at(
     requires placed { AreAt given.script.now commands.now places.now }
     requires within { ticket ≤ length commands.now }
     ensures told { IfOk result (λ found. IsTold options.configuration commands.now ticket fault.now schedule (is_some found)) }
-    ensures whole { IfOk result (λ found. IfSome found (IsToldThere options given.entry.script.now commands.now ticket fault.now schedule)) }
+    ensures whole { IfOk result (λ found. IfSome found (IsToldThere options given.entry.name.now given.entry.script.now commands.now ticket fault.now schedule)) }
     ensures failed { IfErr result (Unled options.configuration commands.now ticket) }
 {
     let (first, _) = commands.split_at(ticket);
@@ -72,7 +72,7 @@ fn told_in(
     requires script { IsScript given.script.now commands.now }
     requires placed { AreAt given.script.now commands.now places.now }
     ensures explained { IfOk result (λ found. Explained options.configuration given.entry.script.now schedule.now (is_some found)) }
-    ensures whole { IfOk result (λ found. IfSome found (IsToldOf options given.entry.script.now schedule.now)) }
+    ensures whole { IfOk result (λ found. IfSome found (IsToldOf options given.entry.name.now given.entry.script.now schedule.now)) }
     ensures failed { IfErr result (Unexplained options.configuration given.entry.script.now schedule.now) }
 {
     let (number, fault, runs) = read(alloc, schedule)?;
@@ -99,7 +99,7 @@ fn explain_schedule(
     options: ExplainOptions,
 ) -> Result<Answer, RunFault>
     ensures explained { IfOk result (λ answer. Explained options.configuration given.entry.script.now schedule.now answer.yes) }
-    ensures says { IfOk result (λ answer. SaysOf options given.entry.script.now schedule.now answer.yes (string_bytes answer.text)) }
+    ensures says { IfOk result (λ answer. SaysOf options given.entry.name.now given.entry.script.now schedule.now answer.yes (string_bytes answer.text)) }
     ensures failed { IfErr result (Unexplained options.configuration given.entry.script.now schedule.now) }
 {
     let Script { commands, places } = read_script(alloc, given.script)?;
@@ -126,7 +126,7 @@ fn answer_at(
     requires walked { WalkedTo (opening performed.now.options.configuration) performed.now.commands.now (machine_of device.now) end }
     requires noted { IsNoted end performed.now.done.now }
     ensures found { IfOk result (λ answer. Found performed.now.options.configuration performed.now.given.script.now answer.yes) }
-    ensures says { IfOk result (λ answer. SaysOne performed.now.options performed.now.given.script.now answer.yes (string_bytes answer.text)) }
+    ensures says { IfOk result (λ answer. SaysOne performed.now.options performed.now.given.name.now performed.now.given.script.now answer.yes (string_bytes answer.text)) }
     ensures failed { IfErr result (NoScript performed.now.given.script.now) }
 {
     let yes = end.is_end();
@@ -145,7 +145,7 @@ fn explain_commands(
     requires script { IsScript given.script.now commands.now }
     requires placed { AreAt given.script.now commands.now places.now }
     ensures found { IfOk result (λ answer. Found options.configuration given.entry.script.now answer.yes) }
-    ensures says { IfOk result (λ answer. SaysOne options given.entry.script.now answer.yes (string_bytes answer.text)) }
+    ensures says { IfOk result (λ answer. SaysOne options given.entry.name.now given.entry.script.now answer.yes (string_bytes answer.text)) }
     ensures failed { IfErr result (NoScript given.entry.script.now) }
 {
     let same = copies_of(alloc, commands)?;
@@ -167,7 +167,7 @@ fn explain_script(
     options: ExplainOptions,
 ) -> Result<Answer, RunFault>
     ensures found { IfOk result (λ answer. Found options.configuration given.entry.script.now answer.yes) }
-    ensures says { IfOk result (λ answer. SaysScript options given.entry.script.now answer.yes (string_bytes answer.text)) }
+    ensures says { IfOk result (λ answer. SaysScript options given.entry.name.now given.entry.script.now answer.yes (string_bytes answer.text)) }
     ensures failed { IfErr result (NoScript given.entry.script.now) }
 {
     let Script { commands, places } = read_script(alloc, given.script)?;

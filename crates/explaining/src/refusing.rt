@@ -102,7 +102,7 @@ pub(crate) fn explain_refused(
     requires placed { AreAt performed.now.given.script.now performed.now.commands.now performed.now.places.now }
     requires within { case.ticket < length performed.now.commands.now }
     ensures { IfOk result (λ text. TellsRefusal performed.now.options.configuration.limits (machine_of device.now).buffers performed.now.options.format
-        performed.now.given.script.now performed.now.commands.now case.ticket case.refusal (string_bytes text)) }
+        performed.now.given.name.now performed.now.given.script.now performed.now.commands.now case.ticket case.refusal (string_bytes text)) }
 {
     let found = reason_at(alloc, device, performed, case)?;
     let place = place_of(performed.places, case.ticket);

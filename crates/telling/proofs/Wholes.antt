@@ -2,6 +2,7 @@
 use Rattle.std.proofs.Common.{◌≡◌, ◌-◌, ◌^◌, ℕ, Bool, Option, None, Some, List, string_bytes, ap, ◌∙◌, subst}
 use Rattle.std.specs.Prelude.{slice_get}
 use Rattle.std.specs.Option.{IfSome}
+use Rattle.std.specs.Str.Lossy.{utf8_lossy}
 use Rattle.clmodel.specs.Launch.{Launch}
 use Rattle.clmodel.specs.Law.{Reaches}
 use Rattle.clmodel.specs.Next.{launch_of}
@@ -33,13 +34,14 @@ use Rattle.telling.specs.declared.facts.TellOptions.{TellOptions}
 
 -- an explanation of what was played
 pub explained :
-    (e : Explanation) (options : TellOptions) (launch : Launch) (contents : List ℕ → List ℕ) (context : Context) (ticket : ℕ) (place : CommandPlace) (range : Range) (orders : Bool) (f : Fault) (runs : List EventRun) (facts : ScheduleFacts) (first second : ℕ) (played : Played)
-    → TellsLaunch options.budget ticket place range orders e.launch → TellsNames context e.launch → TellsFault f e.fault → TellsObject contents f e.memory → e.schedule ≡ facts
+    (e : Explanation) (options : TellOptions) (name : List ℕ) (launch : Launch) (contents : List ℕ → List ℕ) (context : Context) (ticket : ℕ) (place : CommandPlace) (range : Range) (orders : Bool) (f : Fault) (runs : List EventRun) (facts : ScheduleFacts) (first second : ℕ) (played : Played)
+    → string_bytes e.script ≡ utf8_lossy name → TellsLaunch options.budget ticket place range orders e.launch → TellsNames context e.launch → TellsFault f e.fault → TellsObject contents f e.memory → e.schedule ≡ facts
     → AreToldInside context played.marks.items (told_items f played) e.items.items → TellsPlayed options (group_items (launches.setup_of context.launch.now).range) f played e
     → string_bytes facts.short ≡ schedule_words runs → AreNamed f first second
     → IsPlayedOut launch (launches.started context.launch.now) (group_items (launches.setup_of context.launch.now).range) (events_of runs) f first second (2 ^ 64 - 1) played
-    → Reaches launch (events_of runs) f → IsExplained options launch contents context ticket place range orders f runs e
-explained e options launch contents context ticket place range orders f runs facts first second played launched names faulted object same items tells words named plays leads = record {
+    → Reaches launch (events_of runs) f → IsExplained options name launch contents context ticket place range orders f runs e
+explained e options name launch contents context ticket place range orders f runs facts first second played script launched names faulted object same items tells words named plays leads = record {
+  script = script;
   launched = launched;
   names = names;
   faulted = faulted;
@@ -58,12 +60,12 @@ explained e options launch contents context ticket place range orders f runs fac
 
 -- what is told of a prepared launch
 pub whole :
-    (m : Machine) (options : TellOptions) (script : List ℕ) (commands : List Command) (done : List Bool) (ticket : ℕ) (place : CommandPlace) (kernel : List ℕ) (range : Range) (orders : Bool) (context : Context) (buffers : Table (List ℕ)) (f : Fault) (given runs : List EventRun) (e : Explanation)
+    (m : Machine) (options : TellOptions) (name script : List ℕ) (commands : List Command) (done : List Bool) (ticket : ℕ) (place : CommandPlace) (kernel : List ℕ) (range : Range) (orders : Bool) (context : Context) (buffers : Table (List ℕ)) (f : Fault) (given runs : List EventRun) (e : Explanation)
     → slice_get commands ticket ≡ Some (command.Launch kernel range orders) → IsPrepared m kernel range context.launch.now → buffers ≡ m.buffers → IsSourceOf script commands done kernel context.program → StandsAt script commands ticket place
     → IsShort (launch_of (launches.setup_of context.launch.now) (bytes_in buffers)) f given runs → IsAsWanted options.as_given given runs → string_bytes e.schedule.given ≡ schedule_words given
-    → IsExplained options (launch_of (launches.setup_of context.launch.now) (bytes_in buffers)) (bytes_in buffers) context ticket place range orders f runs e → context.kernel.now ≡ kernel
-    → HasWhole m options script commands done ticket f given runs e
-whole m options script commands done ticket place kernel range orders context buffers f given runs e at p same source stands short wanted words explained named = record {
+    → IsExplained options name (launch_of (launches.setup_of context.launch.now) (bytes_in buffers)) (bytes_in buffers) context ticket place range orders f runs e → context.kernel.now ≡ kernel
+    → HasWhole m options name script commands done ticket f given runs e
+whole m options name script commands done ticket place kernel range orders context buffers f given runs e at p same source stands short wanted words explained named = record {
   kernel = kernel;
   range = range;
   orders = orders;
@@ -81,8 +83,8 @@ whole m options script commands done ticket place kernel range orders context bu
   place = place;
   stands = stands;
   explained =
-      subst (λ (b : Table (List ℕ)). IsExplained options (launch_of (setup_of m (kernel_of m kernel) range) (bytes_in b)) (bytes_in b) context ticket place range orders f runs e) same
-      (subst (λ (s : Setup). IsExplained options (launch_of s (bytes_in buffers)) (bytes_in buffers) context ticket place range orders f runs e) p.setup explained);
+      subst (λ (b : Table (List ℕ)). IsExplained options name (launch_of (setup_of m (kernel_of m kernel) range) (bytes_in b)) (bytes_in b) context ticket place range orders f runs e) same
+      (subst (λ (s : Setup). IsExplained options name (launch_of s (bytes_in buffers)) (bytes_in buffers) context ticket place range orders f runs e) p.setup explained);
   schedule = words;
 }
 

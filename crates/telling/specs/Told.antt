@@ -117,8 +117,10 @@ pub record TellsItems (options : TellOptions) (launch : Launch) (context : Conte
   pub told : AreTold context played.marks.items (told_items f played) e.items.items
   pub tells : TellsPlayed options (group_items (launches.setup_of context.launch.now).range) f played e
 
--- an explanation of a launch, whose buffers have these contents, and of its fault by a schedule
-pub record IsExplained (options : TellOptions) (launch : Launch) (contents : List ℕ → List ℕ) (context : Context) (ticket : ℕ) (place : CommandPlace) (range : Range) (orders : Bool) (f : Fault) (runs : List EventRun) (e : Explanation) : Type 0 where
+-- an explanation of a launch of the script of this name, whose buffers have these contents, and of its fault by a
+-- schedule
+pub record IsExplained (options : TellOptions) (name : List ℕ) (launch : Launch) (contents : List ℕ → List ℕ) (context : Context) (ticket : ℕ) (place : CommandPlace) (range : Range) (orders : Bool) (f : Fault) (runs : List EventRun) (e : Explanation) : Type 0 where
+  pub script : string_bytes e.script ≡ utf8_lossy name
   pub launched : TellsLaunch options.budget ticket place range orders e.launch
   pub names : TellsNames context e.launch
   pub faulted : TellsFault f e.fault
@@ -141,10 +143,10 @@ IsSourceOf script commands done kernel source =
 abbrev pub IsAsWanted : Bool → List EventRun → List EventRun → Type 0
 IsAsWanted as_given given runs = MatchBool as_given (runs ≡ given) ⊤
 
--- An explanation of the launch of a ticket, where these commands were done. Its schedule leads the launch to the fault
--- and isn't longer than the given one, or is that very one; its places are those in the source of the kernel's program,
--- and its line that of the launch's command. The launch runs this kernel's code.
-pub record HasWhole (m : Machine) (options : TellOptions) (script : List ℕ) (commands : List Command) (done : List Bool) (ticket : ℕ) (f : Fault) (given runs : List EventRun) (e : Explanation) : Type 0 where
+-- An explanation of the launch of a ticket of the script of this name, where these commands were done. Its schedule
+-- leads the launch to the fault and isn't longer than the given one, or is that very one; its places are those in the
+-- source of the kernel's program, and its line that of the launch's command. The launch runs this kernel's code.
+pub record HasWhole (m : Machine) (options : TellOptions) (name script : List ℕ) (commands : List Command) (done : List Bool) (ticket : ℕ) (f : Fault) (given runs : List EventRun) (e : Explanation) : Type 0 where
   pub kernel : List ℕ
   pub range : Range
   pub orders : Bool
@@ -158,5 +160,5 @@ pub record HasWhole (m : Machine) (options : TellOptions) (script : List ℕ) (c
   pub source : IsSourceOf script commands done kernel context.program
   pub place : CommandPlace
   pub stands : StandsAt script commands ticket place
-  pub explained : IsExplained options (launch_of (setup_of m (kernel_of m kernel) range) (bytes_of m)) (bytes_of m) context ticket place range orders f runs e
+  pub explained : IsExplained options name (launch_of (setup_of m (kernel_of m kernel) range) (bytes_of m)) (bytes_of m) context ticket place range orders f runs e
   pub schedule : string_bytes e.schedule.given ≡ schedule_words given

@@ -366,6 +366,7 @@ fn head_of(
     place: &LaunchTexts<'_>,
     fault: &Fault,
 ) -> Result<Head, AllocError>
+    ensures script { IfOk result (λ head. string_bytes head.script ≡ utf8_lossy place.now.name.now) }
     ensures launch { IfOk result (λ head. TellsLaunch place.now.options.budget place.now.ticket place.now.place place.now.range.now place.now.orders head.launch) }
     ensures names { IfOk result (λ head. TellsNames context.now head.launch) }
     ensures fault { IfOk result (λ head. TellsFault fault.now head.fault) }
@@ -427,6 +428,7 @@ pub(crate) fn explanation_of(
     played: &Played,
     schedule: ScheduleFacts,
 ) -> Result<Explanation, AllocError>
+    ensures script { IfOk result (λ whole. string_bytes whole.script ≡ utf8_lossy place.now.name.now) }
     ensures launch { IfOk result (λ whole. TellsLaunch place.now.options.budget place.now.ticket place.now.place place.now.range.now place.now.orders whole.launch) }
     ensures names { IfOk result (λ whole. TellsNames context.now whole.launch) }
     ensures fault { IfOk result (λ whole. TellsFault fault.now whole.fault) }

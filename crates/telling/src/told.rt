@@ -111,7 +111,7 @@ fn whole_of(
     requires leads { Reaches (launch_of (setup_of context.now.launch.now) (bytes_in buffers.now)) (events_of short.now.schedule) fault.now }
     ensures none { IfOk result (λ found. IfNone found (Reaches (launch_of (setup_of context.now.launch.now) (bytes_in buffers.now)) (events_of short.now.schedule) fault.now → ⊥)) }
     ensures given { IfOk result (λ found. IfSome found (λ whole. whole.schedule.given ≡ given.text)) }
-    ensures whole { IfOk result (λ found. IfSome found (IsExplained place.now.options (launch_of (setup_of context.now.launch.now) (bytes_in buffers.now)) (bytes_in buffers.now) context.now
+    ensures whole { IfOk result (λ found. IfSome found (IsExplained place.now.options place.now.name.now (launch_of (setup_of context.now.launch.now) (bytes_in buffers.now)) (bytes_in buffers.now) context.now
         place.now.ticket place.now.place place.now.range.now place.now.orders fault.now short.now.schedule)) }
 {
     let (alloc, launch) = (context.alloc, context.launch);
@@ -140,7 +140,7 @@ fn told_of(
     ensures told { IfOk result (λ found. IfSome found (λ told. IsShort (launch_of (setup_of context.now.launch.now) (bytes_in buffers.now)) fault.now schedule told.schedule)) }
     ensures wanted { IfOk result (λ found. IfSome found (λ told. IsAsWanted as_given schedule told.schedule)) }
     ensures given { IfOk result (λ found. IfSome found (λ told. string_bytes told.whole.schedule.given ≡ schedule_words schedule)) }
-    ensures whole { IfOk result (λ found. IfSome found (λ told. IsExplained place.now.options (launch_of (setup_of context.now.launch.now) (bytes_in buffers.now)) (bytes_in buffers.now) context.now
+    ensures whole { IfOk result (λ found. IfSome found (λ told. IsExplained place.now.options place.now.name.now (launch_of (setup_of context.now.launch.now) (bytes_in buffers.now)) (bytes_in buffers.now) context.now
         place.now.ticket place.now.place place.now.range.now place.now.orders fault.now told.schedule told.whole)) }
 {
     let given = given_schedule(context.alloc, &schedule)?;
@@ -169,7 +169,7 @@ fn explain_launch(
     ensures told { IfOk result (λ found. IfSome found (λ told. IsShort (launch_of (setup_of context.now.launch.now) (bytes_in buffers.now)) fault.now schedule told.schedule)) }
     ensures wanted { IfOk result (λ found. IfSome found (λ told. IsAsWanted as_given schedule told.schedule)) }
     ensures given { IfOk result (λ found. IfSome found (λ told. string_bytes told.whole.schedule.given ≡ schedule_words schedule)) }
-    ensures whole { IfOk result (λ found. IfSome found (λ told. IsExplained place.now.options (launch_of (setup_of context.now.launch.now) (bytes_in buffers.now)) (bytes_in buffers.now) context.now
+    ensures whole { IfOk result (λ found. IfSome found (λ told. IsExplained place.now.options place.now.name.now (launch_of (setup_of context.now.launch.now) (bytes_in buffers.now)) (bytes_in buffers.now) context.now
         place.now.ticket place.now.place place.now.range.now place.now.orders fault.now told.schedule told.whole)) }
 {
     let (alloc, launch) = (context.alloc, context.launch);
@@ -255,7 +255,7 @@ pub fn explain_case(
 ) -> Result<Option<ExplainedCase>, RunFault>
     requires { AreAt launched.now.script.now launched.now.commands.now launched.now.places.now }
     ensures told { IfOk result (λ found. Tells (machine_of device.now) launched.now.commands.now ticket fault.now schedule (is_some found)) }
-    ensures whole { IfOk result (λ found. IfSome found (λ told. HasWhole (machine_of device.now) launched.now.options launched.now.script.now launched.now.commands.now launched.now.done.now ticket fault.now schedule told.schedule told.whole)) }
+    ensures whole { IfOk result (λ found. IfSome found (λ told. HasWhole (machine_of device.now) launched.now.options launched.now.name.now launched.now.script.now launched.now.commands.now launched.now.done.now ticket fault.now schedule told.schedule told.whole)) }
     ensures failed { IfErr result (Untold (machine_of device.now) launched.now.commands.now ticket) }
 {
     let Some((kernel, range, orders)) = launch_in(launched.commands, ticket) else {

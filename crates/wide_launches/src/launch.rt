@@ -17,7 +17,7 @@ use widening::{Wide, widen};
 /// The buffers of a launch, by their places among its names, and the arguments of its kernel, on whose bytes and
 /// numbers the machine's reply to it doesn't depend; and the first place of its code where each of the others decides
 /// (OpenCL 1.2, sections 3.2 and 3.3.1). The code is that of the launch's kernel. None where nothing was found, or the
-/// code is too long (`widen`). An error is out of memory.
+/// code is too large (`widen`). An error is out of memory.
 pub fn widen_launch(
     alloc: Global,
     code: &Code,

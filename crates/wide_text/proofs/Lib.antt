@@ -1,5 +1,6 @@
 mod Beside
 mod Failing
+mod InKernel
 mod Floats
 mod Flagged
 mod Runs

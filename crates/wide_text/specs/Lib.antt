@@ -1,3 +1,4 @@
 pub mod Told
 pub mod Members
 pub mod Widened
+pub mod Faults

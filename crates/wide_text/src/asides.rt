@@ -39,7 +39,7 @@ fn in_line(byte: u8) -> u8
 }
 
 /// Adds a text in one line: with a blank in place of each line feed.
-fn push_in_line(text: &[u8], out: &mut Vec<u8>) -> Result<(), AllocError>
+pub(crate) fn push_in_line(text: &[u8], out: &mut Vec<u8>) -> Result<(), AllocError>
     ensures { OnOk result ((line : List ℕ) × IsOneLine line × (out.new.items ≡ out.old.items ++ line)) }
 {
     for byte in text {
@@ -88,7 +88,7 @@ fn push_buffers(buffers: &[FreeBuffer], out: &mut String) -> Result<(), AllocErr
 }
 
 /// Adds the arguments that are free, with commas between them.
-fn push_arguments(
+pub(crate) fn push_arguments(
     first: &'static str,
     arguments: &[FreeArgument],
     out: &mut String,
@@ -118,11 +118,10 @@ fn held_text(alloc: Global, launch: &WideLaunch) -> Result<String, AllocError> {
     Ok(out)
 }
 
-/// What decides, and where, in words. An error is out of memory.
-fn deciding_text(alloc: Global, deciding: &Deciding) -> Result<String, AllocError> {
-    let mut out = String::from_str(alloc, "not for ")?;
+/// Adds what decides, and where.
+pub(crate) fn push_deciding(deciding: &Deciding, out: &mut String) -> Result<(), AllocError> {
     match deciding.index {
-        Some(index) => push_argument(index, deciding.name.as_str(), &mut out)?,
+        Some(index) => push_argument(index, deciding.name.as_str(), out)?,
         None => out.push_str(deciding.name.as_str())?,
     }
     let why = why_word(deciding.why);
@@ -135,6 +134,13 @@ fn deciding_text(alloc: Global, deciding: &Deciding) -> Result<String, AllocErro
             " at {line}:{column}, line {script_line} of the script: {text}"
         )?;
     }
+    Ok(())
+}
+
+/// What decides, and where, in words. An error is out of memory.
+fn deciding_text(alloc: Global, deciding: &Deciding) -> Result<String, AllocError> {
+    let mut out = String::from_str(alloc, "not for ")?;
+    push_deciding(deciding, &mut out)?;
     Ok(out)
 }
 

@@ -6,7 +6,7 @@ ghost use Rattle.std.specs.Prelude.{◌<◌, vec_len, OnOk};
 use clmodel::text::Name;
 use clmodel::tree::{Expression, Statement};
 use cltypes::Checked;
-use device::{Command, Limits};
+use device::{Command, Limits, Reply};
 use explanation::{Code, NodeKind};
 use host_commands::build::{NotBuilt, build};
 use host_commands::kernel::parameters_of;
@@ -158,6 +158,14 @@ impl<'a> Sources<'a> {
                 )
             }
             _ => Ok(()),
+        }
+    }
+
+    /// Goes over a command with this reply, if it was done. An error is out of memory.
+    pub(crate) fn pass_done(&mut self, number: usize, reply: &Reply) -> Result<(), AllocError> {
+        match reply {
+            Reply::Refused(_) => Ok(()),
+            _ => self.pass(number),
         }
     }
 

@@ -111,7 +111,7 @@ fn parameter_of(
 }
 
 /// The arguments of a launch that are free. An error is out of memory.
-fn free_arguments(
+pub(crate) fn free_arguments(
     alloc: Global,
     source: Option<&LaunchSource<'_>>,
     free: &[bool],
@@ -165,7 +165,7 @@ fn deciding_of(
 }
 
 /// What is told of the sources that decide. An error is out of memory.
-fn all_deciding(
+pub(crate) fn all_deciding(
     alloc: Global,
     source: Option<&LaunchSource<'_>>,
     buffers: &[Name],

@@ -25,14 +25,14 @@ use std::alloc::{AllocError, Global};
 use wide_scripts::widen_script;
 
 /// Whether a reply is a fault.
-fn is_fault(reply: &Reply) -> bool
+pub(crate) fn is_fault(reply: &Reply) -> bool
     ensures { result ≡ is_fault reply.now }
 {
     matches!(reply, Reply::Fault { .. })
 }
 
 /// Whether a reply is a refusal.
-fn is_refused(reply: &Reply) -> bool
+pub(crate) fn is_refused(reply: &Reply) -> bool
     ensures { result ≡ is_refused reply.now }
 {
     matches!(reply, Reply::Refused(_))

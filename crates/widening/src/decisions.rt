@@ -1,9 +1,11 @@
 //! Where sources decide what a launch does. Nothing rests on it: what is found is checked.
 #![tactic(auto)]
 
+ghost use Rattle.std.specs.Prelude.{◌<◌, ◌^◌, length};
+
 use crate::known::{NO_NUMBER, Set};
 use crate::search::Search;
-use crate::searched::{Here, Searched};
+use crate::searched::Searched;
 use clmodel::setup::Argument;
 use clnum::BinaryOperator;
 use regcode::Instruction;
@@ -52,7 +54,7 @@ pub(crate) struct Decided {
 }
 
 /// The sources that a division may fail by, where its operands are these.
-fn divided(here: Here<'_>, left: u32, right: u32) -> Set {
+fn divided(here: &Search, left: u32, right: u32) -> Set {
     let (left, right) = (here.at(left), here.at(right));
     if right.is_divisor {
         NO_NUMBER
@@ -71,7 +73,7 @@ fn may_fail(operator: BinaryOperator) -> bool {
 
 impl Searched<'_> {
     /// The sources that decide at a place, and why.
-    fn deciding(&self, here: Here<'_>, instruction: &Instruction) -> Option<(Set, Why)> {
+    fn deciding(&self, here: &Search, instruction: &Instruction) -> Option<(Set, Why)> {
         match instruction {
             Instruction::Binary {
                 operator,
@@ -94,16 +96,22 @@ impl Searched<'_> {
         }
     }
 
-    /// All sources that decide, by the first places where they do, in the order of the code. An error is out of memory.
+    /// All sources that decide, by the first places where they do, in the order of the code, once all is known: a last
+    /// walk. An error is out of memory.
     pub(crate) fn decided(
         &self,
         alloc: Global,
-        search: &Search,
-    ) -> Result<Vec<Decided>, AllocError> {
+        search: &mut Search,
+    ) -> Result<Vec<Decided>, AllocError>
+        requires { length self.now.instructions.now < 2 ^ 32 }
+    {
         let mut all = NO_NUMBER;
         let mut decided = Vec::new(alloc);
-        for (place, instruction) in self.instructions.iter().enumerate() {
-            if let Some((deciding, why)) = self.deciding(Here { search, place }, instruction) {
+        search.forget();
+        for place in 0..self.instructions.len() {
+            let instruction = &self.instructions[place];
+            search.arrive(place)?;
+            if let Some((deciding, why)) = self.deciding(search, instruction) {
                 let sources = deciding.without(all);
                 if !sources.is_empty() {
                     all = all.with(sources);
@@ -114,6 +122,7 @@ impl Searched<'_> {
                     })?;
                 }
             }
+            self.step(search, place, instruction)?;
         }
         Ok(decided)
     }

@@ -18,6 +18,19 @@ pub(crate) struct Found<'a> {
     pub(crate) deciding: Set,
 }
 
+/// The labels of registers of which these are known, by the label of each thing that is known. An error is out of
+/// memory.
+fn row_of(alloc: Global, kinds: &[u32], labels: &[Label]) -> Result<Row, AllocError> {
+    let mut row = Vec::with_capacity(alloc, kinds.len())?;
+    for kind in kinds {
+        row.push(match labels.get(*kind as usize) {
+            Some(label) => *label,
+            None => Label::Unset,
+        })?;
+    }
+    Ok(Row::new(row))
+}
+
 impl Found<'_> {
     /// Whether a number from these sources may differ: one of them decides nothing.
     fn is_free(&self, sources: Set) -> bool {
@@ -53,22 +66,27 @@ impl Found<'_> {
         label
     }
 
-    /// The label of each register at each place. An error is out of memory.
-    pub(crate) fn rows(&self, alloc: Global) -> Result<Vec<Row>, AllocError> {
+    /// The label of each register at each place to which a jump leads. An error is out of memory.
+    pub(crate) fn rows(&self, alloc: Global) -> Result<Vec<Option<Row>>, AllocError> {
+        let labels = self.labels(alloc)?;
         let mut rows = Vec::new(alloc);
-        for row in &self.search.rows {
-            rows.push(self.row(alloc, row.as_slice())?)?;
+        for kinds in &self.search.rows {
+            let row = match kinds {
+                Some(kinds) => Some(row_of(alloc, kinds.as_slice(), labels.as_slice())?),
+                None => None,
+            };
+            rows.push(row)?;
         }
         Ok(rows)
     }
 
-    /// The labels of registers of which these are known.
-    fn row(&self, alloc: Global, row: &[Known]) -> Result<Row, AllocError> {
+    /// The label of a register by the number of what is known of it. An error is out of memory.
+    fn labels(&self, alloc: Global) -> Result<Vec<Label>, AllocError> {
         let mut labels = Vec::new(alloc);
-        for known in row {
+        for known in &self.search.kinds.all {
             labels.push(self.label(*known))?;
         }
-        Ok(Row::new(labels))
+        Ok(labels)
     }
 
     /// Which of these sets of sources may make numbers differ.

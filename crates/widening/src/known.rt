@@ -120,4 +120,17 @@ impl Known {
             objects: self.objects,
         }
     }
+
+    /// A number that is another one for most others.
+    pub(crate) fn hash(self) -> u64 {
+        let mut hash = self.sources.bits.wrapping_mul(0x9E37_79B9_7F4A_7C15);
+        hash ^= self.objects.bits.wrapping_mul(0xC2B2_AE3D_27D4_EB4F);
+        if self.is_set {
+            hash ^= 1;
+        }
+        if self.is_divisor {
+            hash ^= 2;
+        }
+        hash ^ (hash >> 32)
+    }
 }

@@ -13,12 +13,14 @@ mod decisions;
 mod flows;
 mod found;
 mod free;
+mod kinds;
 mod known;
 mod labels;
 pub mod laws;
 mod row;
 mod search;
 mod searched;
+mod step;
 pub mod wide;
 
 pub use decisions::{Decision, Source, Why};

@@ -5,6 +5,7 @@ ghost use Rattle.std.specs.Prelude.{◌<◌, ◌^◌, length};
 
 use crate::known::{Known, NO_NUMBER, NOTHING, Set};
 use crate::search::Search;
+use crate::step::target;
 use clmodel::setup::Argument;
 use clmodel::text::Name;
 use clmodel::tree::VariableType;
@@ -22,32 +23,20 @@ pub(crate) struct Searched<'a> {
     pub(crate) uniform: bool,
 }
 
-/// What is known at a place.
-#[derive(Clone, Copy)]
-pub(crate) struct Here<'a> {
-    pub(crate) search: &'a Search,
-    pub(crate) place: usize,
-}
-
-impl Here<'_> {
-    /// What is known of a register.
-    pub(crate) fn at(self, register: u32) -> Known {
-        self.search.at(self.place, register as usize)
-    }
-
+impl Search {
     /// What is known of a number that is made of one.
-    fn of(self, operand: u32) -> Known {
+    fn of(&self, operand: u32) -> Known {
         self.at(operand).plain()
     }
 
     /// What is known of a number that is made of two.
-    fn of_both(self, left: u32, right: u32) -> Known {
+    fn of_both(&self, left: u32, right: u32) -> Known {
         self.at(left).joined(self.at(right)).plain()
     }
 
     /// What is known of a number that is read through a pointer.
-    fn read(self, pointer: u32) -> Known {
-        Known::number(self.search.held(self.at(pointer)))
+    fn read(&self, pointer: u32) -> Known {
+        Known::number(self.held(self.at(pointer)))
     }
 }
 
@@ -88,7 +77,7 @@ impl Searched<'_> {
     }
 
     /// What is known of the register that an instruction writes, if it writes one.
-    fn written(&self, here: Here<'_>, instruction: &Instruction) -> Option<(u32, Known)> {
+    fn written(&self, here: &Search, instruction: &Instruction) -> Option<(u32, Known)> {
         match instruction {
             Instruction::Constant { to, value } => Some((*to, Known::constant(*value))),
             Instruction::Unset { to } => Some((*to, NOTHING)),
@@ -126,7 +115,7 @@ impl Searched<'_> {
                 Some((*to, Known::pointer(self.behind_buffers(*number as usize))))
             }
             Instruction::PrivateLoad { to, array, .. } => {
-                Some((*to, Known::number(here.search.kept_in(*array))))
+                Some((*to, Known::number(here.kept_in(*array))))
             }
             Instruction::Offset { to, pointer, .. } => Some((*to, here.of(*pointer))),
             Instruction::Load { to, pointer } | Instruction::Fetch { to, pointer, .. } => {
@@ -136,41 +125,79 @@ impl Searched<'_> {
         }
     }
 
-    /// One pass over the code.
-    fn pass(&self, search: &mut Search)
+    /// The walk goes over the instruction at a place. An error is out of memory.
+    pub(crate) fn step(
+        &self,
+        search: &mut Search,
+        place: usize,
+        instruction: &Instruction,
+    ) -> Result<(), AllocError>
+        requires { place < 2 ^ 32 }
+    {
+        put_down(search, instruction);
+        let written = self.written(search, instruction);
+        if let Some(next) = target(place, instruction) {
+            search.jump(next)?;
+        }
+        match instruction {
+            Instruction::Jump { .. } | Instruction::Back { .. } | Instruction::End =>
+                search.forget(),
+            _ => {
+                if let Some((to, known)) = written {
+                    search.set(to, known)?;
+                }
+            }
+        }
+        Ok(())
+    }
+
+    /// One walk over the code. An error is out of memory.
+    fn pass(&self, search: &mut Search) -> Result<(), AllocError>
+        requires { length self.now.instructions.now < 2 ^ 32 }
+    {
+        search.forget();
+        for place in 0..self.instructions.len() {
+            search.arrive(place)?;
+            self.step(search, place, &self.instructions[place])?;
+        }
+        Ok(())
+    }
+
+    /// How many jumps there are: at least as many as places to which they lead.
+    pub(crate) fn jumps(&self) -> usize
+        requires { length self.now.instructions.now < 2 ^ 32 }
+    {
+        let mut jumps = 0usize;
+        for place in 0..self.instructions.len() {
+            if target(place, &self.instructions[place]).is_some() {
+                jumps = jumps.saturating_add(1);
+            }
+        }
+        jumps
+    }
+
+    /// Gives each place to which a jump leads its row. An error is out of memory.
+    fn add_rows(&self, alloc: Global, search: &mut Search) -> Result<(), AllocError>
         requires { length self.now.instructions.now < 2 ^ 32 }
     {
         for place in 0..self.instructions.len() {
-            let instruction = &self.instructions[place];
-            put_down(search, place, instruction);
-            let written = self.written(Here { search, place }, instruction);
-            match instruction {
-                Instruction::Jump { by } => {
-                    search.flow(place, place + 1 + *by as usize, self.registers, written);
-                }
-                Instruction::JumpIfZero { by, .. } => {
-                    search.flow(place, place + 1, self.registers, written);
-                    search.flow(place, place + 1 + *by as usize, self.registers, written);
-                }
-                Instruction::Back { by } => {
-                    let back = place.saturating_sub(*by as usize);
-                    search.flow(place, back, self.registers, written);
-                }
-                Instruction::End => {}
-                _ => search.flow(place, place + 1, self.registers, written),
+            if let Some(next) = target(place, &self.instructions[place]) {
+                search.add_row(alloc, next)?;
             }
         }
+        Ok(())
     }
 
-    /// All that is known, once a pass adds nothing. An error is out of memory.
+    /// All that is known, once a walk adds nothing. An error is out of memory.
     pub(crate) fn run(&self, alloc: Global, arrays: usize) -> Result<Search, AllocError>
         requires { length self.now.instructions.now < 2 ^ 32 }
     {
         let places = self.instructions.len();
         let mut search = Search::new(alloc, places, self.registers, arrays, self.names.len())?;
+        self.add_rows(alloc, &mut search)?;
         for _ in 0..u32::MAX {
             search.changed = false;
-            self.pass(&mut search);
+            self.pass(&mut search)?;
             if !search.changed {
                 break;
             }
@@ -180,28 +207,28 @@ impl Searched<'_> {
 }
 
 /// Puts what an instruction stores into the objects of its pointer, or into its private array.
-fn put_down(search: &mut Search, place: usize, instruction: &Instruction) {
+fn put_down(search: &mut Search, instruction: &Instruction) {
     match instruction {
         Instruction::PrivateStore { array, value, .. } => {
-            search.keep(*array, search.at(place, *value as usize).sources);
+            search.keep(*array, search.at(*value).sources);
         }
-        Instruction::Store { pointer, value } => put_number(search, place, *pointer, *value),
+        Instruction::Store { pointer, value } => put_number(search, *pointer, *value),
         Instruction::Update {
             pointer,
             value: Some(value),
             ..
-        } => put_number(search, place, *pointer, *value),
+        } => put_number(search, *pointer, *value),
         Instruction::Fetch {
             pointer,
             operands,
             ..
         } => match operands {
             FetchOperands::Alone => {}
-            FetchOperands::Number(value) => put_number(search, place, *pointer, *value),
+            FetchOperands::Number(value) => put_number(search, *pointer, *value),
             // What is left in the object depends on the expected number too.
             FetchOperands::Pair { expected, value } => {
-                put_number(search, place, *pointer, *expected);
-                put_number(search, place, *pointer, *value);
+                put_number(search, *pointer, *expected);
+                put_number(search, *pointer, *value);
             }
         },
         _ => {}
@@ -209,8 +236,8 @@ fn put_down(search: &mut Search, place: usize, instruction: &Instruction) {
 }
 
 /// Puts a register's number into the objects of a pointer.
-fn put_number(search: &mut Search, place: usize, pointer: u32, value: u32) {
-    let pointer = search.at(place, pointer as usize);
-    let sources = search.at(place, value as usize).sources;
+fn put_number(search: &mut Search, pointer: u32, value: u32) {
+    let pointer = search.at(pointer);
+    let sources = search.at(value).sources;
     search.put(pointer, sources);
 }

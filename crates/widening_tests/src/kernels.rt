@@ -140,3 +140,44 @@ fn a_dimension(rt: HostRuntime) {
     assert!(rt; frees(rt.alloc(), source, "ab", &[false, true], &[false, false]));
     assert!(rt; only_decides(rt.alloc(), source, "ab", Source::Buffer(0), Why::Dimension));
 }
+
+/// Where two ways meet, what either brings decides.
+#[test]
+fn ways_that_meet(rt: HostRuntime) {
+    let source = "__kernel void k(__global int *a, __global int *b, int n) { \
+            int x = 0; if (n > 0) x = a[0]; else x = 7; b[0] = x; if (x > 1) b[1] = 1; }";
+    assert!(rt;
+        frees(
+            rt.alloc(),
+            source,
+            "abN",
+            &[false, true],
+            &[false, false, false]
+        )
+    );
+}
+
+/// What one turn of a loop leaves decides in the next.
+#[test]
+fn a_turn_of_a_loop(rt: HostRuntime) {
+    let source = "__kernel void k(__global int *a, __global int *b) { \
+            int x = 0; for (int i = 0; i < 3; i++) { if (x > 5) b[i] = 1; x = a[i]; } }";
+    assert!(rt; frees(rt.alloc(), source, "ab", &[false, true], &[false, false]));
+    assert!(rt; only_decides(rt.alloc(), source, "ab", Source::Buffer(0), Why::Branch));
+}
+
+/// What is put into a variable again, before it is tested, decides nothing.
+#[test]
+fn a_number_that_is_replaced(rt: HostRuntime) {
+    let source = "__kernel void k(__global int *a, __global int *b) { \
+            int x = a[0]; b[0] = x; x = 3; if (x > 1) b[1] = 1; }";
+    assert!(rt; frees(rt.alloc(), source, "ab", &[true, true], &[false, false]));
+}
+
+/// Where nothing leads, nothing decides.
+#[test]
+fn behind_a_return(rt: HostRuntime) {
+    let source = "__kernel void k(__global int *a, __global int *b) { \
+            b[0] = a[0]; return; if (a[0] > 1) b[1] = 1; }";
+    assert!(rt; frees(rt.alloc(), source, "ab", &[true, true], &[false, false]));
+}

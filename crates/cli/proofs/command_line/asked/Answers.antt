@@ -35,9 +35,13 @@ pub returns-in-Some-subcommand_matches-7 : goal.returns-in-Some-subcommand_match
 returns-in-Some-subcommand_matches-7 c =
     reads_form c.args.matches.now (codes "widen") _ c.widen_of.result (c.in-Some-subcommand_matches-7.ensures.found.0 refl) c.in-Some-subcommand_matches-7.ensures.rows c.widen_of.ensures
 
+pub returns-in-Some-subcommand_matches-8 : goal.returns-in-Some-subcommand_matches-8
+returns-in-Some-subcommand_matches-8 c =
+    reads_form c.args.matches.now (codes "plain") _ c.plain_of.result (c.in-Some-subcommand_matches-8.ensures.found.0 refl) c.in-Some-subcommand_matches-8.ensures.rows c.plain_of.ensures
+
 pub returns : goal.returns
 returns c =
-    reads_form c.args.matches.now (codes "plain") _ c.plain_of.result (c.in_ok-subcommand_matches.ensures.found.0 refl) c.in_ok-subcommand_matches.ensures.rows c.plain_of.ensures
+    reads_form c.args.matches.now (codes "explore") _ c.explore_of.result (c.in_ok-subcommand_matches.ensures.found.0 refl) c.in_ok-subcommand_matches.ensures.rows c.explore_of.ensures
 
 pub returns-in_err-subcommand_matches : goal.returns-in_err-subcommand_matches
 returns-in_err-subcommand_matches c =
@@ -51,4 +55,5 @@ returns-in_err-subcommand_matches c =
     (not_found c.subcommand_matches-6.result (codes "explain") m (c.in_default-subcommand_matches-5).not-Some c.subcommand_matches-6.ensures.found)
     (not_found c.subcommand_matches-7.result (codes "version") m (c.in_default-subcommand_matches-6).not-Some c.subcommand_matches-7.ensures.found)
     (not_found c.subcommand_matches-8.result (codes "widen") m (c.in_default-subcommand_matches-7).not-Some c.subcommand_matches-8.ensures.found)
+    (not_found c.subcommand_matches-9.result (codes "plain") m (c.in_default-subcommand_matches-8).not-Some c.subcommand_matches-9.ensures.found)
     (λ named. false≢true (c.in_err-subcommand_matches.ensures.found.1 named)))

@@ -1,5 +1,5 @@
 use Rattle.std.proofs.Common.{[], ◌∷◌, ◌++◌, codes}
-use Rattle.cli.specs.CommandLine.{all, as_given, configured, explained, steps}
+use Rattle.cli.specs.CommandLine.{all, as_given, configured, explained, steps, widen}
 use Rattle.cli.proofs.command_line.explain_form.Goals as goal
 
 pub returns : goal.returns
@@ -7,4 +7,5 @@ returns c =
     let whole = c.configured.ensures (codes "explain") explained c.explained.ensures in
     let given = c.with.ensures (codes "explain") (explained ++ configured) as_given whole c.flag-as_given.ensures in
     let flagged = c.with-flagged.ensures (codes "explain") ((explained ++ configured) ++ as_given ∷ []) all given c.flag-all.ensures in
-    c.with-2.ensures (codes "explain") (((explained ++ configured) ++ as_given ∷ []) ++ all ∷ []) steps flagged c.number-steps.ensures
+    let counted = c.with-2.ensures (codes "explain") (((explained ++ configured) ++ as_given ∷ []) ++ all ∷ []) steps flagged c.number-steps.ensures in
+    c.with-3.ensures (codes "explain") ((((explained ++ configured) ++ as_given ∷ []) ++ all ∷ []) ++ steps ∷ []) widen counted c.flag-widen.ensures

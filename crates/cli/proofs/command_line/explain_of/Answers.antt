@@ -26,6 +26,7 @@ returns c =
           unknown = λ is. c.get_flag-all.ensures.none (all ∙ is);
         },
         c.in_ok-steps.ensures,
+        c.in_ok-widen.ensures,
       ),
     )
 
@@ -44,3 +45,6 @@ returns-in_err-json c = rw c.from_residual-in_err-json.ensures (λ asked is. let
 
 pub returns-in_err-steps : goal.returns-in_err-steps
 returns-in_err-steps c = rw c.from_residual-in_err-steps.ensures (λ asked is. let parts = explain_parts (rows_of (found_of c.args.explain.now)) asked is in c.in_err-steps.ensures parts.6 parts.7)
+
+pub returns-in_err-widen : goal.returns-in_err-widen
+returns-in_err-widen c = rw c.from_residual-in_err-widen.ensures (λ asked is. let parts = explain_parts (rows_of (found_of c.args.explain.now)) asked is in c.in_err-widen.ensures parts.8 parts.9)

@@ -1,5 +1,5 @@
 use Rattle.std.proofs.Common.{[], codes}
-use Rattle.cli.specs.CommandLine.{run_arguments, check_arguments, dump_arguments, replay_arguments, serve_arguments, explain_arguments, version_arguments, widen_arguments, plain_arguments}
+use Rattle.cli.specs.CommandLine.{run_arguments, check_arguments, dump_arguments, replay_arguments, serve_arguments, explain_arguments, version_arguments, widen_arguments, plain_arguments, explore_arguments}
 use Rattle.cli.proofs.command_line.forms.Goals as goal
 
 pub returns : goal.returns
@@ -12,4 +12,5 @@ returns c =
     let with_explaining = c.with_form-with_explaining.ensures _ (codes "explain") explain_arguments with_serving c.explain_form.ensures in
     let with_version = c.with_form-with_version.ensures _ (codes "version") version_arguments with_explaining c.version_form.ensures in
     let with_widening = c.with_form-with_widening.ensures _ (codes "widen") widen_arguments with_version c.widen_form.ensures in
-    c.with_form.ensures _ (codes "plain") plain_arguments with_widening c.plain_form.ensures
+    let with_writing = c.with_form-with_writing.ensures _ (codes "plain") plain_arguments with_widening c.plain_form.ensures in
+    c.with_form.ensures _ (codes "explore") explore_arguments with_writing c.explore_form.ensures

@@ -14,5 +14,5 @@ returns-clause-found c =
 
 pub returns-clause-says : goal.returns-clause-says
 returns-clause-says c =
-    says_one c.args.performed.now.options c.args.performed.now.given.script.now c.args.performed.now.commands.now c.args.performed.now.done.now (machine_of c.args.device.now) c.args.end
+    says_one c.args.performed.now.options c.args.performed.now.given.name.now c.args.performed.now.given.script.now c.args.performed.now.commands.now c.args.performed.now.done.now (machine_of c.args.device.now) c.args.end
     c.is_end-yes.result _ c.requires.script c.requires.walked c.requires.noted c.in_ok-text.ensures.tells c.is_end-yes.ensures

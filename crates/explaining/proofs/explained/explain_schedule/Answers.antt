@@ -10,5 +10,5 @@ returns-in_err-commands-clause-failed c =
 
 pub returns-clause-says : goal.returns-clause-says
 returns-clause-says c =
-    says_of c.args.options c.args.given.script.now c.args.schedule.now c.in_ok-told.told c.in_ok-answer_of.field-0 c.in_ok-told.ensures.whole
+    says_of c.args.options c.args.given.name.now c.args.given.script.now c.args.schedule.now c.in_ok-told.told c.in_ok-answer_of.field-0 c.in_ok-told.ensures.whole
     c.in_ok-answer_of.ensures.yes c.in_ok-answer_of.ensures.text

@@ -15,7 +15,7 @@ returns-clause-failed c =
 
 pub returns-clause-whole : goal.returns-clause-whole
 returns-clause-whole c =
-    whole_of c.args.options c.args.given.script.now c.args.schedule.now c.args.commands.now c.in_ok-number.number c.in_ok-number.fault c.in_ok-number.runs c.told_at.result
+    whole_of c.args.options c.args.given.name.now c.args.given.script.now c.args.schedule.now c.args.commands.now c.in_ok-number.number c.in_ok-number.fault c.in_ok-number.runs c.told_at.result
     c.requires.script c.in_ok-number.ensures.found c.told_at.ensures.whole
 
 pub returns-then-number-commands-clause-failed : goal.returns-then-number-commands-clause-failed

@@ -22,7 +22,7 @@ returns-clause-whole c =
     some_all c.in_ok-explain_launch.field-0 _ _ _ _ _ c.in_ok-explain_launch.ensures.told c.in_ok-explain_launch.ensures.wanted c.in_ok-explain_launch.ensures.given
     c.in_ok-explain_launch.ensures.whole
     (λ told short wanted given explained.
-    whole (machine_of c.args.device.now) c.args.launched.now.options c.args.launched.now.script.now c.args.launched.now.commands.now c.args.launched.now.done.now c.args.ticket c.place_of-at.result c.in-Some.kernel.now c.in-Some.range.now c.in-Some.orders _ c.buffers.result.now c.args.fault.now
+    whole (machine_of c.args.device.now) c.args.launched.now.options c.args.launched.now.name.now c.args.launched.now.script.now c.args.launched.now.commands.now c.args.launched.now.done.now c.args.ticket c.place_of-at.result c.in-Some.kernel.now c.in-Some.range.now c.in-Some.orders _ c.buffers.result.now c.args.fault.now
     c.args.schedule told.schedule told.whole c.in-Some.ensures.launch c.in-Ok.ensures.prepared c.buffers.ensures c.program_of.ensures (c.requires.each c.args.ticket c.place_of-at.result c.place_of-at.ensures) short wanted given explained refl)
 
 pub returns-in-Err-clause-failed : goal.returns-in-Err-clause-failed

@@ -1,0 +1,11 @@
+use Rattle.std.proofs.lemmas.Result.{err_from_is_err_and}
+use Rattle.byte_io.proofs.Puts.{stopped_more, puts_then}
+use Rattle.exploring.proofs.lines.write_last_byte.Goals as goal
+
+pub returns-in_err-write_byte : goal.returns-in_err-write_byte
+returns-in_err-write_byte g c =
+    let p = err_from_is_err_and c.from_residual.result c.from_residual.ensures.1 in
+    rw p.1 (stopped_more _ c.in_err-write_byte.ensures)
+
+pub returns : goal.returns
+returns g c = puts_then _ _ c.write.result c.in_ok-write_byte.ensures c.write.ensures
