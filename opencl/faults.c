@@ -49,6 +49,9 @@ void check_settings(void) {
     const char *unset = setting("CLSIM_UNSET");
     if (unset && strcmp(unset, "zero") && strcmp(unset, "fault"))
         tell("CLSIM_UNSET is fault or zero, and not %s", unset);
+    const char *flags = setting("CLSIM_FLAGS");
+    if (flags && strcmp(flags, "go") && strcmp(flags, "fault"))
+        tell("CLSIM_FLAGS is fault or go, and not %s", flags);
     size_t group = limits_of_device()->group, ticks = limits_of_device()->ticks;
     if (setting("CLSIM_LOCAL") && number_setting("CLSIM_LOCAL", 1, (long)group, 0) == 0)
         tell("CLSIM_LOCAL is a number from 1 to %zu, and not %s", group, setting("CLSIM_LOCAL"));
@@ -201,6 +204,11 @@ static bool uses_table(const kernel_form *form, unsigned table) {
     for (unsigned i = 0; i < form->judged_count; i++)
         if (form->judged[i].kind == TABLE_PARAMETER && form->judged[i].argument == table) return true;
     return false;
+}
+
+bool is_fault_of_flags(const char *line) {
+    memory_place place;
+    return read_place(line, &place) && is_held_back(&place);
 }
 
 // The flag of a buffer that forbids an access by an argument; NULL for none.

@@ -17,6 +17,7 @@ struct held {
     const kernel_form *of;
     unsigned char *accesses; // that are held back, a set for each argument
     bool is_launched;        // else it isn't needed, or can't be made
+    bool goes_past;          // an access that flags forbid was told, and is made (CLSIM_FLAGS)
     prepared source;
     unsigned number; // of its program
 };
@@ -43,12 +44,13 @@ static bool share_bytes(cl_kernel k, unsigned i, unsigned j) {
     return overlap && (possible_accesses(k->form, i) | possible_accesses(k->form, j)) & STORES;
 }
 
-// Puts together what is to be known of each argument. False where there is nothing.
-static bool choose_accesses(cl_kernel k, unsigned char *to) {
+// Puts together what is to be known of each argument, with or without the flags of buffers. False where there is
+// nothing.
+static bool choose_accesses(cl_kernel k, bool by_flags, unsigned char *to) {
     bool any = false;
     for (unsigned i = 0; i < k->form->count; i++) {
         cl_mem m = k->arguments[i].memory;
-        to[i] = m ? forbidden_by(m->flags) & possible_accesses(k->form, i) : 0;
+        to[i] = m && by_flags ? forbidden_by(m->flags) & possible_accesses(k->form, i) : 0;
         if (k->arguments[i].is_null) to[i] = IS_NULL;
         for (unsigned j = 0; m && m->parent && j < k->form->count; j++)
             if (share_bytes(k, i, j)) to[i] |= IS_PART;
@@ -188,17 +190,27 @@ static cl_int pass_argument(cl_kernel k, cl_uint i) {
     return error_of(reply);
 }
 
-cl_int launched_kernel(cl_kernel k, cl_kernel *to) {
+// The form for the arguments of a kernel, NULL where that is its own.
+static cl_int choose_form(cl_kernel k, bool by_flags, struct held **to) {
     unsigned char *accesses = calloc(k->form->count + 1, 1);
+    *to = NULL;
+    if (!accesses) return CL_OUT_OF_HOST_MEMORY;
+    if (choose_accesses(k, by_flags, accesses)) return form_for(k, accesses, to);
+    free(accesses);
+    return CL_SUCCESS;
+}
+
+void go_past_flags(cl_kernel launched) {
+    for (struct held *h = launched->program->held; h; h = h->next)
+        if (&h->source == launched->source) h->goes_past = true;
+}
+
+cl_int launched_kernel(cl_kernel k, cl_kernel *to) {
     struct held *h;
     *to = k;
-    if (!accesses) return CL_OUT_OF_HOST_MEMORY;
-    if (!choose_accesses(k, accesses)) {
-        free(accesses);
-        return CL_SUCCESS;
-    }
-    cl_int fault = form_for(k, accesses, &h);
-    if (fault) return fault;
+    cl_int fault = choose_form(k, true, &h);
+    if (!fault && h && h->goes_past) fault = choose_form(k, false, &h);
+    if (fault || !h) return fault;
     if (!h->is_launched && is_needed(h)) {
         refuse(k->context,
                "kernel %s can't be written for its arguments, of which one is NULL or a sub-buffer that has "

@@ -118,17 +118,39 @@ static cl_int end_launch(command *c, cl_kernel launched, const char *reply, cons
     return fault ? fault : end_printing(launched, &c->sizes);
 }
 
+// Whether a launch that was answered so is made once more, without regard to flags of buffers: then they are told.
+static bool is_made_past_flags(cl_kernel launched, const char *reply, const launch_sizes *s) {
+    kept_fault fault;
+    if (!reply || !goes_past_flags() || !is_fault_of_flags(reply)) return false;
+    keep_fault(&fault, launched, reply, s);
+    tell_fault(launched, &fault, s);
+    tell("  it is made with that access, and so are all launches of the kernel by such buffers (CLSIM_FLAGS)");
+    drop_fault(&fault);
+    go_past_flags(launched);
+    return true;
+}
+
+// Makes the kernel ready that is launched in the place of a launch's own.
+static cl_int make_ready(command *c, cl_kernel *launched) {
+    cl_int fault = launched_kernel(c->kernel, launched);
+    if (!fault) fault = copy_parts(c->kernel, *launched, false);
+    return fault ? fault : begin_printing(*launched, &c->sizes);
+}
+
 // Does a launch, by the arguments that its kernel has now.
 static cl_int do_launch(command *c) {
     cl_kernel k = c->kernel, launched;
     kept_fault order;
-    cl_int fault = launched_kernel(k, &launched);
-    if (!fault) fault = copy_parts(k, launched, false);
-    if (!fault) fault = begin_printing(launched, &c->sizes);
+    cl_int fault = make_ready(c, &launched);
     if (fault) return fault;
     k->context->launches++;
     c->sizes.orders = begins_with_orders(k);
     const char *reply = ask_launch(launched, &c->sizes);
+    if (is_made_past_flags(launched, reply, &c->sizes)) {
+        fault = make_ready(c, &launched);
+        if (fault) return fault;
+        reply = ask_launch(launched, &c->sizes);
+    }
     if (!reply || !is_made_again(k, reply)) return end_launch(c, launched, reply, NULL);
     keep_fault(&order, launched, reply, &c->sizes);
     c->sizes.orders = true;

@@ -387,6 +387,8 @@ cl_int copy_kernel(cl_kernel k, cl_kernel *to);
 unsigned char possible_accesses(const kernel_form *form, unsigned argument);
 // The kernel that is launched: itself, or one that is written for its arguments.
 cl_int launched_kernel(cl_kernel k, cl_kernel *to);
+// From now on launches in whose place this one was made are made without regard to the flags of their buffers.
+void go_past_flags(cl_kernel launched);
 // Copies what the sub-buffers of a launch have into the buffers that its kernel is given, or back behind the launch.
 cl_int copy_parts(cl_kernel k, cl_kernel launched, bool is_back);
 
@@ -417,6 +419,8 @@ typedef struct {
 } kept_fault;
 void keep_fault(kept_fault *f, cl_kernel k, const char *reply, const launch_sizes *sizes);
 void drop_fault(kept_fault *f);
+// Whether the line of a fault is of an access that the flags of its buffer forbid.
+bool is_fault_of_flags(const char *line);
 // Tells a fault in the client's terms. A launch that is ordered is told as such, with the fault that it was without the
 // word `orders`; where that isn't known it is NULL.
 void tell_fault(cl_kernel k, const kept_fault *f, const launch_sizes *sizes);

@@ -253,6 +253,11 @@ bool zeroes_unset(void) {
     return wanted && !strcmp(wanted, "zero");
 }
 
+bool goes_past_flags(void) {
+    const char *wanted = setting("CLSIM_FLAGS");
+    return wanted && !strcmp(wanted, "go");
+}
+
 // The recorded script: a file, or where only `clsim widen` needs it, memory.
 static FILE *open_record(void) {
     static int number;

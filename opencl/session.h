@@ -40,6 +40,8 @@ char *explain_script(const char *script, size_t length);
 bool widens(void);
 // Whether private variables that are declared without a value are 0 (CLSIM_UNSET).
 bool zeroes_unset(void);
+// Whether accesses that the flags of their buffers forbid are told and made (CLSIM_FLAGS).
+bool goes_past_flags(void);
 // Runs `clsim widen` on all commands of a session so far. What it wrote, NULL where it didn't; the caller frees it.
 char *widen_session(session *s);
 

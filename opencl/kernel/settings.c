@@ -65,8 +65,8 @@ static void find_device(arena *a) {
 
 void set_driver(arena *a, const char *script, bool has_orders) {
     // what these do for other host programs isn't for this one
-    static const char *const others[] = {"CLSIM_ON_FAULT", "CLSIM_STATUS", "CLSIM_SCRIPT",
-                                         "CLSIM_LOG",      "CLSIM_ASKED",  "CLSIM_ORDERS"};
+    static const char *const others[] = {"CLSIM_ON_FAULT", "CLSIM_STATUS", "CLSIM_SCRIPT", "CLSIM_LOG",
+                                         "CLSIM_ASKED",    "CLSIM_ORDERS", "CLSIM_FLAGS"};
     for (size_t i = 0; i < sizeof others / sizeof *others; i++) unsetenv(others[i]);
     if (has_orders) setenv("CLSIM_ORDERS", "always", 1);
     find_device(a);

@@ -1,4 +1,4 @@
-// held [own|many]: buffers that kernels may only read or only write (OpenCL 1.2, table 5.3). Status 0: each launch
+// held [own|many|past]: buffers that kernels may only read or only write (OpenCL 1.2, table 5.3). Status 0: each launch
 // answers what it should; what is told is compared by `run`.
 #include "host.h"
 #include <stdint.h>
@@ -78,6 +78,36 @@ static void hold(const char *source) {
     OK(launch(k, from, to, 1));
     want_numbers(to, 1, 1);
     cl_mem all[] = {from, to, free_from, free_to};
+    OK(clReleaseKernel(k));
+    OK(clReleaseProgram(p));
+    for (int i = 0; i < 4; i++) OK(clReleaseMemObject(all[i]));
+}
+
+// Accesses that flags forbid are made: the first one is told, for each set of flags.
+static void go_past(const char *source) {
+    cl_int fault;
+    cl_program p = build_program(&h, source, "");
+    cl_kernel k = clCreateKernel(p, "f", &fault);
+    OK(fault);
+    cl_mem from = buffer_with(CL_MEM_READ_ONLY, 1), to = buffer_with(CL_MEM_WRITE_ONLY, 0);
+    cl_mem free_from = buffer_with(CL_MEM_READ_WRITE, 1), end = buffer_with(CL_MEM_READ_WRITE, 0);
+    OK(launch(k, from, to, 2));
+    want_numbers(to, 2, 2);
+    int32_t got[N];
+    for (cl_int n = 3; n <= 6; n++) {
+        OK(launch(k, from, to, n));
+        OK(clEnqueueReadBuffer(h.queue, to, CL_TRUE, 0, sizeof got, got, 0, NULL, NULL));
+        // from[5] is 1 behind the launch by 3, and from[6] 8 behind the one by 4
+        for (int i = 0; i < N; i++)
+            WANT(got[i] == (i == 5 && n > 3 ? 1 : i == 6 && n > 4 ? 8 : i + 1) * n + (n == 6 || (n == 5 && i == 7)));
+    }
+    OK(clEnqueueReadBuffer(h.queue, from, CL_TRUE, 0, sizeof got, got, 0, NULL, NULL));
+    for (int i = 0; i < N; i++) WANT(got[i] == (i == 5 ? 1 : i == 6 ? 8 : i + 1));
+    OK(launch(k, free_from, to, 5)); // by other flags
+    OK(launch(k, free_from, to, 6));
+    OK(launch(k, free_from, end, 6));
+    want_numbers(end, 7, 6);
+    cl_mem all[] = {from, to, free_from, end};
     OK(clReleaseKernel(k));
     OK(clReleaseProgram(p));
     for (int i = 0; i < 4; i++) OK(clReleaseMemObject(all[i]));
@@ -174,6 +204,7 @@ int main(int count, char **words) {
     h = open_host();
     if (count > 1 && !strcmp(words[1], "own")) hold_nothing();
     else if (count > 1 && !strcmp(words[1], "many")) hold_many();
+    else if (count > 1 && !strcmp(words[1], "past")) go_past(clang_source);
     else {
         hold(clang_source);
         hold(own_source);

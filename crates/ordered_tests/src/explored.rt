@@ -140,8 +140,8 @@ fn launched(
     explore(alloc, &launch, buffers, seed, shows).ok()
 }
 
-/// How a trial's run in order ends, and what its orders of a seed show, up to the first by which they show what it says.
-/// None where it can't be launched.
+/// How a trial's run in order ends, and what its orders of a seed show, up to the first by which they show what it
+/// says. None where it can't be launched.
 pub(crate) fn seen(alloc: Global, trial: &Trial, seed: u64) -> Option<(OrderedEnd, Explorer)> {
     let program = build(alloc, Limits::profile(), trial.source.as_bytes()).ok()?;
     let range = range_of(alloc, trial.items)?;

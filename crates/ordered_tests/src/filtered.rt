@@ -4,10 +4,10 @@ use clmodel::access::{Access, AccessKind, Class, Region, Width};
 use race_filter::RaceFilter;
 use std::alloc::Global;
 
-/// Whether a launch is uniform, and accesses of it, one behind the other, each of six signs: its item, of which each two
-/// are a group; its kind (`l`oad, `s`tore of 1, `t` a store of 2, `u`pdate, `f`etch), large where it is to the group's
-/// local object and not to a buffer; its width; its first byte; its interval; and what must come: `y` where none before
-/// races with it, by what they have in common, `n` where one races with it.
+/// Whether a launch is uniform, and accesses of it, one behind the other, each of six signs: its item, of which each
+/// two are a group; its kind (`l`oad, `s`tore of 1, `t` a store of 2, `u`pdate, `f`etch), large where it is to the
+/// group's local object and not to a buffer; its width; its first byte; its interval; and what must come: `y` where
+/// none before races with it, by what they have in common, `n` where one races with it.
 const ROWS: [(bool, &str); 12] = [
     // Loads alone, of one byte and of more
     (false, "0l400y 1l400y 2l400y 3l120y 4l800y"),

@@ -1,5 +1,5 @@
-//! Small programs of atomic operations, right and with a mistake each that the run in order doesn't show. What must come
-//! of them follows from their text by hand.
+//! Small programs of atomic operations, right and with a mistake each that the run in order doesn't show. What must
+//! come of them follows from their text by hand.
 
 use crate::explored::{Shows, Trial, comes_out, seen};
 use clmodel::schedule::{EventRun, Schedule};
@@ -61,8 +61,8 @@ fn a_flag_before_its_data(rt: HostRuntime) {
     assert!(rt; comes_out(rt.alloc(), &early, SEED) == Some(true));
 }
 
-/// The ints of `b` that aren't 0, put behind their count in `a`, each in the place of a ticket. Where the ticket is read
-/// by one operation and taken by another, two items may have the same.
+/// The ints of `b` that aren't 0, put behind their count in `a`, each in the place of a ticket. Where the ticket is
+/// read by one operation and taken by another, two items may have the same.
 const TWICE: Trial = Trial {
     source: "__kernel void k(__global int *a, __global int *b) { \
         int i = get_global_id(0); if (b[i] != 0) { \
