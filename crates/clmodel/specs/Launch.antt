@@ -23,11 +23,14 @@ use Rattle.clmodel.specs.declared.fault.Location.TheVariants as location
 
 -- A launch of `items` items, `group_size` to a group (3.2, 5.8). `next` gives an item's action once the listed answers
 -- are used up, one for each earlier action. The names are those that a reply gives to buffers, to local objects, and to
--- what the source names. In a uniform launch two stores that leave the same byte don't conflict (own).
+-- what the source names. In a uniform launch two stores that leave the same byte don't conflict (own). `unset` holds of
+-- the bytes of buffers, each by its buffer's number and its own, that have no value at the start (5.2.1; C99 6.7.8:
+-- indeterminate).
 pub record Launch : Type 0 where
   pub items : ℕ
   pub group_size : ℕ
   pub buffers : List (List ℕ)
+  pub unset : ℕ → ℕ → Bool
   pub local_sizes : List ℕ
   pub next : ℕ → List Answer → Action
   pub buffer_names : List (List ℕ)

@@ -13,7 +13,7 @@ use Rattle.clmodel.specs.declared.schedule.Event.TheVariants.{Item}
 use Rattle.joining.specs.Parts.{Part, IsGrouped, IsPart}
 use Rattle.joining.specs.Memory.{writes, at_byte, wrote, joined_number, joined_memory}
 use Rattle.joining.specs.Crossings.{crossing}
-use Rattle.joining.specs.Join.{Joined, nothing_yet, join}
+use Rattle.joining.specs.Join.{Joined, nothing_yet, join_whole, join}
 
 -- a group of this number is one of the launch's (5.8)
 abbrev pub HasGroup : Launch → ℕ → Type 0
@@ -90,6 +90,17 @@ BytesAreJoined =
     (launch : Launch) (group : ℕ) (lower : Joined) (part : Part) → IsGrouped launch → IsJoined launch group lower → HasGroup launch group
     → IsPart launch group part → crossing launch lower.log part.end.log ≡ None
     → (x : Access) → Logged part.end.log x → writes x.kind ≡ true → (byte : ℕ) → at_byte x.region byte x ≡ true → IsJoinedByte launch lower part x byte
+
+-- all bytes of buffers are set at the start (own)
+abbrev pub AllSet : Launch → Type 0
+AllSet launch = (number byte : ℕ) → launch.unset number byte ≡ false
+
+-- Where all bytes of buffers are set at the start, a further group that stopped has the same report after the lower
+-- groups: an unset byte at which it stopped is of a local object, which no other group has (3.3, C99 6.7.8).
+abbrev pub SetStopsStay : Type 0
+SetStopsStay =
+    (launch : Launch) (group : ℕ) (lower : Joined) (part : Part) → AllSet launch → IsGrouped launch → IsJoined launch group lower → HasGroup launch group
+    → IsPart launch group part → crossing launch lower.log part.end.log ≡ None → join launch lower part ≡ join_whole launch lower part part.stopped
 
 -- an access conflicts with a log of other groups' accesses as it does with what is kept of that log (own)
 abbrev pub KeptConflicts : Type 0
