@@ -1,6 +1,6 @@
 -- A launch: what its items do next, which places there are, and what is kept of an access.
 -- Numbers of sections are those of OpenCL 1.2, or of C99 where that is said; "own" is what this project decided.
-use Rattle.std.specs.Prelude.{ℕ, ◌+◌, ◌-◌, ◌*◌, ◌/◌, ◌==◌, ℤ, pos, negsuc, Bool, true, false, not, ◌&&◌, ◌||◌, nat_le, if◌then◌else◌, Option, None, Some, List, [], length, slice_index, slice_index_or}
+use Rattle.std.specs.Prelude.{◌≡◌, ℕ, ◌+◌, ◌-◌, ◌*◌, ◌/◌, ◌==◌, ℤ, pos, negsuc, Bool, true, false, not, ◌&&◌, ◌||◌, nat_le, if◌then◌else◌, Option, None, Some, List, [], length, slice_index, slice_index_or}
 use Rattle.clmodel.specs.Cells.{byte_count, byte_of, covers, width_of}
 use Rattle.clmodel.specs.declared.access.Class.{Class}
 use Rattle.clmodel.specs.declared.access.Class.TheVariants as class
@@ -37,6 +37,10 @@ pub record Launch : Type 0 where
   pub local_names : List (List ℕ)
   pub source_names : List (List ℕ)
   pub uniform : Bool
+
+-- all bytes of a launch's buffers are set at the start (own)
+abbrev pub AllSet : Launch → Type 0
+AllSet launch = (number byte : ℕ) → launch.unset number byte ≡ false
 
 -- two regions are one: local objects of different groups are different (3.3)
 abbrev pub same_region : Region → Region → Bool

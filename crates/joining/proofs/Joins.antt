@@ -474,9 +474,9 @@ one_taken l g whole lower part far is t f item stop (Some byte) unset = (
   (
     runs_append l lower.events part.events (start l) far.a t.0 far.runs t.1,
     turn_there l g far.a part.end t.0 whole far.ready t.2 t.3 (Reports (fault.Unset item (kind_of stop.op) (location_of l (region_for l item stop.object)) byte))
-    (taken_up (plan_of l g) part.end f item stop t.0.memory
-    ∙ ap (unset_turn l item (kind_of stop.op) (region_for l item stop.object)) (there_unset l g lower part far t f item stop (Some byte) unset))
-    (reports_finishes (fault.Unset item (kind_of stop.op) (location_of l (region_for l item stop.object)) byte)),
+        (taken_up (plan_of l g) part.end f item stop t.0.memory
+        ∙ ap (unset_turn l item (kind_of stop.op) (region_for l item stop.object)) (there_unset l g lower part far t f item stop (Some byte) unset))
+        (reports_finishes (fault.Unset item (kind_of stop.op) (location_of l (region_for l item stop.object)) byte)),
   ),
 )
 one_taken l g whole lower part far is t f item stop None unset =

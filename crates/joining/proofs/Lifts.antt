@@ -4,7 +4,7 @@ use Rattle.std.proofs.Math.Nat.{suc-mul}
 use Rattle.std.proofs.lemmas.Bool.{and_parts, and_from, true≢false, cond-false, ne_eqb, eqb-true, leb-true, or_left}
 use Rattle.std.proofs.lemmas.Option.{slice_get-get_or}
 use Rattle.clmodel.specs.Cells.{Cells, number, covers, written, updated_word, size_of, found}
-use Rattle.clmodel.specs.Launch.{Launch, same_region, region_of, bytes_of, first_byte, kind_of, group_of, conflict}
+use Rattle.clmodel.specs.Launch.{Launch, AllSet, same_region, region_of, bytes_of, first_byte, kind_of, group_of, conflict}
 use Rattle.clmodel.specs.Run.{Memory, State, initial, byte_at, access_of, lowest, released}
 use Rattle.clmodel.specs.Law.{Logged}
 use Rattle.clmodel.specs.declared.access.Access.{Access}
@@ -22,7 +22,6 @@ use Rattle.clmodel.proofs.CellLaws.{covers_parts, covers_from, Aligned}
 use Rattle.clmodel.proofs.Steps.{none_some, if_false, lowest_some, lowest_none, region_for}
 use Rattle.clmodel.proofs.Swaps.{same_region_self, same_region-true, byte_at_aligned}
 use Rattle.joining.specs.Memory.{writes, at_byte, wrote}
-use Rattle.joining.specs.Steps.{AllSet}
 use Rattle.joining.proofs.Base.{changed_there, entry_same, made_at}
 use Rattle.joining.proofs.Words.{Updated, updated_same}
 use Rattle.joining.proofs.Over.{is_set, cond_some, performed, performed_in, performed_out, Fit, OnlyUpdates, Folds, entry_at, Ready, Over, Lift, same_answer, kept_step, unchanged_step, stored_step, older_clear, set_step, set_grows}

@@ -22,7 +22,7 @@ use Rattle.joining.specs.Memory.{wrote}
 use Rattle.joining.specs.Parts.{Part, IsGrouped, IsPart, ending}
 use Rattle.joining.specs.Crossings.{crossing}
 use Rattle.joining.specs.Join.{Joined, memory_with, join_whole, unset_item, asked, stopped_access, take_up, join_stopped, join_at}
-use Rattle.joining.specs.Steps.{HasGroup, IsJoined, AllSet, SetStopsStay}
+use Rattle.joining.specs.Steps.{HasGroup, IsJoined, SetStopsStay}
 use Rattle.joining.proofs.Again.{UnsetStop, unset_stop}
 use Rattle.joining.proofs.Begun.{Begun, begun_start, begun_in}
 use Rattle.joining.proofs.JoinedBytes.{through}

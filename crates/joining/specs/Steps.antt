@@ -1,7 +1,7 @@
 -- The groups of a launch joined one by one, as code joins them (OpenCL 1.2, 3.2; own).
 use Rattle.std.specs.Prelude.{◌≡◌, ◌≢◌, ℕ, zero, suc, ◌*◌, ◌/◌, ◌%◌, ◌<◌, ◌≤◌, ◌⊎◌, true, false, None, Some, List, ◌++◌, Contains}
 use Rattle.clmodel.specs.Cells.{byte_of, number}
-use Rattle.clmodel.specs.Launch.{Launch, group_of, region_of, across_groups, conflict, conflict_between}
+use Rattle.clmodel.specs.Launch.{Launch, AllSet, group_of, region_of, across_groups, conflict, conflict_between}
 use Rattle.clmodel.specs.Law.{Keeps, Logged, conflict_from, RunsClean, RunsIntoFault}
 use Rattle.clmodel.specs.Run.{State, initial}
 use Rattle.clmodel.specs.declared.access.Access.{Access}
@@ -90,10 +90,6 @@ BytesAreJoined =
     (launch : Launch) (group : ℕ) (lower : Joined) (part : Part) → IsGrouped launch → IsJoined launch group lower → HasGroup launch group
     → IsPart launch group part → crossing launch lower.log part.end.log ≡ None
     → (x : Access) → Logged part.end.log x → writes x.kind ≡ true → (byte : ℕ) → at_byte x.region byte x ≡ true → IsJoinedByte launch lower part x byte
-
--- all bytes of buffers are set at the start (own)
-abbrev pub AllSet : Launch → Type 0
-AllSet launch = (number byte : ℕ) → launch.unset number byte ≡ false
 
 -- Where all bytes of buffers are set at the start, a further group that stopped has the same report after the lower
 -- groups: an unset byte at which it stopped is of a local object, which no other group has (3.3, C99 6.7.8).
