@@ -18,16 +18,18 @@ use Rattle.clmodel.proofs.Swaps.{same_region-true}
 use Rattle.joining.specs.Group.{Plan, RunsIn}
 use Rattle.joining.specs.Memory.{writes, at_byte, wrote}
 use Rattle.joining.proofs.Base.{made_at}
-use Rattle.joining.proofs.Over.{is_set, unset_none, found_set, unchanged_step, older_clear, set_grows}
+use Rattle.joining.proofs.Over.{is_set, unset_none, found_set, effect_writes, performed, performed_in, unchanged_step, older_clear, set_grows}
 
 -- a store of a log is at this byte
 abbrev pub StoreAt : List Access → Region → ℕ → Type 0
 StoreAt log p byte = (y : Access) × Logged log y × (y.kind ≡ kind.Store) × (at_byte p byte y ≡ true)
 
--- bytes that are set stay so, those that no access wrote are as they were, and one that was unset was stored first
+-- bytes that are set stay so, those that no access wrote are as they were, one that was written is set, and one of
+-- these that was unset was stored first
 pub record Begun (l : Launch) (s : State) : Type 0 where
   pub set : (p : Region) (byte : ℕ) → is_set (initial l p byte) ≡ true → is_set (s.memory p byte) ≡ true
   pub base : (p : Region) (byte : ℕ) → wrote s.log p byte ≡ false → s.memory p byte ≡ initial l p byte
+  pub written : (p : Region) (byte : ℕ) → wrote s.log p byte ≡ true → is_set (s.memory p byte) ≡ true
   pub stored : (p : Region) (byte : ℕ) → is_set (initial l p byte) ≡ false → wrote s.log p byte ≡ true → StoreAt s.log p byte
 
 pub begun_start : (l : Launch) → Begun l (start l)
@@ -35,6 +37,7 @@ begun_start l =
     record {
       set = λ p byte h. h;
       base = λ p byte h. refl;
+      written = λ p byte h. absurd (true≢false (sym h));
       stored = λ p byte none h. absurd (true≢false (sym h));
     }
 
@@ -53,6 +56,10 @@ begun_item l s n i r begun = subst (Begun l) r.gives
     (record {
       set = λ q byte h. set_grows s.memory p r.operation r.first r.value q byte (begun.set q byte h);
       base = λ q byte h. unchanged_step s.memory s.log i p r.operation r.first r.value x.interval q byte h ∙ begun.base q byte (older_clear s.log x q byte h);
+      written = λ q byte h. ⊎_elim
+          (λ w. let v = and_parts (writes (kind_of r.operation)) (at_byte q byte x) w in set_now q byte v.0 v.1)
+          (λ w. set_grows s.memory p r.operation r.first r.value q byte (begun.written q byte w))
+          (or_cases (writes (kind_of r.operation) && at_byte q byte x) (wrote s.log q byte) h);
       stored = λ q byte none h. ⊎_elim
           (λ w. first_there q byte none (and_parts (writes (kind_of r.operation)) (at_byte q byte x) w).1)
           (λ w. store_older s.log x q byte (begun.stored q byte none w))
@@ -64,6 +71,12 @@ begun_item l s n i r begun = subst (Begun l) r.gives
 
     x : Access
     x = access_of l s i p r.first r.operation
+
+    set_now : (q : Region) (byte : ℕ) → writes (kind_of r.operation) ≡ true → at_byte q byte x ≡ true → is_set (performed s.memory p r.operation r.value r.first q byte) ≡ true
+    set_now q byte h at =
+        let w = and_parts (same_region q p) (covers r.first (size_of r.operation) byte) at in
+        subst (λ z. is_set (performed s.memory p r.operation r.value r.first z byte) ≡ true) (sym (same_region-true q p w.0))
+        (ap is_set (performed_in s.memory p r.operation r.value r.first byte) ∙ effect_writes r.operation r.value (s.memory p) r.first byte h w.1)
 
     set_there : (q : Region) (byte : ℕ) → at_byte q byte x ≡ true → reads r.operation ≡ true → is_set (s.memory q byte) ≡ true
     set_there q byte at reading =
@@ -83,7 +96,7 @@ begun_item l s n i r begun = subst (Begun l) r.gives
         (store_or_reads r.operation)
 
 begun_release : (l : Launch) (s n : State) (g : ℕ) → ReleaseStep l s g n → Begun l s → Begun l n
-begun_release l s n g r begun = subst (Begun l) r.gives (record { set = begun.set; base = begun.base; stored = begun.stored })
+begun_release l s n g r begun = subst (Begun l) r.gives (record { set = begun.set; base = begun.base; written = begun.written; stored = begun.stored })
 
 begun_step : (l : Launch) (s n : State) (e : Event) → step l s e ≡ Some n → Begun l s → Begun l n
 begun_step l s n (Item i) h begun = begun_item l s n i (item_inverse l s i n h) begun

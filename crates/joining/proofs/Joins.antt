@@ -335,7 +335,7 @@ OneMore l g part joined (Some f) = (end : State) × RunsIntoFault l joined.event
 -- nothing crosses, and the group didn't stop at an unset byte
 one_through : (l : Launch) (g : ℕ) → IsGroup (plan_of l g) → (lower : Joined) (part : Part) (far : So_far l g lower) → IsPart l g part → Through l g far.a far.a part.events part.end
     → (o : Option Fault) → part.stopped ≡ o → ((f : Fault) → o ≡ Some f → unset_item f ≡ None) → OneMore l g part (join_whole l lower part part.stopped) o
-one_through l g whole lower part far is t None e not = (
+one_through l g whole lower part far is t None e other = (
   record {
     a = t.0;
     ready = ready_next l g far.a part.end t.0 whole far.ready t.2 t.3 (is.1 ∙ ap ending e);
@@ -346,11 +346,11 @@ one_through l g whole lower part far is t None e not = (
   },
   e,
 )
-one_through l g whole lower part far is t (Some f) e not = (
+one_through l g whole lower part far is t (Some f) e other = (
   t.0,
   (
     runs_append l lower.events part.events (start l) far.a t.0 far.runs t.1,
-    turn_here l g far.a part.end t.0 whole far.ready t.2 t.3 (Reports f) (λ k h. not k (ap Some (reports_inj f k h))) (is.1 ∙ ap ending e) (reports_finishes f),
+    turn_here l g far.a part.end t.0 whole far.ready t.2 t.3 (Reports f) (λ k h. other k (ap Some (reports_inj f k h))) (is.1 ∙ ap ending e) (reports_finishes f),
   ),
 )
 
@@ -491,7 +491,7 @@ one_whole l g whole lower part far is t = by_stopped part.stopped refl
     Joins o = OneMore l g part (join_stopped l lower part o) (join_stopped l lower part o).report
 
     plain : (o : Option Fault) → part.stopped ≡ o → ((f : Fault) → o ≡ Some f → unset_item f ≡ None) → Joins None
-    plain o e not = subst (OneMore l g part (join_whole l lower part part.stopped)) (sym e) (one_through l g whole lower part far is t o e not)
+    plain o e other = subst (OneMore l g part (join_whole l lower part part.stopped)) (sym e) (one_through l g whole lower part far is t o e other)
 
     by_item : (f : Fault) → part.stopped ≡ Some f → (o : Option ℕ) → unset_item f ≡ o → Joins (stopped_access l part.end part.stopped)
     by_item f e None k =

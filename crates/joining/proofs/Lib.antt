@@ -17,3 +17,4 @@ pub mod Steps
 pub mod EventGroups
 pub mod JoinedBytes
 pub mod SetStops
+pub mod UnsetBytes

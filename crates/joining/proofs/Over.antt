@@ -39,14 +39,12 @@ unset_parts (Some a) first rest h = (refl, h)
 -- where none of some bytes is unset, each is set
 pub unset_none : (c : Cells) (first width byte : ℕ) → lowest_unset c first width ≡ None → first ≤ byte → byte < first + width → is_set (c byte) ≡ true
 unset_none c first zero byte h from below = absurd (omega (arith, from, below))
-unset_none c first (suc width) byte h from below = go (cases_eq byte first)
-  where
-    r : (is_set (c first) ≡ true) × (lowest_unset c (suc first) width ≡ None)
-    r = unset_parts (c first) first (lowest_unset c (suc first) width) h
-
-    go : (byte ≡ first) ⊎ (byte ≡ first → ⊥) → is_set (c byte) ≡ true
-    go (inl e) = subst (λ z. is_set (c z) ≡ true) (sym e) r.0
-    go (inr ne) = unset_none c (suc first) width byte r.1 (omega (arith, from, ne)) (omega (arith, below))
+unset_none c first (suc width) byte h from below =
+    let r = unset_parts (c first) first (lowest_unset c (suc first) width) h in
+    ⊎_elim
+    (λ e. subst (λ z. is_set (c z) ≡ true) (sym e) r.0)
+    (λ ne. unset_none c (suc first) width byte r.1 (omega (arith, from, ne)) (omega (arith, below)))
+    (cases_eq byte first)
 
 -- the lowest unset byte is unset, and one of the bytes
 pub unset_some : (c : Cells) (first width byte : ℕ) → lowest_unset c first width ≡ Some byte → (is_set (c byte) ≡ false) × (first ≤ byte) × (byte < first + width)
@@ -123,6 +121,13 @@ effect_keeps (Load width) x c first byte set = refl
 effect_keeps (Store width value) x c first byte set = written_keeps c first (byte_count width) value byte set
 effect_keeps (Update class operand) x c first byte set = written_keeps c first 4 _ byte set
 effect_keeps (Fetch op operand) x c first byte set = written_keeps c first 4 _ byte set
+
+-- what is written is set
+pub effect_writes : (op : Operation) (x : ℕ) (c : Cells) (first byte : ℕ) → writes (kind_of op) ≡ true → covers first (size_of op) byte ≡ true → is_set (effect op x c first byte) ≡ true
+effect_writes (Load width) x c first byte h k = absurd (true≢false (sym h))
+effect_writes (Store width value) x c first byte h k = ap is_set (written_in c first (byte_count width) value byte k)
+effect_writes (Update class operand) x c first byte h k = ap is_set (written_in c first 4 (updated_word class x operand) byte k)
+effect_writes (Fetch op operand) x c first byte h k = ap is_set (written_in c first 4 (fetched op x operand) byte k)
 
 -- an access's effect on a memory
 abbrev pub performed : Memory → Region → Operation → ℕ → ℕ → Memory
@@ -471,8 +476,8 @@ set_step m m2 p op first x x2 q byte here there = go (same_region q p) refl
         let e : q ≡ p = same_region-true q p h in
         subst (λ z. is_set (performed m p op x first z byte) ≡ true → is_set (performed m2 p op x2 first z byte) ≡ true) (sym e)
         (λ set. ap is_set (performed_in m2 p op x2 first byte) ∙ effect_set op x x2 (m p) (m2 p) first byte here (sym (ap is_set (performed_in m p op x first byte)) ∙ set))
-    go false h set =
-        ap (λ (f : Cells). is_set (f byte)) (with_there m2 p _ q h) ∙ there (sym (ap (λ (f : Cells). is_set (f byte)) (with_there m p _ q h)) ∙ set)
+    go false h =
+        λ set. ap (λ (f : Cells). is_set (f byte)) (with_there m2 p _ q h) ∙ there (sym (ap (λ (f : Cells). is_set (f byte)) (with_there m p _ q h)) ∙ set)
 
 -- and what is set stays so
 pub set_grows : (m : Memory) (p : Region) (op : Operation) (first x : ℕ) (q : Region) (byte : ℕ) → is_set (m q byte) ≡ true → is_set (performed m p op x first q byte) ≡ true

@@ -8,12 +8,13 @@ use Rattle.clmodel.specs.declared.access.Access.{Access}
 use Rattle.clmodel.specs.declared.access.AccessKind.TheVariants as kind
 use Rattle.clmodel.specs.declared.access.Class.{Class}
 use Rattle.clmodel.specs.declared.access.Object.{Object}
+use Rattle.clmodel.specs.declared.access.Region.{Region}
 use Rattle.clmodel.specs.declared.fault.Fault.{Fault}
 use Rattle.clmodel.specs.declared.schedule.Event.TheVariants.{Item}
 use Rattle.joining.specs.Parts.{Part, IsGrouped, IsPart}
 use Rattle.joining.specs.Memory.{writes, at_byte, wrote, joined_number, joined_memory}
 use Rattle.joining.specs.Crossings.{crossing}
-use Rattle.joining.specs.Join.{Joined, nothing_yet, join_whole, join}
+use Rattle.joining.specs.Join.{Joined, nothing_yet, memory_with, join_whole, join}
 
 -- a group of this number is one of the launch's (5.8)
 abbrev pub HasGroup : Launch → ℕ → Type 0
@@ -97,6 +98,15 @@ abbrev pub SetStopsStay : Type 0
 SetStopsStay =
     (launch : Launch) (group : ℕ) (lower : Joined) (part : Part) → AllSet launch → IsGrouped launch → IsJoined launch group lower → HasGroup launch group
     → IsPart launch group part → crossing launch lower.log part.end.log ≡ None → join launch lower part ≡ join_whole launch lower part part.stopped
+
+-- Where nothing crosses, a byte of the joined memory is unset where it is so on the further group's own and on that of
+-- the lower groups (own).
+abbrev pub UnsetIsBoth : Type 0
+UnsetIsBoth =
+    (launch : Launch) (group : ℕ) (lower : Joined) (part : Part) → IsGrouped launch → IsJoined launch group lower → HasGroup launch group
+    → IsPart launch group part → crossing launch lower.log part.end.log ≡ None → (region : Region) (byte : ℕ)
+    → (memory_with launch lower part region byte ≡ None → (part.end.memory region byte ≡ None) × (lower.memory region byte ≡ None))
+    × (part.end.memory region byte ≡ None → lower.memory region byte ≡ None → memory_with launch lower part region byte ≡ None)
 
 -- an access conflicts with a log of other groups' accesses as it does with what is kept of that log (own)
 abbrev pub KeptConflicts : Type 0

@@ -8,7 +8,7 @@
 ghost use Rattle.joining.specs.Crossings.{LowerFirst};
 ghost use Rattle.joining.specs.Join.{JoinIsCanonical};
 ghost use Rattle.joining.specs.Parts.{OnePart, PartExists};
-ghost use Rattle.joining.specs.Steps.{JoinReports, JoinEnds, AreOwn, AreLower, EventsAreOwn, EventsAreLower, BytesAreJoined, KeptConflicts, KeptBoth, SetStopsStay};
+ghost use Rattle.joining.specs.Steps.{JoinReports, JoinEnds, AreOwn, AreLower, EventsAreOwn, EventsAreLower, BytesAreJoined, KeptConflicts, KeptBoth, SetStopsStay, UnsetIsBoth};
 
 /// The groups of a launch run apart and joined, up to the first report, are its canonical run: its events, what it
 /// leaves in memory, and its report. This holds for all classes of updates, for a group that stops, and for one whose
@@ -86,4 +86,10 @@ pub fn kept_both()
 /// of its accesses conflicts with the lower groups'.
 pub fn set_stops_stay()
     ensures { SetStopsStay }
+{}
+
+/// Where none of a further group's accesses conflicts with the lower groups', a byte of the joined memory is unset
+/// exactly where it is so after the further group alone and after the lower ones.
+pub fn unset_is_both()
+    ensures { UnsetIsBoth }
 {}
