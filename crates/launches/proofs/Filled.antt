@@ -66,10 +66,15 @@ pub buffers_hold : {G : Type 0} (bytes : G → List (Option ℕ)) (l : Launch) (
 buffers_hold bytes l xs h =
     record {
       many = many_filled bytes l.unset 0 xs l.buffers h;
-      sized = λ n x e. ap length (filled_at bytes l.unset 0 xs l.buffers h n x e) ∙ length_start (l.unset n) 0 (slice_index_or l.buffers n []);
+      sized = λ n x e. ap length (filled_at bytes l.unset 0 xs l.buffers h n x e) ∙ length_start (l.unset (0 + n)) 0 (slice_index_or l.buffers n []);
       none = λ n e. ap length (past xs l.buffers n (many_filled bytes l.unset 0 xs l.buffers h) e);
-      cells = λ n x e. fun_ext (λ byte. ap (λ z. cells_of z byte) (filled_at bytes l.unset 0 xs l.buffers h n x e) ∙ cells_start (l.unset n) 0 (slice_index_or l.buffers n []) byte);
+      cells = λ n x e. fun_ext (λ byte. ap (λ z. cells_of z byte) (filled_at bytes l.unset 0 xs l.buffers h n x e)
+          ∙ cells_start (l.unset (0 + n)) 0 (slice_index_or l.buffers n []) byte
+          ∙ ap₂ (λ i b. if l.unset i b then None else slice_get (slice_index_or l.buffers n []) byte) (none_more n) (none_more byte));
     }
+  where
+    none_more : (n : ℕ) → 0 + n ≡ n
+    none_more n = omega arith
 
 -- ---- buffers all of whose bytes are set
 
