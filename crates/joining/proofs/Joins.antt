@@ -3,7 +3,7 @@ use Rattle.std.proofs.Common.{◌≡◌, ℕ, suc, ◌+◌, ◌-◌, ◌*◌, �
 use Rattle.std.proofs.lemmas.Bool.{and_parts, and_from, both_ways, true≢false, cases_eq, cond-true, cond-false, or_parts}
 use Rattle.std.proofs.Math.Path.{fun_ext}
 use Rattle.clmodel.specs.Cells.{Cells, Outcome, number, byte_count, byte_of, covers, size_of, reads, lowest_unset, perform}
-use Rattle.clmodel.specs.Launch.{Launch, same_region, location_of, kind_of, group_of, clash}
+use Rattle.clmodel.specs.Launch.{Launch, same_region, location_of, kind_of, group_of, clash, conflict}
 use Rattle.clmodel.specs.Run.{State, Events, initial, start, next_action, access_of, accessed, step, or_else}
 use Rattle.clmodel.specs.Law.{Logged, newest_conflict, conflict_fault, Makes, Reports, Finishes, unset_turn, turn, has_ended, RunsTo, RunsIntoFault}
 use Rattle.clmodel.specs.declared.access.Access.{Access}
@@ -363,11 +363,11 @@ reads_not_store (Update class v) r h = update_not_store class h
 reads_not_store (Fetch op v) r h = fetch_not_store h
 
 -- the access at which it stopped
-abbrev at_stop : (l : Launch) (g : ℕ) (part : Part) (f : Fault) (item : ℕ) → UnsetStop (plan_of l g) part.end f item → Access
+abbrev pub at_stop : (l : Launch) (g : ℕ) (part : Part) (f : Fault) (item : ℕ) → UnsetStop (plan_of l g) part.end f item → Access
 at_stop l g part f item stop = access_of l part.end item (region_for l item stop.object) stop.first stop.op
 
 -- its unset bytes on the joined memory are those on the one that is there
-there_unset : (l : Launch) (g : ℕ) (lower : Joined) (part : Part) (far : So_far l g lower) (t : Through l g far.a far.a part.events part.end)
+pub there_unset : (l : Launch) (g : ℕ) (lower : Joined) (part : Part) (far : So_far l g lower) (t : Through l g far.a far.a part.events part.end)
     → (f : Fault) (item : ℕ) (stop : UnsetStop (plan_of l g) part.end f item) (o : Option ℕ)
     → lowest_unset (memory_with l lower part (region_for l item stop.object)) stop.first (size_of stop.op) ≡ o
     → lowest_unset (t.0.memory (region_for l item stop.object)) stop.first (size_of stop.op) ≡ o
@@ -375,7 +375,7 @@ there_unset l g lower part far t f item stop o unset =
     ap (λ m. lowest_unset (m (region_for l item stop.object)) stop.first (size_of stop.op)) (sym (memory_there l g lower part far t)) ∙ unset
 
 -- where its bytes are set after the groups below, one of these stored the byte at which it stopped
-stop_stored : (l : Launch) (g : ℕ) (part : Part) (f : Fault) (item : ℕ) (stop : UnsetStop (plan_of l g) part.end f item) (a u : State) → Begun l a → Begun l part.end → Over l g a part.end u
+pub stop_stored : (l : Launch) (g : ℕ) (part : Part) (f : Fault) (item : ℕ) (stop : UnsetStop (plan_of l g) part.end f item) (a u : State) → Begun l a → Begun l part.end → Over l g a part.end u
     → lowest_unset (u.memory (region_for l item stop.object)) stop.first (size_of stop.op) ≡ None → StoreAt a.log (region_for l item stop.object) stop.byte
 stop_stored l g part f item stop a u below own over all = by_lower (wrote a.log p stop.byte) refl
   where
@@ -396,25 +396,28 @@ stop_stored l g part f item stop a u below own over all = by_lower (wrote a.log 
     by_lower true w = below.stored p stop.byte (unset_first (is_set (initial l p stop.byte)) refl) w
     by_lower false w = absurd (both_ways _ unset.0 (ap is_set (sym (over.kept p stop.byte w)) ∙ set))
 
--- so the access has a conflict
-stop_crosses : (l : Launch) (g : ℕ) (part : Part) (f : Fault) (item : ℕ) (stop : UnsetStop (plan_of l g) part.end f item) (a : State) → Ready l g a
-    → StoreAt a.log (region_for l item stop.object) stop.byte → newest_conflict l (at_stop l g part f item stop ∷ (part.end.log ++ a.log)) ≡ None → ⊥
-stop_crosses l g part f item stop a ready y none =
+-- so the access has a conflict with it
+pub stop_met : (l : Launch) (g : ℕ) (part : Part) (f : Fault) (item : ℕ) (stop : UnsetStop (plan_of l g) part.end f item) (a : State) → Ready l g a
+    → (y : StoreAt a.log (region_for l item stop.object) stop.byte) → conflict l y.0 (at_stop l g part f item stop) stop.byte ≡ None → ⊥
+stop_met l g part f item stop a ready y none =
     ⊎_elim
     (λ s. reads_not_store stop.op stop.reading s.2)
     (λ c. store_left (kind_of stop.op) (subst (λ k. clash k (kind_of stop.op) ≡ None) y.2 c))
-    (meet l x y.0 p stop.byte (λ e. other_group g (group_of l y.0.item) (group_of l item) (ready.lower y.0 y.1).0 stop.mine e) y.3
+    (meet l (at_stop l g part f item stop) y.0 p stop.byte (λ e. other_group g (group_of l y.0.item) (group_of l item) (ready.lower y.0 y.1).0 stop.mine e) y.3
     (and_from (same_region p p) (covers stop.first (size_of stop.op) stop.byte) (same_region_self p) (covers_from stop.first (size_of stop.op) stop.byte unset.1 unset.2))
-    (no_newest l x (part.end.log ++ a.log) none y.0 (logged_back part.end.log a.log y.0 y.1) stop.byte))
+    none)
   where
     p : Region
     p = region_for l item stop.object
 
-    x : Access
-    x = at_stop l g part f item stop
-
     unset : (is_set (part.end.memory p stop.byte) ≡ false) × (stop.first ≤ stop.byte) × (stop.byte < stop.first + size_of stop.op)
     unset = unset_some (part.end.memory p) stop.first (size_of stop.op) stop.byte stop.unset
+
+stop_crosses : (l : Launch) (g : ℕ) (part : Part) (f : Fault) (item : ℕ) (stop : UnsetStop (plan_of l g) part.end f item) (a : State) → Ready l g a
+    → StoreAt a.log (region_for l item stop.object) stop.byte → newest_conflict l (at_stop l g part f item stop ∷ (part.end.log ++ a.log)) ≡ None → ⊥
+stop_crosses l g part f item stop a ready y none =
+    stop_met l g part f item stop a ready y
+    (no_newest l (at_stop l g part f item stop) (part.end.log ++ a.log) none y.0 (logged_back part.end.log a.log y.0 y.1) stop.byte)
 
 -- where its bytes are set after the groups below, it makes the access
 one_made : (l : Launch) (g : ℕ) → IsGroup (plan_of l g) → (lower : Joined) (part : Part) (far : So_far l g lower) → IsPart l g part → (t : Through l g far.a far.a part.events part.end)

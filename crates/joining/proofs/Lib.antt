@@ -18,3 +18,4 @@ pub mod EventGroups
 pub mod JoinedBytes
 pub mod SetStops
 pub mod UnsetBytes
+pub mod Taken

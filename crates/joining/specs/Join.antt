@@ -70,6 +70,16 @@ abbrev pub stopped_access : Launch → State → Option Fault → Option Access
 stopped_access launch end stopped =
     option_and_then (λ item. asked launch end item (next_action launch end item)) (option_and_then unset_item stopped)
 
+-- a part as if the access at which it stopped were made: its last one, whose conflict with the group's own accesses is
+-- reported (own)
+abbrev pub tried : Launch → Part → Access → Part
+tried launch part x =
+    record {
+      events = part.events ++ Item x.item ∷ [];
+      end = record part.end { log = x ∷ part.end.log };
+      stopped = option_map (conflict_fault launch) (newest_conflict launch (x ∷ part.end.log));
+    }
+
 -- The further group stopped at this access, which it takes up again on the bytes joined so far: the lowest byte that is
 -- unset there too is reported; where all are set, the access is made, and its conflict with the one that set the byte
 -- is reported (C99 6.7.8, own).
