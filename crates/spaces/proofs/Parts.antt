@@ -25,7 +25,7 @@ masked_from unset first (cell ∷ cells) (suc k) =
     masked_from unset (suc first) cells k ∙ ap (λ z. if unset z then None else cells_of cells k) {x = suc first + k} {y = first + suc k} (omega arith)
 
 pub masked_at : (unset : ℕ → Bool) (cells : List (Option ℕ)) (byte : ℕ) → cells_of (masked unset 0 cells) byte ≡ left_of unset (cells_of cells) byte
-masked_at unset cells byte = masked_from unset 0 cells byte
+masked_at unset cells byte = masked_from unset 0 cells byte ∙ ap (λ z. if unset z then None else cells_of cells byte) {x = 0 + byte} {y = byte} (omega arith)
 
 -- cells that are set from one on
 abbrev pub AreSet : Cells → ℕ → ℕ → Type 0
