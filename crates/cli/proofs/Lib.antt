@@ -3,3 +3,4 @@ mod Readings
 pub mod Replays
 mod Servings
 pub mod Sessions
+mod Showings

@@ -12,4 +12,5 @@ pub use Rattle.cli.specs.Reading
 pub use Rattle.simfile.specs.Script
 pub use Rattle.simfile.specs.Lines
 pub mod Session
+pub mod Showing
 pub mod Reading

@@ -15,6 +15,7 @@ mod only_client;
 pub mod reading;
 pub mod replaying;
 pub mod session;
+pub mod showing;
 pub mod wish;
 
 pub use byte_io::{Read, ReadFault, Write, WriteFailed};
@@ -23,5 +24,5 @@ pub use command_line::command;
 pub use dialogue::serve;
 pub use dumping::dump_file;
 pub use replaying::replay_files;
-pub use session::{run, run_numbered, status};
+pub use session::{run, run_shown, status};
 pub use simfile::faults::{Reader, RunFault};
