@@ -1,5 +1,5 @@
 -- Numbers in place of bytes, one after another.
-use Rattle.std.proofs.Common.{◌≡◌, ℕ, ◌+◌, ◌-◌, ◌*◌, ◌/◌, ◌<◌, ◌≤◌, ℤ, List, [], ◌∷◌, ◌++◌, zero, suc, refl, ap, sym, subst, ◌∙◌, add-one, append_assoc, arith, codes, le_refl, mul-suc, mul_comm, div-mul-le_self}
+use Rattle.std.proofs.Common.{◌≡◌, ℕ, ◌+◌, ◌-◌, ◌*◌, ◌/◌, ◌<◌, ◌≤◌, ℤ, List, [], ◌∷◌, ◌++◌, zero, suc, refl, ap, sym, subst, ◌∙◌, add-one, append_assoc, arith, codes, le_refl, mul-suc, mul_comm, div-mul-le_self, suc-add, zero-add}
 use Rattle.std.proofs.lemmas.List.{append-nil}
 use Rattle.std.proofs.lemmas.Nat.{mul-le}
 use Rattle.std.specs.Fmt.{signed_decimal}
@@ -32,10 +32,11 @@ this_one kind bytes index size number long is = ap (λ (z : ℤ). joined (codes 
 
 -- the numbers of a front of the bytes come first
 front : (kind : IntType) (bytes : List ℕ) (index more : ℕ) → (rest : List ℕ) × (numbers_text kind bytes (more + index) ≡ numbers_text kind bytes index ++ rest)
-front kind bytes index zero = ([], sym (append-nil (numbers_text kind bytes index)))
+front kind bytes index zero = ([], ap (numbers_text kind bytes) (zero-add index) ∙ sym (append-nil (numbers_text kind bytes index)))
 front kind bytes index (suc more) =
     let some = front kind bytes index more in
-    (some.0 ++ one kind bytes (more + index), ap (λ l. l ++ one kind bytes (more + index)) some.1 ∙ append_assoc (numbers_text kind bytes index) some.0 (one kind bytes (more + index)))
+    let next = one kind bytes (more + index) in
+    (some.0 ++ next, ap (numbers_text kind bytes) (suc-add more index) ∙ (ap (λ (l : List ℕ). l ++ next) some.1 ∙ append_assoc (numbers_text kind bytes index) some.0 next))
 
 -- one more number was written
 pub wrote_number : {a b c : Sink} (kind : IntType) (bytes : List ℕ) (index size : ℕ) (number : ℤ) → size ≡ size_of kind → number ≡ number_at kind bytes (size * index)
@@ -49,7 +50,7 @@ pub stopped_number : {a b c : Sink} (kind : IntType) (bytes : List ℕ) (index s
     → Wrote a b (numbers_text kind bytes index) → Stopped b c (joined (codes " " ∷ signed_decimal number ∷ [])) → Stopped a c (numbers_text kind bytes count)
 stopped_number {a} {b} {c} kind bytes index size count number less long is so_far more =
     let here : Stopped a c (numbers_text kind bytes (index + 1)) = subst (λ (l : List ℕ). Stopped a c l) (sym (one_more kind bytes index))
-        (stopped_then so_far (subst (λ (l : List ℕ). Stopped b c l) (this_one kind bytes index size number long is) more)) in
+    (stopped_then so_far (subst (λ (l : List ℕ). Stopped b c l) (this_one kind bytes index size number long is) more)) in
     let left = front kind bytes (index + 1) (count - (index + 1)) in
     let all : (count - (index + 1)) + (index + 1) ≡ count = omega (arith, less) in
     subst (λ (n : ℕ). Stopped a c (numbers_text kind bytes n)) all (subst (λ (l : List ℕ). Stopped a c l) (sym left.1) (stopped_more left.0 here))

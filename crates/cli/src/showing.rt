@@ -115,11 +115,8 @@ fn write_by<W: Write>(kind: IntType, reply: &Reply, writer: &mut W) -> Result<()
                 write_reply(reply, writer)
             }
         }
-        Reply::Done
-        | Reply::Clean
-        | Reply::Ordered
-        | Reply::Fault { .. }
-        | Reply::Refused(_) => write_reply(reply, writer),
+        Reply::Done | Reply::Clean | Reply::Ordered | Reply::Fault { .. } | Reply::Refused(_) =>
+            write_reply(reply, writer),
     }
 }
 
@@ -142,10 +139,7 @@ fn write_front<W: Write>(line: Option<usize>, writer: &mut W) -> Result<(), Writ
     ensures { Puts (W.sink writer.old) result (W.sink writer.new) (front_of line) }
 {
     match line {
-        Some(number) => write_pieces(
-            &[Piece::Number(number as u64), Piece::Text(": ")],
-            writer,
-        ),
+        Some(number) => write_pieces(&[Piece::Number(number as u64), Piece::Text(": ")], writer),
         None => Ok(()),
     }
 }
