@@ -313,7 +313,6 @@ explain_parts rows (invocation.Explain script schedule wish) is = (script.now, w
 explain_parts rows (invocation.Version json) is = differ is.0 refl
 explain_parts rows (invocation.Widen script json limits) is = differ is.0 refl
 explain_parts rows (invocation.Plain script) is = differ is.0 refl
-plain_parts rows (invocation.Explore script wish) is = differ is.0 refl
 explain_parts rows (invocation.Explore script wish) is = differ is.0 refl
 
 pub version_parts : (rows : List Row) (asked : Invocation) → AsksBy (codes "version") rows asked
@@ -353,6 +352,7 @@ plain_parts rows (invocation.Explain script schedule wish) is = differ is.0 refl
 plain_parts rows (invocation.Version json) is = differ is.0 refl
 plain_parts rows (invocation.Widen script json limits) is = differ is.0 refl
 plain_parts rows (invocation.Plain script) is = (script.now, is.1)
+plain_parts rows (invocation.Explore script wish) is = differ is.0 refl
 
 pub explore_parts : (rows : List Row) (asked : Invocation) → AsksBy (codes "explore") rows asked
     → (script : Text) × (launch : Option ℕ) × (orders : ℕ) × (seconds : Option ℕ) × (seed : ℕ) × (configuration : Configuration)
@@ -382,22 +382,31 @@ pub of_none : {A B : Type 0} (f : A → B) (o : Option A) → is_some o ≡ fals
 of_none f None none = refl
 of_none f (Some a) none = absurd (false≢true (sym none))
 
+-- where something was read, there is something to read, and else there isn't
+pub some_read : {A : Type 0} (P : A → Type 0) (read : Option A) → Reads P read → is_some read ≡ true → ¬ ((x : A) → ¬ P x)
+some_read P None reads found none = false≢true found
+some_read P (Some x) reads found none = none x reads
+
+pub none_read : {A : Type 0} (P : A → Type 0) (read : Option A) → Reads P read → is_some read ≡ false → (x : A) → ¬ P x
+none_read P None reads missing x = reads x
+none_read P (Some y) reads missing x = λ is. false≢true (sym missing)
+
 -- ---- widening
 
 -- without the flag nothing is asked of the other options
 pub not_widened : (rows : List Row) → says_yes (first_of (codes "widen") rows) ≡ false → GivesWiden rows false
-not_widened rows no = record { there = sym no; text = λ bad. absurd (false≢true bad); alone = λ bad. absurd (false≢true bad) }
+not_widened rows off = record { there = sym off; text = λ bad. absurd (false≢true bad); alone = λ bad. absurd (false≢true bad) }
 
 -- with it the format is text, and there is no schedule file
 pub widened : (rows : List Row) → says_yes (first_of (codes "widen") rows) ≡ true → GivesFormat rows false → first_of (codes "SCHEDULE") rows ≡ None → GivesWiden rows true
-widened rows yes format alone = record { there = sym yes; text = λ _. format; alone = λ _. alone }
+widened rows on format single = record { there = sym on; text = λ _. format; alone = λ _. single }
 
 pub not_with_schedule : (rows : List Row) → says_yes (first_of (codes "widen") rows) ≡ true → ¬ (first_of (codes "SCHEDULE") rows ≡ None)
     → (widen : Bool) → ¬ GivesWiden rows widen
-not_with_schedule rows yes named widen is = named (is.alone (is.there ∙ yes))
+not_with_schedule rows on named widen is = named (is.alone (is.there ∙ on))
 
 pub not_with_format : (rows : List Row) → says_yes (first_of (codes "widen") rows) ≡ true → ¬ GivesFormat rows false → (widen : Bool) → ¬ GivesWiden rows widen
-not_with_format rows yes none widen is = none (is.text (is.there ∙ yes))
+not_with_format rows on other widen is = other (is.text (is.there ∙ on))
 
 -- what is JSON isn't text
 pub not_text : (format : Option Text) → IsFormat format true → ¬ IsFormat format false
