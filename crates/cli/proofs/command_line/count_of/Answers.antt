@@ -1,4 +1,4 @@
-use Rattle.std.proofs.Common.{rules, arith, subst, sym, inl, inr, codes, Option, None, Some}
+use Rattle.std.proofs.Common.{rules, arith, subst, sym, inl, inr, Option, None, Some}
 use Rattle.std.specs.Str.Parse.{ParsesUnsigned, ExplainsUnsignedError, HasUnsignedDigitsIfOk}
 use Rattle.clap.specs.Words.{Text, found_of}
 use Rattle.clap.proofs.WalkLemmas.{one_text-rows}
