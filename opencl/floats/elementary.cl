@@ -671,26 +671,6 @@ WORD FORMAT_acospi(WORD a) {
 
 /* ---- roots and lengths ---- */
 
-/* 1 / sqrt(a) */
-WORD FORMAT_rsqrt(WORD a) {
-    WORD x = a & MAGNITUDE_MASK;
-    if (x > INFINITY_BITS) return NAN_BITS;
-    if (x == 0) return a | INFINITY_BITS;
-    if (a >= SIGN_BIT) return NAN_BITS;
-    if (x == INFINITY_BITS) return 0;
-    int e = FORMAT_exponent_of(x);
-    e -= BIAS;
-    x = FORMAT_significand_of(x);
-    x = FORMAT_root(x, e & 1);
-    if (x == SECOND_BIT) {
-        x = FORMAT_round(0, BIAS - (e >> 1), SECOND_BIT);
-        return x;
-    }
-    x = FORMAT_ratio(TOP_BIT, x << 1);
-    x = FORMAT_rounded(0, -(e >> 1), x);
-    return x;
-}
-
 /* sqrt(a^2 + b^2) */
 WORD FORMAT_hypot(WORD a, WORD b) {
     WORD x = a & MAGNITUDE_MASK;

@@ -13,7 +13,8 @@ WORD FORMAT_add_special(WORD a, WORD y, WORD signs) {
 
 /* a + b. The exact sum 0 is +0, but for two zeros of one sign (6.3). Here a has the larger magnitude, and b the sign
    bit where the signs differ. The significands x and y have the leading one at bit WIDTH - 1; y is moved to its place
-   below x, its lowest bit sticky. (A variable that is declared costs a step: each has several uses.) */
+   below x, its lowest bit sticky. What is cut off has half of a unit added to it: where no bit of it is left then, it
+   was a half, and the result is made even. (A variable that is declared costs a step: each has several uses.) */
 WORD FORMAT_add(WORD a, WORD b) {
     WORD x = a & MAGNITUDE_MASK;
     WORD y = b & MAGNITUDE_MASK;
@@ -42,54 +43,55 @@ WORD FORMAT_add(WORD a, WORD b) {
     }
     y <<= TOP_SHIFT;
     y |= TOP_BIT;
-    if (x <= TOP_SHIFT) y >>= x;
-    else y = FORMAT_shift_right(y, (int)x);
+    if (x > TOP_SHIFT) {
+        if (x >= WIDTH) x = WIDTH - 1;
+        WORD lost = y << ((WORD)WIDTH - x);
+        y >>= x;
+        if (lost != 0) y |= UNIT;
+    } else {
+        y >>= x;
+    }
     x = a << TOP_SHIFT;
     x |= TOP_BIT;
     if (b < SIGN_BIT) {
-        x += y;
-        if (x >= y) {
+        /* Here x is the largest y whose sum with the significand of a is below 2^WIDTH. */
+        x ^= ALL_ONES;
+        if (y <= x) {
+            y += REST_HALF;
+            if (y & REST_MASK) return a + (y >> TOP_SHIFT);
             a += y >> TOP_SHIFT;
-            y &= REST_MASK;
-            if (y >= REST_HALF) {
-                if (y == REST_HALF) a += a & UNIT;
-                else a += UNIT;
-            }
-            return a;
+            return a & EVEN_MASK;
         }
-        /* The sum is 2^WIDTH + x: the next exponent, which may be that of infinity. */
+        /* The sum is 2^WIDTH + y - x - 1: the next exponent, which may be that of infinity. */
+        y -= x;
+        y += CARRY_HALF - 1;
         a &= EXPONENT_AND_SIGN;
         a += SMALLEST_NORMAL;
-        a += x >> (TOP_SHIFT + 1);
-        x &= CARRY_MASK;
-        if (x >= CARRY_HALF) {
-            if (x == CARRY_HALF) a += a & UNIT;
-            else a += UNIT;
-        }
+        a += y >> (TOP_SHIFT + 1);
+        y &= CARRY_MASK;
+        if (y == 0) a &= EVEN_MASK;
         y = a & MAGNITUDE_MASK;
         if (y >= INFINITY_BITS) a &= EXPONENT_AND_SIGN;
         return a;
     }
     /* The leading one moves up, at most to the exponent 1: below that the difference is subnormal, and exact. */
     x -= y;
+    a &= EXPONENT_AND_SIGN;
     if (x < TOP_BIT) {
         if (x == 0) return 0;
         y = a & MAGNITUDE_MASK;
         y >>= FRACTION_BITS;
-        y -= 1;
-        y = min(clz(x), y);
-        x <<= y;
-        a -= y << FRACTION_BITS;
+        b = clz(x);
+        if (b >= y) b = y - 1;
+        x <<= b;
+        a -= b << FRACTION_BITS;
+        if (x >= ROUNDED_TO_NEXT) return a + SMALLEST_NORMAL;
     }
-    a &= EXPONENT_AND_SIGN;
     a -= SMALLEST_NORMAL;
+    x += REST_HALF;
+    if (x & REST_MASK) return a + (x >> TOP_SHIFT);
     a += x >> TOP_SHIFT;
-    x &= REST_MASK;
-    if (x >= REST_HALF) {
-        if (x == REST_HALF) a += a & UNIT;
-        else a += UNIT;
-    }
-    return a;
+    return a & EVEN_MASK;
 }
 
 /* a - b */
@@ -98,71 +100,7 @@ WORD FORMAT_sub(WORD a, WORD b) {
     return result;
 }
 
-/* ---- multiplication, division, square root (5.4.1) ---- */
-
-/* a * b where one of the magnitudes x and y is 0, infinite or not a number. */
-WORD FORMAT_mul_special(WORD sign, WORD x, WORD y) {
-    if (x > INFINITY_BITS || y > INFINITY_BITS) return NAN_BITS;
-    if (x != INFINITY_BITS && y != INFINITY_BITS) return sign;
-    if (x == 0 || y == 0) return NAN_BITS;
-    return sign | INFINITY_BITS;
-}
-
-/* a * b, whatever they are. */
-WORD FORMAT_mul_rare(WORD a, WORD b) {
-    WORD sign = (a ^ b) & SIGN_BIT;
-    a &= MAGNITUDE_MASK;
-    b &= MAGNITUDE_MASK;
-    if (a != 0) if (b != 0) if (a < INFINITY_BITS) if (b < INFINITY_BITS) {
-        int exponent = FORMAT_exponent_of(a);
-        int other = FORMAT_exponent_of(b);
-        a = FORMAT_significand_of(a);
-        b = FORMAT_significand_of(b);
-        a = FORMAT_product(a, b);
-        if (a < TOP_BIT) a <<= 1;
-        else exponent += 1;
-        a = FORMAT_shift_right(a, 1);
-        a = FORMAT_round(sign, exponent + other - BIAS, a);
-        return a;
-    }
-    a = FORMAT_mul_special(sign, a, b);
-    return a;
-}
-
-/* a * b. Where both exponents are far from their ends, that of the product is none of them. `upper` has the sum of the
-   exponents with that of the signs, whose carry leaves the word. Both significands have their leading one at bit
-   WIDTH - 1; the upper word x of their product has it there, or at the next one, and is doubled then: its lowest bit is
-   one of the lower word a * b. */
-WORD FORMAT_mul(WORD a, WORD b) {
-    WORD upper = a & MAGNITUDE_MASK;
-    if (upper >= SMALL_BITS) if (upper < LARGE_BITS) {
-        upper = b & MAGNITUDE_MASK;
-        if (upper >= SMALL_BITS) if (upper < LARGE_BITS) {
-            upper = (a >> FRACTION_BITS) + (b >> FRACTION_BITS);
-            a <<= TOP_SHIFT;
-            a |= TOP_BIT;
-            b <<= TOP_SHIFT;
-            b |= TOP_BIT;
-            WORD x = UPPER_PRODUCT(a, b);
-            if (x < TOP_BIT) {
-                x <<= 1;
-                upper -= 1;
-            }
-            upper -= BIAS;
-            upper <<= FRACTION_BITS;
-            upper += x >> TOP_SHIFT;
-            x &= REST_MASK;
-            if (x >= REST_HALF) {
-                if (x > REST_HALF) upper += UNIT;
-                else if (a * b != 0) upper += UNIT;
-                else upper += upper & UNIT;
-            }
-            return upper;
-        }
-    }
-    a = FORMAT_mul_rare(a, b);
-    return a;
-}
+/* ---- division, square root (5.4.1) ---- */
 
 /* a / b where one of the magnitudes x and y is 0, infinite or not a number. A finite number by 0 is infinite (7.3). */
 WORD FORMAT_div_special(WORD sign, WORD x, WORD y) {
