@@ -47,6 +47,7 @@ ulong double_lgamma(ulong a) {
     return value;
 }
 
+/* log(|gamma(a)|), by that of doubles */
 uint float_lgamma(uint a) {
     ulong value = double_from_float(a);
     value = double_lgamma(value);

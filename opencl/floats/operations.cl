@@ -197,6 +197,7 @@ WORD FORMAT_fma(WORD a, WORD b, WORD c) {
 
 /* ---- comparisons (5.11); a NaN is unordered ---- */
 
+/* 1 if a is not a number */
 int FORMAT_isnan(WORD a) {
     return (a & MAGNITUDE_MASK) > INFINITY_BITS;
 }
@@ -250,12 +251,14 @@ WORD FORMAT_from_magnitude(int mode, WORD sign, ulong magnitude) {
     return significand;
 }
 
+/* A whole number, rounded. */
 WORD FORMAT_from_long(int mode, long a) {
     ulong magnitude = a < 0 ? 0 - (ulong)a : (ulong)a;
     WORD result = FORMAT_from_magnitude(mode, a < 0 ? SIGN_BIT : 0, magnitude);
     return result;
 }
 
+/* The same of one without a sign. */
 WORD FORMAT_from_ulong(int mode, ulong a) {
     WORD result = FORMAT_from_magnitude(mode, 0, a);
     return result;
@@ -324,6 +327,7 @@ ulong FORMAT_digits_of(WORD x) {
     return (ulong)((x & FRACTION_MASK) | SMALLEST_NORMAL);
 }
 
+/* The power of 2 that such digits are multiplied by. */
 int FORMAT_scale_of(WORD x) {
     if (x < SMALLEST_NORMAL) return 0;
     return (int)(x >> FRACTION_BITS) - 1;
@@ -591,23 +595,28 @@ WORD FORMAT_fract(WORD a) {
 
 /* ---- classes (IEEE 754-2008, 5.7.2) ---- */
 
+/* 1 if a is an infinity */
 int FORMAT_isinf(WORD a) {
     return (a & MAGNITUDE_MASK) == INFINITY_BITS;
 }
 
+/* 1 if a is neither an infinity nor a NaN */
 int FORMAT_isfinite(WORD a) {
     return (a & MAGNITUDE_MASK) < INFINITY_BITS;
 }
 
+/* 1 if a is neither 0, subnormal, infinite nor a NaN */
 int FORMAT_isnormal(WORD a) {
     WORD x = a & MAGNITUDE_MASK;
     return x >= SMALLEST_NORMAL && x < INFINITY_BITS;
 }
 
+/* 1 if one of them is a NaN */
 int FORMAT_isunordered(WORD a, WORD b) {
     return (a & MAGNITUDE_MASK) > INFINITY_BITS || (b & MAGNITUDE_MASK) > INFINITY_BITS;
 }
 
+/* 1 if the sign is minus, also of a zero or a NaN */
 int FORMAT_signbit(WORD a) {
     return a >= SIGN_BIT;
 }
