@@ -1,4 +1,6 @@
 # binary64 (IEEE 754-2008, table 3.5) in words of 64 bits
+# The sum in one word is that of what is rare; the usual one is that of two_words.cl.
+s/^WORD FORMAT_add(/WORD FORMAT_add_rare(/
 s/FORMAT_/double_/g
 s/SIGNED_WORD/long/g
 s/WORD/ulong/g
