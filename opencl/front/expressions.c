@@ -1,4 +1,5 @@
 // Expressions: their values, where they lie, and what they do.
+#include "../session.h"
 #include "front.h"
 #include <inttypes.h>
 #include <string.h>

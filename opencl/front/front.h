@@ -577,7 +577,7 @@ bool is_reserved_name(const char *name);
 
 // ---- joined.c ----
 // The list of a kernel or of a function, with calls put where their results are used.
-list joined(translator *t, list l);
+list with_calls_joined(translator *t, list l);
 
 // ---- writer.c ----
 // Notes the place of what is written next.

@@ -72,7 +72,7 @@ static void join_in(translator *t, list *l) {
     }
 }
 
-list joined(translator *t, list l) {
+list with_calls_joined(translator *t, list l) {
     count_in(t, l);
     join_in(t, &l);
     return l;
