@@ -8,18 +8,15 @@
 #![tactic(auto)]
 
 pub mod checking;
-pub mod command_line;
 pub mod dialogue;
 pub mod dumping;
 mod only_client;
 pub mod reading;
 pub mod replaying;
 pub mod session;
-pub mod wish;
 
 pub use byte_io::{Read, ReadFault, Write, WriteFailed};
 pub use checking::check_file;
-pub use command_line::command;
 pub use dialogue::serve;
 pub use dumping::dump_file;
 pub use replaying::replay_files;

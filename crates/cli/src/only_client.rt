@@ -9,7 +9,7 @@ ghost use Rattle.host_queue.specs.declared.view.Request.TheVariants.{Answered};
 ghost use Rattle.host_queue.specs.Clients.{IsOnly};
 ghost use Rattle.host_queue.specs.Seats.{answered_count};
 
-use crate::session::Options;
+use command_line::options::Options;
 use device::{Device, Driver, OpenGate, open};
 use host_commands::command::{Command, Reply};
 use host_queue::{Client, Queue, Request};

@@ -15,43 +15,15 @@ use crate::only_client::OnlyClient;
 use crate::reading::commands_of;
 use byte_io::pieces::{Piece, write_pieces};
 use byte_io::{Read, Write, WriteFailed};
+use command_line::options::Options;
 use host_commands::command::{Command, Reply};
 use host_queue::Request;
-use limits::{Configuration, Limits};
 use simfile::faults::RunFault;
 use simfile::replies::write_reply;
 use std::alloc::Global;
 use std::marker::Sync;
 use std::sync::Wait;
 use std::thread::Threads;
-
-/// What is given to a run beside its script.
-#[derive(Clone, Copy, Debug, PartialEq, Eq)]
-pub struct Options {
-    /// What the device is made with
-    pub configuration: Configuration,
-    /// How many workers run a launch, from 1 to 16. No reply depends on it
-    pub workers: u32,
-    pub ghost counted: { (1 ≤ workers) × (workers ≤ 16) },
-}
-
-impl Options {
-    /// The number of workers where none is given.
-    pub const DEFAULT_WORKERS: u32 = 1;
-}
-
-impl Default for Options {
-    ghost use Rattle.limits.specs.Limits.{profile};
-
-    ghost is_default = { λ options. (options.configuration.limits ≡ profile) × (options.configuration.budget ≡ 100000) × (options.workers ≡ 1) };
-
-    fn default() -> Self {
-        Options {
-            configuration: Configuration::of(Limits::profile()),
-            workers: Self::DEFAULT_WORKERS,
-        }
-    }
-}
 
 /// What the replies of a run come to.
 #[derive(Clone, Copy, Debug, PartialEq, Eq)]
