@@ -137,9 +137,9 @@ working = workers ∷ configured
 abbrev pub lines : Rule
 lines = flag (codes "lines")
 
--- `run FILE [--workers N] [--budget N] [--limits LIMITS] [--lines]`
+-- `run FILE [--workers N] [--budget N] [--limits LIMITS] [--lines] [--format bytes|numbers]`
 abbrev pub run_arguments : List Rule
-run_arguments = file ∷ workers ∷ budget ∷ limits ∷ lines ∷ []
+run_arguments = file ∷ workers ∷ budget ∷ limits ∷ lines ∷ format ∷ []
 
 -- `check FILE [--limits LIMITS]`
 abbrev pub check_arguments : List Rule
@@ -243,13 +243,21 @@ GivesConfiguration rows configuration = GivesLimits rows configuration.limits ×
 abbrev pub GivesDefault : List Row → Configuration → Type 0
 GivesDefault rows configuration = GivesLimits rows configuration.limits × (configuration.budget ≡ configuration.limits.default_ticks)
 
--- whether the format is JSON: it is text where the option isn't there
+-- whether an option is the second of two words: it is the first where it isn't there
+abbrev pub IsSecond : Text → Text → Option Text → Bool → Type 0
+IsSecond first second None is = is ≡ false
+IsSecond first second (Some text) is = (text ≡ first) × (is ≡ false) ⊎ (text ≡ second) × (is ≡ true)
+
+-- whether the format is JSON, and not text
 abbrev pub IsFormat : Option Text → Bool → Type 0
-IsFormat None json = json ≡ false
-IsFormat (Some text) json = (text ≡ codes "text") × (json ≡ false) ⊎ (text ≡ codes "json") × (json ≡ true)
+IsFormat named json = IsSecond (codes "text") (codes "json") named json
 
 abbrev pub GivesFormat : List Row → Bool → Type 0
 GivesFormat rows json = IsFormat (first_of (codes "format") rows) json
+
+-- whether replies are shown as numbers, and not as bytes
+abbrev pub GivesNumbers : List Row → Bool → Type 0
+GivesNumbers rows numbers = IsSecond (codes "bytes") (codes "numbers") (first_of (codes "format") rows) numbers
 
 -- the number of an option, from 1 to the most, where the option is there
 abbrev pub IsCount : ℕ → Option Text → Option ℕ → Type 0
@@ -311,9 +319,17 @@ pub record SaysWrong (rows : List Row) (text : Text) : Type 0 where
   pub budget : (limits : Limits) (json widen : Bool) → GivesLimits rows limits → GivesFormat rows json → GivesWiden rows widen
       → text ≡ codes "the budget is at most 1000000, and with --limits large at most 1000000000"
 
+-- what is wrong with the values of `run`: its limits where they are none, or else its format where it is none, or else
+-- its budget (own)
+pub record SaysWrongRun (rows : List Row) (text : Text) : Type 0 where
+  pub limits : ((limits : Limits) → ¬ GivesLimits rows limits) → text ≡ codes "the limits are profile or large"
+  pub format : (limits : Limits) → GivesLimits rows limits → ((numbers : Bool) → ¬ GivesNumbers rows numbers) → text ≡ codes "the format is bytes or numbers"
+  pub budget : (limits : Limits) (numbers : Bool) → GivesLimits rows limits → GivesNumbers rows numbers
+      → text ≡ codes "the budget is at most 1000000, and with --limits large at most 1000000000"
+
 -- the name of the form by which this is asked for
 abbrev pub form_name : Invocation → Text
-form_name (invocation.Run _ _ _) = codes "run"
+form_name (invocation.Run _ _ _ _) = codes "run"
 form_name (invocation.Check _ _) = codes "check"
 form_name (invocation.Dump _ _ _) = codes "dump"
 form_name (invocation.Replay _ _ _) = codes "replay"
@@ -329,9 +345,9 @@ form_name (invocation.Explore _ _) = codes "explore"
 -- schedule file, if one is named; a script whose replies are widened, within their limits; a script that is written as
 -- a plain one; a script whose launches are tried in other orders (own)
 abbrev pub Gives : List Row → Invocation → Type 0
-Gives rows (invocation.Run path options numbered) =
+Gives rows (invocation.Run path options numbered numbers) =
     (first_of (codes "FILE") rows ≡ Some path.now) × GivesWorkers rows options.workers × GivesConfiguration rows options.configuration
-    × GivesFlag (codes "lines") rows numbered
+    × GivesFlag (codes "lines") rows numbered × GivesNumbers rows numbers
 Gives rows (invocation.Check path limits) = (first_of (codes "FILE") rows ≡ Some path.now) × GivesLimits rows limits
 Gives rows (invocation.Dump path name limits) =
     (first_of (codes "FILE") rows ≡ Some path.now) × (first_of (codes "KERNEL") rows ≡ Some name.now) × GivesLimits rows limits

@@ -2,8 +2,8 @@
 #![tactic(auto)]
 
 ghost use Rattle.std.specs.Prelude.{◌≡◌, ◌≤◌, List, [], ◌∷◌, ◌++◌, codes, map, option_map, Ok, IfOk, IfErr, IfSome};
-ghost use Rattle.clap.specs.Words.{Rule, Shape, Text, kind_of, found_of, one_of, rows_of, subcommand_rows_of};
-ghost use Rattle.command_line.specs.CommandLine.{AreForms, IsArgument, IsForm, all_forms, form_of, needed, option, number, wide_number, limits, some_schedule, format, flag, configured, working, explained, searched, run_arguments, check_arguments, dump_arguments, replay_arguments, serve_arguments, explain_arguments, version_arguments, widen_arguments, plain_arguments, explore_arguments, GivesWorkers, GivesLimits, GivesBudget, GivesConfiguration, GivesFormat, GivesOrders, GivesSeed, GivesWiden, IsCount, says_yes, SaysWrong, AsksBy, Reads, Holds, AsksFor, IsRefused};
+ghost use Rattle.clap.specs.Words.{Rule, Shape, Text, kind_of, found_of, first_of, one_of, rows_of, subcommand_rows_of};
+ghost use Rattle.command_line.specs.CommandLine.{AreForms, IsArgument, IsForm, all_forms, form_of, needed, option, number, wide_number, limits, some_schedule, format, flag, configured, working, explained, searched, run_arguments, check_arguments, dump_arguments, replay_arguments, serve_arguments, explain_arguments, version_arguments, widen_arguments, plain_arguments, explore_arguments, GivesWorkers, GivesLimits, GivesBudget, GivesConfiguration, GivesFormat, GivesNumbers, GivesOrders, GivesSeed, GivesWiden, IsCount, IsSecond, says_yes, SaysWrong, SaysWrongRun, AsksBy, Reads, Holds, AsksFor, IsRefused};
 
 use crate::options::Options;
 use crate::wish::{ExplainWish, ExploreWish};
@@ -16,11 +16,13 @@ use std::alloc::{AllocError, Global};
 /// What a command line asks for.
 #[derive(Clone, Copy, Debug, PartialEq, Eq)]
 pub enum Invocation<'a> {
-    /// Runs the script of a file, with the line of its command in front of each reply or without
+    /// Runs the script of a file, with the line of its command in front of each reply or without, and with numbers or
+    /// bytes in the replies to reads that name a type
     Run {
         file: &'a str,
         options: Options,
         lines: bool,
+        numbers: bool,
     },
     /// Checks the source of a file within limits
     Check {
@@ -225,7 +227,7 @@ fn working<'a>(
     configured(alloc, with(form, workers))
 }
 
-/// The form `run FILE [--workers N] [--budget N] [--limits LIMITS] [--lines]`.
+/// The form `run FILE [--workers N] [--budget N] [--limits LIMITS] [--lines] [--format bytes|numbers]`.
 fn run_form<'a>(alloc: Global) -> Result<Command<'a>, AllocError>
     ensures { IfOk result (IsForm (codes "run") run_arguments) }
 {
@@ -241,7 +243,11 @@ fn run_form<'a>(alloc: Global) -> Result<Command<'a>, AllocError>
         "lines",
         "Prints the line of its command in front of each reply",
     );
-    with(working(alloc, form), lines)
+    formatted(
+        alloc,
+        with(working(alloc, form), lines),
+        "How the replies to reads with a type are written: bytes or numbers",
+    )
 }
 
 /// The form `check FILE [--limits LIMITS]`.
@@ -507,6 +513,7 @@ fn run_of<'a>(run: &ArgMatches<'a>) -> Option<Invocation<'a>>
     let workers = workers_of(run)?;
     let configuration = configuration_of(run)?;
     let lines = run.get_flag("lines");
+    let numbers = numbers_of(run)?;
     Some(Invocation::Run {
         file,
         options: Options {
@@ -514,6 +521,7 @@ fn run_of<'a>(run: &ArgMatches<'a>) -> Option<Invocation<'a>>
             workers,
         },
         lines,
+        numbers,
     })
 }
 
@@ -568,20 +576,34 @@ fn serve_of<'a>(serve: &ArgMatches<'a>) -> Option<Invocation<'a>>
     })
 }
 
-/// Whether the format is JSON, and `None` where it is neither this nor text.
-fn format_of(matches: &ArgMatches<'_>) -> Option<bool>
-    ensures { Reads (GivesFormat (rows_of (found_of matches.now))) result }
+/// Whether the format is the second of two words, and not the first, and `None` where it is neither.
+fn is_second(matches: &ArgMatches<'_>, first: &str, second: &str) -> Option<bool>
+    ensures { Reads (IsSecond first.now second.now (first_of (codes "format") (rows_of (found_of matches.now)))) result }
 {
     let Some(format) = matches.get_str("format") else {
         return Some(false);
     };
-    if format == "text" {
+    if format == first {
         return Some(false);
     }
-    if format == "json" {
+    if format == second {
         return Some(true);
     }
     None
+}
+
+/// Whether the format is JSON, and `None` where it is neither this nor text.
+fn format_of(matches: &ArgMatches<'_>) -> Option<bool>
+    ensures { Reads (GivesFormat (rows_of (found_of matches.now))) result }
+{
+    is_second(matches, "text", "json")
+}
+
+/// Whether replies are shown as numbers, and `None` where the format is neither these nor bytes.
+fn numbers_of(run: &ArgMatches<'_>) -> Option<bool>
+    ensures { Reads (GivesNumbers (rows_of (found_of run.now))) result }
+{
+    is_second(run, "bytes", "numbers")
 }
 
 /// The number of an option, where it is there, and `None` where it is none from 1 to `most`.
@@ -848,6 +870,19 @@ fn wrong_in(values: &ArgMatches<'_>) -> &'static str
     "the budget is at most 1000000, and with --limits large at most 1000000000"
 }
 
+/// What is wrong with the values of `run` that ask for nothing: its limits, or else its format, or else its budget.
+fn wrong_in_run(run: &ArgMatches<'_>) -> &'static str
+    ensures { SaysWrongRun (rows_of (found_of run.now)) result.now }
+{
+    if limits_of(run).is_none() {
+        return "the limits are profile or large";
+    }
+    if numbers_of(run).is_none() {
+        return "the format is bytes or numbers";
+    }
+    "the budget is at most 1000000, and with --limits large at most 1000000000"
+}
+
 /// The error of a form whose values ask for nothing, with the form's usage.
 fn wrong_value(alloc: Global, matches: &ArgMatches<'_>) -> Result<Error, AllocError>
     ensures { IfOk result (λ error. kind_of error ≡ ErrorKind.InvalidValue) }
@@ -857,6 +892,9 @@ fn wrong_value(alloc: Global, matches: &ArgMatches<'_>) -> Result<Error, AllocEr
         return forms.error(ErrorKind::InvalidValue, "a form is missing");
     };
     let mut form = form_of(alloc, name)?;
+    if name == "run" {
+        return form.error(ErrorKind::InvalidValue, wrong_in_run(values));
+    }
     form.error(ErrorKind::InvalidValue, wrong_in(values))
 }
 
@@ -878,7 +916,7 @@ fn command_by<'a>(
 }
 
 /// Reads the words of a command line, the program's name first. The forms are:
-/// - `clsim run FILE [--workers N] [--budget N] [--limits LIMITS] [--lines]`
+/// - `clsim run FILE [--workers N] [--budget N] [--limits LIMITS] [--lines] [--format bytes|numbers]`
 /// - `clsim check FILE [--limits LIMITS]`
 /// - `clsim dump FILE KERNEL [--limits LIMITS]`
 /// - `clsim replay SCRIPT SCHEDULE [--limits LIMITS]`

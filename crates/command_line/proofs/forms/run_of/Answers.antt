@@ -18,6 +18,7 @@ returns c =
           absent = λ is. c.get_flag-lines.ensures.other (lines ∙ is);
           unknown = λ is. c.get_flag-lines.ensures.none (lines ∙ is);
         },
+        c.in_ok-numbers.ensures,
       ),
     )
 
@@ -33,3 +34,6 @@ returns-in_err-workers c = rw c.from_residual-in_err-workers.ensures (λ asked i
 
 pub returns-in_err-configuration : goal.returns-in_err-configuration
 returns-in_err-configuration c = rw c.from_residual-in_err-configuration.ensures (λ asked is. let parts = run_parts (rows_of (found_of c.args.run.now)) asked is in c.in_err-configuration.ensures parts.2 parts.5)
+
+pub returns-in_err-numbers : goal.returns-in_err-numbers
+returns-in_err-numbers c = rw c.from_residual-in_err-numbers.ensures (λ asked is. let parts = run_parts (rows_of (found_of c.args.run.now)) asked is in c.in_err-numbers.ensures parts.6 parts.7)
