@@ -1,0 +1,22 @@
+use Rattle.std.proofs.Common.{◌≡◌, ◌*◌, ℕ, ◌∙◌, ap, sym, subst, Option, Some, pos, arith}
+use Rattle.std.specs.Option.{unwrap_or}
+use Rattle.clnum.specs.Integer.{wrap}
+use Rattle.clmodel.specs.Cells.{number}
+use Rattle.showing.specs.Numbers.{cells_of, size_of}
+use Rattle.showing.proofs.numbers.element.Goals as goal
+
+pub overflow_mul-first : goal.overflow_mul-first
+overflow_mul-first c =
+    let same = ap (λ (size : ℕ). size * c.args.index) c.size_of.ensures.value in
+    omega (arith, same, c.requires)
+
+pub bits_at-requires : goal.bits_at-requires
+bits_at-requires c =
+    let same = ap (λ (size : ℕ). size * c.args.index) c.size_of.ensures.value in
+    omega (arith, same, c.requires)
+
+pub returns : goal.returns
+returns c =
+    let bits : number (cells_of c.args.bytes.now) (size_of c.args.kind * c.args.index) (size_of c.args.kind) ≡ Some c.bits_at.result =
+    subst (λ (size : ℕ). number (cells_of c.args.bytes.now) (size * c.args.index) (size_of c.args.kind) ≡ Some c.bits_at.result) c.size_of.ensures.value c.bits_at.ensures in
+    c.number.ensures.value ∙ (ap (λ v. v.number) c.from_bits.ensures ∙ ap (λ (o : Option ℕ). wrap c.args.kind (pos (unwrap_or o 0))) (sym bits))
