@@ -1,10 +1,10 @@
 //! The program's commands: scripts in and replies out, sources checked, kernels shown as code, and schedules replayed.
 //!
 //! Where `run` ends well, the replies of the machine to the commands were written, a line each and nothing else, and
-//! none is held back in a buffer; `run_shown` writes them as its caller says (`showing`). It goes through the device's queue, as its only client. `serve` does without the
-//! queue, and the lines that it tells are those of `run`. `replay_files` answers yes exactly where the schedule leads
-//! the launch of its ticket, on the machine to which the commands before it lead, to a state that shows the fault. A
-//! status is the defined one.
+//! none is held back in a buffer; `run_shown` writes them as its caller says (`showing`). It goes through the device's
+//! queue, as its only client. `serve` does without the queue, and the lines that it tells are those of `run`.
+//! `replay_files` answers yes exactly where the schedule leads the launch of its ticket, on the machine to which the
+//! commands before it lead, to a state that shows the fault. A status is the defined one.
 #![tactic(auto)]
 
 pub mod checking;

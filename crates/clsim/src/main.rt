@@ -22,6 +22,7 @@ mod named_file;
 mod passing;
 mod piped;
 mod reporting;
+mod shows;
 mod version;
 mod written_file;
 
@@ -32,6 +33,7 @@ use crate::named_file::{NamedFile, STANDARD_INPUT};
 use crate::passing::pass;
 use crate::piped::Piped;
 use crate::reporting::{Told, tell, tell_place, tell_script, told_of};
+use crate::shows::ReplyStyle;
 use crate::version::print_version;
 use crate::written_file::WrittenFile;
 use byte_io::{Input, Output, StreamPeer};
@@ -43,7 +45,7 @@ use cli::dumping::dump_file;
 use cli::reading::bytes_of;
 use cli::replaying::{replay_files, replay_status};
 use cli::session::RunEnd;
-use cli::{run, run_numbered, status};
+use cli::{run, run_shown, status};
 use command_line::{ExplainWish, ExploreWish, Invocation, Options, command};
 use explaining::{ExplainOptions, Format};
 use exploring::{ExploreEnd, ExploreOptions, explore, status as explore_status};
@@ -82,22 +84,23 @@ fn run_script<R: Files + io::Input + Print + AllocGlobal + Threads + Wait + Sync
     outcome
 }
 
-/// Runs a script, with the replies on standard output and the line of its command in front of each.
-fn run_with_lines<R: Files + io::Input + Print + AllocGlobal + Threads + Wait + Sync>(
+/// Runs a script, with the replies on standard output in a style.
+fn run_in_style<R: Files + io::Input + Print + AllocGlobal + Threads + Wait + Sync>(
     rt: &R,
     script: &mut WrittenFile<'_, R>,
     options: Options,
+    style: ReplyStyle,
     gone: &mut bool,
 ) -> Result<RunEnd, RunFault> {
     let text = bytes_of(rt.alloc(), script, Reader::First)?;
-    let lines = script.lines(rt.alloc(), text.as_slice())?;
+    let shows = script.shows(rt.alloc(), text.as_slice(), style)?;
     let mut reader = Input::new(text.as_slice());
     let mut writer = output_of(rt)?;
-    let outcome = run_numbered(
+    let outcome = run_shown(
         rt,
         rt.alloc(),
         &mut reader,
-        lines.as_slice(),
+        shows.as_slice(),
         &mut writer,
         options,
     );
@@ -353,19 +356,19 @@ fn end_explore<R: Files + Eprint>(
     explore_status(&outcome)
 }
 
-/// Runs the script of a file, with the line of its command in front of each reply or without, and gives the status.
+/// Runs the script of a file, with its replies in a style, and gives the status.
 fn do_run<R: Files + io::Input + Print + Eprint + AllocGlobal + Threads + Wait + Sync>(
     rt: &R,
     file: &str,
     options: Options,
-    lines: bool,
+    style: ReplyStyle,
 ) -> u8
     ensures { result ≤ 2 }
 {
     let mut script = WrittenFile::new(rt, file);
     let mut gone = false;
-    let outcome = if lines {
-        run_with_lines(rt, &mut script, options, &mut gone)
+    let outcome = if style.lines || style.numbers {
+        run_in_style(rt, &mut script, options, style, &mut gone)
     } else {
         run_script(rt, &mut script, options, &mut gone)
     };
@@ -558,8 +561,9 @@ fn perform<R: Files + io::Input + Print + Eprint + Clock + AllocGlobal + Threads
                 file,
                 options,
                 lines,
+                numbers,
             },
-        ) => do_run(rt, file, options, lines),
+        ) => do_run(rt, file, options, ReplyStyle { lines, numbers }),
         Ok(Invocation::Check { file, limits }) => do_check(rt, file, limits, watched),
         Ok(
             Invocation::Dump {
