@@ -96,6 +96,17 @@ answered_more {numbers} {left} {configuration} {done} {now} {new} {old} {mid} {a
   counts = a.counts ∙ (ap (one_end a.answer) h.counts ∙ sym (fold-more h.replies a.answer (end_of [])));
 }
 
+-- nothing more was written
+pub answered_still : {numbers left : List ℕ} {configuration : Configuration} {done : List Command} {now : Machine} {old mid after : Sink} {end : RunEnd} → HasAnswered numbers left configuration done now old mid end
+    → Wrote mid after [] → HasAnswered numbers left configuration done now old after end
+answered_still {numbers} {left} {configuration} {done} {now} {old} {mid} {after} {end} h w = record {
+  replies = h.replies;
+  plays = h.plays;
+  wrote = subst (λ (l : List ℕ). Wrote old after l) (append-nil (numbered numbers h.replies)) (wrote_then h.wrote w);
+  leaves = h.leaves;
+  counts = h.counts;
+}
+
 pub broken_at : {numbers left : List ℕ} {configuration : Configuration} {done : List Command} {now : Machine} {old mid after : Sink} {end : RunEnd} (all more : List Command) (c : Command) → all ≡ done ++ c ∷ more → HasAnswered numbers left configuration done now old mid end
     → BreaksOne left now c mid after → Broken numbers configuration all old after
 broken_at {numbers} {left} {configuration} {done} {now} {old} {mid} {after} {end} all more c e h b = record {
@@ -119,14 +130,14 @@ answered_all {numbers} {left} {configuration} {done} {now} {old} {mid} {after} {
   end = h.counts;
 }
 
-pub broken_last : {numbers left : List ℕ} {configuration : Configuration} {done : List Command} {now : Machine} {old mid after : Sink} {end : RunEnd} (all : List Command) → all ≡ done → HasAnswered numbers left configuration done now old mid end
+pub broken_between : {numbers left : List ℕ} {configuration : Configuration} {done : List Command} {now : Machine} {old mid after : Sink} {end : RunEnd} (all more : List Command) → all ≡ done ++ more → HasAnswered numbers left configuration done now old mid end
     → Stopped mid after [] → Broken numbers configuration all old after
-broken_last {numbers} {left} {configuration} {done} {now} {old} {mid} {after} {end} all e h w = record {
+broken_between {numbers} {left} {configuration} {done} {now} {old} {mid} {after} {end} all more e h w = record {
   done = done;
-  left = [];
+  left = more;
   replies = h.replies;
   last = now;
-  split = e ∙ sym (append-nil done);
+  split = e;
   plays = h.plays;
   stopped = subst (λ (l : List ℕ). Stopped old after l) (append-nil (numbered numbers h.replies)) (stopped_then h.wrote w);
 }

@@ -21,6 +21,7 @@ mod looks;
 mod named_file;
 mod passing;
 mod piped;
+mod progress;
 mod reporting;
 mod version;
 mod written_file;
@@ -31,6 +32,7 @@ use crate::looks::Looks;
 use crate::named_file::{NamedFile, STANDARD_INPUT};
 use crate::passing::pass;
 use crate::piped::Piped;
+use crate::progress::Progress;
 use crate::reporting::{Told, tell, tell_place, tell_script, told_of};
 use crate::version::print_version;
 use crate::written_file::WrittenFile;
@@ -43,7 +45,7 @@ use cli::dumping::dump_file;
 use cli::reading::bytes_of;
 use cli::replaying::{replay_files, replay_status};
 use cli::session::RunEnd;
-use cli::{run, run_numbered, status};
+use cli::{OpenGate, Watch, run_numbered, status};
 use command_line::{ExplainWish, ExploreWish, Invocation, Options, command};
 use explaining::{ExplainOptions, Format};
 use exploring::{ExploreEnd, ExploreOptions, explore, status as explore_status};
@@ -56,7 +58,7 @@ use std::process::ExitCode;
 use std::rt::{Clock, Files};
 use std::sync::Wait;
 use std::thread::Threads;
-use std::{env, io};
+use std::{env, io, thread};
 use wide_text::{Format as WideFormat, WideEnd, status as wide_status, widen};
 
 /// Standard output, to be written.
@@ -70,23 +72,25 @@ fn output_of<'a, R: Print + AllocGlobal>(
 }
 
 /// Runs a script, with the replies on standard output, and notes whether its reader is gone.
-fn run_script<R: Files + io::Input + Print + AllocGlobal + Threads + Wait + Sync>(
+fn run_script<R: Files + io::Input + Print + AllocGlobal + Threads + Wait + Sync, W: Watch>(
     rt: &R,
     script: &mut WrittenFile<'_, R>,
     options: Options,
+    watch: &W,
     gone: &mut bool,
 ) -> Result<RunEnd, RunFault> {
     let mut writer = output_of(rt)?;
-    let outcome = run(rt, rt.alloc(), script, &mut writer, options);
+    let outcome = run_numbered(rt, rt.alloc(), script, &[], &mut writer, options, watch);
     *gone = writer.into_inner().is_gone();
     outcome
 }
 
 /// Runs a script, with the replies on standard output and the line of its command in front of each.
-fn run_with_lines<R: Files + io::Input + Print + AllocGlobal + Threads + Wait + Sync>(
+fn run_with_lines<R: Files + io::Input + Print + AllocGlobal + Threads + Wait + Sync, W: Watch>(
     rt: &R,
     script: &mut WrittenFile<'_, R>,
     options: Options,
+    watch: &W,
     gone: &mut bool,
 ) -> Result<RunEnd, RunFault> {
     let text = bytes_of(rt.alloc(), script, Reader::First)?;
@@ -100,9 +104,47 @@ fn run_with_lines<R: Files + io::Input + Print + AllocGlobal + Threads + Wait + 
         lines.as_slice(),
         &mut writer,
         options,
+        watch,
     );
     *gone = writer.into_inner().is_gone();
     outcome
+}
+
+/// Runs a script, with the line of its command in front of each reply or without.
+fn run_watched<R: Files + io::Input + Print + AllocGlobal + Threads + Wait + Sync, W: Watch>(
+    rt: &R,
+    script: &mut WrittenFile<'_, R>,
+    options: Options,
+    lines: bool,
+    watch: &W,
+    gone: &mut bool,
+) -> Result<RunEnd, RunFault> {
+    if lines {
+        run_with_lines(rt, script, options, watch, gone)
+    } else {
+        run_script(rt, script, options, watch, gone)
+    }
+}
+
+/// Runs a script, and tells on standard error how far each launch has come that takes long. Where no thread can be
+/// started for that, nothing is told.
+fn run_told<
+    R: Files + io::Input + Print + Eprint + Clock + AllocGlobal + Threads + Wait + Sync,
+>(
+    rt: &R,
+    script: &mut WrittenFile<'_, R>,
+    options: Options,
+    lines: bool,
+    gone: &mut bool,
+) -> Result<RunEnd, RunFault> {
+    let progress = Progress::new(rt);
+    let progress = &progress;
+    thread::scope(thread::scope_env(), rt, |scope| {
+        let _ = scope.spawn(move || progress.tell_all());
+        let outcome = run_watched(rt, script, options, lines, progress, gone);
+        progress.finish();
+        outcome
+    })
 }
 
 /// How many bytes of standard input are read at once.
@@ -354,20 +396,22 @@ fn end_explore<R: Files + Eprint>(
 }
 
 /// Runs the script of a file, with the line of its command in front of each reply or without, and gives the status.
-fn do_run<R: Files + io::Input + Print + Eprint + AllocGlobal + Threads + Wait + Sync>(
+/// `told` says that a person is told how far a launch has come.
+fn do_run<R: Files + io::Input + Print + Eprint + Clock + AllocGlobal + Threads + Wait + Sync>(
     rt: &R,
     file: &str,
     options: Options,
     lines: bool,
+    told: bool,
 ) -> u8
     ensures { result ≤ 2 }
 {
     let mut script = WrittenFile::new(rt, file);
     let mut gone = false;
-    let outcome = if lines {
-        run_with_lines(rt, &mut script, options, &mut gone)
+    let outcome = if told {
+        run_told(rt, &mut script, options, lines, &mut gone)
     } else {
-        run_script(rt, &mut script, options, &mut gone)
+        run_watched(rt, &mut script, options, lines, &OpenGate, &mut gone)
     };
     end_run(rt, outcome, script.told(gone))
 }
@@ -558,8 +602,9 @@ fn perform<R: Files + io::Input + Print + Eprint + Clock + AllocGlobal + Threads
                 file,
                 options,
                 lines,
+                quiet,
             },
-        ) => do_run(rt, file, options, lines),
+        ) => do_run(rt, file, options, lines, watched && !quiet),
         Ok(Invocation::Check { file, limits }) => do_check(rt, file, limits, watched),
         Ok(
             Invocation::Dump {

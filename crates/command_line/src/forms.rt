@@ -16,11 +16,13 @@ use std::alloc::{AllocError, Global};
 /// What a command line asks for.
 #[derive(Clone, Copy, Debug, PartialEq, Eq)]
 pub enum Invocation<'a> {
-    /// Runs the script of a file, with the line of its command in front of each reply or without
+    /// Runs the script of a file, with the line of its command in front of each reply or without. A quiet run tells
+    /// nothing of a launch that takes long
     Run {
         file: &'a str,
         options: Options,
         lines: bool,
+        quiet: bool,
     },
     /// Checks the source of a file within limits
     Check {
@@ -225,7 +227,7 @@ fn working<'a>(
     configured(alloc, with(form, workers))
 }
 
-/// The form `run FILE [--workers N] [--budget N] [--limits LIMITS] [--lines]`.
+/// The form `run FILE [--workers N] [--budget N] [--limits LIMITS] [--lines] [--quiet]`.
 fn run_form<'a>(alloc: Global) -> Result<Command<'a>, AllocError>
     ensures { IfOk result (IsForm (codes "run") run_arguments) }
 {
@@ -241,7 +243,12 @@ fn run_form<'a>(alloc: Global) -> Result<Command<'a>, AllocError>
         "lines",
         "Prints the line of its command in front of each reply",
     );
-    with(working(alloc, form), lines)
+    let quiet = flag(
+        alloc,
+        "quiet",
+        "Tells nothing of a launch that takes long",
+    );
+    with(with(working(alloc, form), lines), quiet)
 }
 
 /// The form `check FILE [--limits LIMITS]`.
@@ -507,6 +514,7 @@ fn run_of<'a>(run: &ArgMatches<'a>) -> Option<Invocation<'a>>
     let workers = workers_of(run)?;
     let configuration = configuration_of(run)?;
     let lines = run.get_flag("lines");
+    let quiet = run.get_flag("quiet");
     Some(Invocation::Run {
         file,
         options: Options {
@@ -514,6 +522,7 @@ fn run_of<'a>(run: &ArgMatches<'a>) -> Option<Invocation<'a>>
             workers,
         },
         lines,
+        quiet,
     })
 }
 
@@ -878,7 +887,7 @@ fn command_by<'a>(
 }
 
 /// Reads the words of a command line, the program's name first. The forms are:
-/// - `clsim run FILE [--workers N] [--budget N] [--limits LIMITS] [--lines]`
+/// - `clsim run FILE [--workers N] [--budget N] [--limits LIMITS] [--lines] [--quiet]`
 /// - `clsim check FILE [--limits LIMITS]`
 /// - `clsim dump FILE KERNEL [--limits LIMITS]`
 /// - `clsim replay SCRIPT SCHEDULE [--limits LIMITS]`
