@@ -28,7 +28,7 @@ use Rattle.simfile.specs.declared.script.CommandPlace.{CommandPlace}
 use Rattle.widening.specs.Widened.{ArgumentsDiffer, BytesDiffer, DifferBy, is_free_at, with_arguments}
 use Rattle.widening.specs.declared.wide.Wide.{Wide}
 use Rattle.wide_launches.specs.Replies.{IsWideReply}
-use Rattle.wide_text.specs.Faults.{AreAllFree, FaultsAreInKernel, IsAside, IsFaultLine, IsInKernel, IsLaunchAside, OtherBytes, OtherNumber, OtherNumbers, TellsFaults, are_free, goes_on, head_of, is_any, is_number}
+use Rattle.wide_text.specs.Faults.{AreAllFree, FaultsAreInKernel, IsAside, IsFaultAside, IsFaultLine, IsInKernel, IsLaunchAside, OtherBytes, OtherNumber, OtherNumbers, TellsFaults, are_free, goes_on, head_of, is_any, is_number}
 use Rattle.wide_text.specs.Widened.{is_fault}
 
 -- ---- what is free
@@ -84,20 +84,25 @@ faults_are_in_kernel once old setup buffers arguments fault schedule wide all fa
 
 -- ---- the line of a launch
 
-pub launch_silent : (orders : Bool) (head : List ℕ) (old : Machine) (setup : Setup) (r : Reply) → (orders || not (is_fault r)) ≡ true → IsLaunchAside orders head old setup r []
-launch_silent true head old setup r silent = refl
-launch_silent false head old setup (reply.Fault fault schedule) silent = absurd (false≢true silent)
-launch_silent false head old setup reply.Done silent = refl
-launch_silent false head old setup (reply.Data bytes) silent = refl
-launch_silent false head old setup reply.Clean silent = refl
-launch_silent false head old setup reply.Ordered silent = refl
-launch_silent false head old setup (reply.Refused why) silent = refl
+pub launch_silent : (orders : Bool) (head : List ℕ) (old : Machine) (setup : Setup) (r : Reply) → is_fault r ≡ false → IsLaunchAside orders head old setup r []
+launch_silent orders head old setup (reply.Fault fault schedule) silent = absurd (false≢true (sym silent))
+launch_silent orders head old setup reply.Done silent = refl
+launch_silent orders head old setup (reply.Data bytes) silent = refl
+launch_silent orders head old setup reply.Clean silent = refl
+launch_silent orders head old setup reply.Ordered silent = refl
+launch_silent orders head old setup (reply.Refused why) silent = refl
 
--- what is promised of the line of a launch that faulted on a machine
+-- what is promised of the line of a launch without `orders` that faulted on a machine
 abbrev pub Tells : Machine → (kernel : List ℕ) → Range → (head text : List ℕ) → Type 0
 Tells m kernel range head text =
     (fault : Fault) (schedule : Schedule) → Launches m (setup_of m (kernel_of m kernel) range) (reply.Fault fault schedule) m
     → IsFaultLine (IsInKernel m (setup_of m (kernel_of m kernel) range) fault schedule) head (buffer_names (setup_of m (kernel_of m kernel) range)) text
+
+-- the same of a launch with `orders` or without
+abbrev pub TellsFault : Bool → Machine → (kernel : List ℕ) → Range → (head text : List ℕ) → Type 0
+TellsFault orders m kernel range head text =
+    (fault : Fault) (schedule : Schedule) → (orders ≡ false → Launches m (setup_of m (kernel_of m kernel) range) (reply.Fault fault schedule) m)
+    → IsFaultAside orders head m (setup_of m (kernel_of m kernel) range) fault schedule text
 
 -- a fault leaves the machine as it was
 fault_stays : (old new : Machine) (kernel : List ℕ) (range : Range) (fault : Fault) (schedule : Schedule) → Answers old (command.Launch kernel range false) (reply.Fault fault schedule) new
@@ -115,16 +120,22 @@ fault_stays old new kernel range fault schedule answers = by (first (launch_row 
     by None launched = ((launched.0, launched.1, launched.2, refl), launched.3)
     by (Some why) refused = absurd (no why refused.0)
 
-pub launch_told : (orders : Bool) (head : List ℕ) (old new : Machine) (kernel : List ℕ) (range : Range) (r : Reply) (text : List ℕ) → (orders || not (is_fault r)) ≡ false
-    → Answers old (command.Launch kernel range orders) r new → Tells new kernel range head text → IsLaunchAside orders head old (setup_of old (kernel_of old kernel) range) r text
-launch_told true head old new kernel range r text loud answers tells = absurd (false≢true (sym loud))
-launch_told false head old new kernel range (reply.Fault fault schedule) text loud answers tells =
-    let stays = fault_stays old new kernel range fault schedule answers in subst (λ (m : Machine). Tells m kernel range head text) stays.1 tells fault schedule stays.0
-launch_told false head old new kernel range reply.Done text loud answers tells = absurd (false≢true (sym loud))
-launch_told false head old new kernel range (reply.Data bytes) text loud answers tells = absurd (false≢true (sym loud))
-launch_told false head old new kernel range reply.Clean text loud answers tells = absurd (false≢true (sym loud))
-launch_told false head old new kernel range reply.Ordered text loud answers tells = absurd (false≢true (sym loud))
-launch_told false head old new kernel range (reply.Refused why) text loud answers tells = absurd (false≢true (sym loud))
+fault_told : (orders : Bool) (head : List ℕ) (old new : Machine) (kernel : List ℕ) (range : Range) (fault : Fault) (schedule : Schedule) (text : List ℕ)
+    → Answers old (command.Launch kernel range orders) (reply.Fault fault schedule) new → TellsFault orders new kernel range head text
+    → IsFaultAside orders head old (setup_of old (kernel_of old kernel) range) fault schedule text
+fault_told true head old new kernel range fault schedule text answers tells = tells fault schedule (λ no. absurd (false≢true (sym no)))
+fault_told false head old new kernel range fault schedule text answers tells =
+    let stays = fault_stays old new kernel range fault schedule answers in
+    subst (λ (m : Machine). TellsFault false m kernel range head text) stays.1 tells fault schedule (λ _. stays.0)
+
+pub launch_told : (orders : Bool) (head : List ℕ) (old new : Machine) (kernel : List ℕ) (range : Range) (r : Reply) (text : List ℕ) → is_fault r ≡ true
+    → Answers old (command.Launch kernel range orders) r new → TellsFault orders new kernel range head text → IsLaunchAside orders head old (setup_of old (kernel_of old kernel) range) r text
+launch_told orders head old new kernel range (reply.Fault fault schedule) text faulted answers tells = fault_told orders head old new kernel range fault schedule text answers tells
+launch_told orders head old new kernel range reply.Done text faulted answers tells = absurd (false≢true faulted)
+launch_told orders head old new kernel range (reply.Data bytes) text faulted answers tells = absurd (false≢true faulted)
+launch_told orders head old new kernel range reply.Clean text faulted answers tells = absurd (false≢true faulted)
+launch_told orders head old new kernel range reply.Ordered text faulted answers tells = absurd (false≢true faulted)
+launch_told orders head old new kernel range (reply.Refused why) text faulted answers tells = absurd (false≢true faulted)
 
 -- ---- the lines of a run
 

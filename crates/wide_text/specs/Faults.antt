@@ -98,15 +98,23 @@ IsDataLine head text = (more : List ℕ) × IsOneLine more × (text ≡ head ++ 
 abbrev pub IsFaultLine : Type 0 → (head : List ℕ) → (names : List (List ℕ)) → List ℕ → Type 0
 IsFaultLine InKernel head names text = (InKernel × IsKernelLine head names text) ⊎ IsDataLine head text
 
--- what is told of the reply to a launch, with `orders` or without: of a fault of one without a line, and else nothing
+-- the line of a launch with `orders` that faulted
+abbrev pub orders_line : (head : List ℕ) → List ℕ
+orders_line head = head ++ codes "in the data or in the kernel: of a launch with orders nothing is said for other data\n"
+
+-- what is told of a fault of a launch, with `orders` or without
+abbrev pub IsFaultAside : Bool → (head : List ℕ) → Machine → Setup → Fault → Schedule → List ℕ → Type 0
+IsFaultAside true head old setup fault schedule text = text ≡ orders_line head
+IsFaultAside false head old setup fault schedule text = IsFaultLine (IsInKernel old setup fault schedule) head (buffer_names setup) text
+
+-- what is told of the reply to a launch: a line of a fault, and else nothing
 abbrev pub IsLaunchAside : Bool → (head : List ℕ) → Machine → Setup → Reply → List ℕ → Type 0
-IsLaunchAside true head old setup r text = text ≡ []
-IsLaunchAside false head old setup (reply.Fault fault schedule) text = IsFaultLine (IsInKernel old setup fault schedule) head (buffer_names setup) text
-IsLaunchAside false head old setup reply.Done text = text ≡ []
-IsLaunchAside false head old setup (reply.Data bytes) text = text ≡ []
-IsLaunchAside false head old setup reply.Clean text = text ≡ []
-IsLaunchAside false head old setup reply.Ordered text = text ≡ []
-IsLaunchAside false head old setup (reply.Refused why) text = text ≡ []
+IsLaunchAside orders head old setup (reply.Fault fault schedule) text = IsFaultAside orders head old setup fault schedule text
+IsLaunchAside orders head old setup reply.Done text = text ≡ []
+IsLaunchAside orders head old setup (reply.Data bytes) text = text ≡ []
+IsLaunchAside orders head old setup reply.Clean text = text ≡ []
+IsLaunchAside orders head old setup reply.Ordered text = text ≡ []
+IsLaunchAside orders head old setup (reply.Refused why) text = text ≡ []
 
 -- what is told of the reply to a command
 abbrev pub IsAside : (head : List ℕ) → Machine → Command → Reply → List ℕ → Type 0
@@ -142,8 +150,8 @@ head_of all number places = if all then command_words number (line_at places num
 abbrev pub goes_on : Bool → Reply → Bool
 goes_on all r = all || not (is_fault r || is_refused r)
 
--- The lines along a run of the machine over commands, of which the first has this number: of each fault of a launch
--- without `orders`; or of the first reply that is a fault or a refusal, where that is such a fault.
+-- The lines along a run of the machine over commands, of which the first has this number: of each fault of a launch; or
+-- of the first reply that is a fault or a refusal, where that is a fault.
 abbrev pub TellsFaults : Bool → List CommandPlace → ℕ → Machine → List Command → List ℕ → Type 0
 TellsFaults all places number old [] text = text ≡ []
 TellsFaults all places number old (c ∷ cs) text =

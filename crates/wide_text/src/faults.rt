@@ -1,7 +1,7 @@
 //! Whether the faults of a script are in their kernels or in their data.
 #![tactic(auto)]
 
-ghost use Rattle.std.specs.Prelude.{◌≡◌, ◌++◌, List, ℕ, IsTrue, IfOk, IfErr, OnOk, Decides, true, not, ◌||◌, codes, string_bytes};
+ghost use Rattle.std.specs.Prelude.{◌≡◌, ◌++◌, List, ℕ, IsTrue, IfOk, IfErr, OnOk, Decides, false, true, not, ◌||◌, codes, string_bytes};
 ghost use Rattle.clmodel.specs.Setup.{buffer_names};
 ghost use Rattle.clmodel.specs.declared.fault.Fault.{Fault as FaultOf};
 ghost use Rattle.clmodel.specs.declared.schedule.Schedule.{Schedule as ScheduleOf};
@@ -12,7 +12,7 @@ ghost use Rattle.host_commands.specs.declared.command.Reply.TheVariants.{Fault, 
 ghost use Rattle.host_commands.specs.declared.command.Refusal.TheVariants.{OutOfMemory};
 ghost use Rattle.simfile.specs.Faults.{NoScript};
 ghost use Rattle.wide_text.specs.Widened.{is_fault};
-ghost use Rattle.wide_text.specs.Faults.{AreAllFree, IsAside, IsDataLine, IsFaultAsides, IsFaultLine, IsInKernel, IsKernelLine, TellsFaults, are_free, command_words, goes_on, head_of, is_any, is_number, line_at, more_names, names_text};
+ghost use Rattle.wide_text.specs.Faults.{AreAllFree, IsAside, IsDataLine, IsFaultAside, IsFaultAsides, IsFaultLine, IsInKernel, IsKernelLine, TellsFaults, are_free, command_words, goes_on, head_of, is_any, is_number, line_at, more_names, names_text, orders_line};
 
 use crate::asides::{push_arguments, push_deciding, push_in_line};
 use crate::data::{Deciding, FreeArgument};
@@ -234,11 +234,34 @@ fn kernel_aside(
     }
 }
 
-/// Whether nothing is told of a launch, with `orders` or without: it has them, or didn't fault.
-fn is_silent(orders: bool, reply: &Reply) -> bool
-    ensures { result ≡ (orders || not (is_fault reply.now)) }
+/// The line of a launch with `orders` that faulted: with other data its items may meet otherwise. An error is out of
+/// memory.
+fn orders_line(alloc: Global, head: &str) -> Result<Vec<u8>, AllocError>
+    ensures { IfOk result (λ text. text.items ≡ orders_line head.now) }
 {
-    orders || !is_fault(reply)
+    let mut out = Vec::new(alloc);
+    out.extend_from_slice(head.as_bytes())?;
+    out.extend_from_slice(b"in the data or in the kernel: of a launch with orders nothing is said for other data\n")?;
+    Ok(out)
+}
+
+/// The line of a kernel's launch over a range, with `orders` or without, that faulted on this device. An error is out
+/// of memory.
+fn fault_aside(
+    alloc: Global,
+    device: &Device,
+    sources: &mut Sources<'_>,
+    head: &str,
+    kernel: &Name,
+    range: &Range,
+    orders: bool,
+) -> Result<Vec<u8>, AllocError>
+    ensures { IfOk result (λ text. (fault : FaultOf) (schedule : ScheduleOf) → (orders ≡ false → Launches (machine_of device.now) (setup_on (machine_of device.now) (kernel_of (machine_of device.now) kernel.now) range.now) (Fault fault schedule) (machine_of device.now)) → IsFaultAside orders head.now (machine_of device.now) (setup_on (machine_of device.now) (kernel_of (machine_of device.now) kernel.now) range.now) fault schedule text.items) }
+{
+    if orders {
+        return orders_line(alloc, head);
+    }
+    kernel_aside(alloc, device, sources, head, kernel, range)
 }
 
 /// What is told of a command that a device has answered. An error is out of memory.
@@ -258,10 +281,10 @@ fn aside(
             range,
             orders,
         } => {
-            if is_silent(*orders, reply) {
+            if !is_fault(reply) {
                 return Ok(Vec::new(alloc));
             }
-            kernel_aside(alloc, device, sources, head, kernel, range)
+            fault_aside(alloc, device, sources, head, kernel, range, *orders)
         }
         Command::Buffer { .. }
         | Command::Write { .. }
@@ -384,13 +407,13 @@ fn faults_of(
     Ok(out)
 }
 
-/// Whether the faults of a script are in their kernels or in their data: a line of each launch without `orders` that
-/// faulted, in their order, or, where not all are wished, of the first reply that is a fault or a refusal, if that is
-/// such a fault. The line says that a fault is in the kernel only where the launch has it by the same schedule with
-/// whatever bytes in its buffers and whatever numbers as its arguments (OpenCL 1.2, sections 3.2 and 3.3.1); else it
-/// tells where the others decide, as far as that was found. Where each is told, the number of its command and the line
-/// stand in front. The bytes have to be a script. It takes the time of the script's run, and for each of these launches
-/// that of `widen_launch` and of a build of its program.
+/// Whether the faults of a script are in their kernels or in their data: a line of each launch that faulted, in their
+/// order, or, where not all are wished, of the first reply that is a fault or a refusal, if that is a fault. The line
+/// says that a fault is in the kernel only where the launch has it by the same schedule with whatever bytes in its
+/// buffers and whatever numbers as its arguments (OpenCL 1.2, sections 3.2 and 3.3.1); else it tells where the others
+/// decide, as far as that was found, or that nothing is said of a launch with `orders`. Where each is told, the number
+/// of its command and the line stand in front. The bytes have to be a script. It takes the time of the script's run,
+/// and for each launch without `orders` that faulted that of `widen_launch` and of a build of its program.
 pub fn fault_asides(
     alloc: Global,
     configuration: Configuration,
