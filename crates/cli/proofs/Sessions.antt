@@ -96,6 +96,17 @@ answered_more {shows} {left} {configuration} {done} {now} {new} {old} {mid} {aft
   counts = a.counts ∙ (ap (one_end a.answer) h.counts ∙ sym (fold-more h.replies a.answer (end_of [])));
 }
 
+-- nothing more was written
+pub answered_still : {shows left : List Shown} {configuration : Configuration} {done : List Command} {now : Machine} {old mid after : Sink} {end : RunEnd} → HasAnswered shows left configuration done now old mid end
+    → Wrote mid after [] → HasAnswered shows left configuration done now old after end
+answered_still {shows} {left} {configuration} {done} {now} {old} {mid} {after} {end} h w = record {
+  replies = h.replies;
+  plays = h.plays;
+  wrote = subst (λ (l : List ℕ). Wrote old after l) (append-nil (shown_lines shows h.replies)) (wrote_then h.wrote w);
+  leaves = h.leaves;
+  counts = h.counts;
+}
+
 pub broken_at : {shows left : List Shown} {configuration : Configuration} {done : List Command} {now : Machine} {old mid after : Sink} {end : RunEnd} (all more : List Command) (c : Command) → all ≡ done ++ c ∷ more → HasAnswered shows left configuration done now old mid end
     → BreaksOne left now c mid after → Broken shows configuration all old after
 broken_at {shows} {left} {configuration} {done} {now} {old} {mid} {after} {end} all more c e h b = record {
@@ -119,14 +130,14 @@ answered_all {shows} {left} {configuration} {done} {now} {old} {mid} {after} {en
   end = h.counts;
 }
 
-pub broken_last : {shows left : List Shown} {configuration : Configuration} {done : List Command} {now : Machine} {old mid after : Sink} {end : RunEnd} (all : List Command) → all ≡ done → HasAnswered shows left configuration done now old mid end
+pub broken_between : {shows left : List Shown} {configuration : Configuration} {done : List Command} {now : Machine} {old mid after : Sink} {end : RunEnd} (all more : List Command) → all ≡ done ++ more → HasAnswered shows left configuration done now old mid end
     → Stopped mid after [] → Broken shows configuration all old after
-broken_last {shows} {left} {configuration} {done} {now} {old} {mid} {after} {end} all e h w = record {
+broken_between {shows} {left} {configuration} {done} {now} {old} {mid} {after} {end} all more e h w = record {
   done = done;
-  left = [];
+  left = more;
   replies = h.replies;
   last = now;
-  split = e ∙ sym (append-nil done);
+  split = e;
   plays = h.plays;
   stopped = subst (λ (l : List ℕ). Stopped old after l) (append-nil (shown_lines shows h.replies)) (stopped_then h.wrote w);
 }

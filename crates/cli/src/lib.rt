@@ -14,11 +14,14 @@ mod only_client;
 pub mod reading;
 pub mod replaying;
 pub mod session;
+pub mod watching;
 
 pub use byte_io::{Read, ReadFault, Write, WriteFailed};
 pub use checking::check_file;
+pub use device::{Gate, OpenGate};
 pub use dialogue::serve;
 pub use dumping::dump_file;
 pub use replaying::replay_files;
 pub use session::{run, run_shown, status};
 pub use simfile::faults::{Reader, RunFault};
+pub use watching::Watch;

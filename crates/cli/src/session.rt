@@ -13,8 +13,10 @@ ghost use Rattle.limits.specs.declared.Configuration.{Configuration as Configura
 
 use crate::only_client::OnlyClient;
 use crate::reading::commands_of;
+use crate::watching::Watch;
 use byte_io::{Read, Write, WriteFailed};
 use command_line::options::Options;
+use device::OpenGate;
 use host_commands::command::{Command, Reply};
 use host_queue::Request;
 use showing::{Shown, behind, write_next};
@@ -81,15 +83,26 @@ fn write_answered<W: Write>(
     }
 }
 
-/// Performs the commands in order, all in the one box, and writes a line for each reply, the first ones as these show
-/// them.
-fn answer_all<T: Threads + Wait + Sync, W: Write>(
+/// Lets go of the lines so far, where the next command is a launch: that may take long.
+fn release<W: Write>(command: &Command, writer: &mut W) -> Result<(), WriteFailed>
+    ensures { Puts (W.sink writer.old) result (W.sink writer.new) [] }
+{
+    match command {
+        Command::Launch { .. } => writer.flush(),
+        _ => Ok(()),
+    }
+}
+
+/// Performs the commands in order, all in the one box, each between two calls of who looks on, and writes a line for
+/// each reply, the first ones as these show them.
+fn answer_all<T: Threads + Wait + Sync, W: Write, L: Watch>(
     rt: &T,
     client: &mut OnlyClient,
     mut request: Box<Request<Command, Reply>>,
     commands: Vec<Command>,
     shows: &[Shown],
     writer: &mut W,
+    watch: &L,
 ) -> Result<RunEnd, WriteFailed>
     requires new { answered_count client.old.driver.driver.seat ≡ 0 }
     requires few { length commands.items ≤ 4096 }
@@ -102,7 +115,8 @@ fn answer_all<T: Threads + Wait + Sync, W: Write>(
     };
     let mut left = shows;
     for command in commands {
-        request = client.ask(rt, request, command);
+        release(&command, writer)?;
+        request = client.ask(rt, request, command, watch);
         end = write_answered(&request, left, end, writer)?;
         left = behind(left);
     }
@@ -112,13 +126,14 @@ fn answer_all<T: Threads + Wait + Sync, W: Write>(
 
 /// Performs the commands in order through the queue of a new device, and writes a line for each reply, the first ones
 /// as these show them. The queue and the box of all requests are made before anything is written.
-fn perform<T: Threads + Wait + Sync, W: Write>(
+fn perform<T: Threads + Wait + Sync, W: Write, L: Watch>(
     rt: &T,
     alloc: Global,
     options: Options,
     commands: Vec<Command>,
     shows: &[Shown],
     writer: &mut W,
+    watch: &L,
 ) -> Result<RunEnd, RunFault>
     requires few { length commands.items ≤ 4096 }
     ensures ok { IfOk result (λ end. Answered shows.now options.configuration commands.items (W.sink writer.old) (W.sink writer.new) end) }
@@ -126,25 +141,35 @@ fn perform<T: Threads + Wait + Sync, W: Write>(
 {
     let mut client = OnlyClient::open(alloc, options)?;
     let request = Box::new(alloc, Request::Answered(Reply::Done))?;
-    Ok(answer_all(rt, &mut client, request, commands, shows, writer)?)
+    Ok(answer_all(
+        rt,
+        &mut client,
+        request,
+        commands,
+        shows,
+        writer,
+        watch,
+    )?)
 }
 
 /// Reads a script, hands its commands to the queue of a new device, each for the next ticket, and writes a line for
-/// each reply, in order and nothing else, the first ones as these show them.
-pub fn run_shown<T: Threads + Wait + Sync, R: Read, W: Write>(
+/// each reply, in order and nothing else, the first ones as these show them. Each command is done between two calls of
+/// who looks on, and none of the lines so far is held back while a launch runs.
+pub fn run_shown<T: Threads + Wait + Sync, R: Read, W: Write, L: Watch>(
     rt: &T,
     alloc: Global,
     reader: &mut R,
     shows: &[Shown],
     writer: &mut W,
     options: Options,
+    watch: &L,
 ) -> Result<RunEnd, RunFault>
     ensures ran { IfOk result (Ran shows.now (R.rest reader.old) options.configuration (W.sink writer.old) (W.sink writer.new)) }
     ensures failed { IfErr result
         (Failed shows.now (R.rest reader.old) (R.failures reader.old) (R.failures reader.new) options.configuration (W.sink writer.old) (W.sink writer.new)) }
 {
     let commands = commands_of(alloc, reader)?;
-    perform(rt, alloc, options, commands, shows, writer)
+    perform(rt, alloc, options, commands, shows, writer, watch)
 }
 
 /// Reads a script, hands its commands to the queue of a new device, each for the next ticket, and writes a line for
@@ -160,7 +185,7 @@ pub fn run<T: Threads + Wait + Sync, R: Read, W: Write>(
     ensures failed { IfErr result
         (Failed [] (R.rest reader.old) (R.failures reader.old) (R.failures reader.new) options.configuration (W.sink writer.old) (W.sink writer.new)) }
 {
-    run_shown(rt, alloc, reader, &[], writer, options)
+    run_shown(rt, alloc, reader, &[], writer, options, &OpenGate)
 }
 
 /// The status of a run: 2 where a command was refused or the run failed, else 1 where a launch faulted, else 0.

@@ -238,7 +238,7 @@ no_budget rows limits named none configuration is =
 pub run_parts : (rows : List Row) (asked : Invocation) → AsksBy (codes "run") rows asked
     → (path : Text) × (w : ℕ) × (configuration : Configuration) × (first_of (codes "FILE") rows ≡ Some path) × GivesWorkers rows w × GivesConfiguration rows configuration
     × (numbers : Bool) × GivesNumbers rows numbers
-run_parts rows (invocation.Run path options numbered numbers) is = (path.now, options.workers, options.configuration, is.1.0, is.1.1, is.1.2, numbers, is.1.4)
+run_parts rows (invocation.Run path options numbered numbers silent) is = (path.now, options.workers, options.configuration, is.1.0, is.1.1, is.1.2, numbers, is.1.4)
 run_parts rows (invocation.Check path limits) is = differ is.0 refl
 run_parts rows (invocation.Dump path name limits) is = differ is.0 refl
 run_parts rows (invocation.Replay script schedule configuration) is = differ is.0 refl
@@ -251,7 +251,7 @@ run_parts rows (invocation.Explore script wish) is = differ is.0 refl
 
 pub check_parts : (rows : List Row) (asked : Invocation) → AsksBy (codes "check") rows asked
     → (path : Text) × (limits : Limits) × (first_of (codes "FILE") rows ≡ Some path) × GivesLimits rows limits
-check_parts rows (invocation.Run path options numbered numbers) is = differ is.0 refl
+check_parts rows (invocation.Run path options numbered numbers silent) is = differ is.0 refl
 check_parts rows (invocation.Check path limits) is = (path.now, limits, is.1.0, is.1.1)
 check_parts rows (invocation.Dump path name limits) is = differ is.0 refl
 check_parts rows (invocation.Replay script schedule configuration) is = differ is.0 refl
@@ -264,7 +264,7 @@ check_parts rows (invocation.Explore script wish) is = differ is.0 refl
 
 pub dump_parts : (rows : List Row) (asked : Invocation) → AsksBy (codes "dump") rows asked
     → (path name : Text) × (limits : Limits) × (first_of (codes "FILE") rows ≡ Some path) × (first_of (codes "KERNEL") rows ≡ Some name) × GivesLimits rows limits
-dump_parts rows (invocation.Run path options numbered numbers) is = differ is.0 refl
+dump_parts rows (invocation.Run path options numbered numbers silent) is = differ is.0 refl
 dump_parts rows (invocation.Check path limits) is = differ is.0 refl
 dump_parts rows (invocation.Dump path name limits) is = (path.now, name.now, limits, is.1.0, is.1.1, is.1.2)
 dump_parts rows (invocation.Replay script schedule configuration) is = differ is.0 refl
@@ -277,7 +277,7 @@ dump_parts rows (invocation.Explore script wish) is = differ is.0 refl
 
 pub replay_parts : (rows : List Row) (asked : Invocation) → AsksBy (codes "replay") rows asked
     → (script schedule : Text) × (limits : Limits) × (first_of (codes "SCRIPT") rows ≡ Some script) × (first_of (codes "SCHEDULE") rows ≡ Some schedule) × GivesLimits rows limits
-replay_parts rows (invocation.Run path options numbered numbers) is = differ is.0 refl
+replay_parts rows (invocation.Run path options numbered numbers silent) is = differ is.0 refl
 replay_parts rows (invocation.Check path limits) is = differ is.0 refl
 replay_parts rows (invocation.Dump path name limits) is = differ is.0 refl
 replay_parts rows (invocation.Replay script schedule configuration) is = (script.now, schedule.now, configuration.limits, is.1.0, is.1.1, is.1.2.0)
@@ -290,7 +290,7 @@ replay_parts rows (invocation.Explore script wish) is = differ is.0 refl
 
 pub serve_parts : (rows : List Row) (asked : Invocation) → AsksBy (codes "serve") rows asked
     → (w : ℕ) × (configuration : Configuration) × GivesWorkers rows w × GivesConfiguration rows configuration
-serve_parts rows (invocation.Run path options numbered numbers) is = differ is.0 refl
+serve_parts rows (invocation.Run path options numbered numbers silent) is = differ is.0 refl
 serve_parts rows (invocation.Check path limits) is = differ is.0 refl
 serve_parts rows (invocation.Dump path name limits) is = differ is.0 refl
 serve_parts rows (invocation.Replay script schedule configuration) is = differ is.0 refl
@@ -304,7 +304,7 @@ serve_parts rows (invocation.Explore script wish) is = differ is.0 refl
 pub explain_parts : (rows : List Row) (asked : Invocation) → AsksBy (codes "explain") rows asked
     → (script : Text) × (configuration : Configuration) × (json : Bool) × (first_of (codes "SCRIPT") rows ≡ Some script) × GivesConfiguration rows configuration × GivesFormat rows json
     × (count : Option ℕ) × GivesSteps rows count × (widen : Bool) × GivesWiden rows widen
-explain_parts rows (invocation.Run path options numbered numbers) is = differ is.0 refl
+explain_parts rows (invocation.Run path options numbered numbers silent) is = differ is.0 refl
 explain_parts rows (invocation.Check path limits) is = differ is.0 refl
 explain_parts rows (invocation.Dump path name limits) is = differ is.0 refl
 explain_parts rows (invocation.Replay script schedule configuration) is = differ is.0 refl
@@ -317,7 +317,7 @@ explain_parts rows (invocation.Explore script wish) is = differ is.0 refl
 
 pub version_parts : (rows : List Row) (asked : Invocation) → AsksBy (codes "version") rows asked
     → (json : Bool) × GivesFormat rows json
-version_parts rows (invocation.Run path options numbered numbers) is = differ is.0 refl
+version_parts rows (invocation.Run path options numbered numbers silent) is = differ is.0 refl
 version_parts rows (invocation.Check path limits) is = differ is.0 refl
 version_parts rows (invocation.Dump path name limits) is = differ is.0 refl
 version_parts rows (invocation.Replay script schedule configuration) is = differ is.0 refl
@@ -330,7 +330,7 @@ version_parts rows (invocation.Explore script wish) is = differ is.0 refl
 
 pub widen_parts : (rows : List Row) (asked : Invocation) → AsksBy (codes "widen") rows asked
     → (script : Text) × (json : Bool) × (limits : Limits) × (first_of (codes "SCRIPT") rows ≡ Some script) × GivesFormat rows json × GivesLimits rows limits
-widen_parts rows (invocation.Run path options numbered numbers) is = differ is.0 refl
+widen_parts rows (invocation.Run path options numbered numbers silent) is = differ is.0 refl
 widen_parts rows (invocation.Check path limits) is = differ is.0 refl
 widen_parts rows (invocation.Dump path name limits) is = differ is.0 refl
 widen_parts rows (invocation.Replay script schedule configuration) is = differ is.0 refl
@@ -343,7 +343,7 @@ widen_parts rows (invocation.Explore script wish) is = differ is.0 refl
 
 pub plain_parts : (rows : List Row) (asked : Invocation) → AsksBy (codes "plain") rows asked
     → (script : Text) × (first_of (codes "SCRIPT") rows ≡ Some script)
-plain_parts rows (invocation.Run path options numbered numbers) is = differ is.0 refl
+plain_parts rows (invocation.Run path options numbered numbers silent) is = differ is.0 refl
 plain_parts rows (invocation.Check path limits) is = differ is.0 refl
 plain_parts rows (invocation.Dump path name limits) is = differ is.0 refl
 plain_parts rows (invocation.Replay script schedule configuration) is = differ is.0 refl
@@ -358,7 +358,7 @@ pub explore_parts : (rows : List Row) (asked : Invocation) → AsksBy (codes "ex
     → (script : Text) × (launch : Option ℕ) × (orders : ℕ) × (seconds : Option ℕ) × (seed : ℕ) × (configuration : Configuration)
     × (first_of (codes "SCRIPT") rows ≡ Some script) × GivesLaunch rows launch × GivesOrders rows orders × GivesSeconds rows seconds × GivesSeed rows seed
     × GivesConfiguration rows configuration
-explore_parts rows (invocation.Run path options numbered numbers) is = differ is.0 refl
+explore_parts rows (invocation.Run path options numbered numbers silent) is = differ is.0 refl
 explore_parts rows (invocation.Check path limits) is = differ is.0 refl
 explore_parts rows (invocation.Dump path name limits) is = differ is.0 refl
 explore_parts rows (invocation.Replay script schedule configuration) is = differ is.0 refl
@@ -436,7 +436,7 @@ holds_nothing m = go (out-ArgMatches m).subcommand
         → ¬ (named o ≡ Some (codes "replay")) → ¬ (named o ≡ Some (codes "serve")) → ¬ (named o ≡ Some (codes "explain")) → ¬ (named o ≡ Some (codes "version"))
         → ¬ (named o ≡ Some (codes "widen")) → ¬ (named o ≡ Some (codes "plain")) → ¬ (named o ≡ Some (codes "explore")) → (asked : Invocation) → ¬ Holds (subcommand_rows o) asked
     go None run check dump replay serve explain version widen plain explore asked h = h
-    go (Some b) run check dump replay serve explain version widen plain explore (invocation.Run path options numbered numbers) h = run (ap Some h.0)
+    go (Some b) run check dump replay serve explain version widen plain explore (invocation.Run path options numbered numbers silent) h = run (ap Some h.0)
     go (Some b) run check dump replay serve explain version widen plain explore (invocation.Check path limits) h = check (ap Some h.0)
     go (Some b) run check dump replay serve explain version widen plain explore (invocation.Dump path name limits) h = dump (ap Some h.0)
     go (Some b) run check dump replay serve explain version widen plain explore (invocation.Replay script schedule configuration) h = replay (ap Some h.0)

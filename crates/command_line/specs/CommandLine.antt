@@ -137,9 +137,13 @@ working = workers ∷ configured
 abbrev pub lines : Rule
 lines = flag (codes "lines")
 
--- `run FILE [--workers N] [--budget N] [--limits LIMITS] [--lines] [--format bytes|numbers]`
+-- `--quiet`
+abbrev pub quiet : Rule
+quiet = flag (codes "quiet")
+
+-- `run FILE [--workers N] [--budget N] [--limits LIMITS] [--lines] [--format bytes|numbers] [--quiet]`
 abbrev pub run_arguments : List Rule
-run_arguments = file ∷ workers ∷ budget ∷ limits ∷ lines ∷ format ∷ []
+run_arguments = file ∷ workers ∷ budget ∷ limits ∷ lines ∷ format ∷ quiet ∷ []
 
 -- `check FILE [--limits LIMITS]`
 abbrev pub check_arguments : List Rule
@@ -329,7 +333,7 @@ pub record SaysWrongRun (rows : List Row) (text : Text) : Type 0 where
 
 -- the name of the form by which this is asked for
 abbrev pub form_name : Invocation → Text
-form_name (invocation.Run _ _ _ _) = codes "run"
+form_name (invocation.Run _ _ _ _ _) = codes "run"
 form_name (invocation.Check _ _) = codes "check"
 form_name (invocation.Dump _ _ _) = codes "dump"
 form_name (invocation.Replay _ _ _) = codes "replay"
@@ -341,13 +345,13 @@ form_name (invocation.Plain _) = codes "plain"
 form_name (invocation.Explore _ _) = codes "explore"
 
 -- the matches of its form give what is asked for: a run by their workers, under their limits and budget, with the lines
--- of its commands or without; a check or a dump within their limits; a replay under their limits; an explanation of the
--- schedule file, if one is named; a script whose replies are widened, within their limits; a script that is written as
--- a plain one; a script whose launches are tried in other orders (own)
+-- of its commands or without, and quiet or not; a check or a dump within their limits; a replay under their limits; an
+-- explanation of the schedule file, if one is named; a script whose replies are widened, within their limits; a script
+-- that is written as a plain one; a script whose launches are tried in other orders (own)
 abbrev pub Gives : List Row → Invocation → Type 0
-Gives rows (invocation.Run path options numbered numbers) =
+Gives rows (invocation.Run path options numbered numbers silent) =
     (first_of (codes "FILE") rows ≡ Some path.now) × GivesWorkers rows options.workers × GivesConfiguration rows options.configuration
-    × GivesFlag (codes "lines") rows numbered × GivesNumbers rows numbers
+    × GivesFlag (codes "lines") rows numbered × GivesNumbers rows numbers × GivesFlag (codes "quiet") rows silent
 Gives rows (invocation.Check path limits) = (first_of (codes "FILE") rows ≡ Some path.now) × GivesLimits rows limits
 Gives rows (invocation.Dump path name limits) =
     (first_of (codes "FILE") rows ≡ Some path.now) × (first_of (codes "KERNEL") rows ≡ Some name.now) × GivesLimits rows limits

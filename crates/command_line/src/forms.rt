@@ -17,12 +17,13 @@ use std::alloc::{AllocError, Global};
 #[derive(Clone, Copy, Debug, PartialEq, Eq)]
 pub enum Invocation<'a> {
     /// Runs the script of a file, with the line of its command in front of each reply or without, and with numbers or
-    /// bytes in the replies to reads that name a type
+    /// bytes in the replies to reads that name a type. A quiet run tells nothing of a launch that takes long
     Run {
         file: &'a str,
         options: Options,
         lines: bool,
         numbers: bool,
+        quiet: bool,
     },
     /// Checks the source of a file within limits
     Check {
@@ -227,7 +228,7 @@ fn working<'a>(
     configured(alloc, with(form, workers))
 }
 
-/// The form `run FILE [--workers N] [--budget N] [--limits LIMITS] [--lines] [--format bytes|numbers]`.
+/// The form `run FILE [--workers N] [--budget N] [--limits LIMITS] [--lines] [--format bytes|numbers] [--quiet]`.
 fn run_form<'a>(alloc: Global) -> Result<Command<'a>, AllocError>
     ensures { IfOk result (IsForm (codes "run") run_arguments) }
 {
@@ -243,11 +244,17 @@ fn run_form<'a>(alloc: Global) -> Result<Command<'a>, AllocError>
         "lines",
         "Prints the line of its command in front of each reply",
     );
-    formatted(
+    let shown = formatted(
         alloc,
         with(working(alloc, form), lines),
         "How the replies to reads with a type are written: bytes or numbers",
-    )
+    );
+    let quiet = flag(
+        alloc,
+        "quiet",
+        "Tells nothing of a launch that takes long",
+    );
+    with(shown, quiet)
 }
 
 /// The form `check FILE [--limits LIMITS]`.
@@ -514,6 +521,7 @@ fn run_of<'a>(run: &ArgMatches<'a>) -> Option<Invocation<'a>>
     let configuration = configuration_of(run)?;
     let lines = run.get_flag("lines");
     let numbers = numbers_of(run)?;
+    let quiet = run.get_flag("quiet");
     Some(Invocation::Run {
         file,
         options: Options {
@@ -522,6 +530,7 @@ fn run_of<'a>(run: &ArgMatches<'a>) -> Option<Invocation<'a>>
         },
         lines,
         numbers,
+        quiet,
     })
 }
 
@@ -916,7 +925,7 @@ fn command_by<'a>(
 }
 
 /// Reads the words of a command line, the program's name first. The forms are:
-/// - `clsim run FILE [--workers N] [--budget N] [--limits LIMITS] [--lines] [--format bytes|numbers]`
+/// - `clsim run FILE [--workers N] [--budget N] [--limits LIMITS] [--lines] [--format bytes|numbers] [--quiet]`
 /// - `clsim check FILE [--limits LIMITS]`
 /// - `clsim dump FILE KERNEL [--limits LIMITS]`
 /// - `clsim replay SCRIPT SCHEDULE [--limits LIMITS]`

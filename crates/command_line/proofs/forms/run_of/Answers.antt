@@ -7,7 +7,8 @@ use Rattle.command_line.proofs.forms.run_of.Goals as goal
 pub returns : goal.returns
 returns c =
     let found : c.get_str.result ≡ Some c.in_ok-file.file = search rules in
-    let lines = one_text-rows (found_of c.args.run.now) (codes "lines") in (
+    let lines = one_text-rows (found_of c.args.run.now) (codes "lines") in
+    let quiet = one_text-rows (found_of c.args.run.now) (codes "quiet") in (
       refl,
       (
         sym (first_value-rows (found_of c.args.run.now) (codes "FILE")) ∙ (sym c.get_str.ensures ∙ ap (option_map (λ s. s.now)) found),
@@ -19,6 +20,11 @@ returns c =
           unknown = λ is. c.get_flag-lines.ensures.none (lines ∙ is);
         },
         c.in_ok-numbers.ensures,
+        record {
+          there = λ is. c.get_flag-quiet.ensures.value (quiet ∙ is);
+          absent = λ is. c.get_flag-quiet.ensures.other (quiet ∙ is);
+          unknown = λ is. c.get_flag-quiet.ensures.none (quiet ∙ is);
+        },
       ),
     )
 
