@@ -44,7 +44,8 @@ impl OnlyClient {
         })
     }
 
-    /// Draws a ticket for a command, does it at once between two calls of who looks on, and leaves its reply in the box.
+    /// Draws a ticket for a command, does it at once between two calls of who looks on, and leaves its reply in the
+    /// box.
     pub(crate) fn ask<T: Threads + Wait + Sync, L: Watch>(
         &mut self,
         rt: &T,
