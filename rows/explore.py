@@ -1,6 +1,6 @@
 """Rows of `clsim explore` on scripts of the gallery: which of the orders of a seed leave different bytes, with their
-schedules, and which is the first that shows a fault. bench/explore/model.py, which plays the orders in Python, works it
-out."""
+schedules, which is the first that shows a fault, and which comes to no end, after which of its events.
+bench/explore/model.py, which plays the orders in Python, works it out."""
 import importlib.util
 import os
 
@@ -37,6 +37,7 @@ def rows_of(found, name, seed):
         told = found.explored(launch, orders, seed)
     told += ["launch 2: without orders: clean"] if script_of(name).count("\nlaunch ") == 2 else []
     yield {"title": f"{name}, seed {seed}", "text": script_of(name), "output": "".join(f"{line}\n" for line in told),
+           "status": 1 if told[0].endswith("comes to no end") else 0,
            "command": f"clsim explore FILE --seed {seed} --orders {orders}"}
 
 
