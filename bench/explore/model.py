@@ -1,15 +1,16 @@
 #!/usr/bin/env python3
-"""Works out what `clsim explore` has to tell of scripts of the gallery, without Clsim.
+"""Works out what `clsim explore` has to tell of scripts, without Clsim.
 
     bench/explore/model.py [--orders N] [--seed S] [NAME..]
     bench/explore/model.py [--orders N] [--seed S] --compare PROGRAM [NAME..]
 
-NAME is a script of examples/gallery whose kernel is written here as a function of Python; without one, all of them. The
-orders are those of docs/use/explore.md: order 1 goes by the items' numbers, and of the others each second one goes by
-priorities with few changes, each second one by chance. Written is what each script shows; of a fault the schedule isn't
-made shorter, as the program makes it. With --compare the program is run, its lines are compared, up to the schedule of
-a fault that was made shorter, and the schedule is replayed; the last line is `N passed, M failed`, and the status is 0
-where M is 0, else 1.
+NAME is a script of examples/gallery, or of this folder, whose kernel is written here as a function of Python; without
+one, all of them. The orders are those of docs/use/explore.md: order 1 goes by the items' numbers, and of the others
+each second one goes by priorities with few changes, each second one by chance; and where it isn't known whether one
+comes to an end, it is looked at again as the page says. Written is what each script shows; of a fault the schedule
+isn't made shorter, as the program makes it. With --compare the program is run, its lines are compared, up to the
+schedule of a fault that was made shorter, and the schedule is replayed; the last line is `N passed, M failed`, and the
+status is 0 where M is 0, else 1.
 """
 import argparse
 import collections
@@ -113,6 +114,19 @@ def transfers_under_two_locks_in_two_orders(i):
     return transfers_under_two_locks(i, in_two_orders=True)
 
 
+def mutex(_, lost=False):
+    if (yield compare_exchange("lock", 0, 0, 1)) != 0:
+        while (yield exchange("lock", 0, 2)) != 0:
+            yield turn()
+    entered = yield look("count", 0)
+    yield exchange("count", 0, entered + 1)
+    yield compare_exchange("lock", 0, 1, 0) if lost else exchange("lock", 0, 0)
+
+
+def mutex_that_is_lost(i):
+    return mutex(i, lost=True)
+
+
 def queue_of_numbers(i, early=False):
     if i < 4:
         place = yield draw("tail")
@@ -188,9 +202,9 @@ def union_find(e):
 
 
 NAMES = ["bids_under_a_lock", "bids_under_a_lock_that_stays", "compaction_by_tickets",
-         "compaction_by_tickets_that_are_read", "components", "components_without_the_loop", "queue_of_numbers",
-         "queue_of_numbers_with_an_early_flag", "transfers_under_two_locks", "transfers_under_two_locks_in_two_orders",
-         "union_find"]
+         "compaction_by_tickets_that_are_read", "components", "components_without_the_loop", "mutex",
+         "mutex_that_is_lost", "queue_of_numbers", "queue_of_numbers_with_an_early_flag", "transfers_under_two_locks",
+         "transfers_under_two_locks_in_two_orders", "union_find"]
 
 
 # ---- who goes next
@@ -454,14 +468,20 @@ class Order:
 # ---- one order after another
 
 
+def path_of(name):
+    """The script of a name: of the gallery, or of this folder."""
+    paths = (os.path.join(folder, f"{name}.txt") for folder in (GALLERY, HERE))
+    return next(path for path in paths if os.path.exists(path))
+
+
 class Launch:
-    """The launch with `orders` of a script of the gallery: its kernel, its buffers, its sizes, its ticket."""
+    """The launch with `orders` of a script: its kernel, its buffers, its sizes, its ticket."""
 
     def __init__(self, name):
         spec = importlib.util.spec_from_file_location("check", os.path.join(GALLERY, "check.py"))
         check = importlib.util.module_from_spec(spec)
         spec.loader.exec_module(check)
-        script = check.Script(os.path.join(GALLERY, f"{name}.txt"))
+        script = check.Script(path_of(name))
         self.ticket = next(at for at, words in enumerate(script.commands) if words[-1] == "orders")
         self.items, self.size = (int(word) for word in script.commands[self.ticket][2:4])
         kernel = script.commands[self.ticket][1]
@@ -561,8 +581,7 @@ def compared(lines):
 
 def is_same(program, name, wanted):
     """Whether the program tells what is wanted; a schedule with a fault is replayed."""
-    script = os.path.join(GALLERY, f"{name}.txt")
-    options = wanted[1]
+    script, options = path_of(name), wanted[1]
     ran = subprocess.run([program, "explore", script, *options], capture_output=True, text=True, check=False)
     lines = ran.stdout.splitlines()
     if compared(lines) != compared(wanted[0]):
