@@ -141,15 +141,7 @@ fn perform<T: Threads + Wait + Sync, W: Write, L: Watch>(
 {
     let mut client = OnlyClient::open(alloc, options)?;
     let request = Box::new(alloc, Request::Answered(Reply::Done))?;
-    Ok(answer_all(
-        rt,
-        &mut client,
-        request,
-        commands,
-        shows,
-        writer,
-        watch,
-    )?)
+    Ok(answer_all(rt, &mut client, request, commands, shows, writer, watch)?)
 }
 
 /// Reads a script, hands its commands to the queue of a new device, each for the next ticket, and writes a line for
