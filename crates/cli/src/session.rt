@@ -5,7 +5,7 @@ ghost use Rattle.std.specs.Prelude.{◌≡◌, ◌≤◌, IfOk, IfErr, OnErr, []
 ghost use Rattle.device.specs.Machine.{machine_of, opening};
 ghost use Rattle.host_commands.specs.declared.command.Reply.{Reply as ReplyOf};
 ghost use Rattle.host_queue.specs.declared.view.Request.TheVariants.{Answered as AnsweredBy};
-ghost use Rattle.byte_io.specs.Sink.{Wrote, Stopped};
+ghost use Rattle.byte_io.specs.Sink.{Puts, Wrote, Stopped};
 ghost use Rattle.showing.specs.Shown.{next_line};
 ghost use Rattle.cli.specs.Session.{one_end, Answered, Broken, Unanswered, Ran, Failed, status_of};
 ghost use Rattle.host_queue.specs.Seats.{answered_count};
