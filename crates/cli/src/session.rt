@@ -5,7 +5,7 @@ ghost use Rattle.std.specs.Prelude.{◌≡◌, ◌≤◌, IfOk, IfErr, OnErr, []
 ghost use Rattle.device.specs.Machine.{machine_of, opening};
 ghost use Rattle.host_commands.specs.declared.command.Reply.{Reply as ReplyOf};
 ghost use Rattle.host_queue.specs.declared.view.Request.TheVariants.{Answered as AnsweredBy};
-ghost use Rattle.byte_io.specs.Sink.{Wrote, Stopped};
+ghost use Rattle.byte_io.specs.Sink.{Puts, Wrote, Stopped};
 ghost use Rattle.showing.specs.Shown.{next_line};
 ghost use Rattle.cli.specs.Session.{one_end, Answered, Broken, Unanswered, Ran, Failed, status_of};
 ghost use Rattle.host_queue.specs.Seats.{answered_count};
@@ -141,15 +141,7 @@ fn perform<T: Threads + Wait + Sync, W: Write, L: Watch>(
 {
     let mut client = OnlyClient::open(alloc, options)?;
     let request = Box::new(alloc, Request::Answered(Reply::Done))?;
-    Ok(answer_all(
-        rt,
-        &mut client,
-        request,
-        commands,
-        shows,
-        writer,
-        watch,
-    )?)
+    Ok(answer_all(rt, &mut client, request, commands, shows, writer, watch)?)
 }
 
 /// Reads a script, hands its commands to the queue of a new device, each for the next ticket, and writes a line for

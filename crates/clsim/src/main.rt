@@ -131,9 +131,7 @@ fn run_watched<R: Files + io::Input + Print + AllocGlobal + Threads + Wait + Syn
 
 /// Runs a script, and tells on standard error how far each launch has come that takes long. Where no thread can be
 /// started for that, nothing is told.
-fn run_told<
-    R: Files + io::Input + Print + Eprint + Clock + AllocGlobal + Threads + Wait + Sync,
->(
+fn run_told<R: Files + io::Input + Print + Eprint + Clock + AllocGlobal + Threads + Wait + Sync>(
     rt: &R,
     script: &mut WrittenFile<'_, R>,
     options: Options,

@@ -249,11 +249,7 @@ fn run_form<'a>(alloc: Global) -> Result<Command<'a>, AllocError>
         with(working(alloc, form), lines),
         "How the replies to reads with a type are written: bytes or numbers",
     );
-    let quiet = flag(
-        alloc,
-        "quiet",
-        "Tells nothing of a launch that takes long",
-    );
+    let quiet = flag(alloc, "quiet", "Tells nothing of a launch that takes long");
     with(shown, quiet)
 }
 

@@ -1,6 +1,8 @@
 //! What a run or a server is given beside its commands.
 #![tactic(auto)]
 
+ghost use Rattle.std.specs.Prelude.{◌≡◌, ◌≤◌};
+
 use limits::{Configuration, Limits};
 
 /// What is given to a run beside its script.

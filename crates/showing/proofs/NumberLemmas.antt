@@ -1,5 +1,5 @@
 -- Numbers that lie one behind another, and their text.
-use Rattle.std.proofs.Common.{◌≡◌, ℕ, ◌+◌, ◌*◌, ◌/◌, ◌<◌, ◌≤◌, ℤ, List, [], ◌∷◌, ◌++◌, suc, map, length, take, get_or, refl, ap, sym, subst, ◌∙◌, arith, le_refl, mul-suc, mul_comm, div-mul-le_self}
+use Rattle.std.proofs.Common.{◌≡◌, ℕ, ◌+◌, ◌*◌, ◌/◌, ◌<◌, ◌≤◌, ℤ, List, [], ◌∷◌, ◌++◌, suc, map, length, take, get_or, ap, sym, subst, ◌∙◌, arith, le_refl, mul-suc, mul_comm, div-mul-le_self, zero-add}
 use Rattle.std.proofs.lemmas.List.{append-nil}
 use Rattle.std.proofs.lemmas.List.FromFn.{get_or-map-range_with_len, length-map-range_with_len, map-range_with_len_more, take-map-range_with_len}
 use Rattle.std.proofs.lemmas.Grind.{flat_map-append}
@@ -25,7 +25,7 @@ module _ (f : ℕ → ℤ) where
 
   one_more : (index : ℕ) → flat_map number_text (numbers (index + 1)) ≡ flat_map number_text (numbers index) ++ number_text (f index)
   one_more index =
-      ap (flat_map number_text) (map-range_with_len_more f 0 index index refl)
+      ap (flat_map number_text) (map-range_with_len_more f 0 index index (zero-add index))
       ∙ (flat_map-append number_text (numbers index) (f index ∷ []) ∙ ap (λ (l : List ℕ). flat_map number_text (numbers index) ++ l) (append-nil (number_text (f index))))
 
   -- one more number was written
@@ -39,6 +39,6 @@ module _ (f : ℕ → ℤ) where
       → Stopped a c (flat_map number_text (numbers count))
   stopped_number {a} {b} {c} index count number less is so_far more =
       let front : take index (numbers count) ≡ numbers index = take-map-range_with_len f 0 count index (omega (arith, less)) in
-      let this : get_or (numbers count) index number ≡ f index = get_or-map-range_with_len f 0 count index index number less refl in
+      let this : get_or (numbers count) index number ≡ f index = get_or-map-range_with_len f 0 count index index number less (zero-add index) in
       let within : index < length (numbers count) = subst (λ (n : ℕ). index < n) (sym (length-map-range_with_len f 0 count)) less in
       stopped_item number_text (numbers count) index number (is ∙ sym this) within (subst (λ (l : List ℤ). Wrote a b (flat_map number_text l)) (sym front) so_far) more

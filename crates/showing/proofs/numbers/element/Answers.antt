@@ -1,4 +1,6 @@
-use Rattle.std.proofs.Common.{◌≡◌, ◌*◌, ℕ, ◌∙◌, ap, sym, subst, Option, Some, pos, arith}
+use Rattle.std.proofs.Common.{◌≡◌, ◌*◌, ℕ, ◌∙◌, ap, sym, subst, Option, Some, pos, FitsSigned, arith, rules}
+use Rattle.std.proofs.lemmas.Int.{to_z-of_z}
+use Rattle.std.specs.Int.{w128}
 use Rattle.std.specs.Option.{unwrap_or}
 use Rattle.clnum.specs.Integer.{wrap}
 use Rattle.clmodel.specs.Cells.{byte_count, number}
@@ -24,4 +26,6 @@ returns c =
     subst (λ (w : Width). number cells (c.size_of.result * c.args.index) (byte_count w) ≡ Some c.bits_at.result) c.width.ensures c.bits_at.ensures in
     let bits : number cells (size_of c.args.kind * c.args.index) (size_of c.args.kind) ≡ Some c.bits_at.result =
     subst (λ (size : ℕ). number cells (size * c.args.index) (size_of c.args.kind) ≡ Some c.bits_at.result) c.size_of.ensures.value read in
-    c.number.ensures.value ∙ (ap (λ v. v.number) c.from_bits.ensures ∙ ap (λ (o : Option ℕ). wrap c.args.kind (pos (unwrap_or o 0))) (sym bits))
+    let fits : FitsSigned w128 c.number.result = search rules in
+    to_z-of_z w128 c.number.result fits
+    ∙ (c.number.ensures.value ∙ (ap (λ v. v.number) c.from_bits.ensures ∙ ap (λ (o : Option ℕ). wrap c.args.kind (pos (unwrap_or o 0))) (sym bits)))
