@@ -132,5 +132,11 @@ pub(crate) fn settled(
     if !is_budget(&end) {
         return Ok(OrderEnd::GivenUp);
     }
-    soonest(alloc, launch, buffers, order, EndlessOrder { end, high, low: 0 })
+    soonest(
+        alloc,
+        launch,
+        buffers,
+        order,
+        EndlessOrder { end, high, low: 0 },
+    )
 }

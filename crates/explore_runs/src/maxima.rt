@@ -87,7 +87,11 @@ impl Maxima {
             }
             let right = node.saturating_mul(2).saturating_add(1);
             let is_right = self.number(right) == self.number(node);
-            node = if is_right { right } else { right.saturating_sub(1) };
+            node = if is_right {
+                right
+            } else {
+                right.saturating_sub(1)
+            };
         }
         Some(node.saturating_sub(self.leaves))
     }
@@ -126,7 +130,11 @@ impl Maxima {
             }
             let left = node.saturating_mul(2);
             let is_left = self.number(left) > 0;
-            node = if is_left { left } else { left.saturating_add(1) };
+            node = if is_left {
+                left
+            } else {
+                left.saturating_add(1)
+            };
         }
         node.saturating_sub(self.leaves)
     }

@@ -134,7 +134,8 @@ impl Ready {
         let place = self.items.len();
         self.items.push(item)?;
         self.put(item, place);
-        self.highest.set(item, self.rank(item));
+        let rank = self.rank(item);
+        self.highest.set(item, rank);
         Ok(())
     }
 }
