@@ -50,61 +50,64 @@ fn goes_on_long<C: Chooser>(chooser: &mut C, ready: &mut Ready, item: u32) -> bo
     chooser.switches(item, ready)
 }
 
-/// How items of which one is at a stop go in turn: behind one that waited long the next higher one, or else the lowest;
-/// and where none waited long the lowest again.
-fn in_turn(alloc: Global) -> Result<([u32; 6], Option<u32>), AllocError> {
+/// How items of which one is at a stop go in turn.
+fn in_turn(alloc: Global) -> Result<[u32; 6], AllocError> {
     let mut ready = Ready::new(alloc, 4)?;
     ready.stop(1);
-    let mut chooser = InTurn::new();
-    let turns = long_turns(&mut chooser, &mut ready);
-    // Behind the last of them, which waited long, and then behind none.
-    chooser.choose(&ready);
-    Ok((turns, chooser.choose(&ready)))
+    Ok(long_turns(&mut InTurn::new(), &mut ready))
 }
 
-/// In turn the item at a stop is passed over.
+/// Which of two items goes behind one that waited long, and which behind that one.
+fn behind_long(alloc: Global) -> Result<(Option<u32>, Option<u32>), AllocError> {
+    let mut ready = Ready::new(alloc, 2)?;
+    let mut chooser = InTurn::new();
+    goes_on_long(&mut chooser, &mut ready, 0);
+    Ok((chooser.choose(&ready), chooser.choose(&ready)))
+}
+
+/// In turn goes behind an item that waited long the next higher one, or else the lowest; and where none waited long the
+/// lowest. One at a stop is passed over.
 #[test]
 fn items_in_turn(rt: HostRuntime) {
-    let Ok((turns, next)) = in_turn(rt.alloc()) else {
+    let Ok(turns) = in_turn(rt.alloc()) else {
         panic!(rt; "out of memory")
     };
-    assert!(rt; turns == [0, 2, 3, 0, 2, 3] && next == Some(0));
+    assert!(rt; turns == [0, 2, 3, 0, 2, 3]);
+    let Ok((long, next)) = behind_long(rt.alloc()) else {
+        panic!(rt; "out of memory")
+    };
+    assert!(rt; long == Some(1) && next == Some(0));
 }
 
-/// Which of three items go by chance in 200 draws, and whether none goes on for ever.
-fn by_chance(alloc: Global) -> Result<([bool; 3], bool), AllocError> {
-    let mut ready = Ready::new(alloc, 3)?;
+/// Whether each of three items goes by chance in 200 draws.
+fn all_go(alloc: Global) -> Result<bool, AllocError> {
+    let ready = Ready::new(alloc, 3)?;
     let mut chooser = ByChance::new(Random::new(1), 1 << 40);
-    let ends = goes_on_long(&mut chooser, &mut ready, 2);
     let mut went = [false; 3];
     for _ in 0..200 {
         match chooser.choose(&ready) {
             Some(0) => went[0] = true,
             Some(1) => went[1] = true,
             Some(2) => went[2] = true,
-            _ => return Ok((went, false)),
+            _ => return Ok(false),
         }
     }
-    Ok((went, ends))
+    Ok(went == [true; 3])
 }
 
-/// Whether another item goes before an operation, where one in one does.
-fn always_switches(alloc: Global) -> Result<bool, AllocError> {
-    let mut ready = Ready::new(alloc, 1)?;
-    Ok(ByChance::new(Random::new(1), 1).switches(0, &mut ready))
+/// Whether an item lets others go by chance behind 64 operations, and each time where one in one does.
+fn lets_go(alloc: Global) -> Result<bool, AllocError> {
+    let mut ready = Ready::new(alloc, 3)?;
+    let mut seldom = ByChance::new(Random::new(1), 1 << 40);
+    let mut always = ByChance::new(Random::new(1), 1);
+    Ok(goes_on_long(&mut seldom, &mut ready, 2) && always.switches(0, &mut ready))
 }
 
-/// By chance each item that can go on goes some time, and none goes on for ever. One in one lets another go each time.
+/// By chance each item that can go on goes some time, and none goes on for ever.
 #[test]
 fn items_by_chance(rt: HostRuntime) {
-    let Ok((went, ends)) = by_chance(rt.alloc()) else {
-        panic!(rt; "out of memory")
-    };
-    assert!(rt; went == [true; 3] && ends);
-    let Ok(always) = always_switches(rt.alloc()) else {
-        panic!(rt; "out of memory")
-    };
-    assert!(rt; always);
+    assert!(rt; all_go(rt.alloc()).unwrap_or(false));
+    assert!(rt; lets_go(rt.alloc()).unwrap_or(false));
 }
 
 /// How three items go by priorities, without a change.

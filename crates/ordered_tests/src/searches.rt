@@ -81,7 +81,10 @@ fn are_all_found(alloc: Global, items: u32) -> Result<bool, AllocError> {
 #[test]
 fn searches(rt: HostRuntime) {
     for items in 0..10 {
-        assert!(rt; are_all_found(rt.alloc(), items).unwrap_or(false), "{items} items");
+        assert!(rt;
+            are_all_found(rt.alloc(), items).unwrap_or(false),
+            "{items} items"
+        );
     }
 }
 
