@@ -3,8 +3,8 @@
 //! `explore` reads a script and does its commands on a new device, as a run does. At each launch with `orders`, or at
 //! the one that is wanted, it plays other orders of the launch first (`explore_runs`), on the buffers as they are
 //! there; then the device does the command itself, and its reply decides how the script goes on. Orders are played up
-//! to the first that shows a fault or comes to no end, to a number of them, or until a clock says that the time is over.
-//! Launches and orders are counted from 1, and order 1 is the canonical one; commands are counted from 0, as in a
+//! to the first that shows a fault or comes to no end, to a number of them, or until a clock says that the time is
+//! over. Launches and orders are counted from 1, and order 1 is the canonical one; commands are counted from 0, as in a
 //! schedule file. It writes:
 //!
 //! - `launch 1: order 17 shows a fault`, and the two lines of a schedule file: `ticket 4`, and the fault with a
