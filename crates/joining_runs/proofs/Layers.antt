@@ -237,7 +237,7 @@ joined_byte c n k u us v vs first lower own h r w =
     )
 
 -- cells with a word updated by these operands, where it held a number
-again : Class → ℕ → ℕ → List ℕ → Cells → Cells
+abbrev again : Class → ℕ → ℕ → List ℕ → Cells → Cells
 again c word x [] cells = cells
 again c word x (v ∷ vs) cells = written (again c word x vs cells) word 4 (updated_word c (folded c vs x) v)
 

@@ -54,7 +54,7 @@ base_run l g [] s end r base = subst (Base l) r base
 base_run l g (e ∷ es) s end r base = base_run l g es r.0 end r.3 (base_step l s r.0 e r.2 base)
 
 -- an access that crosses is reported
-met_by : Launch → List Access → Access → Option conflict_type.Conflict
+abbrev met_by : Launch → List Access → Access → Option conflict_type.Conflict
 met_by l lower x = conflict_from (conflict l) x lower x.first (byte_count x.width)
 
 crossed_reports : (l : Launch) (lower log own : List Access) → crossing l lower log ≡ Some own → (report : conflict_type.Conflict) × (newest_conflict l (own ++ lower) ≡ Some report)
@@ -115,7 +115,7 @@ crossing_both l lower between (x ∷ own) h k =
     (ap (option_map (λ _. x ∷ own)) (from_own (conflict l) x between lower x.first (byte_count x.width) low ∙ mid))
 
 -- the accesses of a run
-Within : Launch → ℕ → ℕ → Access → Type 0
+abbrev Within : Launch → ℕ → ℕ → Access → Type 0
 Within l first last x = (first ≤ group_of l x.item) × (group_of l x.item < last) × (object : Object) × (x.region ≡ region_of (group_of l x.item) object)
 
 within_last : (l : Launch) (first count : ℕ) (x : Access) → (group_of l x.item ≡ first + count) × (object : Object) × (x.region ≡ region_of (first + count) object) → Within l first (first + suc count) x

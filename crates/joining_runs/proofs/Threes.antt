@@ -166,21 +166,21 @@ second_stored l a b d m n o p byte s h k =
         (wrote_append d b p byte ∙ ap₂ (λ x y. x || y) h k)
         ∙ skips (initial l) n o b d p byte h)
 
+abbrev SameAt : Launch → List Access → List Access → List Access → Memory → Memory → Memory → Region → ℕ → Type 0
+SameAt l a b d m n o p byte = left_first l a b d m n o p byte ≡ right_first l a b d m n o p byte
+
 pub three_joined : (l : Launch) (a b d : List Access) (m n o : Memory) → Three l a b d m n o → left_first l a b d m n o ≡ right_first l a b d m n o
 three_joined l a b d m n o t = fun_ext (λ p. fun_ext (λ byte. go p byte (wrote a p byte) refl (wrote b p byte) refl (wrote d p byte) refl))
   where
-    Same : Region → ℕ → Type 0
-    Same p byte = left_first l a b d m n o p byte ≡ right_first l a b d m n o p byte
-
-    third : (p : Region) (byte : ℕ) → wrote d p byte ≡ true → Settled a b d p byte → Same p byte
+    third : (p : Region) (byte : ℕ) → wrote d p byte ≡ true → Settled a b d p byte → SameAt l a b d m n o p byte
     third p byte h (inl s) = third_stored l a b d m n o p byte s h
     third p byte h (inr w) = same_word l a b d m n o t p byte w
 
-    second : (p : Region) (byte : ℕ) → wrote d p byte ≡ false → wrote b p byte ≡ true → Settled a b d p byte → Same p byte
+    second : (p : Region) (byte : ℕ) → wrote d p byte ≡ false → wrote b p byte ≡ true → Settled a b d p byte → SameAt l a b d m n o p byte
     second p byte h k (inl s) = second_stored l a b d m n o p byte s h k
     second p byte h k (inr w) = same_word l a b d m n o t p byte w
 
-    go : (p : Region) (byte : ℕ) (x : Bool) → wrote a p byte ≡ x → (y : Bool) → wrote b p byte ≡ y → (z : Bool) → wrote d p byte ≡ z → Same p byte
+    go : (p : Region) (byte : ℕ) (x : Bool) → wrote a p byte ≡ x → (y : Bool) → wrote b p byte ≡ y → (z : Bool) → wrote d p byte ≡ z → SameAt l a b d m n o p byte
     go p byte x i false j false k =
         skips (initial l) (joined_memory (initial l) m a n b) o (b ++ a) d p byte k ∙ skips (initial l) m n a b p byte j
         ∙ sym (skips (initial l) m (joined_memory (initial l) n b o d) a (d ++ b) p byte (wrote_append d b p byte ∙ ap₂ (λ u v. u || v) k j))
