@@ -1,7 +1,7 @@
 //! A fault of a launch explained, where a schedule leads to it.
 #![tactic(auto)]
 
-ghost use Rattle.std.specs.Prelude.{◌≡◌, ◌<◌, Some, length, IfOk, IfErr, IfSome, IfNone, is_some, slice_get, string_bytes};
+ghost use Rattle.std.specs.Prelude.{◌≡◌, ◌<◌, ◌≤◌, Some, length, IfOk, IfErr, IfSome, IfNone, IsTrue, is_some, slice_get, string_bytes};
 ghost use Rattle.clmodel.specs.Law.{Reaches};
 ghost use Rattle.clmodel.specs.Next.{launch_of};
 ghost use Rattle.clmodel.specs.Outcome.{events_of};
@@ -17,7 +17,7 @@ ghost use Rattle.telling.specs.Told.{HasWhole, IsAsWanted, IsExplained, IsSource
 
 use crate::facts::{LaunchTexts, TellOptions, explanation_of, items_of, named_of, schedule_facts};
 use clmodel::fault::Fault;
-use clmodel::schedule::Schedule;
+use clmodel::schedule::{EventRun, Schedule};
 use clmodel::setup::Range;
 use clmodel::text::Name;
 use device::{Command, Device, Launch, Refusal};
@@ -41,6 +41,65 @@ pub struct ExplainedCase {
     pub schedule: Schedule,
 }
 
+/// Whether a run is of the group of one of two items.
+fn is_near(run: &EventRun, group_size: u32, items: (u32, u32)) -> bool {
+    let own = items.0.checked_div(group_size);
+    let other = items.1.checked_div(group_size);
+    let group = match run {
+        EventRun::Item { item, .. } => item.checked_div(group_size),
+        EventRun::Release { group } => Some(*group),
+    };
+    group == own || group == other
+}
+
+/// The runs of a schedule that are of the groups of two items. An error is out of memory.
+fn near_runs(
+    alloc: Global,
+    group_size: u32,
+    items: (u32, u32),
+    given: &Schedule,
+) -> Result<Schedule, AllocError> {
+    let mut runs = Vec::new(alloc);
+    for run in given.as_slice() {
+        if is_near(run, group_size, items) {
+            runs.push(*run)?;
+        }
+    }
+    Ok(Schedule::new(runs))
+}
+
+/// Whether a schedule is seen to have no more events than another.
+fn is_no_longer(short: &Schedule, given: &Schedule) -> bool
+    ensures { IsTrue result → length (events_of short.now) ≤ length (events_of given.now) }
+{
+    let count = event_count(short.as_slice());
+    count < u64::MAX && count <= event_count(given.as_slice())
+}
+
+/// The events of the groups of the items that a fault names, where these lead to it; else the given schedule. So what
+/// is shortened has few events, however many groups the launch has. An error is out of memory.
+fn near_given(
+    context: &Context<'_>,
+    buffers: &Buffers,
+    fault: &Fault,
+    given: Schedule,
+) -> Result<Schedule, AllocError>
+    requires groups { HasGroups (setup_of context.now.launch.now) }
+    requires leads { Reaches (launch_of (setup_of context.now.launch.now) (bytes_in buffers.now)) (events_of given) fault.now }
+    ensures { IfOk result (IsShort (launch_of (setup_of context.now.launch.now) (bytes_in buffers.now)) fault.now given) }
+{
+    let (alloc, launch) = (context.alloc, context.launch);
+    let near = near_runs(alloc, launch.group_size(), items_of(fault), &given)?;
+    if !is_no_longer(&near, &given) {
+        return Ok(given);
+    }
+    if replay(alloc, launch, buffers, &near, fault)? {
+        Ok(near)
+    } else {
+        Ok(given)
+    }
+}
+
 /// The schedule that is told: a shorter one, or the given one.
 fn chosen(
     context: &Context<'_>,
@@ -61,8 +120,9 @@ fn chosen(
         });
     }
     let (alloc, launch) = (context.alloc, context.launch);
-    let named = named_by(context, buffers, fault, &given)?;
-    shorter(alloc, launch, buffers, fault, &given, named.as_slice())
+    let near = near_given(context, buffers, fault, given)?;
+    let named = named_by(context, buffers, fault, &near)?;
+    shorter(alloc, launch, buffers, fault, &near, named.as_slice())
 }
 
 /// The items that a fault names, with the events of a schedule that are their accesses; none where it leads nowhere.
