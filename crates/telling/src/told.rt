@@ -1,7 +1,7 @@
 //! A fault of a launch explained, where a schedule leads to it.
 #![tactic(auto)]
 
-ghost use Rattle.std.specs.Prelude.{◌≡◌, ◌<◌, ◌≤◌, Some, length, IfOk, IfErr, IfSome, IfNone, IsTrue, is_some, slice_get, string_bytes};
+ghost use Rattle.std.specs.Prelude.{◌≡◌, ◌<◌, ◌≤◌, true, Decides, Some, length, IfOk, IfErr, IfSome, IfNone, IsTrue, is_some, slice_get, string_bytes};
 ghost use Rattle.clmodel.specs.Law.{Reaches};
 ghost use Rattle.clmodel.specs.Next.{launch_of};
 ghost use Rattle.clmodel.specs.Outcome.{events_of};
@@ -12,7 +12,7 @@ ghost use Rattle.item_step.specs.Launches.{code_of, setup_of};
 ghost use Rattle.launches.specs.Groups.{HasGroups};
 ghost use Rattle.simfile.specs.Places.{AreAt};
 ghost use Rattle.spaces.specs.Buffers.{bytes_in};
-ghost use Rattle.telling.specs.Judged.{IsShort, NoLaunch, Tells, Untold};
+ghost use Rattle.telling.specs.Judged.{IsShort, LeadsThere, NoLaunch, Tells, Untold};
 ghost use Rattle.telling.specs.Told.{HasWhole, IsAsWanted, IsExplained, IsSourceOf, schedule_words};
 
 use crate::facts::{LaunchTexts, TellOptions, explanation_of, items_of, named_of, schedule_facts};
@@ -214,28 +214,48 @@ fn told_of(
     }))
 }
 
-/// An explanation of a schedule that leads a launch to a fault, if it leads there.
+/// Whether a schedule leads a launch to a fault. One that is known to lead there isn't replayed. An error is out of
+/// memory.
+fn leads_there(
+    context: &Context<'_>,
+    buffers: &Buffers,
+    fault: &Fault,
+    schedule: &Schedule,
+    known: bool,
+) -> Result<bool, AllocError>
+    requires groups { HasGroups (setup_of context.now.launch.now) }
+    requires known { known ≡ true → Reaches (launch_of (setup_of context.now.launch.now) (bytes_in buffers.now)) (events_of schedule.now) fault.now }
+    ensures { IfOk result (λ yes. Decides yes (Reaches (launch_of (setup_of context.now.launch.now) (bytes_in buffers.now)) (events_of schedule.now) fault.now)) }
+{
+    if known {
+        return Ok(true);
+    }
+    replay(context.alloc, context.launch, buffers, schedule, fault)
+}
+
+/// An explanation of a schedule that leads a launch to a fault, if it leads there, as it may be known to do.
 fn explain_launch(
     context: &Context<'_>,
     buffers: &Buffers,
     place: &LaunchTexts<'_>,
     fault: &Fault,
     schedule: Schedule,
-    as_given: bool,
+    known: bool,
 ) -> Result<Option<ExplainedCase>, AllocError>
-    requires { HasGroups (setup_of context.now.launch.now) }
+    requires groups { HasGroups (setup_of context.now.launch.now) }
+    requires known { known ≡ true → Reaches (launch_of (setup_of context.now.launch.now) (bytes_in buffers.now)) (events_of schedule) fault.now }
     ensures none { IfOk result (λ found. IfNone found (Reaches (launch_of (setup_of context.now.launch.now) (bytes_in buffers.now)) (events_of schedule) fault.now → ⊥)) }
     ensures leads { IfOk result (λ found. IfSome found (λ _. Reaches (launch_of (setup_of context.now.launch.now) (bytes_in buffers.now)) (events_of schedule) fault.now)) }
     ensures told { IfOk result (λ found. IfSome found (λ told. IsShort (launch_of (setup_of context.now.launch.now) (bytes_in buffers.now)) fault.now schedule told.schedule)) }
-    ensures wanted { IfOk result (λ found. IfSome found (λ told. IsAsWanted as_given schedule told.schedule)) }
+    ensures wanted { IfOk result (λ found. IfSome found (λ told. IsAsWanted place.now.options.as_given schedule told.schedule)) }
     ensures given { IfOk result (λ found. IfSome found (λ told. string_bytes told.whole.schedule.given ≡ schedule_words schedule)) }
     ensures whole { IfOk result (λ found. IfSome found (λ told. IsExplained place.now.options place.now.name.now (launch_of (setup_of context.now.launch.now) (bytes_in buffers.now)) (bytes_in buffers.now) context.now
         place.now.ticket place.now.place place.now.range.now place.now.orders fault.now told.schedule told.whole)) }
 {
-    let (alloc, launch) = (context.alloc, context.launch);
-    if !replay(alloc, launch, buffers, &schedule, fault)? {
+    if !leads_there(context, buffers, fault, &schedule, known)? {
         return Ok(None);
     }
+    let as_given = place.options.as_given;
     told_of(context, buffers, place, fault, schedule, as_given)
 }
 
@@ -303,8 +323,9 @@ fn launch_is_marked(launch: &Launch<'_>)
 }
 
 /// Explains a case on a device to which the commands before its ticket led: none, where the schedule doesn't lead the
-/// launch to the fault. The errors are out of memory, `NotALaunch` where no launch has the ticket, and `CommandRefused`
-/// where its launch is refused.
+/// launch to the fault. A schedule that is known to lead there, as that of the device's reply, isn't replayed as a
+/// whole. The errors are out of memory, `NotALaunch` where no launch has the ticket, and `CommandRefused` where its
+/// launch is refused.
 pub fn explain_case(
     alloc: Global,
     device: &Device,
@@ -312,8 +333,10 @@ pub fn explain_case(
     ticket: usize,
     fault: &Fault,
     schedule: Schedule,
+    known: bool,
 ) -> Result<Option<ExplainedCase>, RunFault>
-    requires { AreAt launched.now.script.now launched.now.commands.now launched.now.places.now }
+    requires placed { AreAt launched.now.script.now launched.now.commands.now launched.now.places.now }
+    requires known { known ≡ true → LeadsThere (machine_of device.now) launched.now.commands.now ticket fault.now schedule }
     ensures told { IfOk result (λ found. Tells (machine_of device.now) launched.now.commands.now ticket fault.now schedule (is_some found)) }
     ensures whole { IfOk result (λ found. IfSome found (λ told. HasWhole (machine_of device.now) launched.now.options launched.now.name.now launched.now.script.now launched.now.commands.now launched.now.done.now ticket fault.now schedule told.schedule told.whole)) }
     ensures failed { IfErr result (Untold (machine_of device.now) launched.now.commands.now ticket) }
@@ -345,13 +368,12 @@ pub fn explain_case(
         range,
         orders,
     };
-    let as_given = launched.options.as_given;
     Ok(explain_launch(
         &context,
         device.buffers(),
         &place,
         fault,
         schedule,
-        as_given,
+        known,
     )?)
 }
