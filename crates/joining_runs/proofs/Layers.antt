@@ -119,13 +119,13 @@ pub updates_below : (l : Launch) (lower own : List Access) → Apart l lower own
     → at_byte p (n * 4 + k) x ≡ true → OnlyUpdates c lower p (n * 4)
 updates_below l lower own apart c p n k x logged fit is small at e there j below on =
     clash_right c e.kind (subst (λ q. clash e.kind q ≡ None) is (no_stores l c e.kind x.kind (inr is)
-        (meet l x e p (n * 4 + j) (apart.groups x e logged there) on (whole_word c p n k j x fit is small below at) (apart.calm x e logged there (n * 4 + j)))))
+    (meet l x e p (n * 4 + j) (apart.groups x e logged there) on (whole_word c p n k j x fit is small below at) (apart.calm x e logged there (n * 4 + j)))))
 
 pub updates_above : (l : Launch) (lower own : List Access) → Apart l lower own → (c : Class) (p : Region) (n k : ℕ) (y : Access) → Logged lower y → Fit y → y.kind ≡ kind.Update c → k < 4
     → at_byte p (n * 4 + k) y ≡ true → OnlyUpdates c own p (n * 4)
 updates_above l lower own apart c p n k y logged fit is small at e there j below on =
     clash_left c e.kind (subst (λ q. clash q e.kind ≡ None) is (no_stores l c y.kind e.kind (inl is)
-        (meet l e y p (n * 4 + j) (apart.groups e y there logged) (whole_word c p n k j y fit is small below at) on (apart.calm e y there logged (n * 4 + j)))))
+    (meet l e y p (n * 4 + j) (apart.groups e y there logged) (whole_word c p n k j y fit is small below at) on (apart.calm e y there logged (n * 4 + j)))))
 
 -- beside a store all accesses of other groups there are stores
 pub stores_below : (l : Launch) (lower own : List Access) → Apart l lower own → (p : Region) (byte : ℕ) (x : Access) → Logged own x → x.kind ≡ kind.Store → at_byte p byte x ≡ true

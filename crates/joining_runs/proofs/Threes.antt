@@ -155,16 +155,16 @@ third_stored : (l : Launch) (a b d : List Access) (m n o : Memory) (p : Region) 
 third_stored l a b d m n o p byte s h =
     stored (initial l) (joined_memory (initial l) m a n b) o (b ++ a) d p byte s.third h
     ∙ sym (stored (initial l) m (joined_memory (initial l) n b o d) a (d ++ b) p byte (upper_stores b d p byte s.second s.third)
-        (wrote_append d b p byte ∙ ap (λ x. x || wrote b p byte) h)
-        ∙ stored (initial l) n o b d p byte s.third h)
+    (wrote_append d b p byte ∙ ap (λ x. x || wrote b p byte) h)
+    ∙ stored (initial l) n o b d p byte s.third h)
 
 second_stored : (l : Launch) (a b d : List Access) (m n o : Memory) (p : Region) (byte : ℕ) → AllStores a b d p byte → wrote d p byte ≡ false → wrote b p byte ≡ true
     → left_first l a b d m n o p byte ≡ right_first l a b d m n o p byte
 second_stored l a b d m n o p byte s h k =
     skips (initial l) (joined_memory (initial l) m a n b) o (b ++ a) d p byte h ∙ stored (initial l) m n a b p byte s.second k
     ∙ sym (stored (initial l) m (joined_memory (initial l) n b o d) a (d ++ b) p byte (upper_stores b d p byte s.second s.third)
-        (wrote_append d b p byte ∙ ap₂ (λ x y. x || y) h k)
-        ∙ skips (initial l) n o b d p byte h)
+    (wrote_append d b p byte ∙ ap₂ (λ x y. x || y) h k)
+    ∙ skips (initial l) n o b d p byte h)
 
 abbrev SameAt : Launch → List Access → List Access → List Access → Memory → Memory → Memory → Region → ℕ → Type 0
 SameAt l a b d m n o p byte = left_first l a b d m n o p byte ≡ right_first l a b d m n o p byte
@@ -187,11 +187,11 @@ three_joined l a b d m n o t = fun_ext (λ p. fun_ext (λ byte. go p byte (wrote
     go p byte false i true j false k =
         skips (initial l) (joined_memory (initial l) m a n b) o (b ++ a) d p byte k ∙ alone (initial l) m n a b p byte j i
         ∙ sym (alone (initial l) m (joined_memory (initial l) n b o d) a (d ++ b) p byte (wrote_append d b p byte ∙ ap₂ (λ u v. u || v) k j) i
-            ∙ skips (initial l) n o b d p byte k)
+        ∙ skips (initial l) n o b d p byte k)
     go p byte false i false j true k =
         alone (initial l) (joined_memory (initial l) m a n b) o (b ++ a) d p byte k (wrote_append b a p byte ∙ ap₂ (λ u v. u || v) j i)
         ∙ sym (alone (initial l) m (joined_memory (initial l) n b o d) a (d ++ b) p byte (wrote_append d b p byte ∙ ap₂ (λ u v. u || v) k j) i
-            ∙ alone (initial l) n o b d p byte k j)
+        ∙ alone (initial l) n o b d p byte k j)
     go p byte true i true j false k = second p byte k j (by_first l a b d m n o t p byte (both l a b t.one_two t.two.fit p byte i j))
     go p byte true i true j true k = third p byte k (by_first l a b d m n o t p byte (both l a b t.one_two t.two.fit p byte i j))
     go p byte true i false j true k = third p byte k (by_ends l a b d m n o t p byte (both l a d t.one_three t.three.fit p byte i k))

@@ -368,12 +368,5 @@ pub fn explain_case(
         range,
         orders,
     };
-    Ok(explain_launch(
-        &context,
-        device.buffers(),
-        &place,
-        fault,
-        schedule,
-        known,
-    )?)
+    Ok(explain_launch(&context, device.buffers(), &place, fault, schedule, known)?)
 }
