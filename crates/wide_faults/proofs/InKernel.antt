@@ -8,7 +8,6 @@ use Rattle.clmodel.specs.Setup.{Setup, buffer_names}
 use Rattle.clmodel.specs.declared.fault.Fault.{Fault}
 use Rattle.clmodel.specs.declared.schedule.Schedule.{Schedule}
 use Rattle.clmodel.specs.declared.setup.Argument.{Argument}
-use Rattle.clmodel.specs.declared.setup.Argument.TheVariants as argument
 use Rattle.clmodel.specs.declared.setup.Range.{Range}
 use Rattle.host_commands.specs.declared.command.Command.{Command}
 use Rattle.host_commands.specs.declared.command.Command.TheVariants as command

@@ -25,8 +25,8 @@ use std::alloc::{AllocError, Global};
 use std::fmt::Write;
 use wide_launches::{Wide, widen_launch};
 use wide_sources::{
-    Deciding, FreeArgument, LaunchSource, Sources, all_deciding, free_arguments, is_fault, is_refused, is_set,
-    push_arguments, push_deciding, push_in_line,
+    Deciding, FreeArgument, LaunchSource, Sources, all_deciding, free_arguments, is_fault,
+    is_refused, is_set, push_arguments, push_deciding, push_in_line,
 };
 
 /// Whether an argument is a number.
@@ -239,7 +239,9 @@ fn orders_line(alloc: Global, head: &str) -> Result<Vec<u8>, AllocError>
 {
     let mut out = Vec::new(alloc);
     out.extend_from_slice(head.as_bytes())?;
-    out.extend_from_slice(b"in the data or in the kernel: of a launch with orders nothing is said for other data\n")?;
+    out.extend_from_slice(
+        b"in the data or in the kernel: of a launch with orders nothing is said for other data\n",
+    )?;
     Ok(out)
 }
 

@@ -113,7 +113,7 @@ fn told_node(node: Node<'_>, why: Why) -> (NodeKind, u32) {
 }
 
 impl<'a> Sources<'a> {
-    /// No command was gone over yet. An error is out of memory.
+    /// No command was gone over yet.
     pub fn new(
         alloc: Global,
         limits: Limits,

@@ -2,7 +2,6 @@
 #![tactic(auto)]
 
 ghost use Rattle.std.specs.Prelude.{◌≡◌, IfOk, ◌++◌, ◌∷◌, [], if◌then◌else◌, OnOk};
-ghost use Rattle.widening.specs.Widened.{is_free_at};
 ghost use Rattle.wide_text.specs.Told.{lines_of};
 
 use simfile::script::CommandPlace;

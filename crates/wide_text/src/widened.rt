@@ -4,7 +4,6 @@
 ghost use Rattle.std.specs.Prelude.{◌≡◌, ◌++◌, [], ◌∷◌, List, ℕ, IfOk, IfErr, OnOk};
 ghost use Rattle.std.specs.List.{list_any};
 ghost use Rattle.byte_io.specs.Sink.{Puts, Wrote};
-ghost use Rattle.device.specs.Machine.{opening};
 ghost use Rattle.serde_json.specs.Written.{compact_text};
 ghost use Rattle.simfile.specs.Faults.{NoScript};
 ghost use Rattle.wide_sources.specs.Replies.{is_fault, is_refused};

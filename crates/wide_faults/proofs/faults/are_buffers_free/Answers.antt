@@ -1,4 +1,4 @@
-use Rattle.std.proofs.Common.{◌+◌, [], drop, get_or, ap, sym, ◌∙◌, refl}
+use Rattle.std.proofs.Common.{[], drop, get_or, ap, sym, ◌∙◌, refl}
 use Rattle.std.proofs.lemmas.List.{drop_all, drop_more}
 use Rattle.wide_faults.specs.Faults.{are_free, is_any}
 use Rattle.wide_faults.proofs.InKernel.{one_let}

@@ -1,6 +1,5 @@
-use Rattle.std.proofs.Common.{List, ℕ, inl, inr, ap, sym, subst}
+use Rattle.std.proofs.Common.{List, ℕ, inl, inr, subst}
 use Rattle.std.proofs.lemmas.Result.{IfOk-weaker}
-use Rattle.clmodel.specs.Setup.{buffer_names}
 use Rattle.item_step.specs.Launches.{setup_of}
 use Rattle.wide_faults.specs.Faults.{AreAllFree, IsKernelLine}
 use Rattle.wide_faults.proofs.faults.found_line.Goals as goal

@@ -1,4 +1,4 @@
-use Rattle.std.proofs.Common.{inl, inr, ap, subst, Option, IfSome}
+use Rattle.std.proofs.Common.{inr, ap, subst, Option, IfSome}
 use Rattle.std.proofs.lemmas.Result.{IfOk-weaker}
 use Rattle.widening.specs.declared.wide.Wide.{Wide}
 use Rattle.wide_faults.proofs.InKernel.{HoldsFor, launch_line, wide_there}
