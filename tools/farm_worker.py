@@ -5,10 +5,10 @@
 
 `judge` judges the scripts that the words name, each as KEY:AT:SIZE: its key, and where its text lies in the file TEXTS.
 `queue JOBS` judges those that the lines of standard input name, by so many workers, which share the file and each take
-the next line. `chunk` judges those of chunks, which hold their texts. The result of each script is a line of JSON, in a
-file of this worker's own; one of `chunk` is there whole or not at all. SECONDS and MEMORY (MB, 0 for no limit) are of
-each script, the others the options of the program (BUDGET is - for its own); with WIDEN, `widen` and not -, it also
-asks for which bytes the replies hold.
+the next line; all hold file 3 open, so that who started them sees when they have ended. `chunk` judges those of chunks,
+which hold their texts. The result of each script is a line of JSON, in a file of this worker's own; one of `chunk` is
+there whole or not at all. SECONDS and MEMORY (MB, 0 for no limit) are of each script, the others the options of the
+program (BUDGET is - for its own); with WIDEN, `widen` and not -, it also asks for which bytes the replies hold.
 
 A small script takes a millisecond. So the worker loads few modules, starts programs without copying itself, with words
 and files that are the same for all scripts, and makes no file for a script. SIGINT, SIGTERM and SIGHUP end it and the
@@ -24,8 +24,10 @@ import time
 PASSED, ORDERED, FAULTY = "clean", "ordered", "fault"
 # How often it is looked how a program does, and how long one has run when its memory is looked at first.
 LOOK, FIRST_LOOK = 0.05, 0.02
-# The bytes of a line of a queue, how much of the outputs is kept, and from where on a text adds to a worker's memory.
-WIDE_LINE, MOST_KEPT, LONG = 56, 1 << 20, 1 << 16
+# The bytes of a line of a queue, and the number of the pipe that is held meanwhile.
+WIDE_LINE, HELD = 56, 3
+# How many bytes of the outputs are kept, and from how many on a text adds to a worker's memory.
+MOST_KEPT, LONG = 1 << 20, 1 << 16
 # How far the system's two counts of a worker's memory may be apart, in KB.
 SLACK = 1024
 # This machine, as names of files and texts of JSON have it.
@@ -402,9 +404,10 @@ def forked(count):
 
 def work(form, texts, options, words):
     """Does the work of a worker, and waits for the workers that it started: its status."""
-    parent, own = os.getppid(), os.getpid()
-    queue = os.dup(0)
-    others = forked(int(words[0]) - 1 if form == "queue" else 0)
+    parent, own, queue, others = os.getppid(), os.getpid(), os.dup(0), []
+    if form == "queue":
+        os.set_inheritable(HELD, False)
+        others = forked(int(words[0]) - 1)
     program = Program(options, parent if own == os.getpid() else own, others)
     results = Results(f"cases/{HOST}.{os.getpid()}.{time.time_ns()}.jsonl")
     status = 0

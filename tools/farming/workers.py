@@ -6,33 +6,43 @@ import time
 
 from base import words_of, write_whole
 
-# The bytes of a line of the queue: a worker always reads a whole one.
-WIDE_LINE = 56
+# The bytes of a line of the queue, of which a worker always reads a whole one, and the number of the pipe that it holds.
+WIDE_LINE, HELD = 56, 3
 # How long what an engine started may take to end, where the farm is ended.
 SECONDS_TO_END = 20
 
 
 def side_by_side(plan, keys, options):
     """Has workers judge the scripts of keys, of which each takes the next when it has judged the one before. One is
-    started, which starts the others."""
+    started, which starts the others; all have ended once nobody holds the pipe open that they are given."""
     queue, jobs = f"{plan.folder}/queue", min(options.jobs or os.cpu_count() or 1, len(keys))
     write_whole(queue, "".join([f"{it:{WIDE_LINE - 1}}\n" for it in plan.words_of(keys)]), synced=False)
     worker = f"{plan.folder}/bin/farm_worker.py"
     words = [*words_of(plan, options, "queue", plan.folder, worker, sys.executable), str(jobs)]
-    started = os.posix_spawn(words[0], words, os.environ,
-                             file_actions=[(os.POSIX_SPAWN_OPEN, 0, queue, os.O_RDONLY, 0)])
+    ended, held = os.pipe()
+    moves = [(os.POSIX_SPAWN_OPEN, 0, queue, os.O_RDONLY, 0), (os.POSIX_SPAWN_DUP2, held, HELD)]
+    started = os.posix_spawn(words[0], words, os.environ, file_actions=moves)
+    os.close(held)
     try:
+        os.read(ended, 1)
         os.waitpid(started, 0)
     except BaseException:
         end(started)
         raise
+    finally:
+        os.close(ended)
 
 
 def end(worker):
-    """Ends a worker by a signal, and waits for that, if it takes too long with no way out."""
-    os.kill(worker, signal.SIGTERM)
+    """Ends a worker, and so those that it started, by a signal; where that takes too long, by one that can't be
+    caught."""
     until = time.monotonic() + SECONDS_TO_END
-    while os.waitpid(worker, os.WNOHANG) == (0, 0):
-        if time.monotonic() > until:
-            os.kill(worker, signal.SIGKILL)
-        time.sleep(0.02)
+    try:
+        os.kill(worker, signal.SIGTERM)
+        while os.waitpid(worker, os.WNOHANG) == (0, 0):
+            if time.monotonic() > until:
+                os.kill(worker, signal.SIGKILL)
+            time.sleep(0.02)
+    except (ProcessLookupError, ChildProcessError):
+        # (it has ended)
+        pass
