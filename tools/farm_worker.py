@@ -404,10 +404,10 @@ def forked(count):
 
 def work(form, texts, options, words):
     """Does the work of a worker, and waits for the workers that it started: its status."""
-    parent, own, queue, others = os.getppid(), os.getpid(), os.dup(0), []
+    parent, own, others = os.getppid(), os.getpid(), []
     if form == "queue":
         os.set_inheritable(HELD, False)
-        others = forked(int(words[0]) - 1)
+        others, words = forked(int(words[0]) - 1), words_of_queue(os.dup(0))
     program = Program(options, parent if own == os.getpid() else own, others)
     results = Results(f"cases/{HOST}.{os.getpid()}.{time.time_ns()}.jsonl")
     status = 0
@@ -416,7 +416,7 @@ def work(form, texts, options, words):
             for name in words:
                 judge_chunk(program, name)
         else:
-            judge_words(program, results, texts, words if form == "judge" else words_of_queue(queue))
+            judge_words(program, results, texts, words)
     except OSError as fault:
         named = os.environ.get("CLSIM_FARM_NAME", "tools/farm")
         print(f"{named}: {fault.filename or results.path}: {fault.strerror}", file=sys.stderr)
