@@ -78,6 +78,10 @@ class Plan:
         at, size = self.places[key]
         return os.pread(self.file, size, at)
 
+    def words_in(self, key):
+        """The text of the script of a key as a page shows it."""
+        return self.text_of(key).decode(errors="replace")
+
     def words_of(self, keys):
         """What workers are told of the scripts of keys."""
         return [f"{key}:{self.places[key][0]}:{self.places[key][1]}" for key in keys]

@@ -95,7 +95,7 @@ def memory_of(it):
 
 def place_page(plan, it):
     """A page for a refusal or a bad line that has no explanation: what was said, and the line among those round it."""
-    lines = plan.text_of(it["key"]).decode(errors="replace").split("\n")
+    lines = plan.words_in(it["key"]).split("\n")
     at = it["script_line"]
     shown = [(number, lines[number - 1][:400]) for number in range(max(1, at - 8), min(len(lines), at + 8) + 1)]
     rows = "".join(f"<{'mark' if number == at else 'span'}>{number:6} | {escaped(line)}\n"
@@ -107,8 +107,8 @@ def place_page(plan, it):
 
 def texts_page(plan, scripts):
     """A page with the texts of scripts, each under its key."""
-    texts = [f'<h2 id="{it["key"]}">{name_of(it)}</h2><pre>{escaped(plan.text_of(it["key"]).decode(errors="replace"))}'
-             "</pre>\n" for it in scripts]
+    texts = [f'<h2 id="{it["key"]}">{escaped(it["script"])}</h2>\n<pre>{escaped(plan.words_in(it["key"]))}</pre>\n'
+             for it in scripts]
     return (f"{HEAD}<title>Scripts of a farm</title><style>{PAGE_STYLE}pre{{overflow-x:auto}}"
             f":target,:target+pre{{background:#fff6d8}}</style>\n{''.join(texts)}</html>\n")
 
@@ -116,17 +116,17 @@ def texts_page(plan, scripts):
 def links_of(plan, scripts):
     """Where the rows of scripts lead, by their keys: to an explanation, or to a text, which is written here."""
     os.makedirs(f"{plan.folder}/texts", exist_ok=True)
-    explained = set(os.listdir(f"{plan.folder}/explanations"))
+    explained = {it.removesuffix(".html") for it in os.listdir(f"{plan.folder}/explanations")}
     links, short = {}, {}
     for it in scripts:
-        key = it.get("as", it["key"])
-        if f"{key}.html" in explained:
-            links[it["key"]] = f"explanations/{key}.html"
+        key, explaining = it["key"], it.get("as", it["key"])
+        if explaining in explained:
+            links[key] = f"explanations/{explaining}.html"
         elif it["size"] < LONG:
-            short.setdefault(it["key"], it)
+            short[key] = it
         else:
-            links[it["key"]] = path = f"texts/{it['key']}.txt"
-            write_whole(f"{plan.folder}/{path}", plan.text_of(it["key"]).decode(errors="replace"), synced=False)
+            links[key] = path = f"texts/{key}.txt"
+            write_whole(f"{plan.folder}/{path}", plan.words_in(key), synced=False)
     for first in range(0, len(short), TEXTS):
         path, shown = f"texts/{first // TEXTS}.html", list(short.values())[first : first + TEXTS]
         write_whole(f"{plan.folder}/{path}", texts_page(plan, shown), synced=False)
@@ -137,11 +137,16 @@ def links_of(plan, scripts):
 # ---- the page
 
 
+def shown_of(it):
+    """What a row shows of a script's first fault, refusal or error."""
+    line = escaped(first_of(it).split(" schedule ")[0][:160])
+    return f"line {it['script_line']}: {line}" if it.get("script_line") else line
+
+
 def row_of(it, link, is_widened):
     """A row of the page's table, with a link to the explanation or, where there is none, to the script's text."""
     verdict, seconds, memory = it["verdict"], it["seconds"], it["mb"]
-    line = escaped(first_of(it).split(" schedule ")[0][:160])
-    line = f"line {it['script_line']}: {line}" if it.get("script_line") else line
+    line = shown_of(it) if it["line"] else ""
     holds = f'<td class="name">{escaped(holds_of(it))}</td>' if is_widened else ""
     return (f'<tr data-verdict="{verdict}"><td class="name"><a href="{link}">{name_of(it)}</a></td>'
             f'<td class="verdict {verdict}">{verdict}</td>'
