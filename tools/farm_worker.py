@@ -24,10 +24,12 @@ import time
 PASSED, ORDERED, FAULTY = "clean", "ordered", "fault"
 # How often it is looked how a program does, and how long one has run when its memory is looked at first.
 LOOK, FIRST_LOOK = 0.05, 0.02
-# The bytes of a line of a queue, and the number of the pipe that is held meanwhile.
-WIDE_LINE, HELD = 56, 3
-# How many bytes of the outputs are kept, and from how many on a text adds to a worker's memory.
-MOST_KEPT, LONG = 1 << 20, 1 << 16
+# The bytes of a line of a queue, which has the words of up to so many scripts, and the number of the pipe that is held.
+WIDE_LINE, GROUP, HELD = 448, 8, 3
+# How long results wait for others that are written with them, at most, and then for the end of one script.
+WAIT = 0.02
+# How many bytes of the outputs are read at a time and are kept, and from how many on a text adds to a worker's memory.
+READ, MOST_KEPT, LONG = 1 << 12, 1 << 20, 1 << 16
 # How far the system's two counts of a worker's memory may be apart, in KB.
 SLACK = 1024
 # This machine, as names of files and texts of JSON have it.
@@ -40,17 +42,36 @@ def code_of_json():
     return json
 
 
+# The line of a clean script of which nothing is said: what most are, as JSON has it without the code for that.
+CLEAN = (f'{{"key": "%s", "verdict": "{PASSED}", "status": 0, "line": "", "script_line": null, "seconds": %.3f, '
+         f'"mb": %.1f, "mb_at_most": %s, "host": "{HOST}", "explanation": null}}\n')
+
+
 class Results:
-    """The file of a worker's results, a line of JSON each. A line that isn't whole counts as none."""
+    """The file of a worker's results, a line of JSON each. A line that isn't whole counts as none.
+
+    Results of small scripts are written together, after some milliseconds: so what is loaded for that is loaded once.
+    """
 
     def __init__(self, path):
-        self.path, self.file = path, None
+        self.path, self.file, self.waiting, self.since = path, None, [], 0.0
 
-    def add(self, line):
-        """Adds the line of a result at once, so that what is judged stays where the worker ends."""
-        if self.file is None:
+    def add(self, result):
+        """Adds a result: its line, or what CLEAN tells of a clean script."""
+        now = time.monotonic()
+        if not self.waiting:
+            self.since = now
+        self.waiting.append(result)
+        if now - self.since > WAIT:
+            self.write()
+
+    def write(self):
+        """Writes the results that wait, so that they stay where the worker ends."""
+        left = "".join([it if isinstance(it, str) else CLEAN % it for it in self.waiting]).encode()
+        # (what couldn't be written whole isn't written again behind its own beginning)
+        self.waiting.clear()
+        if self.file is None and left:
             self.file = os.open(self.path, os.O_WRONLY | os.O_CREAT | os.O_APPEND, 0o644)
-        left = line.encode()
         while left:
             left = left[os.write(self.file, left) :]
 
@@ -91,8 +112,7 @@ class Program:
     def __init__(self, options, parent, others):
         self.options, self.parent, self.others = options, parent, others
         self.number, self.begun, self.late, self.peak, self.is_over = 0, 0.0, False, 0, False
-        # (the worker ends a program that is late; where it was killed itself, the system does)
-        self.processor_seconds = (options.seconds + 1) * (options.workers + 1)
+        self.most_used = 0.0
         self.script, self.size = os.memfd_create("script"), 0
         self.path, self.text = f"/proc/{os.getpid()}/fd/{self.script}", b""
         self.judging = ["./bin/clsim", "run", self.path, *options.running]
@@ -101,8 +121,10 @@ class Program:
             os.dup2(file, number)
             os.close(file)
         self.begins, self.environment = {1: 0, 2: 0}, dict(os.environb)
+        self.how = {"setpgroup": 0, "setsigdef": sorted(int(it) for it in signal.valid_signals())}
         self.note_memory()
         resource.setrlimit(resource.RLIMIT_CORE, (0, 0))
+        self.limit_processor()
         self.heed_signals()
 
     def heed_signals(self):
@@ -118,6 +140,8 @@ class Program:
         """Looks at the memory of the program, and ends it where it is too late, or where nobody waits for it."""
         if os.getppid() != self.parent:
             self.stop()
+        if time.process_time() > self.most_used:
+            self.limit_processor()
         passed = time.monotonic() - self.begun
         if not self.number or passed < FIRST_LOOK or self.is_over:
             return
@@ -140,6 +164,15 @@ class Program:
             except ProcessLookupError:
                 pass
 
+    def limit_processor(self):
+        """Limits the processor seconds of programs that are started from now on. (The worker ends a program that is
+        late; where it was killed itself, the system does. A program has the limit from the worker, of which it is
+        raised a second before it is reached.)"""
+        self.most_used = time.process_time() + 1
+        most = int(self.most_used) + (self.options.seconds + 1) * (self.options.workers + 1)
+        hard = resource.getrlimit(resource.RLIMIT_CPU)[1]
+        resource.setrlimit(resource.RLIMIT_CPU, (most if hard == resource.RLIM_INFINITY else min(most, hard), hard))
+
     def note_memory(self):
         """Notes the most memory of the worker itself, from which on the system counts that of a program."""
         self.own = peak_of("self") + SLACK
@@ -156,37 +189,31 @@ class Program:
 
     def spawn(self, words):
         """Starts the program in a group of its own, with its limit of memory: its number."""
-        how = {"setpgroup": 0, "setsigdef": [signal.SIGPIPE, signal.SIGXFSZ]}
         limit, number = self.options.memory << 20, None
         if not limit:
-            return os.posix_spawn(words[0], words, self.environment, **how)
+            return os.posix_spawn(words[0], words, self.environment, **self.how)
         before = resource.getrlimit(resource.RLIMIT_AS)
         resource.setrlimit(resource.RLIMIT_AS, (limit, before[1]))
         try:
-            number = os.posix_spawn(words[0], words, self.environment, **how)
+            number = os.posix_spawn(words[0], words, self.environment, **self.how)
         except (OSError, MemoryError):
             # (the worker itself has more than the limit: the program gets it once it runs)
             pass
         finally:
             resource.setrlimit(resource.RLIMIT_AS, before)
-        number = number or os.posix_spawn(words[0], words, self.environment, **how)
-        self.limit(number, resource.RLIMIT_AS, limit)
-        return number
-
-    def limit(self, number, what, most):
-        """Sets a limit of a program that runs."""
+        number = number or os.posix_spawn(words[0], words, self.environment, **self.how)
         try:
-            resource.prlimit(number, what, (most, most))
+            resource.prlimit(number, resource.RLIMIT_AS, (limit, limit))
         except ProcessLookupError:
             # (it has ended)
             pass
+        return number
 
     def run(self, words):
         """Runs the program with these words. What it says then stands behind what was said before."""
         self.late, self.peak = False, 0
         self.begun = time.monotonic()
         self.number = self.spawn(words)
-        self.limit(self.number, resource.RLIMIT_CPU, self.processor_seconds)
         if self.is_over:
             self.stop()
         _, ended, used = os.wait4(self.number, 0)
@@ -206,14 +233,15 @@ class Program:
 
     def said(self, output):
         """What the program has written on an output since the last time."""
-        begin, end = self.begins[output], os.lseek(output, 0, os.SEEK_CUR)
-        if end == begin:
-            return b""
-        text = os.pread(output, end - begin, begin)
-        if end > MOST_KEPT:
+        begin = self.begins[output]
+        parts = [os.pread(output, READ, begin)]
+        while len(parts[-1]) == READ:
+            parts.append(os.pread(output, READ, begin + READ * len(parts)))
+        text = b"".join(parts)
+        self.begins[output] = begin + len(text)
+        if self.begins[output] > MOST_KEPT:
             os.ftruncate(output, 0)
-            end = os.lseek(output, 0, os.SEEK_SET)
-        self.begins[output] = end
+            self.begins[output] = os.lseek(output, 0, os.SEEK_SET)
         return text
 
 
@@ -304,20 +332,15 @@ def widened(program, status):
         return None
 
 
-# The line of a clean script of which nothing is said: what most are, as JSON has it without the code for that.
-CLEAN = (f'{{"key": "%s", "verdict": "{PASSED}", "status": 0, "line": "", "script_line": null, "seconds": %.3f, '
-         f'"mb": %.1f, "mb_at_most": %s, "host": "{HOST}", "explanation": null}}\n')
-
-
 def judge(program, key, text):
-    """Judges a script: the line of its result."""
+    """Judges a script: its result, as a line or as what CLEAN tells."""
     program.take(text)
     ran = program.run(program.judging)
     said, told = program.said(1), program.said(2)
     if len(text) + len(said) > LONG:
         program.note_memory()
     if ran.status == 0 and not told and b"\nordered\n" not in said and not program.options.widens:
-        return CLEAN % (key, ran.seconds, ran.memory, "true" if ran.is_at_most else "false")
+        return key, ran.seconds, ran.memory, "true" if ran.is_at_most else "false"
     found = found_of(program, ran, said.decode(errors="replace"), told.decode(errors="replace"))
     line = code_of_json().dumps({"key": key, **found}) + "\n"
     program.note_memory()
@@ -345,16 +368,30 @@ def found_of(program, ran, said, told):
     return found
 
 
-def judge_words(program, results, texts, words):
-    """Judges the scripts that words name, and adds their results, as long as nothing ends the worker."""
+def judge_groups(program, results, texts, groups):
+    """Judges groups of scripts, and adds their results, as long as nothing ends the worker."""
     file = os.open(texts, os.O_RDONLY)
-    for word in words:
-        key, at, size = word.split(":")
-        if program.is_over:
-            return
-        line = judge(program, key, text_at(file, int(at), int(size)))
-        if not program.is_over:
-            results.add(line)
+    try:
+        for group in groups:
+            places = [(key, int(at), int(size)) for key, at, size in (word.split(":") for word in group)]
+            for (key, _, _), text in zip(places, texts_at(file, places)):
+                if not program.is_over:
+                    result = judge(program, key, text)
+                if program.is_over:
+                    return
+                results.add(result)
+            results.write()
+    finally:
+        results.write()
+
+
+def texts_at(file, places):
+    """The texts at places of a file, which are read at once where they lie together."""
+    begin, end = places[0][1], places[-1][1] + places[-1][2]
+    if 0 <= end - begin <= LONG:
+        block = text_at(file, begin, end - begin)
+        return [block[at - begin : at - begin + size] for _, at, size in places]
+    return (text_at(file, at, size) for _, at, size in places)
 
 
 def text_at(file, at, size):
@@ -368,10 +405,15 @@ def text_at(file, at, size):
     return text
 
 
-def words_of_queue(queue):
-    """The words in a file that workers share, each taken when it is asked for."""
+def groups_of_queue(queue):
+    """The groups of words in a file that workers share, each taken when it is asked for."""
     while len(line := os.read(queue, WIDE_LINE)) == WIDE_LINE:
-        yield line.decode()
+        yield line.decode().split()
+
+
+def groups_of(words):
+    """Words in groups."""
+    return [words[first : first + GROUP] for first in range(0, len(words), GROUP)]
 
 
 def judge_chunk(program, name):
@@ -385,6 +427,7 @@ def judge_chunk(program, name):
         if program.is_over:
             break
         results.add(line)
+    results.write()
     if not program.is_over:
         os.replace(new, f"chunks/{name}.out")
     elif os.path.exists(new):
@@ -407,7 +450,9 @@ def work(form, texts, options, words):
     parent, own, others = os.getppid(), os.getpid(), []
     if form == "queue":
         os.set_inheritable(HELD, False)
-        others, words = forked(int(words[0]) - 1), words_of_queue(os.dup(0))
+        others, groups = forked(int(words[0]) - 1), groups_of_queue(os.dup(0))
+    else:
+        groups = groups_of(words)
     program = Program(options, parent if own == os.getpid() else own, others)
     results = Results(f"cases/{HOST}.{os.getpid()}.{time.time_ns()}.jsonl")
     status = 0
@@ -416,7 +461,7 @@ def work(form, texts, options, words):
             for name in words:
                 judge_chunk(program, name)
         else:
-            judge_words(program, results, texts, words)
+            judge_groups(program, results, texts, groups)
     except OSError as fault:
         named = os.environ.get("CLSIM_FARM_NAME", "tools/farm")
         print(f"{named}: {fault.filename or results.path}: {fault.strerror}", file=sys.stderr)
