@@ -26,7 +26,7 @@ PASSED, ORDERED, FAULTY = "clean", "ordered", "fault"
 LOOK, FIRST_LOOK = 0.05, 0.02
 # The bytes of a line of a queue, which has the words of up to so many scripts, and the number of the pipe that is held.
 WIDE_LINE, GROUP, HELD = 448, 8, 3
-# How long results wait for others that are written with them, at most, and then for the end of one script.
+# How long results wait for others that are written with them; where a script takes longer, they don't wait for it.
 WAIT = 0.02
 # How many bytes of the outputs are read at a time and are kept, and from how many on a text adds to a worker's memory.
 READ, MOST_KEPT, LONG = 1 << 12, 1 << 20, 1 << 16
@@ -112,6 +112,8 @@ class Program:
     def __init__(self, options, parent, others):
         self.options, self.parent, self.others = options, parent, others
         self.number, self.begun, self.late, self.peak, self.is_over = 0, 0.0, False, 0, False
+        # (what is done meanwhile, where a program takes long)
+        self.meanwhile = lambda: None
         self.most_used = 0.0
         self.script, self.size = os.memfd_create("script"), 0
         self.path, self.text = f"/proc/{os.getpid()}/fd/{self.script}", b""
@@ -151,8 +153,9 @@ class Program:
                 self.late = True
                 return
             self.peak = peak_of(self.number)
+            self.meanwhile()
         except (OSError, ValueError):
-            # (it has just ended)
+            # (it has just ended; or the disk is full, which the next result says)
             pass
 
     def stop(self, *_):
@@ -454,8 +457,8 @@ def work(form, texts, options, words):
     else:
         groups = groups_of(words)
     program = Program(options, parent if own == os.getpid() else own, others)
-    results = Results(f"cases/{HOST}.{os.getpid()}.{time.time_ns()}.jsonl")
-    status = 0
+    results, status = Results(f"cases/{HOST}.{os.getpid()}.{time.time_ns()}.jsonl"), 0
+    program.meanwhile = results.write
     try:
         if form == "chunk":
             for name in words:
@@ -470,6 +473,8 @@ def work(form, texts, options, words):
         _, ended = os.waitpid(others[0], 0)
         others.pop(0)
         status = status or (2 if ended else 0)
+    # (a signal that came while Python ends would end the worker with it)
+    signal.setitimer(signal.ITIMER_REAL, 0)
     return 130 if program.is_over else status
 
 
