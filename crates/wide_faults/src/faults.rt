@@ -376,7 +376,38 @@ fn step(
     Ok(reply)
 }
 
-/// The lines of the faults of a script's commands, on a new device of this configuration. An error is out of memory.
+/// The lines of the faults of a script's commands, on this device. An error is out of memory.
+fn told_faults(
+    alloc: Global,
+    device: &mut Device,
+    sources: &mut Sources<'_>,
+    commands: &[Command],
+    places: &[CommandPlace],
+    all: bool,
+) -> Result<Vec<u8>, AllocError>
+    ensures { IfOk result (λ text. TellsFaults all places.now 0 (machine_of device.old) commands.now text.items) }
+{
+    let mut out = Vec::new(alloc);
+    for number in 0..commands.len() {
+        let head = head_of(alloc, all, places, number)?;
+        let command = &commands[number];
+        let reply = step(
+            alloc,
+            device,
+            sources,
+            head.as_str(),
+            number,
+            command,
+            &mut out,
+        )?;
+        if !goes_on(all, &reply) {
+            return Ok(out);
+        }
+    }
+    Ok(out)
+}
+
+/// The same on a new device of this configuration.
 fn faults_of(
     alloc: Global,
     configuration: Configuration,
@@ -388,23 +419,7 @@ fn faults_of(
 {
     let mut device = Device::new(alloc, configuration);
     let mut sources = Sources::new(alloc, configuration.limits, commands, places);
-    let mut out = Vec::new(alloc);
-    for number in 0..commands.len() {
-        let head = head_of(alloc, all, places, number)?;
-        let reply = step(
-            alloc,
-            &mut device,
-            &mut sources,
-            head.as_str(),
-            number,
-            &commands[number],
-            &mut out,
-        )?;
-        if !goes_on(all, &reply) {
-            return Ok(out);
-        }
-    }
-    Ok(out)
+    told_faults(alloc, &mut device, &mut sources, commands, places, all)
 }
 
 /// Whether the faults of a script are in their kernels or in their data: a line of each launch that faulted, in their

@@ -6,7 +6,7 @@ use Rattle.launches.specs.Groups.{IsRunnable, filled}
 use Rattle.replay.proofs.Reaching.{map_map}
 use Rattle.spaces.specs.Buffers.{bytes_in}
 use Rattle.explore_runs.specs.Orders.{IsOrderEnd}
-use Rattle.explore_runs.proofs.explorer.order_of.Goals as goal
+use Rattle.explore_runs.proofs.seed_order.order_of.Goals as goal
 
 pub play_order-requires-clause-runnable : goal.play_order-requires-clause-runnable
 play_order-requires-clause-runnable g c =
