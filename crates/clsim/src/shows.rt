@@ -67,7 +67,7 @@ pub(crate) fn text_shows(
     text: &[u8],
     style: ReplyStyle,
 ) -> Result<Vec<Shown>, RunFault>
-    ensures shown { IfOk result (ShowText style text.now) }
+    ensures shown { IfOk result (λ shows. ShowText style text.now shows.items) }
     ensures bad { IfErr result (NoScript text.now) }
 {
     let script = read_script(alloc, text)?;
