@@ -1,5 +1,5 @@
 -- What groups leave by themselves: a log and a memory. Two of these, joined.
-use Rattle.std.proofs.Common.{◌≡◌, ℕ, ◌+◌, ◌*◌, ◌/◌, ◌%◌, ◌<◌, ◌≤◌, Bool, true, false, Option, Some, None, refl, sym, ap, ap₂, ◌∙◌, subst, arith, ◌⊎◌, ⊎_elim, inl, inr, ◌&&◌, ◌||◌, List, [], ◌∷◌, ◌++◌}
+use Rattle.std.proofs.Common.{◌≡◌, ℕ, ◌+◌, ◌*◌, ◌/◌, ◌%◌, ◌<◌, ◌≤◌, Bool, true, false, Some, None, refl, sym, ap, ap₂, ◌∙◌, subst, arith, ◌⊎◌, ⊎_elim, inl, inr, ◌||◌, List, [], ◌∷◌, ◌++◌}
 use Rattle.std.proofs.lemmas.Bool.{and_parts, and_from, true≢false, cond-true, cond-false, or_parts}
 use Rattle.std.proofs.lemmas.List.{append-nil}
 use Rattle.std.proofs.lemmas.Option.{same_Some}
@@ -14,7 +14,7 @@ use Rattle.clmodel.specs.declared.access.Class.{Class}
 use Rattle.clmodel.specs.declared.access.Region.{Region}
 use Rattle.clmodel.proofs.CellLaws.{covers_parts, covers_from}
 use Rattle.clmodel.proofs.Logs.{logged_append, logged_front, logged_back}
-use Rattle.joining.specs.Memory.{joined_number, writes, at_byte, wrote, class_at, joined_numbers, joined_update, joined_memory}
+use Rattle.joining.specs.Memory.{writes, at_byte, wrote, class_at, joined_numbers, joined_update, joined_memory}
 use Rattle.joining.proofs.Base.{some_none, no_order}
 use Rattle.joining.proofs.Words.{Updated, folded, joined_folds, updated_same, updated_number, updated_byte, updated_further}
 use Rattle.joining.proofs.Crossings.{BothStores, meet}

@@ -1,18 +1,17 @@
 -- A run of groups, joined by itself and then to the groups below it.
-use Rattle.std.proofs.Common.{◌≡◌, ℕ, zero, suc, ◌+◌, ◌*◌, ◌<◌, ◌≤◌, true, false, Option, Some, None, refl, sym, ap, ap₂, ◌∙◌, subst, arith, ⊎_elim, inl, inr, List, [], ◌∷◌, ◌++◌, append_assoc}
+use Rattle.std.proofs.Common.{◌≡◌, ℕ, zero, suc, ◌+◌, ◌*◌, ◌<◌, ◌≤◌, false, Option, Some, None, refl, sym, ap, ap₂, ◌∙◌, subst, arith, ⊎_elim, List, [], ◌∷◌, ◌++◌, append_assoc}
 use Rattle.std.proofs.lemmas.List.{append-nil}
 use Rattle.std.proofs.Math.Path.{fun_ext}
 use Rattle.std.specs.Option.{option_map}
 use Rattle.clmodel.specs.Cells.{byte_count}
 use Rattle.clmodel.specs.Launch.{Launch, group_of, region_of, conflict}
-use Rattle.clmodel.specs.Run.{Memory, State, Events, initial, start, step, access_of, or_else}
+use Rattle.clmodel.specs.Run.{State, Events, initial, start, step, access_of, or_else}
 use Rattle.clmodel.specs.Law.{Logged, conflict_on, conflict_from, newest_conflict, conflict_fault}
 use Rattle.clmodel.specs.declared.access.Access.{Access}
 use Rattle.clmodel.specs.declared.access.Clash.{Clash}
 use Rattle.clmodel.specs.declared.access.Conflict as conflict_type
 use Rattle.clmodel.specs.declared.access.Object.{Object}
 use Rattle.clmodel.specs.declared.access.Region.{Region}
-use Rattle.clmodel.specs.declared.fault.Fault.{Fault}
 use Rattle.clmodel.specs.declared.schedule.Event.{Event}
 use Rattle.clmodel.specs.declared.schedule.Event.TheVariants.{Item, Release}
 use Rattle.clmodel.proofs.Steps.{none_some, or_else_none, map_none, map_some, region_for, ItemStep, item_inverse, release_inverse}
@@ -26,12 +25,12 @@ use Rattle.joining.specs.Steps.{HasGroup, IsJoined}
 use Rattle.joining.proofs.Grouped.{group_is}
 use Rattle.joining.proofs.Words.{Updated}
 use Rattle.joining.proofs.Crossings.{on_append, crossing_newest, no_cross}
-use Rattle.joining.proofs.Over.{OnlyUpdates, some_operand, unchanged_step, older_clear, over_start}
+use Rattle.joining.proofs.Over.{OnlyUpdates, unchanged_step, older_clear, over_start}
 use Rattle.joining.proofs.Ride.{Through, ride}
 use Rattle.joining.proofs.Joins.{So_far}
 use Rattle.joining.proofs.Steps.{so_far, accesses_are_own, accesses_are_lower}
 use Rattle.joining_runs.specs.Runs.{IsRunOf, join_run, RunsAreJoined, RunsAreWithin}
-use Rattle.joining_runs.proofs.Layers.{Layer, Apart, skips, layer_join}
+use Rattle.joining_runs.proofs.Layers.{Layer, skips, layer_join}
 use Rattle.joining_runs.proofs.Threes.{Three, three_joined}
 
 -- a run leaves bytes as they were where it didn't write

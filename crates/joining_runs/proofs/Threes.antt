@@ -2,7 +2,7 @@
 use Rattle.std.proofs.Common.{◌≡◌, ℕ, ◌+◌, ◌-◌, ◌*◌, ◌<◌, Bool, true, false, Some, refl, sym, ap, ap₂, ◌∙◌, subst, arith, ◌⊎◌, ⊎_elim, inl, inr, ◌||◌, List, [], ◌∷◌, ◌++◌, append_assoc}
 use Rattle.std.proofs.lemmas.Option.{same_Some}
 use Rattle.std.proofs.Math.Path.{fun_ext}
-use Rattle.clmodel.specs.Cells.{Cells, number, byte_of, written, updated_word}
+use Rattle.clmodel.specs.Cells.{Cells, number, byte_of, updated_word}
 use Rattle.clmodel.specs.Launch.{Launch}
 use Rattle.clmodel.specs.Run.{Memory, initial}
 use Rattle.clmodel.specs.declared.access.Access.{Access}
