@@ -9,8 +9,8 @@ ghost use Rattle.host_queue.specs.declared.view.Request.TheVariants.{Answered};
 ghost use Rattle.host_queue.specs.Clients.{IsOnly};
 ghost use Rattle.host_queue.specs.Seats.{answered_count};
 
-use crate::session::Options;
 use crate::watching::Watch;
+use command_line::options::Options;
 use device::{Device, Driver, open};
 use host_commands::command::{Command, Reply};
 use host_queue::{Client, Queue, Request};
@@ -44,7 +44,8 @@ impl OnlyClient {
         })
     }
 
-    /// Draws a ticket for a command, does it at once between two calls of who looks on, and leaves its reply in the box.
+    /// Draws a ticket for a command, does it at once between two calls of who looks on, and leaves its reply in the
+    /// box.
     pub(crate) fn ask<T: Threads + Wait + Sync, L: Watch>(
         &mut self,
         rt: &T,

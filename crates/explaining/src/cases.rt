@@ -28,8 +28,8 @@ pub(crate) struct PerformedScript<'a> {
     pub done: &'a [bool],
 }
 
-/// Explains a case on a device to which the commands before its ticket led. A schedule that is known to lead there isn't
-/// replayed as a whole.
+/// Explains a case on a device to which the commands before its ticket led. A schedule that is known to lead there
+/// isn't replayed as a whole.
 pub(crate) fn explain_case(
     alloc: Global,
     device: &Device,

@@ -6,7 +6,7 @@ use Rattle.cli.proofs.Sessions.{answered_none, answered_more, answered_still, br
 use Rattle.cli.proofs.session.answer_all.Goals as goal
 
 pub loop-command-init : goal.loop-command-init
-loop-command-init g c = record { split = search rules; counts = search rules; answered = λ configuration first. answered_none c.args.numbers.now configuration _ _ first }
+loop-command-init g c = record { split = search rules; counts = search rules; answered = λ configuration first. answered_none c.args.shows.now configuration _ _ first }
 
 pub ask-request-requires-clause-room : goal.ask-request-requires-clause-room
 ask-request-requires-clause-room g c =

@@ -1,3 +1,0 @@
-pub mod Layers
-pub mod Threes
-pub mod Runs
