@@ -57,6 +57,7 @@ typedef struct {
     unsigned align;                  // what is known of its address, where that is less than its type asks for, else 0
     const unsigned char *components; // of a vector, those that are meant; NULL where all of it is
     unsigned component_count;
+    const field *bits; // the bit-field that it is, and `at` is where its row begins; NULL for none
 } storage;
 
 typedef enum { NO_VALUE, INTEGER_VALUE, VECTOR_VALUE, POINTER_VALUE, RECORD_VALUE, STORAGE_VALUE } value_kind;
@@ -115,6 +116,10 @@ typedef enum { IN_PRIVATE, IN_GLOBAL, IN_CONSTANT, IN_LOCAL, NOWHERE } object_sp
 
 // What an object is to the node that it belongs to.
 typedef enum { ITSELF, POINTED_TO_BY, RESULT_OF } object_role;
+
+// Where bit-fields that are variables of their own are among the leaves of an object: their offsets are in bits from
+// here on, and so are their widths.
+#define FIRST_BIT_LEAF (UINT64_C(1) << 62)
 
 // A number in private memory that is always accessed at one place.
 typedef struct {
@@ -299,6 +304,8 @@ void refuse_at(translator *t, const place *at, const char *format, ...) __attrib
 const char *format(translator *t, const char *format, ...) __attribute__((format(printf, 2, 3)));
 const char *format_values(translator *t, const char *format, va_list values);
 void add_note(translator *t, const char *text);
+// Refuses a declaration with an attribute that isn't known; of a function its parameters too.
+void judge_attributes(translator *t, const node *n);
 // `*list` with room for one more, in the arena of the pass.
 void *grown(arena *a, void *list, unsigned count, unsigned *room, size_t size);
 // Counts one level deeper, up to MAX_DEPTH.
@@ -389,8 +396,10 @@ typedef struct {
     uint64_t offset;
     const type *type; // an integer, a floating-point number, a pointer or an event
     unsigned align;
+    const bit_row *row; // that stands there; NULL for a number
 } number_place;
-// The numbers in a type, in the order of their offsets; of a union those of its largest member.
+// The numbers in a type, in the order of their offsets, a row of bit-fields as one; of a union those of its largest
+// member.
 number_place *numbers_in(translator *t, const type *type, const place *at, unsigned *count);
 // `name` with what stands at an offset: `s_b` and `w_3`, or as C has it: `s.b` and `w[3]`.
 const char *part_name(translator *t, const char *name, const type *type, uint64_t offset, bool as_in_source);
@@ -453,11 +462,30 @@ pointer choose_pointer(translator *t, integer condition, pointer a, pointer b, b
 // ---- storage.c ----
 value get(translator *t, storage s, const place *at);
 void put(translator *t, storage s, value v, const place *at);
-void put_zeros(translator *t, pointer p, const type *type, const place *at);
+// A member of a struct or a union. What is known of its address depends on what is known of the whole's.
+storage member_of(const storage *s, const field *f);
 // Stores what an initializer gives.
 void initialize(translator *t, pointer p, const type *type, const node *n, const place *at);
 storage whole(pointer p, const type *type);
 pointer aligned_vector(translator *t, const storage *s);
+// A value as a place holds it: of a bit-field its lowest bits.
+value held_value(translator *t, value v, const storage *s);
+
+// ---- bits.c ----
+// A bit-field, by where its row begins.
+integer load_bits(translator *t, pointer row, const field *f, unsigned align, const place *at);
+void store_bits(translator *t, pointer row, const field *f, integer v, unsigned align, const place *at);
+integer lowest_bits(translator *t, integer v, const field *f);
+// The numbers of a row, and those that are stored into it. What no field has of them is 0, or lost, where the fields
+// are variables.
+const integer *load_row(translator *t, pointer at, const bit_row *row, unsigned align, const place *place);
+void store_row(translator *t, pointer at, const bit_row *row, const integer *numbers, unsigned align,
+               const place *place);
+void copy_row(translator *t, pointer to, pointer from, const bit_row *row, unsigned to_align, unsigned from_align,
+              const place *at);
+void put_zero_row(translator *t, pointer at, const bit_row *row, unsigned align, const place *place);
+unsigned numbers_of_row(const bit_row *row);
+integer_type type_of_row(const bit_row *row);
 
 // ---- tables.c ----
 // The object of a variable in constant memory, or of a text.
