@@ -398,8 +398,8 @@ typedef struct {
     unsigned align;
     const bit_row *row; // that stands there; NULL for a number
 } number_place;
-// The numbers in a type, in the order of their offsets, a row of bit-fields as one; of a union those of its largest
-// member.
+// The numbers in a type, in the order of their offsets, a row of bit-fields as one; of a union those of a member that
+// has all bytes of the others, or else bytes.
 number_place *numbers_in(translator *t, const type *type, const place *at, unsigned *count);
 // `name` with what stands at an offset: `s_b` and `w_3`, or as C has it: `s.b` and `w[3]`.
 const char *part_name(translator *t, const char *name, const type *type, uint64_t offset, bool as_in_source);

@@ -1,5 +1,6 @@
 // Types as memory has them: their sizes, and the numbers in them.
 #include "front.h"
+#include <string.h>
 
 // A floating-point number is the integer of its bits.
 integer_type core_type(const type *t) { return integer_of(t->width, t->kind == INTEGER_TYPE && t->is_signed); }
@@ -53,15 +54,6 @@ static void add_number(numbers *n, const type *type, uint64_t offset, unsigned a
     n->numbers[n->count++] = (number_place){offset, type, align, row};
 }
 
-static uint64_t bytes_of_member(const field *f) { return f->row ? f->row->size : f->is_bit_field ? 0 : f->type->size; }
-
-static const field *largest_member(const record *r) {
-    const field *largest = r->fields;
-    for (unsigned i = 1; i < r->field_count; i++)
-        if (bytes_of_member(&r->fields[i]) > bytes_of_member(largest)) largest = &r->fields[i];
-    return largest;
-}
-
 static void add_numbers(numbers *n, const type *type, uint64_t offset, unsigned align);
 
 // A row of bit-fields is there once, by the first of them.
@@ -70,13 +62,45 @@ static void add_field(numbers *n, const field *f, uint64_t offset, unsigned alig
     if (!f->is_bit_field) add_numbers(n, f->type, offset + f->offset, smaller(align, f->align));
 }
 
+// ---- of a union ----
+
+// Marks the bytes of the numbers in a member.
+static void mark_bytes(const numbers *n, const field *f, unsigned char *marks) {
+    numbers own = {.t = n->t, .at = n->at};
+    add_field(&own, f, 0, 1);
+    for (unsigned i = 0; i < own.count; i++) {
+        const number_place *p = &own.numbers[i];
+        memset(marks + p->offset, 1, p->row ? p->row->size : p->type->size);
+    }
+}
+
+// The first member that has all bytes of the others; NULL where none has. `all` gets the bytes of all of them.
+static const field *whole_member(const numbers *n, const record *r, unsigned char *all) {
+    unsigned char *own = take(&n->t->pass, r->size + 1);
+    for (unsigned i = 0; i < r->field_count; i++) mark_bytes(n, &r->fields[i], all);
+    for (unsigned i = 0; i < r->field_count; i++) {
+        memset(own, 0, r->size);
+        mark_bytes(n, &r->fields[i], own);
+        if (!memcmp(own, all, r->size)) return &r->fields[i];
+    }
+    return NULL;
+}
+
+// By the numbers of a member, or byte by byte.
+static void add_union(numbers *n, const record *r, uint64_t offset, unsigned align) {
+    static const type byte = {.kind = INTEGER_TYPE, .width = 1, .size = 1, .align = 1, .name = "uchar"};
+    unsigned char *all = take(&n->t->pass, r->size + 1);
+    const field *whole = r->field_count == 1 ? r->fields : whole_member(n, r, all);
+    if (whole) add_field(n, whole, offset, align);
+    else
+        for (uint64_t i = 0; i < r->size; i++)
+            if (all[i]) add_number(n, &byte, offset + i, 1, NULL);
+}
+
 static void add_fields(numbers *n, const record *r, uint64_t offset, unsigned align) {
     judge_record(n->t, r, n->at);
-    if (r->is_union) {
-        if (r->field_count) add_field(n, largest_member(r), offset, align);
-        return;
-    }
-    for (unsigned i = 0; i < r->field_count; i++) add_field(n, &r->fields[i], offset, align);
+    if (r->is_union) add_union(n, r, offset, align);
+    for (unsigned i = 0; !r->is_union && i < r->field_count; i++) add_field(n, &r->fields[i], offset, align);
 }
 
 // Types are nested as deep as clang lets them be, which bounds this.
