@@ -16,7 +16,9 @@ static integer_type wide_type(const field *f) {
 }
 
 // How many bits a number of the row stands above the field's first one.
-static int64_t distance(const field *f, unsigned index) { return (int64_t)(8 * f->row->width * index) - (int64_t)f->bit; }
+static int64_t distance(const field *f, unsigned index) {
+    return (int64_t)(8 * f->row->width * index) - (int64_t)f->bit;
+}
 
 // Whether a number of the row has bits of the field.
 static bool has_part(const field *f, unsigned index) {

@@ -44,8 +44,10 @@ static void fill_fields(translator *t, memory m, uint64_t offset, const record *
         if (n->part_count) fill_field(t, m, offset, n->field ? n->field : r->fields, n->parts[0]);
         return;
     }
-    for (unsigned i = 0, given = 0; given < n->part_count && i < r->field_count; i++)
-        if (!r->fields[i].is_bit_field || *r->fields[i].name) fill_field(t, m, offset, &r->fields[i], n->parts[given++]);
+    for (unsigned i = 0, given = 0; given < n->part_count && i < r->field_count; i++) {
+        const field *f = &r->fields[i];
+        if (!f->is_bit_field || *f->name) fill_field(t, m, offset, f, n->parts[given++]);
+    }
 }
 
 static void fill_value(translator *t, memory m, uint64_t offset, const type *type, const node *n) {
