@@ -187,7 +187,7 @@ static const integer *load_access(translator *t, pointer p, bits_access *a) {
     unsigned count = count_of(a);
     integer_type type = a->field ? core_type(a->field->type) : type_of_row(a->row);
     integer *loaded = take(&t->pass, count * sizeof *loaded);
-    if (p.count > 1) p = kept_pointer(t, p);
+    p = kept_pointer(t, p);
     a->at = p.offset;
     a->results = take(&t->pass, count * sizeof *a->results);
     if (p.count == 1) return load_from(t, p.objects[0], a);
@@ -206,7 +206,7 @@ static void store_access(translator *t, pointer p, bits_access *a) {
         t->is_incomplete = true;
         return;
     }
-    if (p.count > 1) p = kept_pointer(t, p);
+    p = kept_pointer(t, p);
     for (unsigned i = 0; i < count_of(a); i++) stored[i] = p.count > 1 ? kept(t, a->stored[i]) : a->stored[i];
     a->stored = stored;
     a->at = p.offset;

@@ -29,6 +29,7 @@ static value get_components(translator *t, const storage *s, pointer p, const pl
     unsigned count = s->components ? s->component_count : (unsigned)s->type->length;
     integer *components = take(&t->pass, count * sizeof *components);
     bool is_alone = s->components && s->type->kind != VECTOR_TYPE, in_variables = is_in_variables(&p);
+    if (count > 1) p = kept_pointer(t, p);
     for (unsigned i = 0; i < count; i++) {
         unsigned index = s->components ? s->components[i] : i;
         components[i] = load(t, shifted(p, (int64_t)(index * number->size)), core_type(number), s->align, at);
