@@ -70,8 +70,8 @@ static leaf *leaf_of(translator *t, object *o, linear at, const field *f) {
 }
 
 static bool is_read_later(const object *o, linear at, const field *f) {
-    const leaf *l = find_leaf(o, leaf_offset(at, f), f->bits);
-    return l && l->was_read;
+    uint64_t first = 8 * (uint64_t)at.constant + f->bit;
+    return is_read_at(o, first, first + f->bits);
 }
 
 static integer load_variable(translator *t, object *o, linear at, const field *f) {

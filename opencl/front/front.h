@@ -157,7 +157,8 @@ struct object {
     unsigned types, types_before;          // by which it is accessed at places that aren't constant, a bit for each
     unsigned atomic_types;                 // by which atomic functions access it
     bool is_stored, was_stored;
-    bool is_array; // it is judged as an array
+    bool is_read_anywhere; // it is loaded from at a place that isn't constant
+    bool is_array;         // it is judged as an array
     // in this pass
     unsigned pass; // that it belongs to
     object_space space;
@@ -413,6 +414,8 @@ void learn(translator *t, unsigned *set, unsigned bits);
 void learn_fact(translator *t, bool *fact);
 leaf *find_leaf(const object *o, uint64_t offset, unsigned width);
 leaf *learn_leaf(translator *t, object *o, uint64_t offset, unsigned width, unsigned types);
+// Whether one of these bits of a private object, from one to in front of another, was read in the pass before.
+bool is_read_at(const object *o, uint64_t first, uint64_t end);
 pointer_leaf *find_pointer(const object *o, uint64_t offset);
 pointer_leaf *learn_pointer(translator *t, object *o, uint64_t offset);
 // An object that is new in this pass.

@@ -239,7 +239,7 @@ static integer load_from(translator *t, object *o, linear l, integer_type type, 
     if (is_leaf && o->alias && o->alias->kind == INTEGER_VALUE && !l.constant && width == o->size)
         return cast_to(t, o->alias->integer, type);
     if (is_leaf && !o->is_array) return load_leaf(t, o, (uint64_t)l.constant, type);
-    if (is_leaf) learn_leaf(t, o, (uint64_t)l.constant, width, 1u << type);
+    learn_fact(t, is_leaf ? &learn_leaf(t, o, (uint64_t)l.constant, width, 1u << type)->is_read : &o->is_read_anywhere);
     return load_pieces(t, o, pieces_of(t, l, width, align), type, at);
 }
 

@@ -99,6 +99,19 @@ static uint64_t first_bit(const leaf *l) { return is_of_bits(l) ? l->offset - FI
 static uint64_t end_bit(const leaf *l) { return first_bit(l) + (is_of_bits(l) ? 1 : 8) * (uint64_t)l->width; }
 static bool overlap(const leaf *a, const leaf *b) { return first_bit(a) < end_bit(b) && first_bit(b) < end_bit(a); }
 
+bool is_read_at(const object *o, uint64_t first, uint64_t end) {
+    if (o->is_read_anywhere) return true;
+    const uint64_t widest = 64, from = first > widest ? first - widest : 0;
+    const uint64_t begins[] = {from / 8, FIRST_BIT_LEAF + from};
+    for (int of_bits = 0; of_bits < 2; of_bits++)
+        for (unsigned i = leaf_index(o, begins[of_bits], 0); i < o->leaf_count; i++) {
+            const leaf *l = &o->leaves[i];
+            if (is_of_bits(l) != of_bits || first_bit(l) >= end) break;
+            if (l->was_read && end_bit(l) > first) return true;
+        }
+    return false;
+}
+
 // Whether a bit-field is accessed as a part of a number, too.
 static bool overlaps_numbers(const object *o, const leaf *bits) {
     for (unsigned i = 0; i < o->leaf_count && !is_of_bits(&o->leaves[i]); i++)

@@ -54,12 +54,13 @@ value get(translator *t, storage s, const place *at) {
 
 // ---- copies of records ----
 
-// Whether a number of a private record is never read, so that no copy of it has to be made.
+// Whether a number of a private record is never read, by no member of a union either, so that no copy of it has to be
+// made.
 static bool is_dead(const pointer *to, uint64_t offset, unsigned width) {
     const object *o = to->count == 1 ? to->objects[0] : NULL;
-    if (!o || o->space != IN_PRIVATE || o->is_array || !is_constant(to->offset)) return false;
-    const leaf *l = find_leaf(o, (uint64_t)to->offset.constant + offset, width);
-    return !l || !l->was_read;
+    if (!o || o->space != IN_PRIVATE || !is_constant(to->offset)) return false;
+    uint64_t first = 8 * ((uint64_t)to->offset.constant + offset);
+    return !is_read_at(o, first, first + 8 * width);
 }
 
 static bool is_private(const pointer *p) {
