@@ -138,7 +138,7 @@ typedef struct {
     object **bases; // into which it may point
     unsigned count, room, count_before;
     uint64_t unit, unit_before; // of its offsets, 0 where all are 0
-    bool was_known;
+    bool is_read, was_known;
     const char *name, *selector; // of its variables in this pass, NULL for none
 } pointer_leaf;
 
@@ -457,6 +457,8 @@ void for_chosen(translator *t, const integer *selector, object *const *objects, 
 // ---- pointers.c ----
 void store_pointer(translator *t, pointer to, pointer p, const place *at);
 pointer load_pointer(translator *t, pointer from, const place *at);
+// Whether the pointer that lies there is read nowhere.
+bool is_dead_pointer(pointer at);
 integer is_not_null(translator *t, pointer p);
 integer compare_pointers(translator *t, operation op, pointer a, pointer b, const place *at);
 integer difference(translator *t, pointer a, pointer b, uint64_t size, const place *at);

@@ -86,7 +86,7 @@ static void copy_record(translator *t, storage to, storage from, const place *at
             continue;
         }
         if (n->type->kind == POINTER_TYPE) {
-            store_pointer(t, target, load_pointer(t, source, at), at);
+            if (!is_dead_pointer(target)) store_pointer(t, target, load_pointer(t, source, at), at);
             continue;
         }
         bool dead = is_dead(&to.at, n->offset, n->type->width);
