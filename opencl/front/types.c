@@ -56,8 +56,9 @@ static unsigned bucket_of(const char *s, size_t n) {
 
 static uint64_t fixed_align_of(const type *t) { return ((const own_type *)t)->fixed_align; }
 
-// Sizes of what is made of other types.
+// Sizes of what is made of other types. (A record may have become complete since the type of an element was made.)
 static void settle(type *t) {
+    if (t->kind == ARRAY_TYPE) settle((type *)t->of);
     if (t->kind == RECORD_TYPE && t->record) {
         bool is_laid_out = t->record->is_complete && !t->record->unknown_attribute;
         t->size = is_laid_out ? t->record->size : 0;
