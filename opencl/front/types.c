@@ -519,7 +519,7 @@ static const type *read_again(types *t, const char *written, size_t written_leng
     if (!found && plain) found = read_text(t, plain, plain_length);
     if (!found) return make_other(t, name);
     type *own = copy_type(t, found);
-    own->name = name;
+    if (own->kind != OTHER_TYPE) own->name = name; // (that of any other one says what isn't known)
     return own;
 }
 
