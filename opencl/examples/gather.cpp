@@ -9,8 +9,8 @@ namespace compute = boost::compute;
 static void print(const compute::vector<int> &numbers, compute::command_queue &queue) {
     std::vector<int> own(numbers.size());
     compute::copy(numbers.begin(), numbers.end(), own.begin(), queue);
-    for (int n : own) std::cout << n << " ";
-    std::cout << "\n";
+    for (size_t i = 0; i < own.size(); i++) std::cout << (i ? " " : "") << own[i];
+    std::cout << std::endl;
 }
 
 int main(int count, char **) {
@@ -21,7 +21,7 @@ int main(int count, char **) {
     try {
         compute::sort(numbers.begin(), numbers.end(), queue);
         print(numbers, queue);
-        std::cout << "the sum is " << compute::accumulate(numbers.begin(), numbers.end(), 0, queue) << "\n";
+        std::cout << "the sum is " << compute::accumulate(numbers.begin(), numbers.end(), 0, queue) << std::endl;
         compute::gather(places.begin(), places.end(), numbers.begin(), found.begin(), queue);
         print(found, queue);
     } catch (const compute::opencl_error &error) {
