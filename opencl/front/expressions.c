@@ -1,5 +1,7 @@
 // Expressions: their values, where they lie, and what they do.
+#include "../session.h"
 #include "front.h"
+#include <inttypes.h>
 #include <string.h>
 
 // ---- where an expression lies ----
@@ -30,12 +32,24 @@ static uint64_t row_length(const node *array) {
     return inner->kind == MEMBER_EXPRESSION || inner->kind == SUBSCRIPT_EXPRESSION ? inner->type->length : 0;
 }
 
+// The same of 32 bits, by statements that take a work-item less.
+static integer short_index_in_row(translator *t, integer index, uint64_t limit, int64_t far) {
+    const char *word = temporary_name(t), *result = temporary_name(t);
+    emit(t, "uint %s=%s;", word, assigned(t, index, UINT));
+    emit(t, "long %s=%s;", result, word);
+    list outside = one_text(t, format(t, "%s=%" PRId64 "l;", result, far), t->at);
+    append(t, new_branch(t, format(t, "%s>=%" PRIu64 "u", word, limit), outside, (list){NULL, NULL}, t->at));
+    return variable(result, LONG, true);
+}
+
 // An index, or one far in front of every object where it leaves its row. The address of the element behind the last
 // one may be taken (C99 6.5.3.2).
 static integer index_in_row(translator *t, integer index, uint64_t length, bool is_address) {
     uint64_t far = (uint64_t) - (INT64_C(1) << 40);
     uint64_t limit = length + is_address;
     if (index.is_literal) return index.value < limit ? index : literal(t, far, LONG);
+    bool is_short = width_of(type_of(&index)) <= 4 && limit <= greatest(INT);
+    if (is_short && !widens()) return short_index_in_row(t, index, limit, (int64_t)far);
     index = cast_to(t, kept(t, index), LONG);
     integer test = binary(t, LESS, exactly(t, index, ULONG), literal(t, limit, ULONG), ULONG);
     return kept(t, choice(t, test, index, literal(t, far, LONG), LONG));

@@ -106,6 +106,7 @@ struct statement {
     const call_site *calls; // as in `judged_place`
     unsigned loop;
     const turn_before *before;
+    const char *result; // the variable of its own that it gives the result of a call, or NULL
 };
 
 // ---- objects ----
@@ -229,6 +230,7 @@ typedef struct name {
     struct name *next;
     const char *text;
     unsigned last; // number that was put behind it
+    unsigned uses; // in the kernel's text, once they are counted
 } name;
 
 typedef struct note {
@@ -319,6 +321,9 @@ const char *temporary_name(translator *t);
 void take_name(translator *t, const char *text);
 bool is_taken(const translator *t, const char *text);
 // Remembers what a name stands for in the client's source.
+// Counts the names in a text, and says how often one was counted.
+void count_names(translator *t, const char *text);
+unsigned uses_of(const translator *t, const char *text);
 void show_name(translator *t, const char *judged, const char *shown);
 // The calls round what is being translated.
 const call_site *calls_here(const translator *t);
@@ -602,6 +607,10 @@ list begin_of_copies(translator *t, const place *at);
 void translate_kernel(translator *t, const node *function, judged_kernel *k, text *to);
 // Whether a name is a word of the language, or one of the driver's own.
 bool is_reserved_name(const char *name);
+
+// ---- joined.c ----
+// The list of a kernel or of a function, with calls put where their results are used.
+list with_calls_joined(translator *t, list l);
 
 // ---- writer.c ----
 // Notes the place of what is written next.

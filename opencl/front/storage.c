@@ -22,6 +22,16 @@ pointer aligned_vector(translator *t, const storage *s) {
     return p;
 }
 
+// A pointer whose offset is worked out once for all numbers of a vector: in a variable, in units of such a number.
+static pointer with_base(translator *t, pointer p, uint64_t size, unsigned count) {
+    linear moving = {0, p.offset.terms, p.offset.count};
+    bool is_simple = !moving.count || (moving.count == 1 && moving.terms->scale == (int64_t)size);
+    if (count == 1 || is_simple || common_factor(moving) % size) return p;
+    integer base = kept(t, cast_to(t, in_units(t, moving, size), LONG));
+    p.offset = plus_scaled(t, constant_offset(p.offset.constant), base, (int64_t)size);
+    return p;
+}
+
 // ---- loading ----
 
 static value get_components(translator *t, const storage *s, pointer p, const place *at) {
@@ -30,6 +40,7 @@ static value get_components(translator *t, const storage *s, pointer p, const pl
     integer *components = take(&t->pass, count * sizeof *components);
     bool is_alone = s->components && s->type->kind != VECTOR_TYPE, in_variables = is_in_variables(&p);
     if (count > 1) p = kept_pointer(t, p);
+    p = with_base(t, p, number->size, count);
     for (unsigned i = 0; i < count; i++) {
         unsigned index = s->components ? s->components[i] : i;
         components[i] = load(t, shifted(p, (int64_t)(index * number->size)), core_type(number), s->align, at);
@@ -106,6 +117,7 @@ static void put_components(translator *t, storage s, pointer p, value v, const p
         v = kept_value(t, v);
         p = kept_pointer(t, p);
     }
+    p = with_base(t, p, number->size, count);
     for (unsigned i = 0; i < count; i++) {
         unsigned index = s.components ? s.components[i] : i;
         integer one = v.kind == VECTOR_VALUE ? v.components[i] : v.integer;
