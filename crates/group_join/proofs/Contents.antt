@@ -5,7 +5,7 @@ use Rattle.std.specs.Option.{option_map, unwrap_or}
 use Rattle.std.proofs.lemmas.Bool.{and_parts, and_from, true≢false}
 use Rattle.std.proofs.lemmas.Option.{slice_get-get_or, slice_get_within}
 use Rattle.clmodel.specs.Cells.{Cells, cells_of, covers, byte_count, byte_of, number}
-use Rattle.clmodel.specs.Launch.{Launch, same_region}
+use Rattle.clmodel.specs.Launch.{Launch, AllSet, same_region}
 use Rattle.clmodel.specs.Law.{Keeps, Logged}
 use Rattle.clmodel.specs.Run.{Memory, initial, cells_from, contents}
 use Rattle.clmodel.specs.declared.access.Access.{Access}
@@ -32,7 +32,7 @@ use Rattle.group_join.specs.Memory.{HoldsBytes}
 use Rattle.group_join.proofs.Listed.{among, wrote_listed}
 use Rattle.group_join.proofs.Numbers.{number_none, one_byte}
 use Rattle.group_join.proofs.Changing.{wrote_by, entries_put, entries_kept}
-use Rattle.group_join.proofs.Filled.{own_set}
+use Rattle.group_join.proofs.Filled.{first_byte_is, own_set}
 
 -- ---- what is kept of a log
 
@@ -76,9 +76,9 @@ logged_entry (y ∷ es) x h =
 
 -- ---- buffers and a memory
 
-pub contents_start : (l : Launch) (rows : List (List ℕ)) → rows ≡ l.buffers → HoldsBytes l (initial l) rows
-contents_start l rows e =
-    subst (HoldsBytes l (initial l)) (sym e) (record { many = refl; sized = λ n. refl; bytes = λ n b h. refl })
+pub contents_start : (l : Launch) → AllSet l → (rows : List (List ℕ)) → rows ≡ l.buffers → HoldsBytes l (initial l) rows
+contents_start l set rows e =
+    subst (HoldsBytes l (initial l)) (sym e) (record { many = refl; sized = λ n. refl; bytes = λ n b h. sym (first_byte_is l set n b) })
 
 cells_row : (cells : Cells) (first : ℕ) (c : List ℕ) (count : ℕ) → length c ≡ count → ((i : ℕ) → i < count → slice_get c i ≡ cells (first + i)) → cells_from cells first count ≡ map Some c
 cells_row cells first [] zero e h = refl
@@ -149,6 +149,7 @@ number_as c d first count x h e = ap (λ o. unwrap_or o 0) (number_frame c d fir
 -- what code knows of a further group of which nothing crosses
 pub record IsClear (l : Launch) (g : ℕ) (lower : Joined) (part : Part) (old : List (List ℕ)) (entries : List Entry) (kept : List Access) (first : List (List ℕ)) (spaces : List (List (Option ℕ))) : Type 0 where
   pub law : BytesAreJoined
+  pub set : AllSet l
   pub grouped : IsGrouped l
   pub joined : IsJoined l g lower
   pub there : HasGroup l g
@@ -169,21 +170,23 @@ abbrev pub put_of : List (List ℕ) → List (List ℕ) → List Access → List
 put_of first old kept spaces = value_of first old (λ n b. wrote kept (region.Buffer n) b) spaces
 
 -- the number of a word that is in range, in each of the three
-word_first : (l : Launch) (first : List (List ℕ)) (n word s : ℕ) → first ≡ l.buffers → number (initial l (region.Buffer n)) word 4 ≡ Some s → number_or_0 (filled_at first n) word 4 ≡ s
-word_first l first n word s e h = number_as (filled_at first n) (initial l (region.Buffer n)) word 4 s (λ i c. cells_some (buffer_at first n) i ∙ ap (λ (z : List (List ℕ)). slice_get (buffer_at z n) i) e) h
+word_first : (l : Launch) → AllSet l → (first : List (List ℕ)) (n word s : ℕ) → first ≡ l.buffers → number (initial l (region.Buffer n)) word 4 ≡ Some s → number_or_0 (filled_at first n) word 4 ≡ s
+word_first l set first n word s e h = number_as (filled_at first n) (initial l (region.Buffer n)) word 4 s (λ i c. cells_some (buffer_at first n) i ∙ ap (λ (z : List (List ℕ)). slice_get (buffer_at z n) i) e ∙ sym (first_byte_is l set n i)) h
 
 -- a byte of a word that has a first number is in range
-in_word : (l : Launch) (n word s i : ℕ) → number (initial l (region.Buffer n)) word 4 ≡ Some s → covers word 4 i ≡ true → i < length (buffer_at l.buffers n)
-in_word l n word s i h c = let v = number_each (initial l (region.Buffer n)) word 4 s i h c in slice_get_within (buffer_at l.buffers n) i v.0 v.1
+in_word : (l : Launch) → AllSet l → (n word s i : ℕ) → number (initial l (region.Buffer n)) word 4 ≡ Some s → covers word 4 i ≡ true → i < length (buffer_at l.buffers n)
+in_word l set n word s i h c =
+    let v = number_each (initial l (region.Buffer n)) word 4 s i h c in slice_get_within (buffer_at l.buffers n) i v.0 (sym (first_byte_is l set n i) ∙ v.1)
 
-word_lower : (l : Launch) (m : Memory) (old : List (List ℕ)) (n word s a : ℕ) → HoldsBytes l m old → number (initial l (region.Buffer n)) word 4 ≡ Some s → number (m (region.Buffer n)) word 4 ≡ Some a
+word_lower : (l : Launch) → AllSet l → (m : Memory) (old : List (List ℕ)) (n word s a : ℕ) → HoldsBytes l m old → number (initial l (region.Buffer n)) word 4 ≡ Some s → number (m (region.Buffer n)) word 4 ≡ Some a
     → number_or_0 (filled_at old n) word 4 ≡ a
-word_lower l m old n word s a holds h k =
-    number_as (filled_at old n) (m (region.Buffer n)) word 4 a (λ i c. cells_some (buffer_at old n) i ∙ holds.bytes n i (in_word l n word s i h c)) k
+word_lower l set m old n word s a holds h k =
+    number_as (filled_at old n) (m (region.Buffer n)) word 4 a (λ i c. cells_some (buffer_at old n) i ∙ holds.bytes n i (in_word l set n word s i h c)) k
 
-word_own : (l : Launch) (m : Memory) (spaces : List (List (Option ℕ))) (n word s b : ℕ) → contents m 0 l.buffers ≡ spaces → number (initial l (region.Buffer n)) word 4 ≡ Some s
+word_own : (l : Launch) → AllSet l → (m : Memory) (spaces : List (List (Option ℕ))) (n word s b : ℕ) → contents m 0 l.buffers ≡ spaces → number (initial l (region.Buffer n)) word 4 ≡ Some s
     → number (m (region.Buffer n)) word 4 ≡ Some b → number_or_0 (cells_at spaces n) word 4 ≡ b
-word_own l m spaces n word s b leaves h k = number_as (cells_at spaces n) (m (region.Buffer n)) word 4 b (λ i c. own_cells l m spaces leaves n i (in_word l n word s i h c)) k
+word_own l set m spaces n word s b leaves h k =
+    number_as (cells_at spaces n) (m (region.Buffer n)) word 4 b (λ i c. own_cells l m spaces leaves n i (in_word l set n word s i h c)) k
 
 -- where no lower group wrote a byte, the group's own is put, by each kind
 pub own_put : (k : AccessKind) (first lower own : Cells) (byte : ℕ) → joined_value k false first lower own byte ≡ number_or_0 own byte 1
@@ -217,7 +220,7 @@ put_joined l g lower part old entries kept first spaces c x n byte logged w insi
     -- the group's own byte is put
     own_byte : IsOwnByte l lower part x byte → put ≡ number_or_0 (cells_at spaces n) byte 1 → joined_of l lower part (region.Buffer n) byte ≡ Some put
     own_byte own told =
-        let v = own_set l g part c.runs n byte inside in
+        let v = own_set l g part c.set c.runs n byte inside in
         let there : cells_at spaces n byte ≡ Some v.0 = own_cells l part.end.memory spaces c.leaves n byte inside ∙ v.1 in
         ap (λ r. joined_of l lower part r byte) here
         ∙ own
@@ -237,8 +240,8 @@ put_joined l g lower part old entries kept first spaces c x n byte logged w insi
         ∙ ap Some
         (sym
         (ap₂ (λ k t. joined_value k t (filled_at first n) (filled_at old n) (cells_at spaces n) byte) q.4 (same ∙ e)
-        ∙ ap (λ z. byte_of (byte % 4) (joined_number q.0 z (number_or_0 (filled_at old n) word 4) (number_or_0 (cells_at spaces n) word 4))) (word_first l first n word q.1 c.opening s)
-        ∙ ap₂ (λ y z. byte_of (byte % 4) (joined_number q.0 q.1 y z)) (word_lower l lower.memory old n word q.1 q.2 c.holds s a) (word_own l part.end.memory spaces n word q.1 q.3 c.leaves s b)))
+        ∙ ap (λ z. byte_of (byte % 4) (joined_number q.0 z (number_or_0 (filled_at old n) word 4) (number_or_0 (cells_at spaces n) word 4))) (word_first l c.set first n word q.1 c.opening s)
+        ∙ ap₂ (λ y z. byte_of (byte % 4) (joined_number q.0 q.1 y z)) (word_lower l c.set lower.memory old n word q.1 q.2 c.holds s a) (word_own l c.set part.end.memory spaces n word q.1 q.3 c.leaves s b)))
 
     go : (b : Bool) → wrote lower.log (region.Buffer n) byte ≡ b → joined_of l lower part (region.Buffer n) byte ≡ Some put
     go false e =

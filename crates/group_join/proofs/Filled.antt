@@ -2,18 +2,22 @@
 use Rattle.std.proofs.Common.{◌≡◌, ℕ, ◌<◌, true, Option, None, Some, [], ◌∷◌, refl, ap, ◌∙◌, subst}
 use Rattle.std.proofs.lemmas.Bool.{true≢false}
 use Rattle.std.proofs.lemmas.Option.{slice_get-get_or}
-use Rattle.std.specs.Prelude.{length}
-use Rattle.clmodel.specs.Launch.{Launch}
-use Rattle.clmodel.specs.Run.{State, Events, start, step}
+use Rattle.std.specs.Prelude.{length, slice_get}
+use Rattle.clmodel.specs.Launch.{Launch, AllSet}
+use Rattle.clmodel.specs.Run.{State, Events, initial, start, step}
 use Rattle.clmodel.specs.declared.access.Region.{Region}
 use Rattle.clmodel.specs.declared.access.Region.TheVariants as region
 use Rattle.clmodel.specs.declared.schedule.Event.{Event}
 use Rattle.clmodel.specs.declared.schedule.Event.TheVariants.{Item, Release}
-use Rattle.clmodel.proofs.Steps.{region_for, item_inverse, release_inverse}
+use Rattle.clmodel.proofs.Steps.{if_false, region_for, item_inverse, release_inverse}
 use Rattle.joining.specs.Group.{Plan, RunsIn, plan_of}
 use Rattle.joining.specs.Parts.{Part, IsPart}
 use Rattle.joining.proofs.Over.{is_set, set_keeps}
 use Rattle.group_join.specs.Changes.{buffer_at}
+
+-- where all bytes of buffers are set at the start, each is what its buffer has
+pub first_byte_is : (l : Launch) → AllSet l → (n byte : ℕ) → initial l (region.Buffer n) byte ≡ slice_get (buffer_at l.buffers n) byte
+first_byte_is l set n byte = if_false (l.unset n byte) None (slice_get (buffer_at l.buffers n) byte) (set n byte)
 
 -- a byte that is set stays so
 step_set : (l : Launch) (s t : State) (e : Event) (q : Region) (byte : ℕ) → step l s e ≡ Some t → is_set (s.memory q byte) ≡ true → is_set (t.memory q byte) ≡ true
@@ -32,7 +36,9 @@ set_some None h = absurd (true≢false (cc))
 set_some (Some v) h = (v, refl)
 
 -- a group leaves each byte of a buffer set
-pub own_set : (l : Launch) (g : ℕ) (part : Part) → IsPart l g part → (n byte : ℕ) → byte < length (buffer_at l.buffers n) → (v : ℕ) × (part.end.memory (region.Buffer n) byte ≡ Some v)
-own_set l g part p n byte b =
+pub own_set : (l : Launch) (g : ℕ) (part : Part) → AllSet l → IsPart l g part → (n byte : ℕ) → byte < length (buffer_at l.buffers n)
+    → (v : ℕ) × (part.end.memory (region.Buffer n) byte ≡ Some v)
+own_set l g part set p n byte b =
     set_some (part.end.memory (region.Buffer n) byte)
-    (run_set (plan_of l g) (start l) part.end part.events (region.Buffer n) byte p.0 (ap is_set (slice_get-get_or (buffer_at l.buffers n) byte 0 b)))
+    (run_set (plan_of l g) (start l) part.end part.events (region.Buffer n) byte p.0
+    (ap is_set (first_byte_is l set n byte ∙ slice_get-get_or (buffer_at l.buffers n) byte 0 b)))

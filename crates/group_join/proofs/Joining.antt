@@ -6,7 +6,7 @@ use denote.Bor.{Bor}
 use Rattle.spaces.specs.Overlay.{Overlaid}
 use Rattle.std.specs.Option.{option_map}
 use Rattle.clmodel.specs.Cells.{byte_count}
-use Rattle.clmodel.specs.Launch.{Launch, group_of, across_groups, conflict_between}
+use Rattle.clmodel.specs.Launch.{Launch, AllSet, group_of, across_groups, conflict_between}
 use Rattle.clmodel.specs.Law.{Keeps, RunsIntoFault}
 use Rattle.clmodel.specs.Outcome.{events_of, IsMerged}
 use Rattle.clmodel.specs.Run.{State, Events, start}
@@ -20,7 +20,7 @@ use Rattle.joining.specs.Group.{plan_of, IsRun}
 use Rattle.joining.specs.Memory.{wrote}
 use Rattle.joining.specs.Crossings.{crossing}
 use Rattle.joining.specs.Parts.{Part, IsGrouped, IsPart}
-use Rattle.joining.specs.Join.{Joined, nothing_yet, join, join_at}
+use Rattle.joining.specs.Join.{Joined, nothing_yet, join_whole, stopped_access, join_stopped, join_at, join}
 use Rattle.joining.specs.Steps.{HasGroup, IsJoined}
 use Rattle.group_run.specs.Logs.{accesses_of, IsLogged}
 use Rattle.group_run.specs.Results.{Leaves}
@@ -63,6 +63,7 @@ stopped_part l g fits events fault run = record { events = events; end = run.sta
 -- what code holds of the groups so far and of one more, and of their events
 pub record IsRunning (l : Launch) (g : ℕ) (lower : Joined) (part : Part) (log : Log) (footprint : Footprint) (old more : List EventRun) : Type 0 where
   pub laws : JoiningLaws
+  pub set : AllSet l
   pub grouped : IsGrouped l
   pub joined : IsJoined l g lower
   pub there : HasGroup l g
@@ -137,15 +138,15 @@ none_crosses l g lower part log footprint old more r first =
     let far = further l g lower part log footprint old more r in
     let laws = crossing_laws r.laws in not_crossed laws l g lower part log r.held.kept far (misses l g lower part log r.held.kept (length log.accesses) laws far first)
 
-pub joined_whole : (l : Launch) (lower : Joined) (part : Part) → crossing l lower.log part.end.log ≡ None → join l lower part ≡ join_at l lower part None
-joined_whole l lower part none = ap (join_at l lower part) none
+pub joined_whole : (l : Launch) (lower : Joined) (part : Part) → part.stopped ≡ None → crossing l lower.log part.end.log ≡ None → join l lower part ≡ join_whole l lower part part.stopped
+joined_whole l lower part told none = ap (join_at l lower part) none ∙ ap (join_stopped l lower part) (ap (stopped_access l part.end) told)
 
 -- a group stops of itself
 pub own_stopped :
     (l : Launch) (g : ℕ) (lower : Joined) (part : Part) (log : Log) (footprint : Footprint) (old more new : List EventRun) (r : IsRunning l g lower part log footprint old more) (fault : Fault)
     → IsFirstMet l.uniform true log.accesses r.held.kept None → Adds old new more (events_of more) → part.stopped ≡ Some fault → IsStopped l fault new
 own_stopped l g lower part log footprint old more new r fault first adds told =
-    let whole = joined_whole l lower part (none_crosses l g lower part log footprint old more r first) in
+    let whole = r.laws.stops l g lower part r.set r.grouped r.joined r.there r.runs (none_crosses l g lower part log footprint old more r first) in
     let events : events_of new ≡ (join l lower part).events
     = adds.events ∙ ap₂ (λ x y. x ++ y) r.held.events (sym r.events) ∙ ap (λ (j : Joined). j.events) (sym whole) in
     let end = r.laws.reports l g lower part fault r.grouped r.joined r.there r.runs (ap (λ (j : Joined). j.report) whole ∙ told) in
@@ -156,16 +157,16 @@ pub is_joined :
     (l : Launch) (g : ℕ) (lower : Joined) (part : Part) (log : Log) (footprint : Footprint) (old more : List EventRun) (r : IsRunning l g lower part log footprint old more)
     → IsFirstMet l.uniform true log.accesses r.held.kept None → part.stopped ≡ None → IsJoined l (suc g) (join l lower part)
 is_joined l g lower part log footprint old more r first told =
-    let whole = joined_whole l lower part (none_crosses l g lower part log footprint old more r first) in
+    let whole = joined_whole l lower part told (none_crosses l g lower part log footprint old more r first) in
     (lower, part, r.joined, r.there, r.runs, refl, ap (λ (j : Joined). j.report) whole ∙ told)
 
 -- and its accesses and events
 pub log_joined :
     (l : Launch) (g : ℕ) (lower : Joined) (part : Part) (log : Log) (footprint : Footprint) (old more : List EventRun) (r : IsRunning l g lower part log footprint old more)
-    (next : Footprint) (new : List EventRun) → IsFirstMet l.uniform true log.accesses r.held.kept None → IsFootprint next (accesses_of log.accesses ++ r.held.kept) → Adds old new more (events_of more)
+    (next : Footprint) (new : List EventRun) → part.stopped ≡ None → IsFirstMet l.uniform true log.accesses r.held.kept None → IsFootprint next (accesses_of log.accesses ++ r.held.kept) → Adds old new more (events_of more)
     → HoldsLog (join l lower part) next new
-log_joined l g lower part log footprint old more r next new first remembers adds =
-    let whole = joined_whole l lower part (none_crosses l g lower part log footprint old more r first) in
+log_joined l g lower part log footprint old more r next new told first remembers adds =
+    let whole = joined_whole l lower part told (none_crosses l g lower part log footprint old more r first) in
     record {
       kept = accesses_of log.accesses ++ r.held.kept;
       keeps = subst (λ (j : Joined). Keeps j.log (accesses_of log.accesses ++ r.held.kept)) (sym whole) (r.laws.both part.end.log lower.log (accesses_of log.accesses) r.held.kept r.logged.keeps r.held.keeps);
@@ -198,14 +199,15 @@ pub record IsGiven (l : Launch) (g : ℕ) (so_far : JoinedGroups) (more : List E
 
 -- before any group, nothing is changed, and no access and no event is held
 pub nothing_joined :
-    (l : Launch) (so_far : JoinedGroups) → map (λ row. row.now) so_far.first.items ≡ l.buffers → contents_of so_far ≡ map (λ row. row.now) so_far.first.items → IsFootprint so_far.footprint []
+    (l : Launch) (so_far : JoinedGroups) → AllSet l → map (λ row. row.now) so_far.first.items ≡ l.buffers → contents_of so_far ≡ map (λ row. row.now) so_far.first.items → IsFootprint so_far.footprint []
     → so_far.runs.items ≡ [] → HoldsGroups l 0 so_far
-nothing_joined l so_far first same remembers none =
+nothing_joined l so_far set first same remembers none =
     record {
+      set = set;
       joined = nothing_yet l;
       is_joined = refl;
       first = first;
-      contents = contents_start l (contents_of so_far) (same ∙ first);
+      contents = contents_start l set (contents_of so_far) (same ∙ first);
       log = λ _. record {
         kept = [];
         keeps = refl;
@@ -239,6 +241,7 @@ stopped_running :
 stopped_running l g so_far log more fault c run =
     record {
       laws = c.laws;
+      set = c.holds.set;
       grouped = c.grouped;
       joined = c.holds.is_joined;
       there = c.there;
@@ -259,6 +262,7 @@ done_running :
 done_running l g so_far log more spaces c run =
     record {
       laws = c.laws;
+      set = c.holds.set;
       grouped = c.grouped;
       joined = c.holds.is_joined;
       there = c.there;
@@ -338,6 +342,7 @@ done_joined l g so_far log more spaces c run finds listed stand new changes firs
     let clear : IsClear l g lower part (contents_of so_far) log.accesses r.held.kept (map (λ row. row.now) so_far.first.items) (map (λ (space : Overlaid). space.bytes) spaces)
     = record {
       law = c.laws.bytes;
+      set = c.holds.set;
       grouped = c.grouped;
       joined = c.holds.is_joined;
       there = c.there;
@@ -350,11 +355,12 @@ done_joined l g so_far log more spaces c run finds listed stand new changes firs
       leaves = run.0.holds.contents;
     } in
     record {
+      set = c.holds.set;
       joined = join l lower part;
       is_joined = is_joined l g lower part log so_far.footprint so_far.runs.items more r met refl;
       first = ap (λ (z : Vec (Bor (List ℕ)) Global). map (λ row. row.now) z.items) first ∙ c.holds.first;
-      contents = subst (λ (j : Joined). HoldsBytes l j.memory (contents_of new)) (sym (joined_whole l lower part none)) (joined_contents l g lower part (contents_of so_far) log.accesses r.held.kept (map (λ row. row.now) so_far.first.items) (map (λ (space : Overlaid). space.bytes) spaces) clear listed stand (contents_of new) (changes r.held.kept r.held.remembers (first_none l g lower part log so_far.footprint so_far.runs.items more r) (wrote_bytes l g lower part (contents_of so_far) log.accesses r.held.kept (map (λ row. row.now) so_far.first.items) (map (λ (space : Overlaid). space.bytes) spaces) clear listed stand)));
-      log = λ h. let held = further_held h in log_joined l g lower part log so_far.footprint so_far.runs.items more r new.footprint new.runs.items met (held.0 r.held.kept r.held.remembers) held.1;
+      contents = subst (λ (j : Joined). HoldsBytes l j.memory (contents_of new)) (sym (joined_whole l lower part refl none)) (joined_contents l g lower part (contents_of so_far) log.accesses r.held.kept (map (λ row. row.now) so_far.first.items) (map (λ (space : Overlaid). space.bytes) spaces) clear listed stand (contents_of new) (changes r.held.kept r.held.remembers (first_none l g lower part log so_far.footprint so_far.runs.items more r) (wrote_bytes l g lower part (contents_of so_far) log.accesses r.held.kept (map (λ row. row.now) so_far.first.items) (map (λ (space : Overlaid). space.bytes) spaces) clear listed stand)));
+      log = λ h. let held = further_held h in log_joined l g lower part log so_far.footprint so_far.runs.items more r new.footprint new.runs.items refl met (held.0 r.held.kept r.held.remembers) held.1;
     }
 
 -- of the accesses of a group that none is below nothing is kept before any change

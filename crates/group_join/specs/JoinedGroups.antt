@@ -1,6 +1,6 @@
 -- What a program holds of the groups that it has joined (own, on OpenCL 1.2, 3.2).
 use Rattle.std.specs.Prelude.{◌≡◌, ℕ, suc, ◌*◌, ◌≤◌, Option, None, Some, List, map}
-use Rattle.clmodel.specs.Launch.{Launch}
+use Rattle.clmodel.specs.Launch.{Launch, AllSet}
 use Rattle.clmodel.specs.Law.{Keeps, RunsIntoFault}
 use Rattle.clmodel.specs.Outcome.{events_of, IsMerged}
 use Rattle.clmodel.specs.Run.{State}
@@ -35,8 +35,9 @@ pub record HoldsLog (joined : Joined) (footprint : Footprint) (runs : List Event
   pub merged : IsMerged runs
 
 -- a program holds the groups below one, joined without a report; where there is a further group it holds their accesses
--- and events too (own)
+-- and events too. All bytes of the launch's buffers were set at the start (own).
 pub record HoldsGroups (launch : Launch) (group : ℕ) (so_far : JoinedGroups) : Type 0 where
+  pub set : AllSet launch
   pub joined : Joined
   pub is_joined : IsJoined launch group joined
   pub first : map (λ row. row.now) so_far.first.items ≡ launch.buffers

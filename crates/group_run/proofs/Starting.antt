@@ -12,10 +12,10 @@ use Rattle.clmodel.specs.declared.action.Action.{Action}
 use Rattle.clmodel.specs.declared.action.Answer.{Answer}
 use Rattle.clmodel.specs.declared.access.Region.TheVariants as region
 use Rattle.clmodel.specs.declared.fault.Fault.{Fault}
-use Rattle.clmodel.proofs.Steps.{none_some, some_inj}
-use Rattle.clmodel.proofs.CellLaws.{cells_some, cells_none}
+use Rattle.clmodel.proofs.CellLaws.{cells_none}
 use Rattle.access_list.specs.Log.{Log, fresh_log}
 use Rattle.launches.specs.Objects.{SpacesHold}
+use Rattle.launches.proofs.Filled.{buffers_hold}
 use Rattle.launches.proofs.Items.{waiting_at}
 use Rattle.launches.proofs.Memory.{local_at, local_past}
 use Rattle.launches.specs.Items.{acts_of}
@@ -40,42 +40,6 @@ under : (a b c : ℕ) → a ≤ b → b < c → a < c
 under a b c h e = omega (arith, h, e)
 
 -- ---- the bytes
-
-head_is : {A : Type 0} (x y : A) (xs ys : List A) → x ∷ xs ≡ y ∷ ys → x ≡ y
-head_is x y xs ys h = cc
-
-tail_is : {A : Type 0} (x y : A) (xs ys : List A) → x ∷ xs ≡ y ∷ ys → xs ≡ ys
-tail_is x y xs ys h = cc
-
-not_empty : {A : Type 0} (x : A) (xs : List A) → x ∷ xs ≡ [] → ⊥
-not_empty x xs h = cc
-
-filled_at :
-    {G : Type 0} (bytes : G → List (Option ℕ)) (xs : List G) (bs : List (List ℕ)) → map bytes xs ≡ map (λ b. map Some b) bs → (n : ℕ) (x : G) → slice_get xs n ≡ Some x
-    → bytes x ≡ map Some (slice_index_or bs n [])
-filled_at bytes [] bs h n x e = absurd (none_some x e)
-filled_at bytes (y ∷ xs) [] h n x e = absurd (not_empty (bytes y) (map bytes xs) h)
-filled_at bytes (y ∷ xs) (b ∷ bs) h zero x e =
-    ap bytes (sym (some_inj y x e)) ∙ head_is (bytes y) (map Some b) (map bytes xs) (map (λ b. map Some b) bs) h
-filled_at bytes (y ∷ xs) (b ∷ bs) h (suc n) x e = filled_at bytes xs bs (tail_is (bytes y) (map Some b) (map bytes xs) (map (λ b. map Some b) bs) h) n x e
-
-past : {G : Type 0} (xs : List G) (bs : List (List ℕ)) (n : ℕ) → length xs ≡ length bs → slice_get xs n ≡ None → slice_index_or bs n [] ≡ []
-past xs [] n h e = refl
-past [] (b ∷ bs) n h e = absurd (omega (arith, h))
-past (x ∷ xs) (b ∷ bs) zero h e = absurd (none_some x (sym e))
-past (x ∷ xs) (b ∷ bs) (suc n) h e = past xs bs n (omega (arith, h)) e
-
-many_filled : {G : Type 0} (bytes : G → List (Option ℕ)) (xs : List G) (bs : List (List ℕ)) → map bytes xs ≡ map (λ b. map Some b) bs → length xs ≡ length bs
-many_filled bytes xs bs h = sym (length-map xs bytes) ∙ ap length h ∙ length-map bs (λ b. map Some b)
-
-buffers_hold : {G : Type 0} (bytes : G → List (Option ℕ)) (l : Launch) (xs : List G) → map bytes xs ≡ filled l → SpacesHold bytes l (length l.buffers) region.Buffer xs (initial l)
-buffers_hold bytes l xs h =
-    record {
-      many = many_filled bytes xs l.buffers h;
-      sized = λ n x e. ap length (filled_at bytes xs l.buffers h n x e) ∙ length-map (slice_index_or l.buffers n []) Some;
-      none = λ n e. ap length (past xs l.buffers n (many_filled bytes xs l.buffers h) e);
-      cells = λ n x e. fun_ext (λ byte. ap (λ z. cells_of z byte) (filled_at bytes xs l.buffers h n x e) ∙ cells_some (slice_index_or l.buffers n []) byte);
-    }
 
 locals_hold : (l : Launch) (group : ℕ) → SpacesHold (λ cells. cells) l (length l.local_sizes) (region.Local group) (map (λ size. replicate size None) l.local_sizes) (initial l)
 locals_hold l group =

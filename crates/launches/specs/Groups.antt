@@ -1,5 +1,5 @@
 -- Launches of whole work-groups that a program can run (OpenCL 1.2, 3.2, 5.8).
-use Rattle.std.specs.Prelude.{◌≡◌, ℕ, ◌<◌, ◌%◌, ◌^◌, Option, Some, List, map}
+use Rattle.std.specs.Prelude.{◌≡◌, ℕ, suc, ◌<◌, ◌%◌, ◌^◌, Bool, if◌then◌else◌, Option, None, Some, List, [], ◌∷◌}
 use Rattle.clmodel.specs.Launch.{Launch}
 use Rattle.clmodel.specs.Law.{IsBounded}
 use Rattle.clmodel.specs.Next.{launch_of}
@@ -24,6 +24,16 @@ pub record IsRunnable (launch : Launch) : Type 0 where
 abbrev pub SetupsAreRunnable : Type 0
 SetupsAreRunnable = (setup : Setup) (bytes : List ℕ → List ℕ) → 0 < group_items setup.range → HasGroups setup → IsRunnable (launch_of setup bytes)
 
--- what the buffers hold at the start, all of it set (5.2.1)
+-- what a buffer holds at the start from a byte on, where `unset` says of each whether it has no value (5.2.1, C99 6.7.8)
+abbrev pub cells_from_start : (ℕ → Bool) → ℕ → List ℕ → List (Option ℕ)
+cells_from_start unset byte [] = []
+cells_from_start unset byte (b ∷ bytes) = (if unset byte then None else Some b) ∷ cells_from_start unset (suc byte) bytes
+
+-- the same of each buffer from one on
+abbrev pub buffers_from_start : (ℕ → ℕ → Bool) → ℕ → List (List ℕ) → List (List (Option ℕ))
+buffers_from_start unset number [] = []
+buffers_from_start unset number (bytes ∷ buffers) = cells_from_start (unset number) 0 bytes ∷ buffers_from_start unset (suc number) buffers
+
+-- what the buffers hold at the start (5.2.1, C99 6.7.8)
 abbrev pub filled : Launch → List (List (Option ℕ))
-filled launch = map (λ bytes. map Some bytes) launch.buffers
+filled launch = buffers_from_start launch.unset 0 launch.buffers

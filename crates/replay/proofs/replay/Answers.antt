@@ -10,6 +10,7 @@ use Rattle.clmodel.specs.Setup.{buffer_names}
 use Rattle.item_step.specs.Launches.{setup_of, started}
 use Rattle.item_step.specs.Running.{Running}
 use Rattle.launches.specs.Groups.{IsRunnable, filled}
+use Rattle.launches.proofs.Filled.{filled_set}
 use Rattle.spaces.specs.Buffers.{bytes_in}
 use Rattle.launches.specs.declared.loaded.LoadedLaunch.{LoadedLaunch}
 use Rattle.replay.specs.States.{IsAt}
@@ -26,7 +27,8 @@ pub new-requires-clause-filled : goal.new-requires-clause-filled
 new-requires-clause-filled c =
     let same = ap₂ (λ x b. launch_of (setup_of x) (bytes_in b)) c.new-loaded.ensures.launch c.new-loaded.ensures.buffers in
     let bytes = bytes_in c.args.buffers.now in
-    c.in_ok-memory.ensures ∙ ap (map (λ name. map Some (bytes name))) c.buffer_names.ensures ∙ map_map (map Some) bytes (buffer_names (setup_of c.args.launch.now)) ∙ ap filled (sym same)
+    c.in_ok-memory.ensures ∙ ap (map (λ name. map Some (bytes name))) c.buffer_names.ensures ∙ map_map (map Some) bytes (buffer_names (setup_of c.args.launch.now))
+    ∙ sym (filled_set (launch_of (setup_of c.args.launch.now) bytes) (λ number byte. refl)) ∙ ap filled (sym same)
 
 -- the launch of a loaded one
 abbrev of_loaded : LoadedLaunch → Launch

@@ -10,5 +10,5 @@ pub returns : goal.returns
 returns c =
     let l = launch_of (setup_of c.args.launch.now) (bytes_in c.args.buffers.now) in
     let rows : List (Bor (List ℕ)) → List (List ℕ) = map (λ row. row.now) in
-    nothing_joined l _ (c.in_ok-first.ensures ∙ ap (map (bytes_in c.args.buffers.now)) c.buffer_names.ensures)
+    nothing_joined l _ (λ number byte. refl) (c.in_ok-first.ensures ∙ ap (map (bytes_in c.args.buffers.now)) c.buffer_names.ensures)
     (subst (λ (z : List (Bor (List ℕ))). all_with_changes (rows z) c.in_ok-changes.changes.items ≡ rows z) c.as_slice.ensures.value c.in_ok-changes.ensures) c.new.ensures c.new-2.ensures.items
