@@ -1,10 +1,14 @@
 -- Cells of which some are left out.
-use Rattle.std.proofs.Common.{◌≡◌, ℕ, zero, suc, ◌+◌, ◌<◌, ◌≤◌, Bool, true, false, ◌&&◌, not, if◌then◌else◌, ⊎_elim, Option, None, Some, List, [], ◌∷◌, length, refl, sym, ap, ap₂, ◌∙◌, subst, arith}
-use Rattle.std.proofs.lemmas.Bool.{cases_eq}
+use Rattle.std.proofs.Common.{◌≡◌, ℕ, zero, suc, ◌+◌, ◌-◌, ◌/◌, ◌<◌, ◌≤◌, ◌==◌, nat_lt, Bool, true, false, ◌&&◌, not, if◌then◌else◌, ◌⊎◌, ⊎_elim, inl, inr, Option, None, Some, List, [], ◌∷◌, length, Result, Ok, Err, OnOk, OnErr, refl, sym, ap, ap₂, ◌∙◌, subst, arith}
+use Rattle.std.proofs.Math.Path.{fun_ext}
+use Rattle.std.proofs.lemmas.Bool.{and_parts, cases_eq, ltb-true, le-ltb, eq-eqb, ne_eqb}
 use Rattle.clmodel.specs.Cells.{Cells, byte_of, cells_of, covers, number, unset_or, lowest_unset, written}
 use Rattle.clmodel.proofs.CellLaws.{covers_parts, covers_from, number_frame, written_in, written_out}
-use Rattle.clmodel.proofs.Steps.{none_some, if_true, if_false}
-use Rattle.spaces.specs.Parts.{masked, lowest_marked}
+use Rattle.clmodel.proofs.Steps.{none_some, some_inj, if_true, if_false, decided}
+use Rattle.spaces.specs.Overlay.{overlaid_byte, overlaid_cells}
+use Rattle.spaces.specs.Parts.{is_flagged, is_marked, masked, lowest_marked, Parted}
+use Rattle.spaces.specs.Space.{Becomes}
+use Rattle.spaces.proofs.Copies.{lent}
 
 pub masked_many : (unset : ℕ → Bool) (first : ℕ) (cells : List (Option ℕ)) → length (masked unset first cells) ≡ length cells
 masked_many unset first [] = refl
@@ -81,3 +85,214 @@ written_left unset other old new first count value wrote cleared byte = go (cove
         ap (λ z. if z then None else new byte) (cleared byte ∙ ap (λ z. unset byte && not z) c ∙ still (unset byte))
         ∙ ap (λ z. if unset byte then None else z) (wrote byte ∙ written_out old first count value byte c)
         ∙ sym (written_out (left_of unset old) first count value byte c)
+
+-- ---- flags
+
+-- flags that aren't changed are the lent ones
+pub marked_lent : (row : List ℕ) (counts : ℕ → ℕ) (cells : List ℕ) → ((page : ℕ) → counts page ≡ 0) → (byte : ℕ) → is_marked row counts cells byte ≡ is_flagged row byte
+marked_lent row counts cells none byte = ap (λ n. nat_lt byte (length row) && not (n == 0)) (lent row counts cells byte (none (byte / 256)))
+
+-- flags of which those that are there stay
+pub marked_same : (row : List ℕ) (counts : ℕ → ℕ) (cells : List ℕ) (others : ℕ → ℕ) (more : List ℕ) → ((byte : ℕ) → byte < length row → overlaid_byte row others more byte ≡ overlaid_byte row counts cells byte)
+    → (byte : ℕ) → is_marked row others more byte ≡ is_marked row counts cells byte
+marked_same row counts cells others more h byte =
+    decided (nat_lt byte (length row)) (λ p. ap (λ n. nat_lt byte (length row) && not (n == 0)) (h byte (ltb-true byte (length row) p)))
+    (λ p. ap (λ z. z && not (overlaid_byte row others more byte == 0)) p ∙ sym (ap (λ z. z && not (overlaid_byte row counts cells byte == 0)) p))
+
+-- an unset byte has a flag
+pub marked_there : (row : List ℕ) (counts : ℕ → ℕ) (cells : List ℕ) (byte : ℕ) → is_marked row counts cells byte ≡ true → byte < length row
+marked_there row counts cells byte h = ltb-true byte (length row) (and_parts (nat_lt byte (length row)) (not (overlaid_byte row counts cells byte == 0)) h).0
+
+-- behind the flags no byte is unset
+pub none_behind : (row : List ℕ) (counts : ℕ → ℕ) (cells : List ℕ) (first count : ℕ) → length row ≤ first → lowest_marked (is_marked row counts cells) first count ≡ None
+none_behind row counts cells first zero h = refl
+none_behind row counts cells first (suc count) h =
+    if_false (is_marked row counts cells first) (Some first) (lowest_marked (is_marked row counts cells) (suc first) count)
+    (ap (λ z. z && not (overlaid_byte row counts cells first == 0)) (le-ltb first (length row) h))
+    ∙ none_behind row counts cells (suc first) count (omega (arith, h))
+
+-- ---- the lowest of some bytes
+
+pub lowest_none : (unset : ℕ → Bool) (first count : ℕ) → count ≡ 0 → lowest_marked unset first count ≡ None
+lowest_none unset first count e = ap (lowest_marked unset first) e
+
+pub lowest_here : (unset : ℕ → Bool) (first count : ℕ) → 0 < count → unset first ≡ true → lowest_marked unset first count ≡ Some first
+lowest_here unset first zero h e = absurd (omega (arith, h))
+lowest_here unset first (suc count) h e = if_true (unset first) (Some first) (lowest_marked unset (suc first) count) e
+
+lowest_at : (unset : ℕ → Bool) (a b n m : ℕ) → a ≡ b → n ≡ m → lowest_marked unset a n ≡ lowest_marked unset b m
+lowest_at unset a b n m p q = ap (λ z. lowest_marked unset z n) p ∙ ap (lowest_marked unset b) q
+
+pub lowest_later : (unset : ℕ → Bool) (first count : ℕ) → 0 < count → unset first ≡ false → lowest_marked unset (first + 1) (count - 1) ≡ lowest_marked unset first count
+lowest_later unset first zero h e = absurd (omega (arith, h))
+lowest_later unset first (suc count) h e =
+    lowest_at unset (first + 1) (suc first) (suc count - 1) count (omega arith) (omega arith) ∙ sym (if_false (unset first) (Some first) (lowest_marked unset (suc first) count) e)
+
+-- ---- the first of some bytes, and the others
+
+pub first_or_later : (first count byte : ℕ) → covers first count byte ≡ true → (byte ≡ first) ⊎ (covers (first + 1) (count - 1) byte ≡ true)
+first_or_later first count byte c =
+    let r = covers_parts first count byte c in
+    ⊎_elim (λ e. inl e) (λ ne. inr (covers_from (first + 1) (count - 1) byte (omega (arith, r.0, ne)) (omega (arith, r.0, r.1, ne)))) (cases_eq byte first)
+
+pub later_covers : (first count byte : ℕ) → covers (first + 1) (count - 1) byte ≡ true → covers first count byte ≡ true
+later_covers first count byte c =
+    let r = covers_parts (first + 1) (count - 1) byte c in covers_from first count byte (omega (arith, r.0)) (omega (arith, r.0, r.1))
+
+same_test : (a b : Bool) → (a ≡ true → b ≡ true) → (b ≡ true → a ≡ true) → a ≡ b
+same_test true b f g = sym (f refl)
+same_test false true f g = g refl
+same_test false false f g = refl
+
+-- the first of some bytes is cleared, and then the others
+pub cleared_both : (b : Bool) (first count byte : ℕ) → 0 < count → ((b && not (byte == first)) && not (covers (first + 1) (count - 1) byte)) ≡ (b && not (covers first count byte))
+cleared_both b first count byte some = ⊎_elim here there (cases_eq byte first)
+  where
+    gone : (a x : Bool) → ((a && not true) && x) ≡ (a && not true)
+    gone true x = refl
+    gone false x = refl
+
+    stays : (a x : Bool) → ((a && not false) && x) ≡ (a && x)
+    stays true x = refl
+    stays false x = refl
+
+    later : Bool
+    later = covers (first + 1) (count - 1) byte
+
+    here : byte ≡ first → ((b && not (byte == first)) && not later) ≡ (b && not (covers first count byte))
+    here e =
+        ap (λ z. (b && not z) && not later) (eq-eqb byte first e) ∙ gone b (not later)
+        ∙ sym (ap (λ z. b && not z) (covers_from first count byte (omega (arith, e)) (omega (arith, e, some))))
+
+    there : (byte ≡ first → ⊥) → ((b && not (byte == first)) && not later) ≡ (b && not (covers first count byte))
+    there ne =
+        ap (λ z. (b && not z) && not later) (ne_eqb byte first ne) ∙ stays b (not later)
+        ∙ ap (λ z. b && not z)
+        (same_test later (covers first count byte) (later_covers first count byte)
+        (λ c. ⊎_elim (λ e. absurd (ne e)) (λ k. k) (first_or_later first count byte c)))
+
+-- one flag is made 0
+pub one_cleared :
+    (row : List ℕ) (counts : ℕ → ℕ) (cells more : List ℕ) (byte : ℕ) → ((other : ℕ) → overlaid_cells row counts more other ≡ written (overlaid_cells row counts cells) byte 1 0 other)
+    → (other : ℕ) → is_marked row counts more other ≡ (is_marked row counts cells other && not (other == byte))
+one_cleared row counts cells more byte h other = ⊎_elim here there (cases_eq other byte)
+  where
+    inside : Bool
+    inside = nat_lt other (length row)
+
+    never : (a b : Bool) → (a && not (0 == 0)) ≡ ((a && b) && not true)
+    never true true = refl
+    never true false = refl
+    never false b = refl
+
+    still : (a : Bool) → a ≡ (a && not false)
+    still true = refl
+    still false = refl
+
+    here : other ≡ byte → is_marked row counts more other ≡ (is_marked row counts cells other && not (other == byte))
+    here e =
+        ap (λ n. inside && not (n == 0))
+        (some_inj (overlaid_byte row counts more other) 0
+        (h other ∙ written_in (overlaid_cells row counts cells) byte 1 0 other (covers_from byte 1 other (omega (arith, e)) (omega (arith, e)))
+        ∙ ap (λ k. Some (byte_of k 0)) {x = other - byte} {y = 0} (omega (arith, e))))
+        ∙ never inside (not (overlaid_byte row counts cells other == 0))
+        ∙ sym (ap (λ z. is_marked row counts cells other && not z) (eq-eqb other byte e))
+
+    apart : (other ≡ byte → ⊥) → covers byte 1 other ≡ false
+    apart ne = same_test (covers byte 1 other) false (λ c. let r = covers_parts byte 1 other c in absurd (omega (arith, r.0, r.1, ne))) (λ k. absurd (none_true k))
+      where
+        none_true : false ≡ true → ⊥
+        none_true k = cc
+
+    there : (other ≡ byte → ⊥) → is_marked row counts more other ≡ (is_marked row counts cells other && not (other == byte))
+    there ne =
+        ap (λ n. inside && not (n == 0))
+        (some_inj (overlaid_byte row counts more other) (overlaid_byte row counts cells other)
+        (h other ∙ written_out (overlaid_cells row counts cells) byte 1 0 other (apart ne)))
+        ∙ still (is_marked row counts cells other)
+        ∙ sym (ap (λ z. is_marked row counts cells other && not z) (ne_eqb other byte ne))
+
+-- a byte that is set needs no clearing
+pub none_cleared : (unset : ℕ → Bool) (byte : ℕ) → unset byte ≡ false → (other : ℕ) → unset other ≡ (unset other && not (other == byte))
+none_cleared unset byte set other = ⊎_elim here there (cases_eq other byte)
+  where
+    still : (a : Bool) → a ≡ (a && not false)
+    still true = refl
+    still false = refl
+
+    here : other ≡ byte → unset other ≡ (unset other && not (other == byte))
+    here e = let none : unset other ≡ false = ap unset e ∙ set in none ∙ sym (ap (λ z. z && not (other == byte)) none)
+
+    there : (other ≡ byte → ⊥) → unset other ≡ (unset other && not (other == byte))
+    there ne = still (unset other) ∙ sym (ap (λ z. unset other && not z) (ne_eqb other byte ne))
+
+-- where none of some bytes is unset, none is to be cleared
+pub none_to_clear : (unset : ℕ → Bool) (first count : ℕ) → lowest_marked unset first count ≡ None → (byte : ℕ) → unset byte ≡ (unset byte && not (covers first count byte))
+none_to_clear unset first count none byte =
+    decided (covers first count byte)
+    (λ c. let r = covers_parts first count byte c in
+        let set : unset byte ≡ false = none_marked unset first count byte none r.0 r.1 in set ∙ sym (ap (λ z. z && not (covers first count byte)) set))
+    (λ c. still (unset byte) ∙ sym (ap (λ z. unset byte && not z) c))
+  where
+    still : (a : Bool) → a ≡ (a && not false)
+    still true = refl
+    still false = refl
+
+-- ---- what is seen
+
+pub cells_left : (unset : ℕ → Bool) (cells : List (Option ℕ)) → cells_of (masked unset 0 cells) ≡ left_of unset (cells_of cells)
+cells_left unset cells = fun_ext (masked_at unset cells)
+
+pub masked_same : (unset other : ℕ → Bool) (cells : List (Option ℕ)) → ((byte : ℕ) → other byte ≡ unset byte) → masked other 0 cells ≡ masked unset 0 cells
+masked_same unset other cells h = ap (λ z. masked z 0 cells) (fun_ext h)
+
+-- a part overlay's bytes, by its parts
+module _ (o : Parted) (base row : List ℕ) (unset : ℕ → Bool) (cells : List (Option ℕ)) (is : record { base = base; row = row; bytes = masked unset 0 cells } ≡ o) where
+  pub seen_many : length o.bytes ≡ length cells
+  seen_many = ap (λ z. length z.bytes) (sym is) ∙ masked_many unset 0 cells
+
+  pub seen_lowest : (at count : ℕ) → ((byte : ℕ) → byte < length cells → (value : ℕ) × (cells_of cells byte ≡ Some value)) → at + count ≤ length o.bytes
+      → lowest_unset (cells_of o.bytes) at count ≡ lowest_marked unset at count
+  seen_lowest at count set inside =
+      ap (λ (z : Parted). lowest_unset (cells_of z.bytes) at count) (sym is)
+      ∙ ap (λ (c : Cells). lowest_unset c at count) (cells_left unset cells)
+      ∙ lowest_left unset (cells_of cells) at count (λ byte a b. set byte (omega (arith, b, inside, seen_many)))
+
+  pub seen_number : (at count value : ℕ) → lowest_marked unset at count ≡ None → number (cells_of cells) at count ≡ Some value → number (cells_of o.bytes) at count ≡ Some value
+  seen_number at count value none h =
+      ap (λ (z : Parted). number (cells_of z.bytes) at count) (sym is)
+      ∙ ap (λ (c : Cells). number c at count) (cells_left unset cells)
+      ∙ number_left unset (cells_of cells) at count none
+      ∙ h
+
+  -- bytes are put, and set then
+  pub seen_put : (other : ℕ → Bool) (new : List (Option ℕ)) (at count value : ℕ) → Becomes cells new (written (cells_of cells) at count value)
+      → ((byte : ℕ) → other byte ≡ (unset byte && not (covers at count byte))) → Becomes o.bytes (masked other 0 new) (written (cells_of o.bytes) at count value)
+  seen_put other new at count value b cleared =
+      record {
+        length_same = masked_many other 0 new ∙ b.length_same ∙ sym seen_many;
+        cells_are = λ byte.
+            ap (λ (c : Cells). c byte) (cells_left other new)
+            ∙ written_left unset other (cells_of cells) (cells_of new) at count value b.cells_are cleared byte
+            ∙ ap (λ (c : Cells). written c at count value byte) (sym (cells_left unset cells))
+            ∙ ap (λ (z : Parted). written (cells_of z.bytes) at count value byte) is;
+      }
+
+-- no byte is one of none
+pub nothing_covered : (b : Bool) (first count byte : ℕ) → count ≡ 0 → b ≡ (b && not (covers first count byte))
+nothing_covered b first count byte e = still b ∙ sym (ap (λ z. b && not z) none)
+  where
+    still : (a : Bool) → a ≡ (a && not false)
+    still true = refl
+    still false = refl
+
+    none : covers first count byte ≡ false
+    none = decided (covers first count byte) (λ c. let r = covers_parts first count byte c in absurd (omega (arith, r.0, r.1, e))) (λ c. c)
+
+pub on_ok_more : {T E P Q : Type 0} (r : Result T E) → (P → Q) → OnOk r P → OnOk r Q
+on_ok_more (Ok t) f p = f p
+on_ok_more (Err e) f p = tt
+
+pub on_err_more : {T E P Q : Type 0} (r : Result T E) → (P → Q) → OnErr r P → OnErr r Q
+on_err_more (Ok t) f p = tt
+on_err_more (Err e) f p = f p

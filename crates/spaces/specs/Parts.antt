@@ -1,15 +1,20 @@
--- A lent buffer some of whose bytes are unset (OpenCL 1.2, 5.2.1; C99 6.7.8: indeterminate; own in the bits).
-use Rattle.std.specs.Prelude.{ℕ, zero, suc, ◌+◌, ◌/◌, ◌%◌, ◌^◌, ◌==◌, nat_lt, Bool, false, ◌&&◌, if◌then◌else◌, Option, None, Some, List, [], ◌∷◌, length}
-use Rattle.spaces.specs.Overlay.{overlaid_byte}
+-- A lent buffer some of whose bytes are unset (OpenCL 1.2, 5.2.1; C99 6.7.8: indeterminate; own in the flags).
+use Rattle.std.specs.Prelude.{ℕ, zero, suc, ◌==◌, nat_lt, Bool, not, ◌&&◌, if◌then◌else◌, Option, None, Some, List, [], ◌∷◌, length, slice_index}
+use Rattle.spaces.specs.Overlay.{copies, overlaid_byte}
+use Rattle.spaces.specs.declared.flags.Flags.{Flags}
 
--- a bit of a byte is 1, where the lowest is bit 0 (own)
-abbrev pub has_bit : ℕ → ℕ → Bool
-has_bit bit byte = byte / 2 ^ bit % 2 == 1
+-- A byte of a buffer is unset by a row of flags, one for each byte of the buffer, where its flag isn't 0. A byte behind
+-- the row is set (own).
+abbrev pub is_flagged : List ℕ → ℕ → Bool
+is_flagged row byte = nat_lt byte (length row) && not (slice_index row byte == 0)
 
--- A byte of a buffer is unset by a row of bits with changes, one bit for each byte of the buffer, the lowest first. A
--- byte behind the row is set (own).
+-- the same by a row with changes (own)
 abbrev pub is_marked : List ℕ → (ℕ → ℕ) → List ℕ → ℕ → Bool
-is_marked row counts cells byte = nat_lt (byte / 8) (length row) && has_bit (byte % 8) (overlaid_byte row counts cells (byte / 8))
+is_marked row counts cells byte = nat_lt byte (length row) && not (overlaid_byte row counts cells byte == 0)
+
+-- the same by a program's flags (own)
+abbrev pub unset_in : Flags → ℕ → Bool
+unset_in flags = is_marked flags.row.now (copies flags.pages.table) flags.pages.cells.items
 
 -- cells from one on, without those that are unset (own)
 abbrev pub masked : (ℕ → Bool) → ℕ → List (Option ℕ) → List (Option ℕ)
@@ -21,7 +26,7 @@ abbrev pub lowest_marked : (ℕ → Bool) → ℕ → ℕ → Option ℕ
 lowest_marked unset first zero = None
 lowest_marked unset first (suc count) = if unset first then Some first else lowest_marked unset (suc first) count
 
--- a lent buffer, its row of bits, and what is seen of it (5.2.1)
+-- a lent buffer, its row of flags, and what is seen of it (5.2.1)
 pub record Parted : Type 0 where
   pub base : List ℕ
   pub row : List ℕ

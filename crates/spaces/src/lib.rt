@@ -18,7 +18,7 @@ pub mod cells;
 mod changes;
 mod constant;
 mod element;
-mod marks;
+mod flags;
 mod operations;
 mod overlay;
 mod page_table;

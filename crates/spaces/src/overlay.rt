@@ -50,8 +50,11 @@ impl<'a> Overlay<'a> {
 
     /// All bytes are set. It does nothing when it runs.
     pub(crate) fn all_set(&self)
-        ensures { (byte : ℕ) → byte < length self.now.bytes → (value : ℕ) × (cells_of self.now.bytes byte ≡ Some value) }
-    {}
+        ensures short { length self.now.bytes < 2 ^ 64 }
+        ensures set { (byte : ℕ) → byte < length self.now.bytes → (value : ℕ) × (cells_of self.now.bytes byte ≡ Some value) }
+    {
+        let _size = self.base.len();
+    }
 
     /// Whether n bytes from a byte on are there.
     pub(crate) fn is_inside(&self, at: u64, count: u64) -> bool
