@@ -2,10 +2,8 @@
 
 ghost use Rattle.std.specs.Prelude.{◌≡◌, Some, IfOk, OnOk};
 ghost use Rattle.clmodel.specs.Launch.{Launch as TheLaunch};
-ghost use Rattle.clmodel.specs.Next.{launch_of};
 ghost use Rattle.item_step.specs.Launches.{setup_of};
-ghost use Rattle.launches.specs.Groups.{HasGroups};
-ghost use Rattle.spaces.specs.Buffers.{bytes_in};
+ghost use Rattle.launches.specs.Groups.{HasGroups, launch_in};
 ghost use Rattle.explore_runs.specs.Explored.{AreLeft, Explores, IsFound};
 ghost use Rattle.explore_runs.specs.Orders.{IsLeft, IsOrderEnd};
 
@@ -73,7 +71,7 @@ fn order_of<C: Chooser>(
     chooser: &mut C,
 ) -> Result<OrderEnd, AllocError>
     requires { HasGroups (setup_of launch.now) }
-    ensures { IfOk result (IsOrderEnd (launch_of (setup_of launch.now) (bytes_in buffers.now))) }
+    ensures { IfOk result (IsOrderEnd (launch_in (setup_of launch.now) buffers.now)) }
 {
     setups_are_runnable();
     let loaded = LoadedLaunch::new(alloc, launch, buffers);
@@ -124,7 +122,7 @@ impl Explorer {
         requires { HasGroups (setup_of launch.now) }
         ensures left { self.new.left ≡ self.old.left }
         ensures found { self.new.found ≡ self.old.found }
-        ensures ends { IfOk result (IsOrderEnd (launch_of (setup_of launch.now) (bytes_in buffers.now))) }
+        ensures ends { IfOk result (IsOrderEnd (launch_in (setup_of launch.now) buffers.now)) }
     {
         if self.orders == 0 {
             let mut chooser = InTurn::new();
@@ -192,8 +190,8 @@ impl Explorer {
         buffers: &Buffers,
     ) -> Result<(), AllocError>
         requires groups { HasGroups (setup_of launch.now) }
-        requires explores { Explores (launch_of (setup_of launch.now) (bytes_in buffers.now)) self.old }
-        ensures { OnOk result (Explores (launch_of (setup_of launch.now) (bytes_in buffers.now)) self.new) }
+        requires explores { Explores (launch_in (setup_of launch.now) buffers.now) self.old }
+        ensures { OnOk result (Explores (launch_in (setup_of launch.now) buffers.now) self.new) }
     {
         let end = self.next_end(alloc, launch, buffers)?;
         self.note(end);

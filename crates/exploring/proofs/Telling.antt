@@ -6,6 +6,7 @@ use Rattle.std.specs.Prelude.{MatchBool}
 use Rattle.byte_io.specs.Sink.{Sink, Stopped, Wrote}
 use Rattle.byte_io.proofs.Puts.{stopped_then, wrote_none, wrote_then}
 use Rattle.clmodel.specs.Next.{launch_of}
+use Rattle.launches.specs.Groups.{launch_in}
 use Rattle.clmodel.specs.Setup.{Setup}
 use Rattle.clmodel.specs.declared.setup.Range.{Range}
 use Rattle.device.specs.Machine.{IsLaunchRefusal, Machine, Step, opening}
@@ -180,7 +181,7 @@ unexplored options script commands old new (fault.CommandRefused ticket) is none
 -- a launch that isn't refused, and what its orders show on the buffers as they are
 pub explored_there :
     (m : Machine) (kernel : List ℕ) (range : Range) (launch : Launch) (buffers : Table (List ℕ)) (findings : Findings) → IsPrepared m kernel range launch → buffers ≡ m.buffers
-    → AreFound (launch_of (launches.setup_of launch) (bytes_in buffers)) findings → IsExplored m kernel range (manner.Explored findings)
+    → AreFound (launch_in (launches.setup_of launch) buffers) findings → IsExplored m kernel range (manner.Explored findings)
 explored_there m kernel range launch buffers findings prepared same found =
     let F : Setup → Table (List ℕ) → Type 0 = λ s b. AreFound (launch_of s (bytes_in b)) findings in
     (prepared.admitted, subst (λ s. F s m.buffers) prepared.setup (subst (λ b. F (launches.setup_of launch) b) same found))

@@ -1,11 +1,10 @@
 //! The run of one work-group, and how it ended.
 
 ghost use Rattle.std.specs.Prelude.{◌≡◌, Some, map, IfOk};
-ghost use Rattle.clmodel.specs.Next.{launch_of};
 ghost use Rattle.item_step.specs.Launches.{setup_of};
 ghost use Rattle.group_run.specs.Results.{IsResult};
 ghost use Rattle.joining.specs.Steps.{HasGroup};
-ghost use Rattle.launches.specs.Groups.{HasGroups};
+ghost use Rattle.launches.specs.Groups.{HasGroups, launch_in};
 ghost use Rattle.access_list.specs.Log.{fresh_log};
 ghost use Rattle.group_join.specs.Launches.{is_stopped};
 ghost use Rattle.spaces.specs.Buffers.{bytes_in};
@@ -45,9 +44,9 @@ pub fn one_group<'a, L: AccessLog + Drop>(
     log: L,
 ) -> Result<GroupResult<Overlay<'a>, L>, AllocError>
     requires whole { HasGroups (setup_of launch.now) }
-    requires there { HasGroup (launch_of (setup_of launch.now) (bytes_in buffers.now)) group }
+    requires there { HasGroup (launch_in (setup_of launch.now) buffers.now) group }
     requires fresh { L.Logged.log log ≡ fresh_log (setup_of launch.now).range.uniform }
-    ensures { IfOk result (IsResult (λ overlay. overlay.bytes) L.Logged.log (launch_of (setup_of launch.now) (bytes_in buffers.now)) group) }
+    ensures { IfOk result (IsResult (λ overlay. overlay.bytes) L.Logged.log (launch_in (setup_of launch.now) buffers.now) group) }
 {
     setups_are_runnable();
     let _size = launch.group_size();

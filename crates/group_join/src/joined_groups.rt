@@ -1,7 +1,7 @@
 //! The join of the results of a launch's work-groups, one group after another.
 
 ghost use Rattle.std.specs.Prelude.{◌≡◌, ◌+◌, ◌*◌, ◌++◌, ◌<◌, ℕ, List, Option, Some, None, [], map, suc, take, true, IfOk, OnOk};
-ghost use Rattle.clmodel.specs.Next.{launch_of};
+ghost use Rattle.launches.specs.Groups.{launch_in};
 ghost use Rattle.clmodel.specs.Launch.{Launch as TheLaunch};
 ghost use Rattle.clmodel.specs.Outcome.{events_of, IsMerged};
 ghost use Rattle.clmodel.specs.Run.{start};
@@ -101,7 +101,7 @@ fn no_changes_of(alloc: Global, rows: &[&[u8]]) -> Result<Vec<Changes>, AllocErr
 impl<'a> JoinedGroups<'a> {
     /// The join before any group. It copies no byte of the launch's buffers.
     pub fn new(alloc: Global, launch: &Launch<'_>, buffers: &'a Buffers) -> Result<Self, AllocError>
-        ensures { IfOk result (HoldsGroups (launch_of (setup_of launch.now) (bytes_in buffers.now)) 0) }
+        ensures { IfOk result (HoldsGroups (launch_in (setup_of launch.now) buffers.now) 0) }
     {
         let first = rows_of(alloc, launch.buffer_names(), buffers)?;
         let changes = no_changes_of(alloc, first.as_slice())?;

@@ -1,7 +1,7 @@
 //! How a launch ends.
 
 ghost use Rattle.std.specs.Prelude.{◌≡◌, IfOk, map};
-ghost use Rattle.clmodel.specs.Next.{launch_of};
+ghost use Rattle.launches.specs.Groups.{launch_in};
 ghost use Rattle.clmodel.specs.Outcome.{Concludes};
 ghost use Rattle.item_step.specs.Launches.{setup_of};
 ghost use Rattle.spaces.specs.Buffers.{bytes_in};
@@ -52,8 +52,8 @@ impl LaunchEnd {
         launch: &Launch<'_>,
         buffers: &Buffers,
     ) -> Result<Outcome, AllocError>
-        requires { EndsAs (launch_of (setup_of launch.now) (bytes_in buffers.now)) self }
-        ensures { IfOk result (Concludes (launch_of (setup_of launch.now) (bytes_in buffers.now))) }
+        requires { EndsAs (launch_in (setup_of launch.now) buffers.now) self }
+        ensures { IfOk result (Concludes (launch_in (setup_of launch.now) buffers.now)) }
     {
         match self {
             LaunchEnd::Clean(changes) => {

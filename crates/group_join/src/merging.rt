@@ -1,10 +1,8 @@
 //! The join of work-groups that ran elsewhere.
 
 ghost use Rattle.std.specs.Prelude.{IfOk};
-ghost use Rattle.clmodel.specs.Next.{launch_of};
 ghost use Rattle.item_step.specs.Launches.{setup_of};
-ghost use Rattle.launches.specs.Groups.{HasGroups};
-ghost use Rattle.spaces.specs.Buffers.{bytes_in};
+ghost use Rattle.launches.specs.Groups.{HasGroups, launch_in};
 ghost use Rattle.group_join.specs.Ends.{EndsAs};
 ghost use Rattle.group_join.specs.Launches.{AreResults};
 
@@ -28,8 +26,8 @@ pub fn merge<'a, L: Accesses + Drop>(
     results: Vec<GroupResult<Overlay<'a>, L>>,
 ) -> Result<LaunchEnd, AllocError>
     requires whole { HasGroups (setup_of launch.now) }
-    requires results { AreResults (λ overlay. overlay.bytes) L.log (launch_of (setup_of launch.now) (bytes_in buffers.now)) 0 results.items }
-    ensures { IfOk result (EndsAs (launch_of (setup_of launch.now) (bytes_in buffers.now))) }
+    requires results { AreResults (λ overlay. overlay.bytes) L.log (launch_in (setup_of launch.now) buffers.now) 0 results.items }
+    ensures { IfOk result (EndsAs (launch_in (setup_of launch.now) buffers.now)) }
 {
     let groups = group_count(launch);
     let so_far = JoinedGroups::new(alloc, launch, buffers)?;

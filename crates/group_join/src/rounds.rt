@@ -1,11 +1,9 @@
 //! The join of some groups that follow one another.
 
 ghost use Rattle.std.specs.Prelude.{◌≡◌, ◌*◌, ◌<◌, ◌≤◌, IfOk};
-ghost use Rattle.clmodel.specs.Next.{launch_of};
 ghost use Rattle.clmodel.specs.Setup.{item_count, group_items};
 ghost use Rattle.item_step.specs.Launches.{setup_of};
-ghost use Rattle.spaces.specs.Buffers.{bytes_in};
-ghost use Rattle.launches.specs.Groups.{HasGroups};
+ghost use Rattle.launches.specs.Groups.{HasGroups, launch_in};
 ghost use Rattle.group_join.specs.Ends.{EndsAs};
 ghost use Rattle.group_join.specs.JoinedGroups.{HoldsGroups, JoinedConclude};
 ghost use Rattle.group_join.specs.Launches.{AreResultsTo};
@@ -34,9 +32,9 @@ pub fn join_round<'a, L: GroupAccesses + Drop>(
 ) -> Result<JoinEnd<JoinedGroups<'a>>, AllocError>
     requires whole { HasGroups (setup_of launch.now) }
     requires order { first ≤ last }
-    requires so_far { HoldsGroups (launch_of (setup_of launch.now) (bytes_in buffers.now)) first so_far }
-    requires results { AreResultsTo (λ overlay. overlay.bytes) L.listed L.has_last (launch_of (setup_of launch.now) (bytes_in buffers.now)) last first results.items }
-    ensures { IfOk result (CameOfRound (launch_of (setup_of launch.now) (bytes_in buffers.now)) last) }
+    requires so_far { HoldsGroups (launch_in (setup_of launch.now) buffers.now) first so_far }
+    requires results { AreResultsTo (λ overlay. overlay.bytes) L.listed L.has_last (launch_in (setup_of launch.now) buffers.now) last first results.items }
+    ensures { IfOk result (CameOfRound (launch_in (setup_of launch.now) buffers.now) last) }
 {
     let groups = group_count(launch);
     let loaded = LoadedLaunch::new(alloc, launch, buffers);
@@ -70,8 +68,8 @@ pub fn end_of(
     requires whole { HasGroups (setup_of launch.now) }
     requires some { 0 < group_items (setup_of launch.now).range }
     requires all { groups * group_items (setup_of launch.now).range ≡ item_count (setup_of launch.now).range }
-    requires end { CameOfRound (launch_of (setup_of launch.now) (bytes_in buffers.now)) groups end }
-    ensures { EndsAs (launch_of (setup_of launch.now) (bytes_in buffers.now)) result }
+    requires end { CameOfRound (launch_in (setup_of launch.now) buffers.now) groups end }
+    ensures { EndsAs (launch_in (setup_of launch.now) buffers.now) result }
 {
     joined_groups_conclude();
     match end {

@@ -2,15 +2,13 @@
 
 ghost use Rattle.std.specs.Prelude.{◌≡◌, ℕ, IfOk};
 ghost use Rattle.clmodel.specs.Launch.{Launch as TheLaunch};
-ghost use Rattle.clmodel.specs.Next.{launch_of};
 ghost use Rattle.group_run.specs.Results.{IsResult};
 ghost use Rattle.item_step.specs.Launches.{setup_of};
 ghost use Rattle.joining.specs.Steps.{HasGroup};
-ghost use Rattle.launches.specs.Groups.{HasGroups};
+ghost use Rattle.launches.specs.Groups.{HasGroups, launch_in};
 ghost use Rattle.access_list.specs.Log.{fresh_log};
 ghost use Rattle.group_join.specs.Ends.{EndsAs};
 ghost use Rattle.group_join.specs.Launches.{heap_log, heap_listed, heap_has_last, IsShortResult};
-ghost use Rattle.spaces.specs.Buffers.{bytes_in};
 
 use crate::groups::one_group;
 use crate::heap_log::HeapLog;
@@ -34,9 +32,9 @@ fn run_one<'a, G: Gate>(
     gate: &G,
 ) -> Result<GroupResult<Overlay<'a>, HeapLog>, AllocError>
     requires whole { HasGroups (setup_of launch.now) }
-    requires there { HasGroup (launch_of (setup_of launch.now) (bytes_in buffers.now)) group }
+    requires there { HasGroup (launch_in (setup_of launch.now) buffers.now) group }
     requires fresh { heap_log log ≡ fresh_log (setup_of launch.now).range.uniform }
-    ensures { IfOk result (IsResult (λ overlay. overlay.bytes) heap_log (launch_of (setup_of launch.now) (bytes_in buffers.now)) group) }
+    ensures { IfOk result (IsResult (λ overlay. overlay.bytes) heap_log (launch_in (setup_of launch.now) buffers.now) group) }
 {
     gate.enter(group);
     let came = one_group(alloc, launch, buffers, group, log);
@@ -60,7 +58,7 @@ pub fn run_launch(
     buffers: &Buffers,
 ) -> Result<LaunchEnd, AllocError>
     requires { HasGroups (setup_of launch.now) }
-    ensures { IfOk result (EndsAs (launch_of (setup_of launch.now) (bytes_in buffers.now))) }
+    ensures { IfOk result (EndsAs (launch_in (setup_of launch.now) buffers.now)) }
 {
     run_launch_around(alloc, launch, buffers, &OpenGate)
 }
@@ -75,7 +73,7 @@ pub fn run_launch_around<G: Gate>(
     gate: &G,
 ) -> Result<LaunchEnd, AllocError>
     requires { HasGroups (setup_of launch.now) }
-    ensures { IfOk result (EndsAs (launch_of (setup_of launch.now) (bytes_in buffers.now))) }
+    ensures { IfOk result (EndsAs (launch_in (setup_of launch.now) buffers.now)) }
 {
     laws();
     let groups = group_count(launch);

@@ -6,6 +6,7 @@ use Rattle.std.specs.Result.{IfOk}
 use Rattle.std.proofs.lemmas.Bool.{false≢true}
 use Rattle.clmodel.specs.Law.{Reaches}
 use Rattle.clmodel.specs.Next.{launch_of}
+use Rattle.launches.specs.Groups.{launch_in}
 use Rattle.clmodel.specs.Outcome.{events_of}
 use Rattle.clmodel.specs.Setup.{Setup}
 use Rattle.clmodel.specs.declared.fault.Fault.{Fault}
@@ -49,8 +50,8 @@ decided_not answer not d p = false≢true (sym not ∙ d.1 p)
 pub tells :
     (m : Machine) (commands : List Command) (ticket : ℕ) (kernel : List ℕ) (range : Range) (orders : Bool) (launch : Launch) (buffers : Table (List ℕ)) (f : Fault) (runs : List EventRun) (found : Option ExplainedCase)
     → slice_get commands ticket ≡ Some (command.Launch kernel range orders) → IsPrepared m kernel range launch → buffers ≡ m.buffers
-    → IfNone found (Reaches (launch_of (launches.setup_of launch) (bytes_in buffers)) (events_of runs) f → ⊥)
-    → IfSome found (λ _. Reaches (launch_of (launches.setup_of launch) (bytes_in buffers)) (events_of runs) f) → Tells m commands ticket f runs (is_some found)
+    → IfNone found (Reaches (launch_in (launches.setup_of launch) buffers) (events_of runs) f → ⊥)
+    → IfSome found (λ _. Reaches (launch_in (launches.setup_of launch) buffers) (events_of runs) f) → Tells m commands ticket f runs (is_some found)
 tells m commands ticket kernel range orders launch buffers f runs found at p e none some = record {
   kernel = kernel;
   range = range;
@@ -66,9 +67,9 @@ tells m commands ticket kernel range orders launch buffers f runs found at p e n
     moved d = subst (λ (b : Table (List ℕ)). D (setup_of m (kernel_of m kernel) range) b) e (subst (λ (s : Setup). D s buffers) p.setup d)
 
     go :
-        (o : Option ExplainedCase) → IfNone o (Reaches (launch_of (launches.setup_of launch) (bytes_in buffers)) (events_of runs) f → ⊥)
-        → IfSome o (λ _. Reaches (launch_of (launches.setup_of launch) (bytes_in buffers)) (events_of runs) f)
-        → Decides (is_some o) (Reaches (launch_of (launches.setup_of launch) (bytes_in buffers)) (events_of runs) f)
+        (o : Option ExplainedCase) → IfNone o (Reaches (launch_in (launches.setup_of launch) buffers) (events_of runs) f → ⊥)
+        → IfSome o (λ _. Reaches (launch_in (launches.setup_of launch) buffers) (events_of runs) f)
+        → Decides (is_some o) (Reaches (launch_in (launches.setup_of launch) buffers) (events_of runs) f)
     go None n s = (λ e. absurd (false≢true e), λ r. absurd (n r))
     go (Some told) n s = (λ _. s, λ _. refl)
 

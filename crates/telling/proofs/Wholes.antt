@@ -6,6 +6,7 @@ use Rattle.std.specs.Str.Lossy.{utf8_lossy}
 use Rattle.clmodel.specs.Launch.{Launch}
 use Rattle.clmodel.specs.Law.{Reaches}
 use Rattle.clmodel.specs.Next.{launch_of}
+use Rattle.launches.specs.Groups.{launch_in}
 use Rattle.clmodel.specs.Outcome.{events_of}
 use Rattle.clmodel.specs.Setup.{Setup, group_items}
 use Rattle.clmodel.specs.declared.fault.Fault.{Fault}
@@ -62,8 +63,8 @@ explained e options name launch contents context ticket place range orders f run
 pub whole :
     (m : Machine) (options : TellOptions) (name script : List ℕ) (commands : List Command) (done : List Bool) (ticket : ℕ) (place : CommandPlace) (kernel : List ℕ) (range : Range) (orders : Bool) (context : Context) (buffers : Table (List ℕ)) (f : Fault) (given runs : List EventRun) (e : Explanation)
     → slice_get commands ticket ≡ Some (command.Launch kernel range orders) → IsPrepared m kernel range context.launch.now → buffers ≡ m.buffers → IsSourceOf script commands done kernel context.program → StandsAt script commands ticket place
-    → IsShort (launch_of (launches.setup_of context.launch.now) (bytes_in buffers)) f given runs → IsAsWanted options.as_given given runs → string_bytes e.schedule.given ≡ schedule_words given
-    → IsExplained options name (launch_of (launches.setup_of context.launch.now) (bytes_in buffers)) (bytes_in buffers) context ticket place range orders f runs e → context.kernel.now ≡ kernel
+    → IsShort (launch_in (launches.setup_of context.launch.now) buffers) f given runs → IsAsWanted options.as_given given runs → string_bytes e.schedule.given ≡ schedule_words given
+    → IsExplained options name (launch_in (launches.setup_of context.launch.now) buffers) (bytes_in buffers) context ticket place range orders f runs e → context.kernel.now ≡ kernel
     → HasWhole m options name script commands done ticket f given runs e
 whole m options name script commands done ticket place kernel range orders context buffers f given runs e at p same source stands short wanted words explained named = record {
   kernel = kernel;

@@ -1,6 +1,6 @@
 use Rattle.std.proofs.Common.{Some, map, sym, ap, ◌∙◌, arith}
 use Rattle.std.proofs.lemmas.Simd.{map-map}
-use Rattle.clmodel.specs.Next.{launch_of}
+use Rattle.launches.specs.Groups.{launch_in}
 use Rattle.clmodel.specs.Setup.{buffer_names}
 use Rattle.item_step.specs.Launches.{setup_of}
 use Rattle.launches.proofs.Filled.{filled_set}
@@ -20,4 +20,4 @@ run_group-requires-clause-filled g c =
     rw (loaded.launch, loaded.buffers)
     (c.in_ok-overlays.ensures ∙ ap (map (λ name. map Some (bytes_in c.args.buffers.now name))) c.buffer_names.ensures
     ∙ sym (map-map (λ bytes. map Some bytes) (bytes_in c.args.buffers.now) (buffer_names (setup_of c.args.launch.now)))
-    ∙ sym (filled_set (launch_of (setup_of c.args.launch.now) (bytes_in c.args.buffers.now)) (λ number byte. refl)))
+    ∙ sym (filled_set (launch_in (setup_of c.args.launch.now) c.args.buffers.now) (λ number byte. refl)))

@@ -1,8 +1,7 @@
 use Rattle.std.proofs.Common.{◌≡◌, ◌*◌, sym, ap₂, subst, arith, add-one}
 use Rattle.clmodel.specs.Launch as model
-use Rattle.clmodel.specs.Next.{launch_of}
+use Rattle.launches.specs.Groups.{launch_in}
 use Rattle.item_step.specs.Launches.{setup_of}
-use Rattle.spaces.specs.Buffers.{bytes_in}
 use Rattle.std.specs.Vec.Iter.{into_iter_items}
 use Rattle.group_join.specs.JoinedGroups.{HoldsGroups, CameOfNext}
 use Rattle.group_join.specs.Launches.{IsShortResult, AreResultsTo}
@@ -14,28 +13,28 @@ use Rattle.group_join.proofs.rounds.join_round.Goals as goal
 
 pub join-requires-clause-counted : goal.join-requires-clause-counted
 join-requires-clause-counted g c =
-    let same = ap₂ (λ x y. launch_of (setup_of x) (bytes_in y)) c.new-loaded.ensures.launch c.new-loaded.ensures.buffers in
+    let same = ap₂ (λ x y. launch_in (setup_of x) y) c.new-loaded.ensures.launch c.new-loaded.ensures.buffers in
     subst (λ (z : model.Launch). c.group_count-groups.result * z.group_size ≡ z.items) (sym same) c.group_count-groups.ensures.count
 
 pub join-requires-clause-inside : goal.join-requires-clause-inside
 join-requires-clause-inside g c =
-    let l = launch_of (setup_of c.args.launch.now) (bytes_in c.args.buffers.now) in
+    let l = launch_in (setup_of c.args.launch.now) c.args.buffers.now in
     let group = c.loop-group.group in
     let now = subst (AreResultsTo bytes_of g.L.GroupAccesses.listed g.L.GroupAccesses.has_last l c.args.last group) c.in-Some.ensures.items c.loop-group.invariant.rest in
     there_below group c.group_count-groups.result l.group_size l.items c.group_count-groups.ensures.count now.0
 
 pub join-requires-clause-result : goal.join-requires-clause-result
 join-requires-clause-result g c =
-    let same = ap₂ (λ x y. launch_of (setup_of x) (bytes_in y)) c.new-loaded.ensures.launch c.new-loaded.ensures.buffers in
-    let l = launch_of (setup_of c.args.launch.now) (bytes_in c.args.buffers.now) in
+    let same = ap₂ (λ x y. launch_in (setup_of x) y) c.new-loaded.ensures.launch c.new-loaded.ensures.buffers in
+    let l = launch_in (setup_of c.args.launch.now) c.args.buffers.now in
     let group = c.loop-group.group in
     let now = subst (AreResultsTo bytes_of g.L.GroupAccesses.listed g.L.GroupAccesses.has_last l c.args.last group) c.in-Some.ensures.items c.loop-group.invariant.rest in
     subst (λ (z : model.Launch). IsShortResult bytes_of g.L.GroupAccesses.listed g.L.GroupAccesses.has_last z group c.in-Some.result) (sym same) (round_result bytes_of g.L.GroupAccesses.listed g.L.GroupAccesses.has_last l c.args.last group c.in-Some.result (into_iter_items c.next.new.self) now)
 
 pub returns-in-Ends : goal.returns-in-Ends
 returns-in-Ends g c =
-    let same = ap₂ (λ x y. launch_of (setup_of x) (bytes_in y)) c.new-loaded.ensures.launch c.new-loaded.ensures.buffers in
-    let l = launch_of (setup_of c.args.launch.now) (bytes_in c.args.buffers.now) in
+    let same = ap₂ (λ x y. launch_in (setup_of x) y) c.new-loaded.ensures.launch c.new-loaded.ensures.buffers in
+    let l = launch_in (setup_of c.args.launch.now) c.args.buffers.now in
     let group = c.loop-group.group in
     let next : CameOfNext {L = g.row.L.Denot} l group c.in-Some.result.end (Ends c.in-Ends.end) c.join.new.self
     = subst (λ (end : JoinEnd g.row.L.Denot). CameOfNext l group c.in-Some.result.end end c.join.new.self) c.in-Ends.is
@@ -44,8 +43,8 @@ returns-in-Ends g c =
 
 pub loop-group-preserved : goal.loop-group-preserved
 loop-group-preserved g c =
-    let same = ap₂ (λ x y. launch_of (setup_of x) (bytes_in y)) c.new-loaded.ensures.launch c.new-loaded.ensures.buffers in
-    let l = launch_of (setup_of c.args.launch.now) (bytes_in c.args.buffers.now) in
+    let same = ap₂ (λ x y. launch_in (setup_of x) y) c.new-loaded.ensures.launch c.new-loaded.ensures.buffers in
+    let l = launch_in (setup_of c.args.launch.now) c.args.buffers.now in
     let group = c.loop-group.group in
     let now = subst (AreResultsTo bytes_of g.L.GroupAccesses.listed g.L.GroupAccesses.has_last l c.args.last group) c.in-Some.ensures.items c.loop-group.invariant.rest in
     let next : CameOfNext l group c.in-Some.result.end (Continues c.in-Continues.log) c.join.new.self
@@ -59,7 +58,7 @@ loop-group-preserved g c =
 
 pub loop-group-init : goal.loop-group-init
 loop-group-init g c =
-    let l = launch_of (setup_of c.args.launch.now) (bytes_in c.args.buffers.now) in
+    let l = launch_in (setup_of c.args.launch.now) c.args.buffers.now in
     record {
       held = c.requires.so_far;
       rest = subst (AreResultsTo bytes_of g.L.GroupAccesses.listed g.L.GroupAccesses.has_last l c.args.last c.args.first) (sym c.into_iter-results.ensures.rest) c.requires.results;
@@ -67,6 +66,6 @@ loop-group-init g c =
 
 pub returns : goal.returns
 returns g c =
-    let l = launch_of (setup_of c.args.launch.now) (bytes_in c.args.buffers.now) in
+    let l = launch_in (setup_of c.args.launch.now) c.args.buffers.now in
     let all : c.loop-group.group ≡ c.args.last = omega (arith, c.loop-group-test.false, c.loop-group.auto.group-end, c.requires.order) in
     subst (λ n. HoldsGroups l n c.loop-group.so_far) all c.loop-group.invariant.held

@@ -3,7 +3,7 @@ use Rattle.std.specs.Prelude.{Vec}
 use Rattle.std.specs.declared.alloc.Global.{Global}
 use Rattle.std.proofs.Math.Nat.{mul-le-mul_right}
 use Rattle.clmodel.specs.Launch as model
-use Rattle.clmodel.specs.Next.{launch_of}
+use Rattle.launches.specs.Groups.{launch_in}
 use Rattle.item_step.specs.Launches.{setup_of}
 use Rattle.spaces.specs.Buffers.{bytes_in}
 use Rattle.group_join.specs.Ends.{EndsAs}
@@ -24,20 +24,20 @@ run_one-requires-clause-fresh g c = search (c.loop-group.invariant.fresh)
 
 pub join-requires-clause-counted : goal.join-requires-clause-counted
 join-requires-clause-counted g c =
-    let same = ap₂ (λ x y. launch_of (setup_of x) (bytes_in y)) c.new-loaded.ensures.launch c.new-loaded.ensures.buffers in
+    let same = ap₂ (λ x y. launch_in (setup_of x) y) c.new-loaded.ensures.launch c.new-loaded.ensures.buffers in
     subst (λ (z : model.Launch). c.group_count-groups.result * z.group_size ≡ z.items) (sym same) c.group_count-groups.ensures.count
 
 pub join-requires-clause-result : goal.join-requires-clause-result
 join-requires-clause-result g c =
-    let same = ap₂ (λ x y. launch_of (setup_of x) (bytes_in y)) c.new-loaded.ensures.launch c.new-loaded.ensures.buffers in
-    let l = launch_of (setup_of c.args.launch.now) (bytes_in c.args.buffers.now) in
+    let same = ap₂ (λ x y. launch_in (setup_of x) y) c.new-loaded.ensures.launch c.new-loaded.ensures.buffers in
+    let l = launch_in (setup_of c.args.launch.now) c.args.buffers.now in
     subst (λ (z : model.Launch). IsShortResult bytes_of heap_listed heap_has_last z c.loop-group.group c.in_ok-result.result) (sym same)
     (c.stands.ensures l c.loop-group.group c.in_ok-result.ensures)
 
 pub returns-in-Ends : goal.returns-in-Ends
 returns-in-Ends g c =
-    let same = ap₂ (λ x y. launch_of (setup_of x) (bytes_in y)) c.new-loaded.ensures.launch c.new-loaded.ensures.buffers in
-    let l = launch_of (setup_of c.args.launch.now) (bytes_in c.args.buffers.now) in
+    let same = ap₂ (λ x y. launch_in (setup_of x) y) c.new-loaded.ensures.launch c.new-loaded.ensures.buffers in
+    let l = launch_in (setup_of c.args.launch.now) c.args.buffers.now in
     let next : CameOfNext {L = HeapLog} l c.loop-group.group c.in_ok-result.result.end (Ends c.in-Ends.end) c.join.new.self
     = subst (λ (end : JoinEnd HeapLog). CameOfNext l c.loop-group.group c.in_ok-result.result.end end c.join.new.self) c.in-Ends.is
     (subst (λ (z : model.Launch). CameOfNext z c.loop-group.group c.in_ok-result.result.end c.in_ok-used.field-0 c.join.new.self) same c.in_ok-used.ensures.came) in
@@ -45,8 +45,8 @@ returns-in-Ends g c =
 
 pub loop-group-preserved : goal.loop-group-preserved
 loop-group-preserved g c =
-    let same = ap₂ (λ x y. launch_of (setup_of x) (bytes_in y)) c.new-loaded.ensures.launch c.new-loaded.ensures.buffers in
-    let l = launch_of (setup_of c.args.launch.now) (bytes_in c.args.buffers.now) in
+    let same = ap₂ (λ x y. launch_in (setup_of x) y) c.new-loaded.ensures.launch c.new-loaded.ensures.buffers in
+    let l = launch_in (setup_of c.args.launch.now) c.args.buffers.now in
     let next : CameOfNext l c.loop-group.group c.in_ok-result.result.end (Continues c.in-Continues.used) c.join.new.self
     = subst (λ (end : JoinEnd HeapLog). CameOfNext l c.loop-group.group c.in_ok-result.result.end end c.join.new.self) c.in-Continues.is
     (subst (λ (z : model.Launch). CameOfNext z c.loop-group.group c.in_ok-result.result.end c.in_ok-used.field-0 c.join.new.self) same c.in_ok-used.ensures.came) in
@@ -58,7 +58,7 @@ loop-group-preserved g c =
 
 pub returns : goal.returns
 returns g c =
-    let l = launch_of (setup_of c.args.launch.now) (bytes_in c.args.buffers.now) in
+    let l = launch_in (setup_of c.args.launch.now) c.args.buffers.now in
     let all : c.group_count-groups.result * l.group_size ≤ c.loop-group.group * l.group_size = mul-le-mul_right l.group_size c.loop-group-test.false in
     subst (λ (z : Vec Changed Global). EndsAs l (Clean z)) (sym c.into_changes.ensures)
     (concludes_clean l c.loop-group.group c.loop-group.so_far c.laws.ensures (grouped_of (setup_of c.args.launch.now) (bytes_in c.args.buffers.now) c.requires c.group_count-groups.ensures.some) c.loop-group.invariant.held

@@ -7,7 +7,7 @@ use Rattle.clmodel.specs.Run.{State}
 use Rattle.clmodel.specs.Setup.{buffer_names}
 use Rattle.item_step.specs.Launches.{setup_of, started}
 use Rattle.item_step.specs.Running.{Running}
-use Rattle.launches.specs.Groups.{IsRunnable, filled}
+use Rattle.launches.specs.Groups.{IsRunnable, filled, launch_in}
 use Rattle.launches.proofs.Filled.{filled_set}
 use Rattle.launches.specs.declared.loaded.LoadedLaunch.{LoadedLaunch}
 use Rattle.replay.proofs.Reaching.{map_map}
@@ -21,7 +21,7 @@ use Rattle.ordered_play.proofs.ordered.run_ordered.Goals as goal
 
 -- the launch of a loaded one
 abbrev of_loaded : LoadedLaunch → Launch
-of_loaded loaded = launch_of (setup_of loaded.launch.now) (bytes_in loaded.buffers.now)
+of_loaded loaded = launch_in (setup_of loaded.launch.now) loaded.buffers.now
 
 -- the machines as which its items begin
 abbrev of_starts : LoadedLaunch → ℕ → Running
@@ -29,19 +29,19 @@ of_starts loaded = started loaded.launch.now
 
 pub new-requires-clause-runnable : goal.new-requires-clause-runnable
 new-requires-clause-runnable c =
-    let same = ap₂ (λ x b. launch_of (setup_of x) (bytes_in b)) c.new-loaded.ensures.launch c.new-loaded.ensures.buffers in
+    let same = ap₂ (λ x b. launch_in (setup_of x) b) c.new-loaded.ensures.launch c.new-loaded.ensures.buffers in
     subst IsRunnable (sym same) (c.setups_are_runnable.ensures (setup_of c.args.launch.now) (bytes_in c.args.buffers.now) c.group_count-groups.ensures.some c.requires)
 
 pub new-requires-clause-filled : goal.new-requires-clause-filled
 new-requires-clause-filled c =
-    let same = ap₂ (λ x b. launch_of (setup_of x) (bytes_in b)) c.new-loaded.ensures.launch c.new-loaded.ensures.buffers in
+    let same = ap₂ (λ x b. launch_in (setup_of x) b) c.new-loaded.ensures.launch c.new-loaded.ensures.buffers in
     let bytes = bytes_in c.args.buffers.now in
     c.in_ok-memory.ensures ∙ ap (map (λ name. map Some (bytes name))) c.buffer_names.ensures ∙ map_map (map Some) bytes (buffer_names (setup_of c.args.launch.now))
     ∙ sym (filled_set (launch_of (setup_of c.args.launch.now) bytes) (λ number byte. refl)) ∙ ap filled (sym same)
 
 pub run_groups-requires-clause-runnable : goal.run_groups-requires-clause-runnable
 run_groups-requires-clause-runnable c =
-    let same = ap₂ (λ x b. launch_of (setup_of x) (bytes_in b)) c.new-loaded.ensures.launch c.new-loaded.ensures.buffers in
+    let same = ap₂ (λ x b. launch_in (setup_of x) b) c.new-loaded.ensures.launch c.new-loaded.ensures.buffers in
     subst IsRunnable (sym same) (c.setups_are_runnable.ensures (setup_of c.args.launch.now) (bytes_in c.args.buffers.now) c.group_count-groups.ensures.some c.requires)
 
 pub run_groups-requires-clause-reached : goal.run_groups-requires-clause-reached
@@ -52,7 +52,7 @@ run_groups-requires-clause-reached c =
 
 pub returns-in-None : goal.returns-in-None
 returns-in-None c =
-    let same = ap₂ (λ x b. launch_of (setup_of x) (bytes_in b)) c.new-loaded.ensures.launch c.new-loaded.ensures.buffers in
+    let same = ap₂ (λ x b. launch_in (setup_of x) b) c.new-loaded.ensures.launch c.new-loaded.ensures.buffers in
     let l = of_loaded c.new-loaded.result in
     let r = of_starts c.new-loaded.result in
     let runnable = subst IsRunnable (sym same) (c.setups_are_runnable.ensures (setup_of c.args.launch.now) (bytes_in c.args.buffers.now) c.group_count-groups.ensures.some c.requires) in
@@ -65,7 +65,7 @@ returns-in-None c =
 
 pub returns-in-Some : goal.returns-in-Some
 returns-in-Some c =
-    let same = ap₂ (λ x b. launch_of (setup_of x) (bytes_in b)) c.new-loaded.ensures.launch c.new-loaded.ensures.buffers in
+    let same = ap₂ (λ x b. launch_in (setup_of x) b) c.new-loaded.ensures.launch c.new-loaded.ensures.buffers in
     let l = of_loaded c.new-loaded.result in
     let r = of_starts c.new-loaded.result in
     let f = c.in-Some.fault in

@@ -1,5 +1,5 @@
 use Rattle.std.proofs.Common.{ℕ, List, Some, map, sym, ap, ap₂, ◌∙◌, subst}
-use Rattle.clmodel.specs.Next.{launch_of}
+use Rattle.launches.specs.Groups.{launch_in}
 use Rattle.item_step.specs.Launches.{setup_of}
 use Rattle.spaces.specs.Buffers.{bytes_in}
 use Rattle.spaces.specs.Changes.{all_with_changes}
@@ -8,7 +8,7 @@ use Rattle.group_join.proofs.launch_end.LaunchEnd.outcome.Goals as goal
 
 pub returns-in_ok-copies-in-Clean : goal.returns-in_ok-copies-in-Clean
 returns-in_ok-copies-in-Clean c =
-    let l = launch_of (setup_of c.args.launch.now) (bytes_in c.args.buffers.now) in
+    let l = launch_in (setup_of c.args.launch.now) c.args.buffers.now in
     let h = subst (EndsAs l) c.in-Clean.is c.requires in (
       h.0,
       h.1,
@@ -18,4 +18,4 @@ returns-in_ok-copies-in-Clean c =
     )
 
 pub returns-in-Faulted : goal.returns-in-Faulted
-returns-in-Faulted c = subst (EndsAs (launch_of (setup_of c.args.launch.now) (bytes_in c.args.buffers.now))) c.in-Faulted.is c.requires
+returns-in-Faulted c = subst (EndsAs (launch_in (setup_of c.args.launch.now) c.args.buffers.now)) c.in-Faulted.is c.requires
