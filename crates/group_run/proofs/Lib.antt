@@ -4,3 +4,4 @@ pub mod Logs
 pub mod Stepping
 pub mod Items
 pub mod Starting
+pub mod Trying

@@ -205,7 +205,7 @@ taken_up p s f item stop n =
 
 -- ---- the access that it takes up again
 
-asked_item : (l : Launch) (s : State) (item : ℕ) (a : Action) (x : Access) → asked l s item a ≡ Some x → x.item ≡ item
+pub asked_item : (l : Launch) (s : State) (item : ℕ) (a : Action) (x : Access) → asked l s item a ≡ Some x → x.item ≡ item
 asked_item l s item (action.Access object element op) x h = let r = map_some _ (byte_at l item object element op) x h in ap (λ z. z.item) (sym r.2)
 asked_item l s item (action.Barrier i f) x h = absurd (none_some x h)
 asked_item l s item action.End x h = absurd (none_some x h)
