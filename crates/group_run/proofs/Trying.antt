@@ -1,19 +1,17 @@
 -- An access that is noted as if it were made, and a group that stopped at its unset bytes.
-use Rattle.std.proofs.Common.{◌≡◌, ℕ, ◌+◌, ◌<◌, ◌⊎◌, ℤ, Bool, Option, None, Some, List, [], ◌∷◌, ◌++◌, length, refl, sym, ap, ap₂, ◌∙◌, subst, arith, length-append}
+use Rattle.std.proofs.Common.{◌≡◌, ℕ, ◌+◌, ◌<◌, ℤ, Bool, Option, None, Some, List, [], ◌∷◌, ◌++◌, length, refl, sym, ap, ap₂, ◌∙◌, subst, arith, length-append}
 use Rattle.std.specs.Prelude.{Ok, Box}
 use Rattle.std.specs.Box.{box_value}
 use Rattle.std.specs.declared.alloc.Global.{Global}
 use Rattle.std.specs.Option.{option_map, option_and_then}
 use Rattle.clmodel.specs.Cells.{size_of}
-use Rattle.clmodel.specs.Launch.{Launch, within_group, region_of, group_of, first_byte}
-use Rattle.clmodel.specs.Law.{Reports, newest_conflict, conflict_fault}
+use Rattle.clmodel.specs.Launch.{within_group, region_of, group_of, first_byte}
+use Rattle.clmodel.specs.Law.{Reports, conflict_fault}
 use Rattle.clmodel.specs.Run.{State, Events, next_action, byte_at, access_of}
 use Rattle.clmodel.specs.declared.access.Access.{Access}
-use Rattle.clmodel.specs.declared.access.Conflict as conflict_type
 use Rattle.clmodel.specs.declared.access.Object.{Object}
 use Rattle.clmodel.specs.declared.access.Object.TheVariants as object
 use Rattle.clmodel.specs.declared.access.Operation.{Operation}
-use Rattle.clmodel.specs.declared.access.Region.{Region}
 use Rattle.clmodel.specs.declared.access.Region.TheVariants as region
 use Rattle.clmodel.specs.declared.action.Action.{Action}
 use Rattle.clmodel.specs.declared.action.Action.TheVariants as action
@@ -23,14 +21,13 @@ use Rattle.clmodel.specs.declared.schedule.Event.TheVariants.{Item}
 use Rattle.clmodel.proofs.Steps.{none_some, region_for, map_some, made}
 use Rattle.access_list.specs.Log.{Log, entry_of, stamped, hit, IsNoted}
 use Rattle.access_list.specs.declared.log.Entry.{Entry}
-use Rattle.access_list.specs.declared.log.Hit.{Hit}
 use Rattle.joining.specs.Group.{Plan, IsGroup, turn_of, Reported}
 use Rattle.joining.specs.Join.{unset_item, asked, stopped_access}
 use Rattle.joining.proofs.Again.{unset_stop, asked_item}
 use Rattle.launches.specs.Objects.{space_of}
 use Rattle.group_run.specs.Fits.{Fits}
 use Rattle.group_run.specs.Logs.{conflict_of, IsLogged, IsJudged}
-use Rattle.group_run.specs.Tries.{IsTold, OfBuffer, NoBuffer, logged_too, IsTried, StopsElse, StopsUnset, StopsAs}
+use Rattle.group_run.specs.Tries.{NoBuffer, logged_too, IsTried, StopsElse, StopsAs}
 use Rattle.group_run.specs.declared.machine.Tried.{Tried}
 use Rattle.group_run.proofs.Logs.{newest_is_hit}
 use Rattle.group_run.proofs.Stepping.{placed_at, logged_more, stamped_is}

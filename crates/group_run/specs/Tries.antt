@@ -1,6 +1,6 @@
 -- A group that stopped at unset bytes of a buffer: the access is noted as if it were made, since a lower group may have
 -- set its bytes (C99 6.7.8, own).
-use Rattle.std.specs.Prelude.{◌≡◌, ℕ, Option, None, Some, List, [], ◌∷◌, ◌++◌, length}
+use Rattle.std.specs.Prelude.{◌≡◌, ℕ, Option, None, Some, [], ◌∷◌, ◌++◌, length}
 use Rattle.std.specs.Box.{box_value}
 use Rattle.std.specs.Option.{option_map}
 use Rattle.clmodel.specs.Launch.{Launch}

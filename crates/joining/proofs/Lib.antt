@@ -16,6 +16,6 @@ pub mod Kept
 pub mod Steps
 pub mod EventGroups
 pub mod JoinedBytes
-pub mod SetStops
+pub mod OtherStops
 pub mod UnsetBytes
 pub mod Taken

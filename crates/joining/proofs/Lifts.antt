@@ -1,10 +1,8 @@
 -- A group's events over what the groups below left.
-use Rattle.std.proofs.Common.{◌≡◌, ℕ, suc, ◌+◌, ◌*◌, ◌<◌, ◌≤◌, Bool, true, false, cond, Option, Some, None, refl, sym, ap, ap₂, ◌∙◌, subst, arith, ⊎_elim, inl, inr, ◌&&◌, ◌||◌, eqb, leb, List, [], ◌∷◌, ◌++◌, ℤ, pos, negsuc, ◌==◌, length, slice_get, slice_index_or}
-use Rattle.std.proofs.Math.Nat.{suc-mul}
-use Rattle.std.proofs.lemmas.Bool.{and_parts, and_from, true≢false, cond-false, ne_eqb, eqb-true, leb-true, or_left}
-use Rattle.std.proofs.lemmas.Option.{slice_get-get_or}
-use Rattle.clmodel.specs.Cells.{Cells, number, covers, written, updated_word, size_of, found}
-use Rattle.clmodel.specs.Launch.{Launch, AllSet, same_region, region_of, bytes_of, first_byte, kind_of, group_of, conflict}
+use Rattle.std.proofs.Common.{◌≡◌, ℕ, ◌+◌, ◌*◌, ◌<◌, ◌≤◌, Bool, true, false, cond, Option, Some, None, refl, sym, ap, ap₂, ◌∙◌, subst, arith, ⊎_elim, inl, inr, ◌&&◌, ◌||◌, eqb, List, [], ◌∷◌, ◌++◌, ℤ, ◌==◌}
+use Rattle.std.proofs.lemmas.Bool.{and_parts, and_from, true≢false, cond-false, ne_eqb, eqb-true, or_left}
+use Rattle.clmodel.specs.Cells.{Cells, number, covers, written, updated_word, found}
+use Rattle.clmodel.specs.Launch.{Launch, same_region, region_of, kind_of, group_of, conflict}
 use Rattle.clmodel.specs.Run.{Memory, State, initial, byte_at, access_of, lowest, released}
 use Rattle.clmodel.specs.Law.{Logged}
 use Rattle.clmodel.specs.declared.access.Access.{Access}
@@ -19,30 +17,12 @@ use Rattle.clmodel.specs.declared.access.Region.TheVariants as region_is
 use Rattle.clmodel.specs.declared.action.Answer.TheVariants.{Done}
 use Rattle.clmodel.specs.declared.action.Fences.{Fences}
 use Rattle.clmodel.proofs.CellLaws.{covers_parts, covers_from, Aligned}
-use Rattle.clmodel.proofs.Steps.{none_some, if_false, lowest_some, lowest_none, region_for}
+use Rattle.clmodel.proofs.Steps.{lowest_some, lowest_none, region_for}
 use Rattle.clmodel.proofs.Swaps.{same_region_self, same_region-true, byte_at_aligned}
 use Rattle.joining.specs.Memory.{writes, at_byte, wrote}
 use Rattle.joining.proofs.Base.{changed_there, entry_same, made_at}
 use Rattle.joining.proofs.Words.{Updated, updated_same}
-use Rattle.joining.proofs.Over.{is_set, cond_some, performed, performed_in, performed_out, Fit, OnlyUpdates, Folds, entry_at, Ready, Over, Lift, same_answer, kept_step, unchanged_step, stored_step, older_clear, set_step, set_grows}
-
--- where all bytes of buffers are set at the start, one that is in range is
-pub buffer_set : (l : Launch) → AllSet l → (number : ℕ) (element : ℤ) (width first byte : ℕ) → first_byte (bytes_of l (region_is.Buffer number)) element width ≡ Some first
-    → covers first width byte ≡ true → is_set (initial l (region_is.Buffer number) byte) ≡ true
-buffer_set l set number (pos e) width first byte h c =
-    let bytes : List ℕ = slice_index_or l.buffers number [] in
-    let r = cond_some (leb ((e + 1) * width) (length bytes)) (e * width) first h in
-    let p = covers_parts first width byte c in
-    ap is_set
-    (if_false (l.unset number byte) None (slice_get bytes byte) (set number byte)
-    ∙ slice_get-get_or bytes byte 0 (inside (length bytes) (leb-true ((e + 1) * width) (length bytes) r.0) r.1 p.1))
-  where
-    more : (e + 1) * width ≡ e * width + width
-    more = let s : e + 1 ≡ suc e = omega arith in ap (λ z. z * width) s ∙ suc-mul e width
-
-    inside : (size : ℕ) → (e + 1) * width ≤ size → e * width ≡ first → byte < first + width → byte < size
-    inside size h k b = omega (arith, h, k, b, more)
-buffer_set l set number (negsuc e) width first byte h c = absurd (none_some first h)
+use Rattle.joining.proofs.Over.{performed, performed_in, performed_out, Fit, OnlyUpdates, Folds, entry_at, Ready, Over, Lift, same_answer, kept_step, unchanged_step, stored_step, older_clear, set_step, set_grows}
 
 -- two groups share buffers alone
 no_space : (p q : Region) → same_region p q ≡ false → p ≡ q → ⊥

@@ -1,7 +1,7 @@
 -- The groups of a launch joined one by one, as code joins them (OpenCL 1.2, 3.2; own).
 use Rattle.std.specs.Prelude.{◌≡◌, ◌≢◌, ℕ, zero, suc, ◌*◌, ◌/◌, ◌%◌, ◌<◌, ◌≤◌, ◌⊎◌, true, false, None, Some, List, ◌∷◌, ◌++◌, Contains}
 use Rattle.clmodel.specs.Cells.{byte_count, byte_of, number, lowest_unset}
-use Rattle.clmodel.specs.Launch.{Launch, AllSet, group_of, region_of, across_groups, conflict, conflict_between}
+use Rattle.clmodel.specs.Launch.{Launch, group_of, region_of, across_groups, conflict, conflict_between}
 use Rattle.clmodel.specs.Law.{Keeps, Logged, conflict_from, RunsClean, RunsIntoFault}
 use Rattle.clmodel.specs.Run.{State, initial}
 use Rattle.clmodel.specs.declared.access.Access.{Access}
@@ -9,6 +9,7 @@ use Rattle.clmodel.specs.declared.access.AccessKind.TheVariants as kind
 use Rattle.clmodel.specs.declared.access.Class.{Class}
 use Rattle.clmodel.specs.declared.access.Object.{Object}
 use Rattle.clmodel.specs.declared.access.Region.{Region}
+use Rattle.clmodel.specs.declared.access.Region.TheVariants as region
 use Rattle.clmodel.specs.declared.fault.Fault.{Fault}
 use Rattle.clmodel.specs.declared.schedule.Event.TheVariants.{Item}
 use Rattle.joining.specs.Parts.{Part, IsGrouped, IsPart}
@@ -92,12 +93,14 @@ BytesAreJoined =
     → IsPart launch group part → crossing launch lower.log part.end.log ≡ None
     → (x : Access) → Logged part.end.log x → writes x.kind ≡ true → (byte : ℕ) → at_byte x.region byte x ≡ true → IsJoinedByte launch lower part x byte
 
--- Where all bytes of buffers are set at the start, a further group that stopped has the same report after the lower
--- groups: an unset byte at which it stopped is of a local object, which no other group has (3.3, C99 6.7.8).
-abbrev pub SetStopsStay : Type 0
-SetStopsStay =
-    (launch : Launch) (group : ℕ) (lower : Joined) (part : Part) → AllSet launch → IsGrouped launch → IsJoined launch group lower → HasGroup launch group
-    → IsPart launch group part → crossing launch lower.log part.end.log ≡ None → join launch lower part ≡ join_whole launch lower part part.stopped
+-- Where nothing crosses, a further group that didn't stop at unset bytes of a buffer has the same report after the lower
+-- groups: no other group has its local objects (3.3, C99 6.7.8).
+abbrev pub OtherStopsStay : Type 0
+OtherStopsStay =
+    (launch : Launch) (group : ℕ) (lower : Joined) (part : Part) → IsGrouped launch → IsJoined launch group lower → HasGroup launch group
+    → IsPart launch group part → crossing launch lower.log part.end.log ≡ None
+    → ((x : Access) (number : ℕ) → stopped_access launch part.end part.stopped ≡ Some x → x.region ≡ region.Buffer number → ⊥)
+    → join launch lower part ≡ join_whole launch lower part part.stopped
 
 -- Where nothing crosses, and the access at which a further group stopped finds its bytes set on the joined memory, that
 -- access crosses, and the group is joined as one that made it (own).

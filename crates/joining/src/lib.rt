@@ -8,7 +8,7 @@
 ghost use Rattle.joining.specs.Crossings.{LowerFirst};
 ghost use Rattle.joining.specs.Join.{JoinIsCanonical};
 ghost use Rattle.joining.specs.Parts.{OnePart, PartExists};
-ghost use Rattle.joining.specs.Steps.{JoinReports, JoinEnds, AreOwn, AreLower, EventsAreOwn, EventsAreLower, BytesAreJoined, KeptConflicts, KeptBoth, SetStopsStay, UnsetIsBoth, TakenCrosses};
+ghost use Rattle.joining.specs.Steps.{JoinReports, JoinEnds, AreOwn, AreLower, EventsAreOwn, EventsAreLower, BytesAreJoined, KeptConflicts, KeptBoth, OtherStopsStay, UnsetIsBoth, TakenCrosses};
 
 /// The groups of a launch run apart and joined, up to the first report, are its canonical run: its events, what it
 /// leaves in memory, and its report. This holds for all classes of updates, for a group that stops, and for one whose
@@ -82,10 +82,10 @@ pub fn kept_both()
     ensures { KeptBoth }
 {}
 
-/// Where all bytes of buffers are set at the start, a group that stopped has the same report once it is joined, if none
-/// of its accesses conflicts with the lower groups'.
-pub fn set_stops_stay()
-    ensures { SetStopsStay }
+/// A group that didn't stop at unset bytes of a buffer has the same report once it is joined, if none of its accesses
+/// conflicts with the lower groups'.
+pub fn other_stops_stay()
+    ensures { OtherStopsStay }
 {}
 
 /// Where none of a further group's accesses conflicts with the lower groups', a byte of the joined memory is unset

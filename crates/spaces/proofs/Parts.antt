@@ -1,12 +1,13 @@
 -- Cells of which some are left out.
-use Rattle.std.proofs.Common.{◌≡◌, ℕ, zero, suc, ◌+◌, ◌-◌, ◌/◌, ◌<◌, ◌≤◌, ◌==◌, nat_lt, Bool, true, false, ◌&&◌, not, if◌then◌else◌, ◌⊎◌, ⊎_elim, inl, inr, Option, None, Some, List, [], ◌∷◌, length, Result, Ok, Err, OnOk, OnErr, refl, sym, ap, ap₂, ◌∙◌, subst, arith}
+use Rattle.std.proofs.Common.{◌≡◌, ℕ, zero, suc, ◌+◌, ◌-◌, ◌/◌, ◌<◌, ◌≤◌, ◌==◌, nat_lt, Bool, true, false, ◌&&◌, not, if◌then◌else◌, ◌⊎◌, ⊎_elim, inl, inr, Option, None, Some, List, [], ◌∷◌, length, Result, Ok, Err, OnOk, OnErr, refl, sym, ap, ap₂, ◌∙◌, arith}
 use Rattle.std.proofs.Math.Path.{fun_ext}
-use Rattle.std.proofs.lemmas.Bool.{and_parts, cases_eq, ltb-true, le-ltb, eq-eqb, ne_eqb}
-use Rattle.clmodel.specs.Cells.{Cells, byte_of, cells_of, covers, number, unset_or, lowest_unset, written}
+use Rattle.std.proofs.lemmas.Bool.{and_parts, cases_eq, ltb-true, ltb-false, le-ltb, eq-eqb, ne_eqb}
+use Rattle.std.proofs.lemmas.Option.{slice_get-get_or, slice_get_past}
+use Rattle.clmodel.specs.Cells.{Cells, byte_of, cells_of, covers, number, unset_or, lowest_unset, written, is_unset, is_flagged, masked}
 use Rattle.clmodel.proofs.CellLaws.{covers_parts, covers_from, number_frame, written_in, written_out}
 use Rattle.clmodel.proofs.Steps.{none_some, some_inj, if_true, if_false, decided}
 use Rattle.spaces.specs.Overlay.{overlaid_byte, overlaid_cells}
-use Rattle.spaces.specs.Parts.{is_flagged, is_marked, masked, lowest_marked, Parted}
+use Rattle.spaces.specs.Parts.{is_marked, lowest_marked, Parted}
 use Rattle.spaces.specs.Space.{Becomes}
 use Rattle.spaces.proofs.Copies.{lent}
 
@@ -90,7 +91,11 @@ written_left unset other old new first count value wrote cleared byte = go (cove
 
 -- flags that aren't changed are the lent ones
 pub marked_lent : (row : List ℕ) (counts : ℕ → ℕ) (cells : List ℕ) → ((page : ℕ) → counts page ≡ 0) → (byte : ℕ) → is_marked row counts cells byte ≡ is_flagged row byte
-marked_lent row counts cells none byte = ap (λ n. nat_lt byte (length row) && not (n == 0)) (lent row counts cells byte (none (byte / 256)))
+marked_lent row counts cells none byte =
+    decided (nat_lt byte (length row))
+    (λ p. ap₂ (λ a n. a && not (n == 0)) p (lent row counts cells byte (none (byte / 256)))
+    ∙ sym (ap is_unset (slice_get-get_or row byte 0 (ltb-true byte (length row) p))))
+    (λ p. ap (λ z. z && not (overlaid_byte row counts cells byte == 0)) p ∙ sym (ap is_unset (slice_get_past row byte (ltb-false byte (length row) p))))
 
 -- flags of which those that are there stay
 pub marked_same : (row : List ℕ) (counts : ℕ → ℕ) (cells : List ℕ) (others : ℕ → ℕ) (more : List ℕ) → ((byte : ℕ) → byte < length row → overlaid_byte row others more byte ≡ overlaid_byte row counts cells byte)

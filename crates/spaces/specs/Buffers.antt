@@ -2,7 +2,7 @@
 use Rattle.std.specs.Prelude.{ℕ, ◌+◌, ◌%◌, Bool, nat_le, if◌then◌else◌, List, [], ◌∷◌, ◌++◌, length, take, drop, map, get_or}
 use Rattle.std.specs.List.{range_with_len}
 use Rattle.std.specs.Option.{unwrap_or}
-use Rattle.spaces.specs.Parts.{is_flagged}
+use Rattle.clmodel.specs.Cells.{is_flagged}
 use Rattle.spaces.specs.Tables.{Table, find}
 
 -- a buffer: its bytes (5.2.1), and where some of them may be unset a flag for each, which isn't 0 where the byte is

@@ -1,25 +1,15 @@
 -- A lent buffer some of whose bytes are unset (OpenCL 1.2, 5.2.1; C99 6.7.8: indeterminate; own in the flags).
-use Rattle.std.specs.Prelude.{ℕ, zero, suc, ◌==◌, nat_lt, Bool, not, ◌&&◌, if◌then◌else◌, Option, None, Some, List, [], ◌∷◌, length, slice_index}
+use Rattle.std.specs.Prelude.{ℕ, zero, suc, ◌==◌, nat_lt, Bool, not, ◌&&◌, if◌then◌else◌, Option, None, Some, List, length}
 use Rattle.spaces.specs.Overlay.{copies, overlaid_byte}
 use Rattle.spaces.specs.declared.flags.Flags.{Flags}
 
--- A byte of a buffer is unset by a row of flags, one for each byte of the buffer, where its flag isn't 0. A byte behind
--- the row is set (own).
-abbrev pub is_flagged : List ℕ → ℕ → Bool
-is_flagged row byte = nat_lt byte (length row) && not (slice_index row byte == 0)
-
--- the same by a row with changes (own)
+-- a byte is unset by a row of flags with changes, one for each byte of a buffer. A byte behind the row is set (own).
 abbrev pub is_marked : List ℕ → (ℕ → ℕ) → List ℕ → ℕ → Bool
 is_marked row counts cells byte = nat_lt byte (length row) && not (overlaid_byte row counts cells byte == 0)
 
 -- the same by a program's flags (own)
 abbrev pub unset_in : Flags → ℕ → Bool
 unset_in flags = is_marked flags.row.now (copies flags.pages.table) flags.pages.cells.items
-
--- cells from one on, without those that are unset (own)
-abbrev pub masked : (ℕ → Bool) → ℕ → List (Option ℕ) → List (Option ℕ)
-masked unset byte [] = []
-masked unset byte (cell ∷ cells) = (if unset byte then None else cell) ∷ masked unset (suc byte) cells
 
 -- the lowest of n bytes that is unset (own)
 abbrev pub lowest_marked : (ℕ → Bool) → ℕ → ℕ → Option ℕ

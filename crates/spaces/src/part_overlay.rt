@@ -1,8 +1,7 @@
 //! A lent buffer with changes, some of whose bytes are unset.
 
-ghost use Rattle.std.specs.Prelude.{◌≡◌, ◌<◌, ◌≤◌, ◌+◌, ◌^◌, ℕ, Some, None, length, map, true, false, OnOk, OnErr, nat_le};
-ghost use Rattle.clmodel.specs.Cells.{byte_count, cells_of, number, lowest_unset, written};
-ghost use Rattle.spaces.specs.Parts.{is_flagged, masked};
+ghost use Rattle.std.specs.Prelude.{◌≡◌, ◌<◌, ◌≤◌, ◌+◌, ◌^◌, ℕ, Some, None, length, true, false, OnOk, OnErr, nat_le};
+ghost use Rattle.clmodel.specs.Cells.{byte_count, cells_of, number, lowest_unset, written, held_cells};
 ghost use Rattle.spaces.specs.Space.{Becomes, IsChanged, IsStored, IsUpdated, IsFetched};
 
 use crate::cells::{fetched, updated_word};
@@ -24,7 +23,8 @@ pub struct PartOverlay<'a> {
 }
 
 impl<'a> Model for PartOverlay<'a> {
-    ghost use Rattle.spaces.specs.Parts.{Parted, unset_in, masked};
+    ghost use Rattle.clmodel.specs.Cells.{masked};
+    ghost use Rattle.spaces.specs.Parts.{Parted, unset_in};
 
     ghost Value = { Parted };
 
@@ -37,7 +37,7 @@ impl<'a> PartOverlay<'a> {
     pub fn new(alloc: Global, base: &'a [u8], row: &'a [u8]) -> Self
         ensures base { result.base ≡ base.now }
         ensures row { result.row ≡ row.now }
-        ensures bytes { result.bytes ≡ masked (is_flagged row.now) 0 (map Some base.now) }
+        ensures bytes { result.bytes ≡ held_cells base.now row.now }
     {
         PartOverlay {
             overlay: Overlay::new(alloc, base),

@@ -1,6 +1,7 @@
 use Rattle.std.proofs.Common.{◌∙◌, ap}
 use Rattle.spaces.specs.Overlay.{copies}
-use Rattle.spaces.specs.Parts.{is_flagged, is_marked, unset_in, masked}
+use Rattle.clmodel.specs.Cells.{is_flagged, masked}
+use Rattle.spaces.specs.Parts.{is_marked, unset_in}
 use Rattle.spaces.proofs.Parts.{marked_lent, masked_same}
 use Rattle.spaces.proofs.part_overlay.PartOverlay.new.Goals as goal
 

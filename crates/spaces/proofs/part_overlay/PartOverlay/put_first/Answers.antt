@@ -1,7 +1,7 @@
 use Rattle.std.proofs.Common.{◌≡◌, ◌+◌, ◌≤◌, length, None, ◌∙◌, sym, ap, subst, arith}
-use Rattle.clmodel.specs.Cells.{byte_count, covers}
+use Rattle.clmodel.specs.Cells.{masked, byte_count, covers}
 use Rattle.spaces.specs.Overlay.{copies, IsCopied}
-use Rattle.spaces.specs.Parts.{unset_in, masked}
+use Rattle.spaces.specs.Parts.{unset_in}
 use Rattle.spaces.proofs.PageRows.{on_err}
 use Rattle.spaces.proofs.Parts.{seen_many, seen_put, masked_same}
 use Rattle.spaces.proofs.part_overlay.PartOverlay.put_first.Goals as goal

@@ -1,34 +1,27 @@
--- Where all bytes of buffers are set at the start, a group that stopped has the same report after the groups below.
-use Rattle.std.proofs.Common.{◌≡◌, ℕ, suc, ◌+◌, ◌<◌, ◌≤◌, Bool, true, false, Option, None, Some, refl, sym, ap, ap₂, ◌∙◌, subst, arith}
-use Rattle.std.proofs.lemmas.Bool.{and_parts, both_ways, true≢false}
+-- A group that didn't stop at unset bytes of a buffer has the same report after the groups below.
+use Rattle.std.proofs.Common.{◌≡◌, ℕ, ◌<◌, Bool, true, false, Option, None, Some, refl, sym, ap, ap₂, ◌∙◌, arith}
+use Rattle.std.proofs.lemmas.Bool.{and_parts}
 use Rattle.std.proofs.Math.Path.{fun_ext}
 use Rattle.std.specs.Option.{option_and_then}
-use Rattle.clmodel.specs.Cells.{Cells, covers, byte_count, size_of, lowest_unset}
-use Rattle.clmodel.specs.Launch.{Launch, same_region, region_of, bytes_of, first_byte, location_of, kind_of, group_of}
-use Rattle.clmodel.specs.Run.{State, initial, start, next_action, access_of}
-use Rattle.clmodel.specs.Law.{Logged}
-use Rattle.clmodel.specs.declared.access.Access.{Access}
+use Rattle.clmodel.specs.Cells.{Cells, size_of, lowest_unset}
+use Rattle.clmodel.specs.Launch.{Launch, same_region, region_of, group_of}
+use Rattle.clmodel.specs.Run.{next_action, access_of}
 use Rattle.clmodel.specs.declared.access.Object.{Object}
 use Rattle.clmodel.specs.declared.access.Object.TheVariants as object_is
-use Rattle.clmodel.specs.declared.access.Region.{Region}
 use Rattle.clmodel.specs.declared.access.Region.TheVariants as region_is
 use Rattle.clmodel.specs.declared.fault.Fault.{Fault}
-use Rattle.clmodel.specs.declared.fault.Fault.TheVariants as fault
-use Rattle.clmodel.proofs.CellLaws.{covers_from}
 use Rattle.clmodel.proofs.Steps.{region_for}
 use Rattle.clmodel.proofs.Swaps.{same_region-true}
 use Rattle.joining.specs.Group.{plan_of}
 use Rattle.joining.specs.Memory.{wrote}
-use Rattle.joining.specs.Parts.{Part, IsGrouped, IsPart, ending}
-use Rattle.joining.specs.Crossings.{crossing}
+use Rattle.joining.specs.Parts.{IsGrouped, ending}
 use Rattle.joining.specs.Join.{Joined, memory_with, join_whole, unset_item, asked, stopped_access, take_up, join_stopped, join_at}
-use Rattle.joining.specs.Steps.{HasGroup, IsJoined, SetStopsStay}
+use Rattle.joining.specs.Steps.{IsJoined, OtherStopsStay}
 use Rattle.joining.proofs.Again.{UnsetStop, unset_stop}
-use Rattle.joining.proofs.Begun.{Begun, begun_start, begun_in}
 use Rattle.joining.proofs.JoinedBytes.{through}
 use Rattle.joining.proofs.Joins.{So_far, memory_there, stop_asked}
-use Rattle.joining.proofs.Lifts.{buffer_set, shared_is_buffer}
-use Rattle.joining.proofs.Over.{is_set, unset_some, wrote_some}
+use Rattle.joining.proofs.Lifts.{shared_is_buffer}
+use Rattle.joining.proofs.Over.{wrote_some}
 use Rattle.joining.proofs.Ride.{Through}
 use Rattle.joining.proofs.Steps.{so_far, accesses_are_lower}
 
@@ -53,8 +46,8 @@ local_alone l g lower grouped joined owner number byte mine = go (wrote lower.lo
         (λ k. below_not g (group_of l z.0.item) r.0 (k ∙ mine)) (sym r.2 ∙ sym same) in
         absurd (not_buffer buffer.0 buffer.1)
 
-pub set_stops_stay : SetStopsStay
-set_stops_stay l g lower part set grouped joined there is none = ap (join_at l lower part) none ∙ by_stopped part.stopped refl
+pub other_stops_stay : OtherStopsStay
+other_stops_stay l g lower part grouped joined there is none other = ap (join_at l lower part) none ∙ by_stopped part.stopped refl
   where
     far : So_far l g lower
     far = so_far l grouped g lower joined
@@ -62,22 +55,12 @@ set_stops_stay l g lower part set grouped joined there is none = ap (join_at l l
     t : Through l g far.a far.a part.events part.end
     t = through l g lower part grouped far there is none
 
-    begun : Begun l part.end
-    begun = begun_in (plan_of l g) part.events (start l) part.end is.0 (begun_start l)
-
     -- the byte at which it stopped is of a local object
-    by_region : (f : Fault) (item : ℕ) (stop : UnsetStop (plan_of l g) part.end f item) (o : Object) → stop.object ≡ o
+    by_region : (f : Fault) (item : ℕ) (stop : UnsetStop (plan_of l g) part.end f item) → part.stopped ≡ Some f → unset_item f ≡ Some item → (o : Object) → stop.object ≡ o
         → lowest_unset (memory_with l lower part (region_for l item stop.object)) stop.first (size_of stop.op) ≡ Some stop.byte
-    by_region f item stop (object_is.Buffer number) e =
-        let p = region_for l item stop.object in
-        let w = unset_some (part.end.memory p) stop.first (size_of stop.op) stop.byte stop.unset in
-        let same : p ≡ region_is.Buffer number = ap (region_of (group_of l item)) e in
-        let at : first_byte (bytes_of l (region_is.Buffer number)) stop.element (size_of stop.op) ≡ Some stop.first
-        = ap (λ z. first_byte (bytes_of l z) stop.element (size_of stop.op)) (sym same) ∙ stop.placed in
-        let first : is_set (initial l (region_is.Buffer number) stop.byte) ≡ true
-        = buffer_set l set number stop.element (size_of stop.op) stop.first stop.byte at (covers_from stop.first (size_of stop.op) stop.byte w.1 w.2) in
-        absurd (both_ways _ w.0 (begun.set p stop.byte (ap (λ z. is_set (initial l z stop.byte)) same ∙ first)))
-    by_region f item stop (object_is.Local number) e =
+    by_region f item stop told k (object_is.Buffer number) e =
+        absurd (other (access_of l part.end item (region_for l item stop.object) stop.first stop.op) number (stop_asked l g part f item stop told k) (ap (region_of (group_of l item)) e))
+    by_region f item stop told k (object_is.Local number) e =
         let p = region_for l item stop.object in
         let same : p ≡ region_is.Local (group_of l item) number = ap (region_of (group_of l item)) e in
         let alone : (byte : ℕ) → wrote far.a.log p byte ≡ false
@@ -91,7 +74,7 @@ set_stops_stay l g lower part set grouped joined there is none = ap (join_at l l
     by_item f e (Some item) k =
         let stop = unset_stop (plan_of l g) part.end f item k (is.1 ∙ ap ending e) in
         ap (join_stopped l lower part) (stop_asked l g part f item stop e k)
-        ∙ ap (take_up l lower part (access_of l part.end item (region_for l item stop.object) stop.first stop.op)) (by_region f item stop stop.object refl)
+        ∙ ap (take_up l lower part (access_of l part.end item (region_for l item stop.object) stop.first stop.op)) (by_region f item stop e k stop.object refl)
         ∙ ap (join_whole l lower part) (ap Some stop.is ∙ sym e)
 
     by_stopped : (o : Option Fault) → part.stopped ≡ o → join_stopped l lower part (stopped_access l part.end part.stopped) ≡ join_whole l lower part part.stopped
