@@ -1,12 +1,15 @@
 //! Conflicts of a work-group's accesses with those of the lower groups.
 
 ghost use Rattle.std.specs.Prelude.{◌≡◌, ◌<◌, ◌+◌, ◌==◌, ◌&&◌, length, Some, IfOk};
+ghost use Rattle.clmodel.specs.Launch.{location_of};
+ghost use Rattle.clmodel.specs.declared.fault.Fault.TheVariants as fault;
 ghost use Rattle.group_join.specs.Meetings.{is_below, meeting_fault, report_at};
 
 use access_list::Entry;
+use clmodel::access::Access;
 use clmodel::fault::Fault;
 use group_run::conflict_fault;
-use launches::Described;
+use launches::{Described, location_of};
 use shadow::{GroupAccesses, Meeting};
 use std::alloc::AllocError;
 
@@ -65,4 +68,21 @@ pub(crate) fn report_at<D: Described>(
         }
         None => meeting_fault(launch, met),
     }
+}
+
+/// The report of an access that reads an unset byte.
+pub(crate) fn unset_fault<D: Described>(
+    launch: &D,
+    x: &Access,
+    byte: u64,
+) -> Result<Fault, AllocError>
+    ensures { IfOk result (λ told. told ≡ fault.Unset x.now.item x.now.kind (location_of (D.launch launch.now) x.now.region) byte) }
+{
+    let location = location_of(launch, x.region)?;
+    Ok(Fault::Unset {
+        item: x.item,
+        kind: x.kind,
+        location,
+        byte,
+    })
 }

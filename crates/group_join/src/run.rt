@@ -7,7 +7,7 @@ ghost use Rattle.item_step.specs.Launches.{setup_of};
 ghost use Rattle.joining.specs.Steps.{HasGroup};
 ghost use Rattle.launches.specs.Groups.{HasGroups, launch_in};
 ghost use Rattle.access_list.specs.Log.{fresh_log};
-ghost use Rattle.group_join.specs.Ends.{EndsAs};
+ghost use Rattle.group_join.specs.Ends.{EndsIn};
 ghost use Rattle.group_join.specs.Launches.{heap_log, heap_listed, heap_has_last, IsShortResult};
 
 use crate::groups::one_group;
@@ -18,7 +18,7 @@ use crate::laws::laws;
 use group_run::GroupResult;
 use item_step::Launch;
 use launches::{LoadedLaunch, group_count};
-use spaces::{Buffers, Overlay};
+use spaces::{Buffers, PartOverlay};
 use std::alloc::{AllocError, Global};
 use workers_draw::gate::{Gate, OpenGate};
 
@@ -30,7 +30,7 @@ fn run_one<'a, G: Gate>(
     group: u32,
     log: HeapLog,
     gate: &G,
-) -> Result<GroupResult<Overlay<'a>, HeapLog>, AllocError>
+) -> Result<GroupResult<PartOverlay<'a>, HeapLog>, AllocError>
     requires whole { HasGroups (setup_of launch.now) }
     requires there { HasGroup (launch_in (setup_of launch.now) buffers.now) group }
     requires fresh { heap_log log ≡ fresh_log (setup_of launch.now).range.uniform }
@@ -43,7 +43,7 @@ fn run_one<'a, G: Gate>(
 }
 
 /// What a result's log has for other groups stands for all of its accesses. It does nothing when it runs.
-fn stands(came: &GroupResult<Overlay<'_>, HeapLog>)
+fn stands(came: &GroupResult<PartOverlay<'_>, HeapLog>)
     ensures { (launch : TheLaunch) (group : ℕ) → IsResult (λ overlay. overlay.bytes) heap_log launch group came.now → IsShortResult (λ overlay. overlay.bytes) heap_listed heap_has_last launch group came.now }
 {
     came.log.stands();
@@ -58,7 +58,7 @@ pub fn run_launch(
     buffers: &Buffers,
 ) -> Result<LaunchEnd, AllocError>
     requires { HasGroups (setup_of launch.now) }
-    ensures { IfOk result (EndsAs (launch_in (setup_of launch.now) buffers.now)) }
+    ensures { IfOk result (EndsIn (setup_of launch.now) buffers.now) }
 {
     run_launch_around(alloc, launch, buffers, &OpenGate)
 }
@@ -73,7 +73,7 @@ pub fn run_launch_around<G: Gate>(
     gate: &G,
 ) -> Result<LaunchEnd, AllocError>
     requires { HasGroups (setup_of launch.now) }
-    ensures { IfOk result (EndsAs (launch_in (setup_of launch.now) buffers.now)) }
+    ensures { IfOk result (EndsIn (setup_of launch.now) buffers.now) }
 {
     laws();
     let groups = group_count(launch);
@@ -88,5 +88,5 @@ pub fn run_launch_around<G: Gate>(
             JoinEnd::Ends(end) => return Ok(end),
         }
     }
-    Ok(LaunchEnd::Clean(so_far.into_changes()))
+    Ok(so_far.into_end())
 }
