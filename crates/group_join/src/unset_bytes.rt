@@ -17,7 +17,10 @@ use spaces::{Changes, PartOverlay};
 fn is_flagged(row: &[u8], cleared: &Changes, byte: u64) -> bool
     ensures { result ≡ is_flagged (with_changes row.now cleared.now) byte }
 {
-    byte < row.len() as u64 && cleared.number(row, byte as usize, Width::One) != 0
+    if byte >= row.len() as u64 {
+        return false;
+    }
+    cleared.number(row, byte as usize, Width::One) != 0
 }
 
 impl JoinedGroups<'_> {
@@ -27,14 +30,24 @@ impl JoinedGroups<'_> {
     {
         let place = buffer as usize;
         let count = self.rows.len().min(self.cleared.len());
-        place < count && is_flagged(self.rows[place], &self.cleared[place], byte)
+        if place < count {
+            is_flagged(self.rows[place], &self.cleared[place], byte)
+        } else {
+            false
+        }
     }
 
     /// Whether a byte of a buffer is unset after the groups so far and a further one.
     fn stays_unset(&self, own: &[PartOverlay<'_>], buffer: u32, byte: u64) -> bool
         ensures { result ≡ unset_at (map (λ space. space.bytes) own.now) (unset_of self.now) buffer byte }
     {
-        self.is_unset(buffer, byte) && number_in(own, buffer, byte, Width::One).is_none()
+        if !self.is_unset(buffer, byte) {
+            return false;
+        }
+        match number_in(own, buffer, byte, Width::One) {
+            Some(_) => false,
+            None => true,
+        }
     }
 
     /// The lowest of n bytes of a buffer that is unset after the groups so far and a further one.
