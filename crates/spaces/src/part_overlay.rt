@@ -45,6 +45,11 @@ impl<'a> PartOverlay<'a> {
         }
     }
 
+    /// The numbers of the pages of 256 bytes that were copied.
+    pub fn changed(&self) -> &[usize] {
+        self.overlay.changed()
+    }
+
     /// Whether n bytes from a byte on are there.
     fn is_inside(&self, at: u64, count: u64) -> bool
         ensures { result ≡ nat_le (at + count) (length self.now.bytes) }

@@ -4,6 +4,7 @@ ghost use Rattle.std.specs.Prelude.{◌≡◌, ◌*◌, ◌<◌, ◌≤◌, max,
 ghost use Rattle.clmodel.specs.Setup.{item_count, group_items};
 ghost use Rattle.item_step.specs.Launches.{setup_of};
 ghost use Rattle.launches.specs.Groups.{HasGroups, launch_in};
+ghost use Rattle.group_join.specs.Ends.{flags_of};
 ghost use Rattle.group_join.specs.JoinedGroups.{HoldsGroups};
 ghost use Rattle.group_join.specs.Rounds.{CameOfRound};
 ghost use Rattle.workers.specs.Results.{AreOfRound};
@@ -88,10 +89,10 @@ pub(crate) fn join_and_run<'a, 'b, G: Gate, R: Threads + Wait + Sync>(
     requires there { end * group_items (setup_of launch.now).range ≤ item_count (setup_of launch.now).range }
     requires each { 0 < each }
     requires workers { (1 ≤ workers) × (workers ≤ 16) }
-    requires so_far { HoldsGroups (launch_in (setup_of launch.now) buffers.now) first so_far }
+    requires so_far { HoldsGroups (launch_in (setup_of launch.now) buffers.now) (flags_of (setup_of launch.now) buffers.now) first so_far }
     requires results { AreOfRound (launch_in (setup_of launch.now) buffers.now) last first results.items }
     ensures next { IfOk result.0 (λ v. AreOfRound (launch_in (setup_of launch.now) buffers.now) end last v.items) }
-    ensures joined { IfOk result.1 (CameOfRound (launch_in (setup_of launch.now) buffers.now) last) }
+    ensures joined { IfOk result.1 (CameOfRound (launch_in (setup_of launch.now) buffers.now) (flags_of (setup_of launch.now) buffers.now) last) }
 {
     rounds_are_shared::<G>();
     let calls = GateCalls { gate };
@@ -104,8 +105,8 @@ pub(crate) fn join_and_run<'a, 'b, G: Gate, R: Threads + Wait + Sync>(
         workers,
         &OpenGate,
         move || -> Result<JoinEnd<JoinedGroups<'_>>, AllocError>
-            requires { HasGroups (setup_of launch.now) × (first ≤ last) × HoldsGroups (launch_in (setup_of launch.now) buffers.now) first so_far × AreOfRound (launch_in (setup_of launch.now) buffers.now) last first results.items }
-            ensures { IfOk result (CameOfRound (launch_in (setup_of launch.entry.now) buffers.entry.now) last) }
+            requires { HasGroups (setup_of launch.now) × (first ≤ last) × HoldsGroups (launch_in (setup_of launch.now) buffers.now) (flags_of (setup_of launch.now) buffers.now) first so_far × AreOfRound (launch_in (setup_of launch.now) buffers.now) last first results.items }
+            ensures { IfOk result (CameOfRound (launch_in (setup_of launch.entry.now) buffers.entry.now) (flags_of (setup_of launch.entry.now) buffers.entry.now) last) }
         { join_round(alloc, launch, buffers, so_far, first, last, results) },
     );
     (round.results_of(alloc, units), joined)

@@ -17,7 +17,7 @@ use group_join::{HeapLog, has_stopped, one_group};
 use group_run::GroupResult;
 use item_step::Launch;
 use joining::one_part;
-use spaces::{Buffers, Overlay};
+use spaces::{Buffers, PartOverlay};
 use std::alloc::{AllocError, Global};
 use std::marker::Sync;
 use workers_draw::work::Work;
@@ -59,7 +59,7 @@ fn unit_count(groups: u32, each: u32) -> u32
 /// A result with a list in place of its log, and the log. An error is out of memory.
 fn shortened<'a>(
     alloc: Global,
-    came: GroupResult<Overlay<'a>, HeapLog>,
+    came: GroupResult<PartOverlay<'a>, HeapLog>,
 ) -> Result<(ShortResult<'a>, HeapLog), AllocError>
     ensures listed { (launch : TheLaunch) (group : ℕ) → IsResult (λ overlay. overlay.bytes) heap_log launch group came.entry → IfOk result (λ t. IsListed launch group t.0) }
     ensures log { IfOk result (λ t. (heap_log t.1).uniform ≡ (heap_log came.entry.log).uniform) }

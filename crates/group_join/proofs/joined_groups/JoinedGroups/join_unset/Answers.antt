@@ -15,7 +15,7 @@ cross-requires g c =
     let last = g.L.GroupAccesses.has_last c.args.log.now in
     let entry = c.args.entry in
     let given : IsGiven l (rows_of c.args.self.now) c.args.group c.args.self.now c.args.runs.now = record { laws = c.laws.ensures; grouped = c.requires.grouped; there = c.requires.there; holds = c.requires.so_far; merged = c.requires.merged } in
-    unset_follows l (rows_of c.args.self.now) c.args.group c.args.self.now log c.args.runs.now c.args.spaces.now entry.access entry.event c.args.own c.requires.ran.2.0 given c.requires.ran.2.1
+    unset_follows l (rows_of c.args.self.now) c.args.group c.args.self.now log c.args.runs.now c.args.spaces.now entry.access entry.event c.args.own c.requires.ran.2 given c.requires.ran.3
 
 pub add_first-requires : goal.add_first-requires
 add_first-requires g c =
@@ -25,4 +25,41 @@ add_first-requires g c =
     let last = g.L.GroupAccesses.has_last c.args.log.now in
     let entry = c.args.entry in
     let given : IsGiven l (rows_of c.args.self.now) c.args.group c.args.self.now c.args.runs.now = record { laws = c.laws.ensures; grouped = c.requires.grouped; there = c.requires.there; holds = c.requires.so_far; merged = c.requires.merged } in
-    subst (MayFollow c.args.self.now.runs.items) (sym c.as_slice.ensures) (unset_follows l (rows_of c.args.self.now) c.args.group c.args.self.now log c.args.runs.now c.args.spaces.now entry.access entry.event c.args.own c.requires.ran.2.0 given c.requires.ran.2.1)
+    subst (MayFollow c.args.self.now.runs.items) (sym c.as_slice.ensures) (unset_follows l (rows_of c.args.self.now) c.args.group c.args.self.now log c.args.runs.now c.args.spaces.now entry.access entry.event c.args.own c.requires.ran.2 given c.requires.ran.3)
+
+-- an earlier access meets the lower groups
+pub returns-then-event-event : goal.returns-then-event-event
+returns-then-event-event g c =
+    let l : Launch = g.D.Described.launch c.args.launch.now in
+    let log : Log = c.requires.ran.0 in
+    let listed = g.L.GroupAccesses.listed c.args.log.now in
+    let last = g.L.GroupAccesses.has_last c.args.log.now in
+    let entry = c.args.entry in
+    let given : IsGiven l (rows_of c.args.self.now) c.args.group c.args.self.now c.args.runs.now = record { laws = c.laws.ensures; grouped = c.requires.grouped; there = c.requires.there; holds = c.requires.so_far; merged = c.requires.merged } in
+    let found : FindsIn c.uniform.result c.args.group c.args.self.now last listed (Some c.in-Some.met)
+    = subst (FindsIn c.uniform.result c.args.group c.args.self.now last listed) c.in-Some.is c.first_conflict-found.ensures in
+    let finds = finds_whole l c.args.group c.args.self.now last listed log (Some c.in-Some.met) c.uniform.ensures c.requires.ran.1 found in
+    both_ok _ _ _ c.cross.result c.cross.ensures.report c.cross.ensures.runs
+    (λ report told adds. unset_meets l (rows_of c.args.self.now) c.args.group c.args.self.now log c.args.runs.now c.args.spaces.now entry.access entry.event c.args.own c.requires.ran.2 given c.requires.ran.3 c.in-Some.met report c.cross.new.self.runs.items finds c.if-event-event.true adds told)
+
+-- a byte stays unset
+pub returns-in-Some : goal.returns-in-Some
+returns-in-Some g c =
+    let l : Launch = g.D.Described.launch c.args.launch.now in
+    let log : Log = c.requires.ran.0 in
+    let listed = g.L.GroupAccesses.listed c.args.log.now in
+    let last = g.L.GroupAccesses.has_last c.args.log.now in
+    let entry = c.args.entry in
+    let given : IsGiven l (rows_of c.args.self.now) c.args.group c.args.self.now c.args.runs.now = record { laws = c.laws.ensures; grouped = c.requires.grouped; there = c.requires.there; holds = c.requires.so_far; merged = c.requires.merged } in
+    tt
+
+-- the access meets the lower groups
+pub returns : goal.returns
+returns g c =
+    let l : Launch = g.D.Described.launch c.args.launch.now in
+    let log : Log = c.requires.ran.0 in
+    let listed = g.L.GroupAccesses.listed c.args.log.now in
+    let last = g.L.GroupAccesses.has_last c.args.log.now in
+    let entry = c.args.entry in
+    let given : IsGiven l (rows_of c.args.self.now) c.args.group c.args.self.now c.args.runs.now = record { laws = c.laws.ensures; grouped = c.requires.grouped; there = c.requires.there; holds = c.requires.so_far; merged = c.requires.merged } in
+    tt
