@@ -398,3 +398,7 @@ module _
       by : (i : ℕ) → Contains u.before (event.Item i) ⊎ Contains (event.Item u.x.item ∷ []) (event.Item i) → group_of l i ≡ g
       by i (inl h) = c.laws.own_events l g part runs i h
       by i (inr h) = ap (group_of l) (sym (one i h)) ∙ stopped_own l g part runs u.x u.asks
+
+  -- the access is of a buffer
+  pub told_buffer : (buffer : ℕ) × (told.region ≡ region.Buffer buffer)
+  told_buffer = (u.buffer.0, u.tells.region ∙ u.buffer.1)

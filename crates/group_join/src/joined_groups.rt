@@ -35,9 +35,8 @@ use crate::comparing::{Compared, first_conflict};
 use crate::cutting::{add_all, add_first, add_runs};
 use crate::launch_end::LaunchEnd;
 use crate::laws::laws;
-use crate::meetings::{FirstConflict, report_at, unset_fault};
+use crate::meetings::{FirstConflict, earlier, report_at, unset_fault};
 use access_list::Entry;
-use clmodel::access::Region;
 use clmodel::fault::Fault;
 use clmodel::schedule::{EventRun, Schedule};
 use clmodel::text::Name;
@@ -313,23 +312,19 @@ impl<'a> JoinedGroups<'a> {
     {
         laws();
         let found = self.first_conflict(launch.uniform(), group, log);
-        if let Some(met) = found {
-            if met.entry.event < entry.event {
-                return self.cross(launch, &met, None, runs);
+        if let Some(met) = earlier(found, entry.event) {
+            return self.cross(launch, &met, None, runs);
+        }
+        match self.lowest_of(spaces, &entry.access) {
+            Some(byte) => {
+                add_first(&mut self.runs, runs.as_slice(), entry.event as u64)?;
+                unset_fault(launch, &entry.access, byte)
             }
+            None => match found {
+                Some(met) => self.cross(launch, &met, own, runs),
+                None => unreachable!(),
+            },
         }
-        let x = entry.access;
-        let Region::Buffer(buffer) = x.region else {
-            unreachable!()
-        };
-        if let Some(byte) = self.lowest_unset(spaces, buffer, x.first, x.width.bytes()) {
-            add_first(&mut self.runs, runs.as_slice(), entry.event as u64)?;
-            return unset_fault(launch, &x, byte);
-        }
-        let Some(met) = found else {
-            unreachable!()
-        };
-        self.cross(launch, &met, own, runs)
     }
 
     /// The end of a launch with this report. Its schedule takes over the events of the groups so far.

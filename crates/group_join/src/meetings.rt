@@ -1,6 +1,6 @@
 //! Conflicts of a work-group's accesses with those of the lower groups.
 
-ghost use Rattle.std.specs.Prelude.{◌≡◌, ◌<◌, ◌+◌, ◌==◌, ◌&&◌, length, Some, IfOk};
+ghost use Rattle.std.specs.Prelude.{◌≡◌, ◌<◌, ◌≤◌, ◌+◌, ◌==◌, ◌&&◌, length, Some, IfSome, IfNone, IfOk};
 ghost use Rattle.clmodel.specs.Launch.{location_of};
 ghost use Rattle.clmodel.specs.declared.fault.Fault.TheVariants as fault;
 ghost use Rattle.group_join.specs.Meetings.{is_below, meeting_fault, report_at};
@@ -29,6 +29,23 @@ pub(crate) struct FirstConflict {
     pub(crate) entry: Entry,
     pub(crate) meeting: Meeting,
     pub(crate) last: bool,
+}
+
+/// A first conflict, if it is of an event before this one.
+pub(crate) fn earlier(found: Option<FirstConflict>, event: u32) -> Option<FirstConflict>
+    ensures some { IfSome result (λ met. (found ≡ Some met) × (met.entry.event < event)) }
+    ensures none { IfNone result (IfSome found (λ met. event ≤ met.entry.event)) }
+{
+    match found {
+        Some(met) => {
+            if met.entry.event < event {
+                Some(met)
+            } else {
+                None
+            }
+        }
+        None => None,
+    }
 }
 
 /// Whether a fault is a conflict on a byte below this one.

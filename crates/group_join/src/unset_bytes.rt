@@ -1,7 +1,8 @@
 //! The bytes that are unset after the groups so far and a further one.
 
-ghost use Rattle.std.specs.Prelude.{◌≡◌, ◌+◌, ◌<◌, ◌^◌, map};
-ghost use Rattle.clmodel.specs.Cells.{is_flagged};
+ghost use Rattle.std.specs.Prelude.{◌≡◌, ◌+◌, ◌<◌, ◌^◌, ℕ, map};
+ghost use Rattle.clmodel.specs.Cells.{byte_count, is_flagged};
+ghost use Rattle.clmodel.specs.declared.access.Region.TheVariants as region;
 ghost use Rattle.spaces.specs.Changes.{with_changes};
 ghost use Rattle.spaces.specs.Parts.{lowest_marked};
 ghost use Rattle.group_join.specs.Changes.{buffer_at, cells_at};
@@ -10,7 +11,7 @@ ghost use Rattle.group_join.specs.Unset.{unset_at};
 
 use crate::changes::number_in;
 use crate::joined_groups::JoinedGroups;
-use clmodel::access::Width;
+use clmodel::access::{Access, Region, Width};
 use spaces::{Changes, PartOverlay};
 
 /// Whether a byte is unset by a row of flags with changes.
@@ -68,5 +69,16 @@ impl JoinedGroups<'_> {
             return Some(first);
         }
         self.lowest_unset(own, buffer, first + 1, count - 1)
+    }
+
+    /// The lowest byte of an access of a buffer that is unset after the groups so far and a further one.
+    pub(crate) fn lowest_of(&self, own: &[PartOverlay<'_>], x: &Access) -> Option<u64>
+        requires { x.now.first + byte_count x.now.width < 2 ^ 64 }
+        ensures { (number : ℕ) → x.now.region ≡ region.Buffer number → result ≡ lowest_marked (unset_at (map (λ space. space.bytes) own.now) (unset_of self.now) number) x.now.first (byte_count x.now.width) }
+    {
+        match x.region {
+            Region::Buffer(buffer) => self.lowest_unset(own, buffer, x.first, x.width.bytes()),
+            Region::Local { .. } => None,
+        }
     }
 }

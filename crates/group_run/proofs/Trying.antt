@@ -1,10 +1,10 @@
 -- An access that is noted as if it were made, and a group that stopped at its unset bytes.
-use Rattle.std.proofs.Common.{◌≡◌, ℕ, ◌+◌, ◌<◌, ℤ, Bool, Option, None, Some, List, [], ◌∷◌, ◌++◌, length, refl, sym, ap, ap₂, ◌∙◌, subst, arith, length-append}
+use Rattle.std.proofs.Common.{◌≡◌, ℕ, ◌+◌, ◌<◌, ◌^◌, ℤ, Bool, Option, None, Some, List, [], ◌∷◌, ◌++◌, length, refl, sym, ap, ap₂, ◌∙◌, subst, arith, length-append}
 use Rattle.std.specs.Prelude.{Ok, Box}
 use Rattle.std.specs.Box.{box_value}
 use Rattle.std.specs.declared.alloc.Global.{Global}
 use Rattle.std.specs.Option.{option_map, option_and_then}
-use Rattle.clmodel.specs.Cells.{size_of}
+use Rattle.clmodel.specs.Cells.{byte_count, size_of}
 use Rattle.clmodel.specs.Launch.{within_group, region_of, group_of, first_byte}
 use Rattle.clmodel.specs.Law.{Reports, conflict_fault}
 use Rattle.clmodel.specs.Run.{State, Events, next_action, byte_at, access_of}
@@ -62,9 +62,9 @@ module _
   -- one of a buffer, which is noted
   pub some_tried :
       (log2 : Log) (first more n : ℕ) (told : Option (Box Fault Global)) (entry : Entry) → Some first ≡ first_byte (length (space_of bytes globals locals o)) element (size_of op)
-      → IsJudged p.launch log entry log2 (option_map box_value told) → entry ≡ entry_of (p.first + k) (region_of p.group o) first op number → more ≡ number + 1 → o ≡ object.Buffer n
+      → IsJudged p.launch log entry log2 (option_map box_value told) → entry ≡ entry_of (p.first + k) (region_of p.group o) first op number → more ≡ number + 1 → o ≡ object.Buffer n → first + size_of op < 2 ^ 64
       → IsTried p before (Fits acts bytes ro p items more globals locals log2) (p.first + k) (action.Access o element op) (Some (record { entry = entry; own = told }))
-  some_tried log2 first more n told entry place judged is counted buffer events s f acts_so =
+  some_tried log2 first more n told entry place judged is counted buffer short events s f acts_so =
       let l = p.launch in
       let item = p.first + k in
       let at = region_for l item o in
@@ -85,6 +85,7 @@ module _
           first = ap (λ (e : Entry). e.access.first) same;
           width = ap (λ (e : Entry). e.access.width) same;
         },
+        subst (λ (e : Entry). e.access.first + byte_count e.access.width < 2 ^ 64) (sym same) short,
         (n, ap (region_of (group_of l item)) buffer),
         ap (λ (e : Entry). e.event) same ∙ f.counted,
         record {
@@ -150,9 +151,10 @@ module _ (p : Plan) (origin : State) (events : Events) (f : Fault) (old : Events
           x = t.0;
           asks = stopped_is ∙ t.1;
           tells = t.2;
-          buffer = t.3;
-          number = t.4;
+          short = t.3;
+          buffer = t.4;
+          number = t.5;
           made = more ∙ ap (λ i. events ++ Item i ∷ []) (sym (asked_item p.launch r.state item act t.0 t.1));
-          holds = subst (λ es. new es (logged_too r.state t.0)) (sym more) t.5;
-          conflicts = t.6;
+          holds = subst (λ es. new es (logged_too r.state t.0)) (sym more) t.6;
+          conflicts = t.7;
         }

@@ -1,8 +1,9 @@
 -- A group that stopped at unset bytes of a buffer: the access is noted as if it were made, since a lower group may have
 -- set its bytes (C99 6.7.8, own).
-use Rattle.std.specs.Prelude.{◌≡◌, ℕ, Option, None, Some, [], ◌∷◌, ◌++◌, length}
+use Rattle.std.specs.Prelude.{◌≡◌, ℕ, ◌+◌, ◌<◌, ◌^◌, Option, None, Some, [], ◌∷◌, ◌++◌, length}
 use Rattle.std.specs.Box.{box_value}
 use Rattle.std.specs.Option.{option_map}
+use Rattle.clmodel.specs.Cells.{byte_count}
 use Rattle.clmodel.specs.Launch.{Launch}
 use Rattle.clmodel.specs.Law.{Reports, newest_conflict, conflict_fault}
 use Rattle.clmodel.specs.Run.{State, Events, next_action}
@@ -23,6 +24,10 @@ pub record IsTold (x told : Access) : Type 0 where
   pub first : told.first ≡ x.first
   pub width : told.width ≡ x.width
 
+-- an access ends below 2^64
+abbrev pub IsShort : Access → Type 0
+IsShort x = x.first + byte_count x.width < 2 ^ 64
+
 -- an access is of a buffer
 abbrev pub OfBuffer : Access → Type 0
 OfBuffer x = (number : ℕ) × (x.region ≡ region.Buffer number)
@@ -42,7 +47,7 @@ IsTried plan old new item act None =
     (events : Events) (state : State) → old events state → next_action plan.launch state item ≡ act → new events state × NoBuffer plan.launch state item act
 IsTried plan old new item act (Some tried) =
     (events : Events) (state : State) → old events state → next_action plan.launch state item ≡ act
-    → (x : Access) × (asked plan.launch state item act ≡ Some x) × IsTold x tried.entry.access × OfBuffer x × (tried.entry.event ≡ length events)
+    → (x : Access) × (asked plan.launch state item act ≡ Some x) × IsTold x tried.entry.access × IsShort tried.entry.access × OfBuffer x × (tried.entry.event ≡ length events)
     × new (events ++ Item item ∷ []) (logged_too state x) × (option_map box_value tried.own ≡ option_map (conflict_fault plan.launch) (newest_conflict plan.launch (x ∷ state.log)))
 
 -- a group's run stopped at unset bytes of this access of a buffer, which its log and its events have as if it were made,
@@ -55,6 +60,7 @@ pub record StopsUnset (plan : Plan) (fits : Events → State → Type 0) (origin
   pub x : Access
   pub asks : stopped_access plan.launch state (Some stopped) ≡ Some x
   pub tells : IsTold x told
+  pub short : IsShort told
   pub buffer : OfBuffer x
   pub number : event ≡ length before
   pub made : events ≡ before ++ Item x.item ∷ []

@@ -70,7 +70,7 @@ fn bytes_of(came: &ShortResult<'_>) -> usize {
     let changes = match &came.end {
         GroupEnd::Done(spaces) => changed_bytes_of(spaces),
         GroupEnd::Stopped(_) => 0,
-        GroupEnd::Unset(_, _, _) => 0,
+        GroupEnd::Unset(_, _, spaces) => changed_bytes_of(spaces),
     };
     came.log
         .len()
