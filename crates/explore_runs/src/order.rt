@@ -20,7 +20,7 @@ use clmodel::schedule::Event;
 use group_run::Runs;
 use launches::Runnable;
 use ordered_play::{Stepped, Watched, step_item};
-use spaces::Plain;
+use spaces::BufferMem;
 use std::alloc::{AllocError, Global};
 
 /// The item that the chooser names of those that can go on, if there is such a one.
@@ -220,7 +220,7 @@ pub fn play_order<D: Runnable, C: Chooser>(
     alloc: Global,
     launch: &D,
     groups: u32,
-    buffers: Vec<Plain>,
+    buffers: Vec<BufferMem>,
     chooser: &mut C,
     turns: u32,
 ) -> Result<OrderEnd, AllocError>

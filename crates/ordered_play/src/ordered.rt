@@ -15,14 +15,14 @@ use launches::laws::setups_are_runnable;
 use launches::{LoadedLaunch, group_count};
 use ordered_runs::laws::report_is_reached;
 use replay::copies;
-use spaces::{Buffers, Plain};
+use spaces::{BufferMem, Buffers};
 use std::alloc::{AllocError, Global};
 
 /// How the ordered run of a launch ends (own, on OpenCL 1.2, section 6.12.11).
 #[derive(Drop)]
 pub enum OrderedEnd {
     /// With no report, after this schedule, and with this in the launch's buffers, in the order of their numbers
-    Ended(Schedule, Vec<Plain>),
+    Ended(Schedule, Vec<BufferMem>),
     /// With this report, after this schedule
     Faulted(Fault, Schedule),
 }

@@ -1,9 +1,11 @@
 -- Cells of which some are left out.
-use Rattle.std.proofs.Common.{◌≡◌, ℕ, zero, suc, ◌+◌, ◌-◌, ◌/◌, ◌<◌, ◌≤◌, ◌==◌, nat_lt, Bool, true, false, ◌&&◌, not, if◌then◌else◌, ◌⊎◌, ⊎_elim, inl, inr, Option, None, Some, List, [], ◌∷◌, length, Result, Ok, Err, OnOk, OnErr, refl, sym, ap, ap₂, ◌∙◌, arith}
+use Rattle.std.proofs.Common.{◌≡◌, ℕ, zero, suc, ◌+◌, ◌-◌, ◌/◌, ◌<◌, ◌≤◌, ◌==◌, ◌++◌, take, map, nat_lt, Bool, true, false, ◌&&◌, not, if◌then◌else◌, ◌⊎◌, ⊎_elim, inl, inr, Option, None, Some, List, [], ◌∷◌, length, Result, Ok, Err, OnOk, OnErr, refl, sym, ap, ap₂, ◌∙◌, arith}
 use Rattle.std.proofs.Math.Path.{fun_ext}
 use Rattle.std.proofs.lemmas.Bool.{and_parts, cases_eq, ltb-true, ltb-false, le-ltb, eq-eqb, ne_eqb}
+use Rattle.std.specs.Prelude.{slice_get}
+use Rattle.std.proofs.lemmas.List.{length-map, map-append}
 use Rattle.std.proofs.lemmas.Option.{slice_get-get_or, slice_get_past}
-use Rattle.clmodel.specs.Cells.{Cells, byte_of, cells_of, covers, number, unset_or, lowest_unset, written, is_unset, is_flagged, masked}
+use Rattle.clmodel.specs.Cells.{Cells, byte_of, cells_of, covers, number, unset_or, lowest_unset, written, is_unset, is_flagged, masked, held_cells}
 use Rattle.clmodel.proofs.CellLaws.{covers_parts, covers_from, number_frame, written_in, written_out}
 use Rattle.clmodel.proofs.Steps.{none_some, some_inj, if_true, if_false, decided}
 use Rattle.spaces.specs.Overlay.{overlaid_byte, overlaid_cells}
@@ -301,3 +303,45 @@ on_ok_more (Err e) f p = tt
 pub on_err_more : {T E P Q : Type 0} (r : Result T E) → (P → Q) → OnErr r P → OnErr r Q
 on_err_more (Ok t) f p = tt
 on_err_more (Err e) f p = f p
+
+-- ---- copies of buffers, cell by cell
+
+-- cells with one more
+masked_last : (unset : ℕ → Bool) (first : ℕ) (cells : List (Option ℕ)) (cell : Option ℕ) → masked unset first (cells ++ cell ∷ []) ≡ masked unset first cells ++ (if unset (first + length cells) then None else cell) ∷ []
+masked_last unset first [] cell = ap (λ n. (if unset n then None else cell) ∷ []) {x = first} {y = first + 0} (omega arith)
+masked_last unset first (c ∷ cells) cell =
+    ap (λ zs. (if unset first then None else c) ∷ zs)
+    (masked_last unset (suc first) cells cell
+    ∙ ap (λ n. masked unset (suc first) cells ++ (if unset n then None else cell) ∷ []) {x = suc first + length cells} {y = first + suc (length cells)} (omega arith))
+
+pub held_more : (bytes flags : List ℕ) (place : ℕ) (b : ℕ) → slice_get bytes place ≡ Some b → take (place + 1) bytes ≡ take place bytes ++ b ∷ [] → length (take place bytes) ≡ place
+    → held_cells (take (place + 1) bytes) flags ≡ held_cells (take place bytes) flags ++ (if is_flagged flags place then None else slice_get bytes place) ∷ []
+held_more bytes flags place b at more long =
+    ap (λ z. held_cells z flags) more
+    ∙ ap (masked (is_flagged flags) 0) (map-append Some (take place bytes) (b ∷ []))
+    ∙ masked_last (is_flagged flags) 0 (map Some (take place bytes)) (Some b)
+    ∙ ap₂ (λ n (o : Option ℕ). held_cells (take place bytes) flags ++ (if is_flagged flags n then None else o) ∷ []) {x = 0 + length (map Some (take place bytes))} {y = place}
+    (let n = length-map (take place bytes) Some in omega (arith, n, long)) (sym at)
+
+-- the bytes and the flags of cells
+pub byte_in : Option ℕ → ℕ
+byte_in None = 0
+byte_in (Some b) = b
+
+pub flag_in : Option ℕ → ℕ
+flag_in None = 1
+flag_in (Some b) = 0
+
+held_from : (cells : List (Option ℕ)) (unset : ℕ → Bool) (first : ℕ) → ((k : ℕ) → unset (first + k) ≡ is_unset (slice_get (map flag_in cells) k)) → masked unset first (map Some (map byte_in cells)) ≡ cells
+unfolding byte_in flag_in
+held_from [] unset first h = refl
+held_from (None ∷ cells) unset first h =
+    ap₂ (λ x xs. x ∷ xs) (if_true (unset first) None (Some 0) (ap unset {x = first} {y = first + 0} (omega arith) ∙ h 0))
+    (held_from cells unset (suc first) (λ k. ap unset {x = suc first + k} {y = first + suc k} (omega arith) ∙ h (suc k)))
+held_from (Some b ∷ cells) unset first h =
+    ap₂ (λ x xs. x ∷ xs) (if_false (unset first) None (Some b) (ap unset {x = first} {y = first + 0} (omega arith) ∙ h 0))
+    (held_from cells unset (suc first) (λ k. ap unset {x = suc first + k} {y = first + suc k} (omega arith) ∙ h (suc k)))
+
+-- cells are what their bytes and their flags hold
+pub held_back : (cells : List (Option ℕ)) → held_cells (map byte_in cells) (map flag_in cells) ≡ cells
+held_back cells = held_from cells (is_flagged (map flag_in cells)) 0 (λ k. ap (is_flagged (map flag_in cells)) {x = 0 + k} {y = k} (omega arith))

@@ -84,6 +84,13 @@ impl Buffer {
         })
     }
 
+    /// A buffer of these bytes with these flags.
+    pub(crate) fn flagged(bytes: Bytes, flags: Bytes) -> Self
+        ensures { result ≡ record { bytes = bytes; flags = flags } }
+    {
+        Buffer { bytes, flags }
+    }
+
     /// A buffer of n bytes, all of which are unset. An error is out of memory.
     pub fn unset(alloc: Global, size: usize) -> Result<Self, AllocError>
         ensures { IfOk result (λ buffer. buffer ≡ record { bytes = replicate size 0; flags = repeated (1 ∷ []) size }) }

@@ -34,6 +34,6 @@ pub use constant::ConstView;
 pub use operations::{first_byte, perform};
 pub use overlay::Overlay;
 pub use part_overlay::PartOverlay;
-pub use row::{LocalMem, Plain, PrivateArray};
+pub use row::{BufferMem, LocalMem, Plain, PrivateArray};
 pub use space::{Space, SpaceFault};
 pub use table::Table;

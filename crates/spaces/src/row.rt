@@ -1,11 +1,14 @@
 //! Bytes in a row.
 
-ghost use Rattle.std.specs.Prelude.{◌≡◌, Some, None, map, length, replicate, false, IfOk};
+ghost use Rattle.std.specs.Prelude.{◌≡◌, ◌<◌, Some, None, map, length, replicate, false, if◌then◌else◌, slice_get, IfOk};
+ghost use Rattle.clmodel.specs.Cells.{is_flagged, held_cells};
 ghost use Rattle.spaces.specs.Space.{IsChanged};
 
+use crate::buffers::Buffer;
 use crate::cells::{Cell, fetched, is_inside, put, read, updated_word};
 use crate::space::{Space, SpaceFault};
 use clmodel::access::{Class, FetchOp, Width};
+use clmodel::text::Bytes;
 use std::alloc::{AllocError, Global};
 use std::marker::Model;
 
@@ -33,6 +36,26 @@ pub type LocalMem = Row<Option<u8>>;
 /// (OpenCL 1.2, section 6.5.4; C99 6.2.4).
 pub type PrivateArray = Row<Option<u8>>;
 
+/// A buffer some of whose bytes may be unset (OpenCL 1.2, section 5.2.1; C99 6.7.8).
+pub type BufferMem = Row<Option<u8>>;
+
+/// A byte of a buffer beside its flags, nothing where it is unset.
+fn cell_at(bytes: &[u8], flags: &[u8], place: usize) -> Option<u8>
+    requires { place < length bytes.now }
+    ensures { result ≡ (if is_flagged flags.now place then None else slice_get bytes.now place) }
+{
+    match flags.get(place) {
+        Some(flag) => {
+            if *flag == 0 {
+                Some(bytes[place])
+            } else {
+                None
+            }
+        }
+        None => Some(bytes[place]),
+    }
+}
+
 impl Row<u8> {
     /// A space of these bytes.
     pub fn new(bytes: Vec<u8>) -> Self
@@ -57,6 +80,30 @@ impl Row<Option<u8>> {
         let mut cells = Vec::with_capacity(alloc, size)?;
         cells.resize(size, None)?;
         Ok(Row { cells })
+    }
+
+    /// A copy of a buffer, by its bytes and its flags. An error is out of memory.
+    pub fn copy_of(alloc: Global, bytes: &[u8], flags: &[u8]) -> Result<Self, AllocError>
+        ensures { IfOk result (λ row. row ≡ held_cells bytes.now flags.now) }
+    {
+        let mut cells = Vec::with_capacity(alloc, bytes.len())?;
+        for place in 0..bytes.len() {
+            cells.push(cell_at(bytes, flags, place))?;
+        }
+        Ok(Row { cells })
+    }
+
+    /// A buffer of its bytes, with a flag for each. An error is out of memory.
+    pub fn into_buffer(self, alloc: Global) -> Result<Buffer, AllocError>
+        ensures { IfOk result (λ buffer. held_cells buffer.bytes buffer.flags ≡ self) }
+    {
+        let mut bytes = Vec::with_capacity(alloc, self.cells.len())?;
+        let mut flags = Vec::with_capacity(alloc, self.cells.len())?;
+        for place in 0..self.cells.len() {
+            bytes.push(self.cells[place].unwrap_or(0))?;
+            flags.push(self.cells[place].is_none() as u8)?;
+        }
+        Ok(Buffer::flagged(Bytes::new(bytes), Bytes::new(flags)))
     }
 
     /// Makes all its bytes unset.
